@@ -1,0 +1,40 @@
+//! Addresses and endpoints.
+ghost use Rattle.std.specs.Prelude.{◌≡◌};
+ghost use Rattle.addr_core.specs.Family.{same_family};
+
+/// An internet address. The number of an IPv4 address is that of its four octets in network byte
+/// order, so that 127.0.0.1 is 0x7F00_0001 (RFC 791, section 3.2).
+#[derive(Clone, Copy, Debug, PartialEq, Eq, PartialOrd, Ord, Hash)]
+pub enum Addr {
+    V4(u32),
+}
+
+impl Addr {
+    /// Whether both are addresses of IPv4.
+    pub fn is_same_family(&self, other: &Addr) -> bool
+        ensures { result ≡ same_family self.now other.now }
+    {
+        match (*self, *other) {
+            (Addr::V4(_), Addr::V4(_)) => true,
+        }
+    }
+}
+
+/// The default is 0.0.0.0, the unspecified address.
+impl Default for Addr {
+    ghost use Rattle.std.specs.Prelude.{◌≡◌};
+    ghost use Rattle.addr_core.specs.declared.addr.Addr.TheVariants.{V4};
+
+    ghost is_default = { λ addr. addr ≡ V4 0 };
+
+    fn default() -> Self {
+        Addr::V4(0)
+    }
+}
+
+/// An address with a port of TCP.
+#[derive(Clone, Copy, Debug, Default, PartialEq, Eq, PartialOrd, Ord, Hash)]
+pub struct Endpoint {
+    pub addr: Addr,
+    pub port: u16,
+}
