@@ -1,0 +1,8 @@
+//! Access control lists: tests of a connection, and conditions made of tests.
+#![tactic(auto)]
+
+pub use condition::{Condition, Term, Test};
+pub use criterion::{Criterion, Pattern, Value, View};
+
+mod condition;
+mod criterion;

@@ -1,0 +1,11 @@
+//! Connections as data: events, replies, the plain state, and what an answer is.
+//!
+//! The definitions stand in `specs/`: `Answer` says what is answered in a plain state, `History`
+//! what a list of answered events leaves of one.
+#![tactic(auto)]
+
+mod copies;
+pub mod event;
+pub mod laws;
+pub mod plain;
+pub mod reply;

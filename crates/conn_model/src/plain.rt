@@ -1,0 +1,109 @@
+//! The state of a balancer as plain data.
+use addr_core::{Addr, Endpoint, Pair};
+use list_core::Seq;
+use plan_core::{Plan, Table, TableId, Track};
+
+/// What the counts of a server go by, through all versions of the configuration.
+#[derive(Debug, Drop)]
+pub struct Identity {
+    /// The name of its backend.
+    pub backend: Seq<u8>,
+    pub name: Seq<u8>,
+    pub to: Endpoint,
+}
+
+/// The server that a connection was offered.
+#[derive(Debug, Drop)]
+pub struct Served {
+    pub server: Identity,
+    pub line: u32,
+    pub judged: Pair,
+}
+
+/// How far a connection is.
+#[derive(Debug, Drop)]
+pub enum Phase {
+    Offered(Served),
+}
+
+/// An open connection of one frontend.
+#[derive(Debug, Drop)]
+pub struct Row {
+    pub serial: u64,
+    /// The version of the configuration that judges it.
+    pub version: u64,
+    /// Its peer and its local end.
+    pub real: Pair,
+    /// The moment of its accept, in ms.
+    pub accepted: u64,
+    pub phase: Phase,
+    /// What it tracks, in the order of counters.
+    pub tracks: Seq<Track>,
+}
+
+/// What is kept of one frontend.
+#[derive(Debug, Drop)]
+pub struct Lane {
+    pub name: Seq<u8>,
+    /// The last serial that was given out.
+    pub serial: u64,
+    /// The open connections, in the order of their serials.
+    pub rows: Seq<Row>,
+}
+
+/// Where events accept.
+#[derive(Clone, Copy, Debug, PartialEq, Eq)]
+pub struct Listener {
+    /// The number of its frontend.
+    pub frontend: u16,
+    pub at: Endpoint,
+    pub accept_proxy: bool,
+}
+
+/// A place in the round of a backend: one turn of a server.
+#[derive(Clone, Copy, Debug, PartialEq, Eq)]
+pub struct Place {
+    pub server: u16,
+    pub turn: u16,
+}
+
+/// A version of the configuration that is kept.
+#[derive(Debug, Drop)]
+pub struct Version {
+    pub number: u64,
+    pub plan: Plan,
+    /// The incarnation of each table of the plan.
+    pub tables: Seq<TableId>,
+    /// What was last used of each backend.
+    pub cursors: Seq<Option<Place>>,
+}
+
+/// An entry of a table.
+#[derive(Clone, Copy, Debug, PartialEq, Eq)]
+pub struct Item {
+    pub key: Addr,
+    /// How often it was tracked.
+    pub cnt: u64,
+}
+
+/// A table that is kept, with its entries, the one that was touched longest ago first.
+#[derive(Debug, Drop)]
+pub struct Kept {
+    pub id: TableId,
+    pub table: Table,
+    pub items: Seq<Item>,
+}
+
+/// All that a balancer keeps.
+#[derive(Debug, Drop)]
+pub struct Plain {
+    /// The greatest moment so far, in ms.
+    pub clock: u64,
+    pub listeners: Seq<Listener>,
+    /// By the number of the frontend.
+    pub lanes: Seq<Lane>,
+    /// By number, the newest last.
+    pub versions: Seq<Version>,
+    /// By incarnation.
+    pub tables: Seq<Kept>,
+}

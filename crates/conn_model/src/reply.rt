@@ -1,0 +1,64 @@
+//! What a balancer answers.
+use crate::event::{ConnId, Why};
+use addr_core::{Endpoint, Pair};
+use arrayvec::ArrayVec;
+use plan_core::Track;
+
+/// Why a connection is refused.
+#[derive(Clone, Copy, Debug, PartialEq, Eq)]
+pub enum Cause {
+    /// The rule of that line rejects it.
+    Line(u32),
+    /// No backend is named for it; the line of the frontend.
+    NoBackend(u32),
+    /// The backend has no server for it; the line of the backend.
+    NoServer(u32),
+}
+
+/// What is said to a connection.
+#[derive(Debug, Drop)]
+pub enum Said {
+    /// It is given to a server.
+    Offer {
+        id: ConnId,
+        /// How many bytes of the piece belong to the header.
+        used: u64,
+        /// The line of the server.
+        line: u32,
+        /// The number of the server in its backend, from 0.
+        server: u16,
+        to: Endpoint,
+        /// The source and the destination by which it was judged.
+        judged: Pair,
+        /// What the server is sent before the stream.
+        send: ArrayVec<u8, 107>,
+    },
+    /// It is refused, and ends.
+    Refuse {
+        id: ConnId,
+        used: u64,
+        cause: Cause,
+    },
+    /// It ended.
+    Closed { id: ConnId, why: Why },
+}
+
+/// An answer to an event.
+#[derive(Debug, Drop)]
+pub struct Reply {
+    pub said: Said,
+    /// The keys that are tracked from this step on, in the order of counters.
+    pub tracks: ArrayVec<Track, 3>,
+}
+
+/// Why an event is not answered. Of several the first in this order is told.
+#[derive(Clone, Copy, Debug, PartialEq, Eq)]
+pub enum StepFault {
+    /// No listener has the number.
+    NoListener,
+    /// No open connection has the name.
+    NoSuch,
+    /// The serial 2^64 - 1 was given out.
+    Exhausted,
+    NoMemory,
+}

@@ -1,0 +1,120 @@
+//! Frontends with their rules, backends with their servers, and stick tables.
+use acl_core::Condition;
+use addr_core::Endpoint;
+use list_core::Seq;
+
+/// What a rule does once its condition holds (HAProxy manual, `tcp-request connection`).
+#[derive(Clone, Copy, Debug, PartialEq, Eq)]
+pub enum Action {
+    Accept,
+    Reject,
+}
+
+/// A rule, with its line.
+#[derive(Debug, Drop)]
+pub struct Rule {
+    pub line: u32,
+    pub action: Action,
+    pub condition: Condition,
+}
+
+/// A `use_backend` line.
+#[derive(Debug, Drop)]
+pub struct Choice {
+    pub line: u32,
+    pub condition: Condition,
+    /// The number of the backend.
+    pub backend: u16,
+}
+
+/// A `bind` line: where connections are accepted.
+#[derive(Clone, Copy, Debug, PartialEq, Eq)]
+pub struct Bind {
+    pub at: Endpoint,
+    /// Whether each connection begins with a PROXY header.
+    pub accept_proxy: bool,
+}
+
+/// A `frontend` section.
+#[derive(Debug, Drop)]
+pub struct Frontend {
+    pub name: Seq<u8>,
+    pub line: u32,
+    pub binds: Seq<Bind>,
+    /// How many connections may be open.
+    pub limit: u64,
+    /// The line that says so.
+    pub limit_line: u32,
+    pub connection_rules: Seq<Rule>,
+    pub session_rules: Seq<Rule>,
+    pub choices: Seq<Choice>,
+    /// The number of the default backend.
+    pub default: Option<u16>,
+}
+
+/// The kind of section in which a table is written.
+#[derive(Clone, Copy, Debug, PartialEq, Eq)]
+pub enum Section {
+    Frontend,
+    Backend,
+}
+
+/// The type of a table's keys.
+#[derive(Clone, Copy, Debug, PartialEq, Eq)]
+pub enum Kind {
+    Ip,
+    Ipv6,
+}
+
+/// A `stick-table` line.
+#[derive(Debug, Drop)]
+pub struct Table {
+    pub section: Section,
+    pub name: Seq<u8>,
+    pub kind: Kind,
+    /// How many entries there may be.
+    pub size: u64,
+    pub stores_cur: bool,
+    pub stores_cnt: bool,
+}
+
+/// How a backend chooses among its servers (HAProxy manual, `balance`).
+#[derive(Clone, Copy, Debug, PartialEq, Eq)]
+pub enum Method {
+    RoundRobin,
+    LeastConn,
+    Source,
+}
+
+/// A `server` line.
+#[derive(Debug, Drop)]
+pub struct Server {
+    pub name: Seq<u8>,
+    pub line: u32,
+    pub to: Endpoint,
+    /// 0 to 256.
+    pub weight: u16,
+    /// How many connections may be open, 0 for any number.
+    pub limit: u64,
+    pub disabled: bool,
+    pub send_proxy: bool,
+    pub send_proxy_v2: bool,
+}
+
+/// A `backend` section.
+#[derive(Debug, Drop)]
+pub struct Backend {
+    pub name: Seq<u8>,
+    pub line: u32,
+    pub method: Method,
+    pub servers: Seq<Server>,
+}
+
+/// A whole configuration. Frontends, backends and tables are in the order of the text; tables of
+/// frontends and backends are mixed.
+#[derive(Debug, Drop)]
+pub struct Plan {
+    pub frontends: Seq<Frontend>,
+    pub backends: Seq<Backend>,
+    pub tables: Seq<Table>,
+}
