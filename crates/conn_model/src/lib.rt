@@ -6,6 +6,5 @@
 
 mod copies;
 pub mod event;
-pub mod laws;
 pub mod plain;
 pub mod reply;

@@ -1,0 +1,5 @@
+pub mod Words
+pub mod Rules
+pub mod Answer
+pub mod History
+pub mod Runs
