@@ -1,5 +1,5 @@
 -- What a balancer in a plain state answers to an event.
-use Rattle.std.specs.Prelude.{ℕ, Bool, List, [], find, slice_get, Option, Some, None, Result, Ok, Err, ◌+◌, ◌==◌, nat_lt, if◌then◌else◌}
+use Rattle.std.specs.Prelude.{ℕ, List, [], find, slice_get, Option, Some, None, Result, Ok, Err, ◌+◌, ◌==◌, nat_lt, if◌then◌else◌}
 use Rattle.std.specs.Str.{bytes_eq}
 use Rattle.addr_core.specs.Ends.{Ends}
 use Rattle.plan_core.specs.declared.plan.Server.{Server}
@@ -21,7 +21,7 @@ use Rattle.conn_model.specs.declared.plain.Listener.{Listener}
 use Rattle.conn_model.specs.declared.plain.Version.{Version}
 use Rattle.conn_model.specs.declared.plain.Plain.{Plain}
 use Rattle.conn_model.specs.Words.{newest}
-use Rattle.conn_model.specs.Rules.{Seat, View, view, rejected}
+use Rattle.conn_model.specs.Rules.{View, view, rejected}
 
 -- Connections of the state.
 

@@ -1,5 +1,5 @@
 -- What happened, and what is left of it.
-use Rattle.std.specs.Prelude.{ℕ, Bool, true, false, not, max, List, [], map, filter, find, slice_get, Option, Some, None, Result, Ok, Err, option_map, flat_map, ◌+◌, ◌≤◌, ◌<◌, ◌^◌, ◌≡◌, ◌==◌, ◌&&◌, ◌∷◌, ◌++◌, if◌then◌else◌}
+use Rattle.std.specs.Prelude.{ℕ, Bool, true, false, not, max, List, [], map, filter, find, slice_get, Option, Some, None, Result, Ok, flat_map, ◌+◌, ◌≡◌, ◌==◌, ◌&&◌, ◌∷◌, ◌++◌, if◌then◌else◌}
 use Rattle.std.specs.List.{list_any, AllByRecursion, enumerate_from}
 use Rattle.std.specs.Option.{option_map_or}
 use Rattle.addr_core.specs.declared.addr.Endpoint.{Endpoint}

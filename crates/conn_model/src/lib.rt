@@ -6,5 +6,6 @@
 
 mod copies;
 pub mod event;
+pub mod laws;
 pub mod plain;
 pub mod reply;

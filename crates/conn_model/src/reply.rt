@@ -40,7 +40,10 @@ pub enum Said {
         cause: Cause,
     },
     /// It ended.
-    Closed { id: ConnId, why: Why },
+    Closed {
+        id: ConnId,
+        why: Why,
+    },
 }
 
 /// An answer to an event.
