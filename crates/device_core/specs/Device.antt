@@ -7,9 +7,9 @@ use Rattle.device_core.specs.declared.device.Put.{Put}
 use Rattle.device_core.specs.declared.device.Put.TheVariants as put
 use Rattle.device_core.specs.declared.device.Failed.{Failed}
 
--- so many more, where the count stays at the greatest number of 64 bits
+-- so many more, as far as the greatest number of 64 bits
 abbrev pub raised_by : ℕ → ℕ → ℕ
-raised_by more count = min (count + more) (2 ^ 64 - 1)
+raised_by more count = count + min more (2 ^ 64 - 1 - count)
 
 abbrev pub raised : ℕ → ℕ
 raised count = raised_by 1 count
