@@ -30,8 +30,8 @@ pub fn read_on<I: Input>(input: &mut I, buffer: &mut [u8], reads: &mut u32) -> R
     ensures moved { Reads (one_read result) (I.left input.old) (I.left input.new) buffer.new }
     ensures ok { OnOk result (I.failures input.new ≡ I.failures input.old) }
     ensures err { OnErr result ((I.failures input.new ≡ raised (I.failures input.old))
-        ⊎ (I.stalls input.new ≡ raised_by 1000000 (I.stalls input.old))
-        ⊎ (reads.new ≡ 0)) }
+        ⊎ ((I.failures input.new ≡ I.failures input.old)
+        × ((I.stalls input.new ≡ raised_by 1000000 (I.stalls input.old)) ⊎ (reads.new ≡ 0)))) }
 
     // Each read is counted, and none is made beyond those that are left.
     ensures calls { I.calls input.new ≡ raised_by (reads.old - reads.new) (I.calls input.old) }
@@ -60,7 +60,8 @@ pub fn write_all<O: Output>(output: &mut O, bytes: &[u8]) -> Result<(), Failed>
 
     // After an error some of the bytes were written, the first ones, and not all.
     ensures err { OnErr result ((n : ℕ) × (n < length bytes.now) × Appends (O.held output.old) (O.held output.new) (take n bytes.now)) }
-    ensures err_why { OnErr result ((O.failures output.new ≡ raised (O.failures output.old)) ⊎ IsWornOut (O.stalls output.old) (O.stalls output.new)) }
+    ensures err_why { OnErr result ((O.failures output.new ≡ raised (O.failures output.old))
+        ⊎ ((O.failures output.new ≡ O.failures output.old) × IsWornOut (O.stalls output.old) (O.stalls output.new))) }
 {
     let mut written = 0;
     let mut stalls = 0;

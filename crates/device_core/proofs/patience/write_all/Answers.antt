@@ -1,4 +1,4 @@
-use Rattle.std.proofs.Common.{◌∙◌, inr, arith}
+use Rattle.std.proofs.Common.{inr, arith}
 use Rattle.device_core.proofs.WrittenLemmas.{more_written, rest_length}
 use Rattle.device_core.proofs.patience.write_all.Goals as goal
 
@@ -10,7 +10,7 @@ loop-written-preserved-in-Bytes g c =
     record {
       held = more_written _ _ _ c.args.bytes.now c.loop-written.written c.in-Bytes.count before.held moved.2;
       within = rest_length c.args.bytes.now c.loop-written.written c.in-Bytes.count before.within moved.1;
-      failures = c.in_ok-count.ensures.failures ∙ before.failures;
+      failures = rw c.in_ok-count.ensures.failures before.failures;
       stalls = inr stalls;
       few = omega arith;
     }
