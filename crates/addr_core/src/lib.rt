@@ -12,4 +12,6 @@ pub mod decimal;
 mod net;
 mod pair;
 mod reading;
+#[cfg(test)]
+mod tests;
 mod writing;
