@@ -1,3 +1,5 @@
+pub mod Decimal
 pub mod Ends
 pub mod Family
 pub mod Prefix
+pub mod Text
