@@ -11,6 +11,7 @@ mod judging;
 mod keyword;
 mod lanes;
 mod machine;
+mod opening;
 mod planning;
 mod reading;
 mod statement;
