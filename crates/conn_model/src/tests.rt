@@ -148,7 +148,10 @@ fn a_copy_of_a_state(rt: HostRuntime) -> Result<(), Fail> {
     let version = &copy.versions.as_slice()[0];
     assert_eq!(rt; version.number, 3);
     assert_eq!(rt; version.tables.as_slice(), [TABLE].as_slice());
-    assert_eq!(rt; version.cursors.as_slice(), [Some(Place { server: 1, turn: 2 })].as_slice());
+    assert_eq!(rt;
+        version.cursors.as_slice(),
+        [Some(Place { server: 1, turn: 2 })].as_slice()
+    );
     assert_eq!(rt; copy.tables.len(), 1);
     let kept = &copy.tables.as_slice()[0];
     assert_eq!(rt; kept.id, TABLE);

@@ -43,7 +43,13 @@ fn sample_frontend(alloc: Global) -> Result<Frontend, Fail> {
     Ok(Frontend {
         name: name(alloc, "web")?,
         line: 1,
-        binds: one(alloc, Bind { at, accept_proxy: true })?,
+        binds: one(
+            alloc,
+            Bind {
+                at,
+                accept_proxy: true,
+            },
+        )?,
         limit: 2000,
         limit_line: 2,
         connection_rules: one(alloc, rejecting)?,
@@ -141,12 +147,18 @@ fn a_copy_has_the_backend_and_the_table(rt: HostRuntime) -> Result<(), Fail> {
     assert_eq!(rt; server.to.addr, Addr::V4(0x0A00_0014));
     assert_eq!(rt; server.to.port, 80);
     assert_eq!(rt; (server.weight, server.limit), (256, 30));
-    assert_eq!(rt; (server.disabled, server.send_proxy, server.send_proxy_v2), (true, false, true));
+    assert_eq!(rt;
+        (server.disabled, server.send_proxy, server.send_proxy_v2),
+        (true, false, true)
+    );
     assert_eq!(rt; plan.tables.len(), 1);
     let table = &plan.tables.as_slice()[0];
     assert_eq!(rt; table.name.as_slice(), b"app".as_slice());
     assert_eq!(rt; (table.section, table.kind), (Section::Backend, Kind::Ipv6));
-    assert_eq!(rt; (table.size, table.stores_cur, table.stores_cnt), (100_000, false, true));
+    assert_eq!(rt;
+        (table.size, table.stores_cur, table.stores_cnt),
+        (100_000, false, true)
+    );
     Ok(())
 }
 
