@@ -8,3 +8,5 @@ pub use fault::AclFault;
 mod condition;
 mod criterion;
 mod fault;
+#[cfg(test)]
+mod tests;
