@@ -1,7 +1,7 @@
 //! Access control lists: tests of a connection, and conditions made of tests.
 #![tactic(auto)]
 
-pub use condition::{Condition, Term, Test};
+pub use condition::{Cond, Term, Test};
 pub use criterion::{Criterion, Pattern, Value, View};
 pub use fault::AclFault;
 

@@ -1,5 +1,5 @@
 //! Tests with outside values.
-use crate::{AclFault, Condition, Criterion, Pattern, Term, Test, Value, View};
+use crate::{AclFault, Cond, Criterion, Pattern, Term, Test, Value, View};
 use addr_core::{Addr, Net};
 use list_core::{Duplicate, Seq};
 use std::alloc::Global;
@@ -88,8 +88,8 @@ fn groups(alloc: Global) -> Result<Seq<Seq<Term>>, Fail> {
 
 #[test]
 fn conditions_on_the_source(rt: HostRuntime) -> Result<(), Fail> {
-    let plain = Condition::If(groups(rt.alloc())?);
-    let turned = Condition::Unless(groups(rt.alloc())?);
+    let plain = Cond::If(groups(rt.alloc())?);
+    let turned = Cond::Unless(groups(rt.alloc())?);
     let copy = plain.duplicate(rt.alloc())?;
     let turned_copy = turned.duplicate(rt.alloc())?;
     let cases = [
@@ -130,7 +130,7 @@ fn what_is_absent_matches_nothing(rt: HostRuntime) -> Result<(), Fail> {
     group.push(term_of(rt.alloc(), true, test)?)?;
     let mut groups = Seq::new(rt.alloc());
     groups.push(group)?;
-    assert!(rt; Condition::If(groups).holds(&absent));
+    assert!(rt; Cond::If(groups).holds(&absent));
     Ok(())
 }
 
@@ -141,9 +141,9 @@ fn words_without_a_test(rt: HostRuntime) -> Result<(), Fail> {
         group.push(constant(rt.alloc(), truth))?;
         let mut groups = Seq::new(rt.alloc());
         groups.push(group)?;
-        assert_eq!(rt; Condition::If(groups).holds(&coming_from(1)), truth);
+        assert_eq!(rt; Cond::If(groups).holds(&coming_from(1)), truth);
     }
-    let always = Condition::Always.duplicate(rt.alloc())?;
+    let always = Cond::Always.duplicate(rt.alloc())?;
     assert!(rt; always.holds(&coming_from(1)));
     Ok(())
 }

@@ -8,7 +8,8 @@ use conn_model::reply::{Cause, Reply, Said, StepFault};
 use std::alloc::Global;
 use std::test::Fail;
 
-const EXAMPLE: &str = "frontend f\nbind 127.0.0.1:9000\ntcp-request connection reject if { src 198.51.100.0/24 }\ndefault_backend b\nbackend b\nserver s 10.0.0.20:80\n";
+const EXAMPLE: &str =
+    "frontend f\nbind 127.0.0.1:9000\ntcp-request connection reject if { src 198.51.100.0/24 }\ndefault_backend b\nbackend b\nserver s 10.0.0.20:80\n";
 
 fn end(number: u32, port: u16) -> Endpoint {
     Endpoint {
@@ -195,7 +196,10 @@ fn refuses_texts_by_their_least_faulty_line(rt: HostRuntime) -> Result<(), Fail>
         ("frontend f\nfrontend g", "line 2: Unsupported"),
         ("backend b\nbackend b", "line 2: Duplicate"),
         ("frontend f\ndefault_backend b", "line 1: NoBind"),
-        ("frontend f\nbind :80\ndefault_backend b", "line 3: NoBackend"),
+        (
+            "frontend f\nbind :80\ndefault_backend b",
+            "line 3: NoBackend",
+        ),
         (
             "frontend f\nbind :80\ndefault_backend c\ndefault_backend b\nbackend b",
             "ok",
@@ -230,7 +234,10 @@ fn refuses_words_by_the_first_that_cannot_stand(rt: HostRuntime) -> Result<(), F
         ("default_backend b!", "line 2: Unsupported"),
         ("\nbackend b\nserver s", "line 4: MissingWord"),
         ("\nbackend b\nserver s 1.2.3.4:080", "line 4: BadAddress"),
-        ("\nbackend b\nserver s 1.2.3.4:80 weight 2", "line 4: Unsupported"),
+        (
+            "\nbackend b\nserver s 1.2.3.4:80 weight 2",
+            "line 4: Unsupported",
+        ),
         (
             "\nbackend b\nserver s 1.2.3.4:80\nserver s 1.2.3.4:81",
             "line 5: Duplicate",
@@ -263,8 +270,14 @@ fn reads_conditions(rt: HostRuntime) -> Result<(), Fail> {
         (" if { src 10.0.0.0/8 } or", "line 3: Acl UnknownName"),
     ];
     for (condition, told) in cases {
-        let text = format!(in rt.alloc(); "frontend f\nbind :80\ntcp-request connection reject{condition}")?;
-        assert_eq!(rt; check(rt.alloc(), text.as_str())?.as_str(), told, "{condition}");
+        let text = format!(in rt.alloc();
+            "frontend f\nbind :80\ntcp-request connection reject{condition}"
+        )?;
+        assert_eq!(rt;
+            check(rt.alloc(), text.as_str())?.as_str(),
+            told,
+            "{condition}"
+        );
     }
     Ok(())
 }
@@ -277,6 +290,9 @@ fn takes_as_many_rules_as_are_allowed(rt: HostRuntime) -> Result<(), Fail> {
     }
     assert_eq!(rt; check(rt.alloc(), text.as_str())?.as_str(), "ok");
     text.push_str("tcp-request connection accept\n")?;
-    assert_eq!(rt; check(rt.alloc(), text.as_str())?.as_str(), "line 259: Limit");
+    assert_eq!(rt;
+        check(rt.alloc(), text.as_str())?.as_str(),
+        "line 259: Limit"
+    );
     Ok(())
 }

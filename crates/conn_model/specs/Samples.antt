@@ -6,8 +6,8 @@ use Rattle.addr_core.specs.declared.addr.Endpoint.{Endpoint}
 use Rattle.addr_core.specs.Ends.{Ends}
 use Rattle.acl_core.specs.declared.criterion.Criterion.TheVariants as criteria
 use Rattle.acl_core.specs.declared.criterion.Pattern.TheVariants.{Network}
-use Rattle.acl_core.specs.declared.condition.Condition.{Condition}
-use Rattle.acl_core.specs.declared.condition.Condition.TheVariants.{If}
+use Rattle.acl_core.specs.declared.condition.Cond.{Cond}
+use Rattle.acl_core.specs.declared.condition.Cond.TheVariants.{If}
 use Rattle.plan_core.specs.declared.plan.Action.TheVariants.{Reject}
 use Rattle.plan_core.specs.declared.plan.Method.TheVariants.{RoundRobin}
 use Rattle.plan_core.specs.declared.plan.Server.{Server}
@@ -28,7 +28,7 @@ abbrev pub point : Addr → ℕ → Endpoint
 point addr port = record { addr = addr; port = port }
 
 -- the sources in 198.51.100.0/24
-abbrev pub from_there : Condition
+abbrev pub from_there : Cond
 from_there =
     If ((record { negated = false; tests = record { criterion = criteria.Source; patterns = Network (record { addr = ip 198 51 100 0; bits = 24 }) ∷ [] } ∷ [] } ∷ []) ∷ [])
 
