@@ -1,3 +1,4 @@
+pub mod Decimal
 pub mod Ends
 pub mod Family
 pub mod Prefix

@@ -7,6 +7,7 @@ pub use pair::Pair;
 pub use reading::AddrFault;
 
 mod addr;
+pub mod decimal;
 mod net;
 mod pair;
 mod reading;
