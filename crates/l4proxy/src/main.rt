@@ -1,0 +1,7 @@
+//! A layer 4 load balancer.
+#![tactic(auto)]
+
+mod replies;
+mod script;
+
+fn main() {}
