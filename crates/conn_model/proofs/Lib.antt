@@ -1,3 +1,5 @@
 pub mod Numbered
 pub mod Facts
 pub mod Law
+pub mod Steps
+pub mod Runs
