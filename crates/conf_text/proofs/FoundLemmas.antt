@@ -1,0 +1,42 @@
+-- What the lines of a text are, line by line.
+use Rattle.std.proofs.Common.{◌≡◌, ℕ, ◌≤◌, ◌<◌, Bool, true, false, List, [], length, Result, Ok, Err, refl, sym, subst, inl, inr, arith, nat_lt, if◌then◌else◌}
+use Rattle.std.proofs.lemmas.Bool.Decides.{nat_tests}
+use Rattle.list_core.specs.Each.{each, IsRead}
+use Rattle.list_core.proofs.EachLaws.{each_ok, each_err}
+use Rattle.conf_text.specs.Parts.{parts, is_line_feed}
+use Rattle.conf_text.specs.Lines.{lines_of, next_line, text_too_long, AreLines, IsTextFault}
+use Rattle.conf_text.specs.declared.line.Line.{Line}
+use Rattle.conf_text.specs.declared.line.LineFault.{LineFault}
+
+long : (n : ℕ) → nat_lt 1048576 n ≡ true → 1048576 < n
+long n test = grind (arith, nat_tests)
+
+short : (n : ℕ) → nat_lt 1048576 n ≡ false → n ≤ 1048576
+short n test = grind (arith, nat_tests)
+
+-- by whether the text is too long
+read_by : List ℕ → Bool → Result (List Line) LineFault
+read_by text b = if b then Err text_too_long else each next_line [] (parts is_line_feed text)
+
+pub found : (text : List ℕ) (lines : List Line) → lines_of text ≡ Ok lines → AreLines text lines
+found text lines is = by (nat_lt 1048576 (length text)) refl
+  where
+    by : (b : Bool) → nat_lt 1048576 (length text) ≡ b → AreLines text lines
+    by true test = let wrong : Err text_too_long ≡ Ok lines = rw test at is in absurd cc
+    by false test =
+        let reads : each next_line [] (parts is_line_feed text) ≡ Ok lines = rw test at is in
+        let more = each_ok next_line [] (parts is_line_feed text) lines reads in
+        let P : List Line → Type 0 = λ ys. IsRead next_line (parts is_line_feed text) ys in
+        (short (length text) test, subst P (sym more.1) more.2)
+
+pub fault_found : (text : List ℕ) (fault : LineFault) → lines_of text ≡ Err fault → IsTextFault text fault
+fault_found text fault is = by (nat_lt 1048576 (length text)) refl
+  where
+    by : (b : Bool) → nat_lt 1048576 (length text) ≡ b → IsTextFault text fault
+    by true test =
+        let same : Err text_too_long ≡ Err fault = rw test at is in
+        let f_is : fault ≡ text_too_long = cc in
+        inl (long (length text) test, f_is)
+    by false test =
+        let reads : each next_line [] (parts is_line_feed text) ≡ Err fault = rw test at is in
+        inr (short (length text) test, each_err next_line [] (parts is_line_feed text) fault reads)

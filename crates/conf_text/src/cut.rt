@@ -1,0 +1,68 @@
+//! Texts in parts.
+ghost use Rattle.std.specs.Prelude.{◌≡◌, ◌<◌, ◌∷◌, length, IfOk};
+ghost use Rattle.conf_text.specs.Parts.{parts, before, is_line_feed, is_hash, is_blank, without_return, words_in};
+
+use crate::word::Word;
+use list_core::Seq;
+use memchr::{memchr, memchr2};
+use std::alloc::{AllocError, Global};
+
+/// The first line, and what stands after it.
+pub fn cut_line(text: &[u8]) -> (&[u8], &[u8])
+    requires { 0 < length text.now }
+    ensures parts { parts is_line_feed text.now ≡ result.0.now ∷ parts is_line_feed result.1.now }
+    ensures less { length result.1.now < length text.now }
+{
+    match memchr(b'\n', text) {
+        Some(at) => (&text[..at], &text[at + 1..]),
+        None => (text, &text[text.len()..]),
+    }
+}
+
+/// The first part of a line before a blank, and what stands after it.
+fn cut_word(text: &[u8]) -> (&[u8], &[u8])
+    requires { 0 < length text.now }
+    ensures parts { parts is_blank text.now ≡ result.0.now ∷ parts is_blank result.1.now }
+    ensures less { length result.1.now < length text.now }
+{
+    match memchr2(b' ', b'\t', text) {
+        Some(at) => (&text[..at], &text[at + 1..]),
+        None => (text, &text[text.len()..]),
+    }
+}
+
+/// What stands before a comment.
+pub fn without_comment(line: &[u8]) -> &[u8]
+    ensures { result.now ≡ before is_hash line.now }
+{
+    match memchr(b'#', line) {
+        Some(at) => &line[..at],
+        None => line,
+    }
+}
+
+/// The line without a carriage return at its end.
+pub fn without_return(line: &[u8]) -> &[u8]
+    ensures { result.now ≡ without_return line.now }
+{
+    if line.is_empty() || line[line.len() - 1] != b'\r' {
+        return line;
+    }
+    &line[..line.len() - 1]
+}
+
+/// The words of a line without comment.
+pub fn words(alloc: Global, code: &[u8]) -> Result<Seq<Word>, AllocError>
+    ensures { IfOk result (λ words. words ≡ words_in code.now) }
+{
+    let mut words = Seq::new(alloc);
+    let mut rest = code;
+    while !rest.is_empty() {
+        let (part, after) = cut_word(rest);
+        rest = after;
+        if !part.is_empty() {
+            words.push(Word::of(part))?;
+        }
+    }
+    Ok(words)
+}

@@ -1,0 +1,17 @@
+//! The lines of a configuration's text, and the words of each.
+//!
+//! The text is that of a HAProxy configuration file without quoting and without the escapes of `\`: a
+//! line is words between blanks, and `#` begins a comment.
+#![tactic(auto)]
+
+pub use line::{Line, LineFault, LineKind};
+pub use lines::Lines;
+pub use word::Word;
+
+mod cut;
+mod line;
+mod lines;
+mod reading;
+#[cfg(test)]
+mod tests;
+mod word;

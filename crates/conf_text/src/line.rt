@@ -1,0 +1,71 @@
+//! A line, and what may be wrong with one.
+use crate::word::Word;
+use list_core::Seq;
+use std::error::Error;
+use std::fmt;
+
+/// A line by its number, the first being 1, and its words. A line may have no word.
+#[derive(Debug, Drop)]
+pub struct Line<'a> {
+    pub number: u32,
+    pub words: Seq<Word<'a>>,
+}
+
+/// What is wrong with a line. Where several hold of one line, it is the first of them in this order.
+#[derive(Clone, Copy, Debug, PartialEq, Eq)]
+pub enum LineKind {
+    /// More than 2,048 bytes, its comment counted, its line end not. On line 0: a text of more than
+    /// 1,048,576 bytes.
+    TooLong,
+    /// More than 64 words.
+    TooManyWords,
+    /// More than 65,535 lines.
+    TooManyLines,
+    /// `"`, `'` or `\` outside a comment.
+    Quoting,
+    /// A character outside a comment that is neither a blank nor one of 0x21 to 0x7E.
+    NotAscii,
+    /// There was no memory. This says nothing of the text, and stands on line 0.
+    NoMemory,
+}
+
+/// What is wrong with a text, and on which line. Line 0 is no line.
+#[derive(Clone, Copy, Debug, PartialEq, Eq)]
+pub struct LineFault {
+    pub line: u32,
+    pub kind: LineKind,
+}
+
+impl LineKind {
+    ghost use Rattle.std.specs.Prelude.{◌≡◌};
+    ghost use Rattle.conf_text.specs.Names.{name_of};
+
+    pub fn name(&self) -> &'static str
+        ensures { result.now ≡ name_of self.now }
+    {
+        match self {
+            LineKind::TooLong => "TooLong",
+            LineKind::TooManyWords => "TooManyWords",
+            LineKind::TooManyLines => "TooManyLines",
+            LineKind::Quoting => "Quoting",
+            LineKind::NotAscii => "NotAscii",
+            LineKind::NoMemory => "NoMemory",
+        }
+    }
+}
+
+/// The kind's name.
+impl fmt::Display for LineKind {
+    fn fmt<W: fmt::Write>(&self, f: &mut fmt::Formatter<W>) -> fmt::Result {
+        f.write_str(self.name())
+    }
+}
+
+/// As `line 3: Quoting`.
+impl fmt::Display for LineFault {
+    fn fmt<W: fmt::Write>(&self, f: &mut fmt::Formatter<W>) -> fmt::Result {
+        write!(f, "line {}: {}", self.line, self.kind)
+    }
+}
+
+impl Error for LineFault {}

@@ -1,0 +1,88 @@
+//! Reading the lines of a text.
+ghost use Rattle.std.specs.Prelude.{◌≡◌, ◌+◌, ◌<◌, ◌≤◌, length, IfOk};
+ghost use Rattle.std.specs.List.{list_all, list_any};
+ghost use Rattle.list_core.specs.Each.{Gives};
+ghost use Rattle.conf_text.specs.Lines.{is_quoting, is_plain, judged_code, judged_line, lines_of};
+
+use crate::cut::{cut_line, without_comment, without_return, words};
+use crate::line::{Line, LineFault, LineKind};
+use list_core::{Seq, Stop};
+use std::alloc::Global;
+
+const MOST_BYTES: usize = 1_048_576;
+
+const MOST_LINES: u32 = 65_535;
+
+const MOST_BYTES_OF_LINE: usize = 2_048;
+
+const MOST_WORDS: usize = 64;
+
+fn has_quoting(code: &[u8]) -> bool
+    ensures { result ≡ list_any is_quoting code.now }
+{
+    code.iter()
+        .any(|b| *b == b'"' || *b == b'\'' || *b == b'\\')
+}
+
+fn is_plain(code: &[u8]) -> bool
+    ensures { result ≡ list_all is_plain code.now }
+{
+    code.iter()
+        .all(|b| *b == b' ' || *b == b'\t' || 0x21 <= *b && *b <= 0x7E)
+}
+
+fn read_code(alloc: Global, number: u32, code: &[u8]) -> Result<Line, Stop<LineKind>>
+    ensures reads { Gives result (judged_code number code.now) }
+    ensures number { IfOk result (λ _. number ≤ 65535) }
+{
+    let words = words(alloc, code)?;
+    if words.len() > MOST_WORDS {
+        return Err(Stop::Fault(LineKind::TooManyWords));
+    }
+    if number > MOST_LINES {
+        return Err(Stop::Fault(LineKind::TooManyLines));
+    }
+    if has_quoting(code) {
+        return Err(Stop::Fault(LineKind::Quoting));
+    }
+    if !is_plain(code) {
+        return Err(Stop::Fault(LineKind::NotAscii));
+    }
+    Ok(Line { number, words })
+}
+
+fn read_line(alloc: Global, number: u32, line: &[u8]) -> Result<Line, Stop<LineKind>>
+    ensures reads { Gives result (judged_line number line.now) }
+    ensures number { IfOk result (λ _. number ≤ 65535) }
+{
+    if line.len() > MOST_BYTES_OF_LINE {
+        return Err(Stop::Fault(LineKind::TooLong));
+    }
+    read_code(alloc, number, without_comment(line))
+}
+
+/// The lines of a text, each with its words, or the first fault of the least faulty line.
+pub fn read_lines(alloc: Global, text: &str) -> Result<Seq<Line>, Stop<LineFault>>
+    ensures { Gives result (lines_of text.now) }
+{
+    if text.len() > MOST_BYTES {
+        return Err(Stop::Fault(LineFault {
+            line: 0,
+            kind: LineKind::TooLong,
+        }));
+    }
+    let mut lines = Seq::new(alloc);
+    let mut rest = text.as_bytes();
+    let mut number = 1;
+    while !rest.is_empty() {
+        let (line, after) = cut_line(rest);
+        rest = after;
+        match read_line(alloc, number, without_return(line)) {
+            Ok(line) => lines.push(line)?,
+            Err(Stop::Fault(kind)) => return Err(Stop::Fault(LineFault { line: number, kind })),
+            Err(Stop::Memory) => return Err(Stop::Memory),
+        }
+        number += 1;
+    }
+    Ok(lines)
+}

@@ -1,0 +1,19 @@
+//! Readers and writers, with what each call of them means.
+//!
+//! No other crate talks to the readers and writers of `std`.
+#![tactic(auto)]
+
+pub use adapters::{FromRead, ToWrite};
+pub use device::{Failed, Got, Input, Output, Put};
+pub use memory::{MemoryInput, MemoryOutput};
+pub use patience::{MOST_READS, MOST_STALLS, Moved, read_on, write_all};
+pub use schedule::{Calls, Schedule};
+
+mod adapters;
+mod device;
+mod memory;
+mod patience;
+mod schedule;
+mod tally;
+#[cfg(test)]
+mod tests;
