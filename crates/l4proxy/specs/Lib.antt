@@ -1,2 +1,5 @@
 pub mod Script
 pub mod Replies
+pub mod Replay
+pub mod Turns
+pub mod Standing

@@ -7,10 +7,12 @@ use Rattle.addr_core.specs.Decimal.{decimal, decimal_of}
 use Rattle.addr_core.specs.Ends.{Ends, pair_of}
 use Rattle.addr_core.specs.Text.{endpoint_of, endpoint_text}
 use Rattle.conn_model.specs.declared.event.ConnId.{ConnId}
+use Rattle.conn_model.specs.declared.event.Event.{Event}
 use Rattle.conn_model.specs.declared.event.Happening.{Happening}
 use Rattle.conn_model.specs.declared.event.Happening.TheVariants.{Accepted, Closing}
 use Rattle.conn_model.specs.declared.event.Why.{Why}
 use Rattle.conn_model.specs.declared.event.Why.TheVariants.{Done, Fault, Stopped, Failed}
+use Rattle.conn_model.specs.History.{happening}
 
 -- ---- what is written
 
@@ -102,3 +104,7 @@ at_moment moment event = option_map (λ happening. (moment, happening)) event
 abbrev pub event_of : List (List ℕ) → Option (ℕ × Happening)
 event_of (moment ∷ verb ∷ words) = decimal_of moment 0xFFFF_FFFF_FFFF_FFFF >>= λ number. at_moment number (happening_of verb words)
 event_of words = None
+
+-- the same of an event that was read
+abbrev pub timed_event : ℕ × Event → ℕ × Happening
+timed_event timed = (timed.0, happening timed.1)

@@ -1,7 +1,9 @@
 //! A layer 4 load balancer.
 #![tactic(auto)]
 
+mod fault;
 mod replies;
 mod script;
+mod session;
 
 fn main() {}

@@ -3,7 +3,7 @@ ghost use Rattle.std.specs.Prelude.{◌≡◌, ◌==◌, ◌∷◌, ◌<◌, [],
 ghost use Rattle.std.specs.List.{slice_split};
 ghost use Rattle.std.specs.Str.{bytes_eq};
 ghost use Rattle.conn_model.specs.History.{happening};
-ghost use Rattle.l4proxy.specs.Script.{accept_of, close_of, ends_of, event_of, happening_of, id_of, is_mark, why_of, words_of};
+ghost use Rattle.l4proxy.specs.Script.{accept_of, close_of, ends_of, event_of, happening_of, id_of, is_mark, timed_event, why_of, words_of};
 
 use addr_core::decimal::read_decimal;
 use addr_core::{Pair, read_endpoint};
@@ -114,7 +114,7 @@ fn read_happening(verb: &[u8], rest: &[u8]) -> Option<Event>
 
 /// The moment and the event that a line hands in.
 pub fn read_event(line: &[u8]) -> Option<(u64, Event)>
-    ensures { option_map (λ timed. (timed.0, happening timed.1)) result ≡ event_of (words_of line.now) }
+    ensures { option_map timed_event result ≡ event_of (words_of line.now) }
 {
     let (moment, rest) = cut_word(line)?;
     let (verb, rest) = cut_word(rest)?;

@@ -1,0 +1,71 @@
+-- What a script is answered.
+use Rattle.std.specs.Prelude.{ℕ, Bool, ◌+◌, ◌==◌, ◌||◌, nat_lt, List, [], ◌∷◌, ◌++◌, length, slice_index, Option, Some, None, option_map, Result, Ok, Err, if◌then◌else◌}
+use Rattle.conf_text.specs.Parts.{parts, is_line_feed}
+use Rattle.plan_core.specs.declared.plan.Plan.{Plan}
+use Rattle.conn_model.specs.declared.event.Event.{Event}
+use Rattle.conn_model.specs.declared.event.Happening.{Happening}
+use Rattle.conn_model.specs.declared.plain.Plain.{Plain}
+use Rattle.conn_model.specs.declared.reply.Reply.{Reply}
+use Rattle.conn_model.specs.declared.reply.StepFault.{StepFault}
+use Rattle.conn_model.specs.History.{Entry, answer, entry, opening}
+use Rattle.l4proxy.specs.Script.{event_of, timed_event, words_of}
+use Rattle.l4proxy.specs.Replies.{fault_line, reply_line}
+use Rattle.l4proxy.specs.declared.fault.ReplayFault.{ReplayFault}
+use Rattle.l4proxy.specs.declared.fault.ReplayFault.TheVariants.{Format, TooLong}
+
+-- What comes of a script: the lines of its answers, how many these are, and the fault of the line that ends it, if one does.
+pub record Outcome : Type 0 where
+  pub text : List ℕ
+  pub lines : ℕ
+  pub fault : Option ReplayFault
+
+abbrev pub ended : Option ReplayFault → Outcome
+ended fault = record { text = []; lines = 0; fault = fault }
+
+-- so many answers, before what comes after them
+abbrev pub before_rest : List ℕ → ℕ → Outcome → Outcome
+before_rest text lines rest = record { text = text ++ rest.text; lines = lines + rest.lines; fault = rest.fault }
+
+-- ---- one line
+
+-- a line that is empty or begins with # asks for nothing
+abbrev pub is_skipped : List ℕ → Bool
+is_skipped line = length line == 0 || slice_index line 0 == 0x23
+
+abbrev pub event_at : ℕ → Option (ℕ × Happening) → Result (Option (ℕ × Happening)) ReplayFault
+event_at number None = Err (Format number)
+event_at number (Some timed) = Ok (Some timed)
+
+-- what the line of that number asks for: an answer to an event, or nothing; else what is wrong with it
+abbrev pub asked : ℕ → List ℕ → Result (Option (ℕ × Happening)) ReplayFault
+asked number line =
+    if nat_lt 131200 (length line) || nat_lt 1000000 number then Err (TooLong number)
+    else if is_skipped line then Ok None
+    else event_at number (event_of (words_of line))
+
+-- what was read of a line
+abbrev pub asked_for : Result (Option (ℕ × Event)) ReplayFault → Result (Option (ℕ × Happening)) ReplayFault
+asked_for (Ok timed) = Ok (option_map timed_event timed)
+asked_for (Err fault) = Err fault
+
+-- ---- the lines of a script
+
+-- the answer to an event, and what comes after the history that it leaves
+abbrev pub after_answer : List Entry → ℕ → Happening → Result Reply StepFault → (List Entry → Outcome) → Outcome
+after_answer h moment event (Ok reply) rest = before_rest (reply_line reply) 1 (rest (entry moment event reply ∷ h))
+after_answer h moment event (Err fault) rest = before_rest (fault_line fault) 1 (rest h)
+
+-- what comes of a line, and of the rest
+abbrev pub after_line : Plain → List Entry → Result (Option (ℕ × Happening)) ReplayFault → (List Entry → Outcome) → Outcome
+after_line p h (Err fault) rest = ended (Some fault)
+after_line p h (Ok None) rest = rest h
+after_line p h (Ok (Some timed)) rest = after_answer h timed.0 timed.1 (answer p h timed.0 timed.1) rest
+
+-- What comes of lines, behind a history and so many lines before them. A fault of a step leaves the history as it was.
+abbrev pub outcome : Plain → List Entry → ℕ → List (List ℕ) → Outcome
+outcome p h before [] = ended None
+outcome p h before (line ∷ lines) = after_line p h (asked (before + 1) line) (λ g. outcome p g (before + 1) lines)
+
+-- what comes of a script where a plan is opened
+abbrev pub replayed : Plan → List ℕ → Outcome
+replayed plan script = outcome (opening plan 0) [] 0 (parts is_line_feed script)
