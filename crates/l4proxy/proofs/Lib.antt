@@ -1,2 +1,4 @@
 pub mod SplitLemmas
 pub mod LongLemmas
+pub mod LineLemmas
+pub mod FrontLemmas

@@ -50,18 +50,24 @@ asked_for (Err fault) = Err fault
 
 -- ---- the lines of a script
 
--- the answer to an event, and what comes after the history that it leaves
-abbrev pub after_answer : List Entry → ℕ → Happening → Result Reply StepFault → (List Entry → Outcome) → Outcome
-after_answer h moment event (Ok reply) rest = before_rest (reply_line reply) 1 (rest (entry moment event reply ∷ h))
-after_answer h moment event (Err fault) rest = before_rest (fault_line fault) 1 (rest h)
+-- the line of an answer
+abbrev pub answer_text : Result Reply StepFault → List ℕ
+answer_text (Ok reply) = reply_line reply
+answer_text (Err fault) = fault_line fault
 
--- what comes of a line, and of the rest
+-- the history after an answer: a fault leaves it as it was
+abbrev pub history_after : List Entry → ℕ → Happening → Result Reply StepFault → List Entry
+history_after h moment event (Ok reply) = entry moment event reply ∷ h
+history_after h moment event (Err fault) = h
+
+-- what comes of a line behind a history, and of the rest
 abbrev pub after_line : Plain → List Entry → Result (Option (ℕ × Happening)) ReplayFault → (List Entry → Outcome) → Outcome
 after_line p h (Err fault) rest = ended (Some fault)
 after_line p h (Ok None) rest = rest h
-after_line p h (Ok (Some timed)) rest = after_answer h timed.0 timed.1 (answer p h timed.0 timed.1) rest
+after_line p h (Ok (Some timed)) rest =
+    let answered = answer p h timed.0 timed.1 in before_rest (answer_text answered) 1 (rest (history_after h timed.0 timed.1 answered))
 
--- What comes of lines, behind a history and so many lines before them. A fault of a step leaves the history as it was.
+-- what comes of lines, behind a history and so many lines before them
 abbrev pub outcome : Plain → List Entry → ℕ → List (List ℕ) → Outcome
 outcome p h before [] = ended None
 outcome p h before (line ∷ lines) = after_line p h (asked (before + 1) line) (λ g. outcome p g (before + 1) lines)
