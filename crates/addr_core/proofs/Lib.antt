@@ -1,1 +1,3 @@
+pub mod AddrLemmas
 pub mod DecimalLemmas
+pub mod TextLemmas

@@ -1,5 +1,5 @@
 -- Addresses, endpoints and networks as text.
-use Rattle.std.specs.Prelude.{◌≡◌, ◌⊎◌, ℕ, Bool, not, ◌+◌, ◌*◌, ◌/◌, ◌%◌, ◌^◌, ◌<◌, ◌≤◌, ◌||◌, ◌==◌, nat_eq, nat_lt, slice_index, List, [], ◌∷◌, ◌++◌, length, take, drop, map, codes, Result, Ok, Err, Option, Some, None, if◌then◌else◌}
+use Rattle.std.specs.Prelude.{◌≡◌, ◌⊎◌, ℕ, Bool, not, ◌+◌, ◌*◌, ◌/◌, ◌%◌, ◌^◌, ◌<◌, ◌≤◌, ◌||◌, ◌==◌, nat_eq, nat_lt, slice_index, List, [], ◌∷◌, ◌++◌, length, drop, map, codes, Result, Ok, Err, Option, Some, None, if◌then◌else◌}
 use Rattle.std.specs.List.{join_with_byte, list_all, list_any, slice_split, starts_with}
 use Rattle.std.specs.Option.{ok_or, option_map}
 use Rattle.std.specs.Char.{is_ascii_digit}
@@ -110,8 +110,12 @@ abbrev pub bare_of : Option (List ℕ × List ℕ) → Result Endpoint AddrFault
 bare_of None = Err BadPort
 bare_of (Some parts) = addr_of parts.0 >>= with_port parts.1
 
-unfoldable pub endpoint_of : List ℕ → Result Endpoint AddrFault
-endpoint_of text = Err Empty
+-- the endpoint that a text stands for
+abbrev pub endpoint_of : List ℕ → Result Endpoint AddrFault
+endpoint_of text =
+    if is_empty text then Err Empty
+    else if slice_index text 0 == 91 then bracketed_of (cut (codes "]:") (drop 1 text))
+    else bare_of (cut (codes ":") text)
 
 -- the address with the bits that a text stands for
 abbrev pub with_bits : List ℕ → Addr → Result Prefix AddrFault

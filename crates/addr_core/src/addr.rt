@@ -1,6 +1,7 @@
 //! Addresses and endpoints.
 ghost use Rattle.std.specs.Prelude.{◌≡◌};
 ghost use Rattle.addr_core.specs.Family.{same_family};
+ghost use Rattle.addr_core.specs.Prefix.{width_of};
 
 /// An internet address. The number of an IPv4 address is that of its four octets in network byte
 /// order, so that 127.0.0.1 is 0x7F00_0001 (RFC 791, section 3.2).
@@ -10,6 +11,15 @@ pub enum Addr {
 }
 
 impl Addr {
+    /// How many bits an address of the family has.
+    pub fn width(&self) -> u8
+        ensures { result ≡ width_of self.now }
+    {
+        match *self {
+            Addr::V4(_) => 32,
+        }
+    }
+
     /// Whether both are addresses of IPv4.
     pub fn is_same_family(&self, other: &Addr) -> bool
         ensures { result ≡ same_family self.now other.now }

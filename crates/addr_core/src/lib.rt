@@ -4,10 +4,14 @@
 pub use addr::{Addr, Endpoint};
 pub use net::Net;
 pub use pair::Pair;
-pub use reading::AddrFault;
+pub use reading::{AddrFault, read_addr, read_endpoint, read_net};
+pub use writing::{write_addr, write_endpoint};
 
 mod addr;
 pub mod decimal;
 mod net;
 mod pair;
 mod reading;
+#[cfg(test)]
+mod tests;
+mod writing;

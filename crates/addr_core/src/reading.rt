@@ -1,4 +1,12 @@
 //! Reading addresses, endpoints and networks.
+ghost use Rattle.std.specs.Prelude.{◌≡◌, ◌==◌, ◌+◌, ◌*◌, ◌<◌, ◌↔◌, ◌∷◌, [], length, nat_eq, slice_index, Ok, IfSome, IfNone};
+ghost use Rattle.std.specs.List.{list_any, slice_split, starts_with};
+ghost use Rattle.std.specs.Option.{option_map};
+ghost use Rattle.addr_core.specs.Text.{addr_of, bare_of, bracketed_of, cut, dotted_of, endpoint_of, four_of, in_brackets, is_colon, is_dot, net_in, net_of, octet_of, text_of, with_bits, with_port, endpoint_text, IsAddr, IsEndpoint, IsNet, IsNetText};
+
+use crate::addr::{Addr, Endpoint};
+use crate::decimal::{are_digits, has_leading_zero, number_up_to, read_decimal};
+use crate::net::Net;
 
 /// Why a text stands for no address, endpoint or network.
 #[derive(Clone, Copy, Debug, PartialEq, Eq, PartialOrd, Ord, Hash)]
@@ -17,4 +25,207 @@ pub enum AddrFault {
     BadPrefix,
     /// The port is no decimal number from 0 to 65535, or there is none.
     BadPort,
+}
+
+fn begins_with(text: &[u8], mark: &[u8]) -> bool
+    requires text { 0 < length text.now }
+    requires mark { 0 < length mark.now }
+    ensures { result ≡ starts_with nat_eq text.now mark.now }
+{
+    text[0] == mark[0] && text.starts_with(mark)
+}
+
+/// What stands before the first mark, and what stands after it.
+fn cut<'a>(text: &'a [u8], mark: &[u8]) -> Option<(&'a [u8], &'a [u8])>
+    requires { 0 < length mark.now }
+    ensures { option_map (λ parts. (parts.0.now, parts.1.now)) result ≡ cut mark.now text.now }
+{
+    for at in 0..text.len() {
+        if begins_with(&text[at..], mark) {
+            return Some((&text[..at], &text[at + mark.len()..]));
+        }
+    }
+    None
+}
+
+/// What stands before the first dot, and what stands after it.
+fn cut_part(text: &[u8]) -> Option<(&[u8], &[u8])>
+    ensures some { IfSome result (λ parts. slice_split is_dot text.now ≡ parts.0.now ∷ slice_split is_dot parts.1.now) }
+    ensures none { IfNone result (slice_split is_dot text.now ≡ text.now ∷ []) }
+{
+    cut(text, b".")
+}
+
+fn has_colon(text: &[u8]) -> bool
+    ensures { result ≡ list_any is_colon text.now }
+{
+    text.iter().any(|byte| *byte == b':')
+}
+
+/// The number that a part of an IPv4 address stands for.
+fn octet(part: &[u8]) -> Result<u8, AddrFault>
+    ensures { result ≡ octet_of part.now }
+{
+    if !are_digits(part) {
+        return Err(AddrFault::BadDigit);
+    }
+    if has_leading_zero(part) {
+        return Err(AddrFault::LeadingZero);
+    }
+    match number_up_to(part, 255) {
+        Some(number) => Ok(number as u8),
+        None => Err(AddrFault::OutOfRange),
+    }
+}
+
+fn four(a: &[u8], b: &[u8], c: &[u8], d: &[u8]) -> Result<Addr, AddrFault>
+    ensures { result ≡ four_of a.now b.now c.now d.now }
+{
+    let a = u32::from(octet(a)?);
+    let b = u32::from(octet(b)?);
+    let c = u32::from(octet(c)?);
+    let d = u32::from(octet(d)?);
+    Ok(Addr::V4(((a * 256 + b) * 256 + c) * 256 + d))
+}
+
+fn four_parts(a: &[u8], b: &[u8], c: &[u8], d: &[u8]) -> Result<Addr, AddrFault>
+    ensures { result ≡ dotted_of (a.now ∷ b.now ∷ c.now ∷ d.now ∷ []) }
+{
+    if a.is_empty() || b.is_empty() || c.is_empty() || d.is_empty() {
+        return Err(AddrFault::BadGroups);
+    }
+    four(a, b, c, d)
+}
+
+fn dotted(text: &[u8]) -> Result<Addr, AddrFault>
+    ensures { result ≡ dotted_of (slice_split is_dot text.now) }
+{
+    let Some((a, rest)) = cut_part(text) else {
+        return Err(AddrFault::BadGroups);
+    };
+    let Some((b, rest)) = cut_part(rest) else {
+        return Err(AddrFault::BadGroups);
+    };
+    let Some((c, d)) = cut_part(rest) else {
+        return Err(AddrFault::BadGroups);
+    };
+    match cut_part(d) {
+        Some(_) => Err(AddrFault::BadGroups),
+        None => four_parts(a, b, c, d),
+    }
+}
+
+fn addr_in(text: &[u8]) -> Result<Addr, AddrFault>
+    ensures { result ≡ addr_of text.now }
+{
+    if text.is_empty() {
+        return Err(AddrFault::Empty);
+    }
+    if has_colon(text) {
+        return Err(AddrFault::BadGroups);
+    }
+    dotted(text)
+}
+
+fn with_port(text: &[u8], addr: Addr) -> Result<Endpoint, AddrFault>
+    ensures { result ≡ with_port text.now addr }
+{
+    match read_decimal(text, 65535) {
+        Some(port) => Ok(Endpoint {
+            addr,
+            port: port as u16,
+        }),
+        None => Err(AddrFault::BadPort),
+    }
+}
+
+fn in_brackets(addr: Addr) -> Result<Addr, AddrFault>
+    ensures { result ≡ in_brackets addr }
+{
+    match addr {
+        Addr::V4(_) => Err(AddrFault::BadGroups),
+    }
+}
+
+fn bracketed(text: &[u8]) -> Result<Endpoint, AddrFault>
+    ensures { result ≡ bracketed_of (cut (93 ∷ 58 ∷ []) text.now) }
+{
+    let Some((addr, port)) = cut(text, b"]:") else {
+        return Err(AddrFault::BadPort);
+    };
+    with_port(port, in_brackets(addr_in(addr)?)?)
+}
+
+fn bare(text: &[u8]) -> Result<Endpoint, AddrFault>
+    ensures { result ≡ bare_of (cut (58 ∷ []) text.now) }
+{
+    let Some((addr, port)) = cut(text, b":") else {
+        return Err(AddrFault::BadPort);
+    };
+    with_port(port, addr_in(addr)?)
+}
+
+fn endpoint_in(text: &[u8]) -> Result<Endpoint, AddrFault>
+    ensures { result ≡ endpoint_of text.now }
+{
+    if text.is_empty() {
+        return Err(AddrFault::Empty);
+    }
+    if text[0] == b'[' {
+        return bracketed(&text[1..]);
+    }
+    bare(text)
+}
+
+fn with_bits(text: &[u8], addr: Addr) -> Result<Net, AddrFault>
+    ensures { result ≡ with_bits text.now addr }
+{
+    match read_decimal(text, u64::from(addr.width())) {
+        Some(bits) => Ok(Net::of(addr, bits as u8)),
+        None => Err(AddrFault::BadPrefix),
+    }
+}
+
+fn net_in(text: &[u8]) -> Result<Net, AddrFault>
+    ensures { result ≡ net_of text.now }
+{
+    match cut(text, b"/") {
+        Some((addr, bits)) => with_bits(bits, addr_in(addr)?),
+        None => {
+            let addr = addr_in(text)?;
+            Ok(Net::of(addr, addr.width()))
+        }
+    }
+}
+
+/// The address of a text in dotted decimal, as `127.0.0.1`. No part has a 0 before another digit,
+/// which some readers take for octal.
+pub fn read_addr(text: &[u8]) -> Result<Addr, AddrFault>
+    ensures exact { result ≡ addr_of text.now }
+
+    // An address is what is read of its own text, and of no other.
+    ensures stands { (addr : Addr) → IsAddr addr → (result ≡ Ok addr) ↔ (text.now ≡ text_of addr) }
+{
+    addr_in(text)
+}
+
+/// The endpoint of a text as `127.0.0.1:80`, as HAProxy's keywords `bind` and `server` take it.
+pub fn read_endpoint(text: &[u8]) -> Result<Endpoint, AddrFault>
+    ensures exact { result ≡ endpoint_of text.now }
+
+    // An endpoint is what is read of its own text, and of no other.
+    ensures stands { (endpoint : Endpoint) → IsEndpoint endpoint →
+        (result ≡ Ok endpoint) ↔ (text.now ≡ endpoint_text endpoint) }
+{
+    endpoint_in(text)
+}
+
+/// The network of a text as `10.0.0.0/8` (RFC 4632, section 3.1), or of one address.
+pub fn read_net(text: &[u8]) -> Result<Net, AddrFault>
+    ensures exact { result ≡ net_of text.now }
+
+    // A network is what is read of its own text, with or without the bits of one address.
+    ensures stands { (net : Net) → IsNet net → (result ≡ Ok net) ↔ IsNetText text.now net }
+{
+    net_in(text)
 }

@@ -1,0 +1,89 @@
+//! Writing addresses and endpoints.
+ghost use Rattle.std.specs.Prelude.{◌≡◌, ◌+◌, ◌^◌, ◌<◌, ◌≤◌, ◌∷◌, ◌++◌, [], length, map, Ok};
+ghost use Rattle.std.specs.List.{join_with_byte};
+ghost use Rattle.addr_core.specs.Decimal.{decimal};
+ghost use Rattle.addr_core.specs.Text.{addr_of, endpoint_of, endpoint_text, octets_of, text_of, IsAddr, IsEndpoint};
+
+use crate::addr::{Addr, Endpoint};
+use crate::decimal::push_decimal;
+use arrayvec::ArrayString;
+
+fn push_octet(text: &mut ArrayString<39>, octet: u8)
+    requires { length text.old.bytes + 3 ≤ 39 }
+    ensures bytes { text.new.bytes ≡ text.old.bytes ++ decimal octet }
+    ensures room { length text.new.bytes ≤ length text.old.bytes + 3 }
+{
+    push_decimal(text, u64::from(octet));
+}
+
+fn push_dot(text: &mut ArrayString<39>)
+    requires { length text.old.bytes < 39 }
+    ensures bytes { text.new.bytes ≡ text.old.bytes ++ 46 ∷ [] }
+    ensures room { length text.new.bytes ≡ length text.old.bytes + 1 }
+{
+    text.push('.');
+}
+
+fn dotted(number: u32) -> ArrayString<39>
+    ensures text { result.bytes ≡ join_with_byte 46 (map decimal (octets_of number)) }
+    ensures number { number < 2 ^ 32 }
+{
+    let mut text = ArrayString::new();
+    push_octet(&mut text, (number >> 24) as u8);
+    push_dot(&mut text);
+    push_octet(&mut text, ((number >> 16) % 256) as u8);
+    push_dot(&mut text);
+    push_octet(&mut text, ((number >> 8) % 256) as u8);
+    push_dot(&mut text);
+    push_octet(&mut text, (number % 256) as u8);
+    text
+}
+
+fn addr_text(addr: &Addr) -> ArrayString<39>
+    ensures text { result.bytes ≡ text_of addr.now }
+    ensures addr { IsAddr addr.now }
+{
+    match *addr {
+        Addr::V4(number) => dotted(number),
+    }
+}
+
+/// The address as text: an IPv4 address in dotted decimal, as `127.0.0.1`.
+pub fn write_addr(addr: &Addr) -> ArrayString<39>
+    ensures text { result.bytes ≡ text_of addr.now }
+
+    // What is written is read again.
+    ensures read_again { addr_of result.bytes ≡ Ok addr.now }
+{
+    addr_text(addr)
+}
+
+fn push_port(text: &mut ArrayString<47>, port: u16)
+    requires { length text.old.bytes + 6 ≤ 47 }
+    ensures text { text.new.bytes ≡ text.old.bytes ++ 58 ∷ decimal port }
+    ensures port { port < 2 ^ 16 }
+{
+    text.push(':');
+    push_decimal(text, u64::from(port));
+}
+
+fn endpoint_text(endpoint: &Endpoint) -> ArrayString<47>
+    ensures text { result.bytes ≡ endpoint_text endpoint.now }
+    ensures endpoint { IsEndpoint endpoint.now }
+{
+    let addr = addr_text(&endpoint.addr);
+    let mut text = ArrayString::new();
+    text.push_str(addr.as_str());
+    push_port(&mut text, endpoint.port);
+    text
+}
+
+/// The endpoint as text: the address, a colon and the port, as `127.0.0.1:80`.
+pub fn write_endpoint(endpoint: &Endpoint) -> ArrayString<47>
+    ensures text { result.bytes ≡ endpoint_text endpoint.now }
+
+    // What is written is read again.
+    ensures read_again { endpoint_of result.bytes ≡ Ok endpoint.now }
+{
+    endpoint_text(endpoint)
+}
