@@ -1,5 +1,5 @@
 -- Fronts of what is written.
-use Rattle.std.proofs.Common.{◌≡◌, ℕ, ◌<◌, List, ◌++◌, length, take, drop, Option, Some, None, refl, ap, sym, ◌∙◌, append_assoc, arith}
+use Rattle.std.proofs.Common.{◌≡◌, ℕ, ◌<◌, List, ◌++◌, length, take, drop, Option, Some, None, refl, ap, subst, sym, ◌∙◌, append_assoc, arith}
 use Rattle.std.proofs.lemmas.List.{take-append-drop}
 use Rattle.std.specs.Io.KnownBytes.{Appends}
 use Rattle.l4proxy.specs.Standing.{IsFront}
@@ -20,4 +20,6 @@ pub front_written : (old new : Option (List ℕ)) (unsent : List ℕ) → ((n : 
     → IsFront new (sent ++ unsent ++ rest)
 front_written None new unsent part sent rest is = cc
 front_written (Some held) new unsent part sent rest is =
-    let same : held ≡ sent = cc in rw same at appended held new unsent rest part.0 part.2
+    let same : held ≡ sent = cc in
+    let added : Appends (Some sent) new (take part.0 unsent) = subst (λ xs. Appends (Some xs) new (take part.0 unsent)) same part.2 in
+    appended sent new unsent rest part.0 added

@@ -2,3 +2,4 @@ pub mod SplitLemmas
 pub mod LongLemmas
 pub mod LineLemmas
 pub mod FrontLemmas
+pub mod GoesLemmas

@@ -2,6 +2,7 @@
 use Rattle.std.proofs.Common.{◌≡◌, ℕ, zero, suc, ◌+◌, ◌-◌, ◌<◌, ◌≤◌, Bool, true, false, List, [], ◌∷◌, ◌++◌, length, take, drop, refl, ap, sym, ◌∙◌, arith, length-drop}
 use Rattle.std.specs.Prelude.{slice_index}
 use Rattle.std.proofs.lemmas.Grind.{common_steps}
+use Rattle.std.proofs.lemmas.List.{drop-drop}
 use native.Mathlib.Numerals.{unary_clauses}
 use Rattle.memchr.specs.Find.{Nowhere, Passes}
 use Rattle.conf_text.specs.Parts.{parts, onto_first}
@@ -44,3 +45,10 @@ unended ends (b ∷ text) none more =
     let differs : ends b ≡ false = is_not (ends b) (none 0 (omega arith) (omega arith)) in
     let rest : parts ends (text ++ more) ≡ onto text (parts ends more) = unended ends text (λ k low high. none (suc k) (omega arith) (omega arith)) more in
     rw differs (ap (onto_first b) rest)
+
+-- the rest of a rest
+pub rest_again : (text rest more : List ℕ) → rest ≡ drop (length text - length rest) text → length rest ≤ length text → more ≡ drop (length rest - length more) rest
+    → length more < length rest → more ≡ drop (length text - length more) text
+rest_again text rest more behind within next less =
+    next ∙ ap (λ xs. drop (length rest - length more) xs) behind
+    ∙ drop-drop (length rest - length more) (length text - length rest) text ∙ ap (λ k. drop k text) (let k : length text - length rest + (length rest - length more) ≡ length text - length more = omega arith in k)

@@ -5,7 +5,7 @@ ghost use Rattle.conn_model.specs.Answer.{answer_in};
 ghost use Rattle.conn_model.specs.History.{happening};
 ghost use Rattle.l4proxy.specs.Replay.{answer_text, asked, asked_for, ended};
 ghost use Rattle.l4proxy.specs.Turns.{plain_after};
-ghost use Rattle.l4proxy.specs.Standing.{total, total_of_lines, Ends, GaveUp, Goes, IsFrontOf, IsLineFault, IsUnended};
+ghost use Rattle.l4proxy.specs.Standing.{total, total_of_lines, Ends, GaveUp, Goes, Halts, IsFrontOf, IsLineFault, IsUnended};
 
 use crate::fault::ReplayFault;
 use crate::replies::{write_fault, write_reply};
@@ -155,5 +155,27 @@ impl Session {
             return Ok(());
         }
         self.send(writer)
+    }
+
+    /// Answers the lines that end in the text, and says how many bytes these are.
+    pub fn answer_lines<O: Output>(
+        &mut self,
+        text: &[u8],
+        writer: &mut O,
+    ) -> Result<usize, ReplayFault>
+        ensures ok { IfOk result (λ done. (sent : List ℕ) → O.held writer.old ≡ Some sent → Goes sent self.old text.now (O.held writer.new) self.new (drop done text.now)) }
+        ensures within { IfOk result (λ done. done ≤ length text.now) }
+        ensures unended { IfOk result (λ done. IsUnended (drop done text.now)) }
+        ensures failures { OnOk result (O.failures writer.new ≡ O.failures writer.old) }
+        ensures halts { IfErr result (λ f. (sent : List ℕ) → O.held writer.old ≡ Some sent → Halts sent self.old text.now (O.held writer.new) self.new f) }
+        ensures gave_up { result ≡ Err ReplayFault.Write → GaveUp (O.failures writer.old) (O.failures writer.new) (O.stalls writer.new) }
+    {
+        let mut rest = text;
+        while let Some((line, more)) = cut_line(rest) {
+            self.answer_line(line)?;
+            self.send_many(writer)?;
+            rest = more;
+        }
+        Ok(text.len() - rest.len())
     }
 }
