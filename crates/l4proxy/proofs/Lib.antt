@@ -3,3 +3,5 @@ pub mod LongLemmas
 pub mod LineLemmas
 pub mod FrontLemmas
 pub mod GoesLemmas
+pub mod CarryLemmas
+pub mod ReachedLemmas

@@ -3,3 +3,4 @@ pub mod Replies
 pub mod Replay
 pub mod Turns
 pub mod Standing
+pub mod Reading

@@ -2,6 +2,7 @@
 #![tactic(auto)]
 
 mod fault;
+mod reading;
 mod replies;
 mod script;
 mod session;

@@ -82,7 +82,7 @@ fn answer(
 }
 
 /// The first line that ends in the text, and what stands after it.
-fn cut_line(text: &[u8]) -> Option<(&[u8], &[u8])>
+pub fn cut_line(text: &[u8]) -> Option<(&[u8], &[u8])>
     ensures line { IfSome result (λ cut. (more : List ℕ) → parts is_line_feed (text.now ++ more) ≡ cut.0.now ∷ parts is_line_feed (cut.1.now ++ more)) }
     ensures rest { IfSome result (λ cut. cut.1.now ≡ drop (length text.now - length cut.1.now) text.now) }
     ensures less { IfSome result (λ cut. length cut.1.now < length text.now) }
@@ -108,10 +108,17 @@ impl Session {
         }
     }
 
+    /// The number of the next line.
+    pub fn next_line(&self) -> u64
+        ensures { result ≡ self.now.before + 1 }
+    {
+        self.before + 1
+    }
+
     /// Answers one line.
-    fn answer_line(&mut self, line: &[u8]) -> Result<(), ReplayFault>
+    pub fn answer_line(&mut self, line: &[u8]) -> Result<(), ReplayFault>
         ensures ok { OnOk result ((sent : List ℕ) (more : List (List ℕ)) → total_of_lines sent self.new more ≡ total_of_lines sent self.old (line.now ∷ more)) }
-        ensures err { IfErr result (λ f. (f ≡ ReplayFault.NoMemory) ⊎ (IsLineFault f × (self.new ≡ self.old)
+        ensures err { IfErr result (λ f. (f ≡ ReplayFault.NoMemory) ⊎ (IsLineFault f
             × ((sent : List ℕ) (more : List (List ℕ)) → total sent self.new (ended (Some f)) ≡ total_of_lines sent self.old (line.now ∷ more)))) }
     {
         match read_line(self.before + 1, line)? {
