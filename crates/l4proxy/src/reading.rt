@@ -25,7 +25,8 @@ fn carry_on(session: &Session, carry: &mut Vec<u8>, rest: &[u8]) -> Result<(), R
     ensures ok { OnOk result (carry.new.items ≡ carry.old.items ++ rest.now) }
     ensures halts { IfErr result (λ f. (sent : List ℕ) (held : Option (List ℕ)) → held ≡ Some sent →
         Halts sent session.now (carry.old.items ++ rest.now) held session.now f) }
-    ensures err { result ≢ Err ReplayFault.Write }
+    ensures not_write { result ≢ Err ReplayFault.Write }
+    ensures not_read { result ≢ Err ReplayFault.Read }
 {
     if carry.len().saturating_add(rest.len()) > 131_200 {
         return Err(ReplayFault::TooLong(session.next_line()));
@@ -63,6 +64,7 @@ fn answer_block<O: Output>(
     ensures halts { IfErr result (λ f. (sent : List ℕ) → O.held writer.old ≡ Some sent →
         Halts sent session.old (carry.old.items ++ block.now) (O.held writer.new) session.new f) }
     ensures gave_up { result ≡ Err ReplayFault.Write → GaveUp (O.failures writer.old) (O.failures writer.new) (O.stalls writer.new) }
+    ensures not_read { result ≢ Err ReplayFault.Read }
 {
     match cut_line(block) {
         None => carry_on(session, carry, block),

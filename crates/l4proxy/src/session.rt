@@ -1,5 +1,5 @@
 //! A replay as far as it has come.
-ghost use Rattle.std.specs.Prelude.{◌≡◌, ◌⊎◌, ◌+◌, ◌-◌, ◌<◌, ◌≤◌, ◌++◌, ◌∷◌, ℕ, List, [], length, drop, Some, None, Ok, Err, OnOk, OnErr, IfOk, IfErr, IfSome, IfNone};
+ghost use Rattle.std.specs.Prelude.{◌≡◌, ◌≢◌, ◌⊎◌, ◌+◌, ◌-◌, ◌<◌, ◌≤◌, ◌++◌, ◌∷◌, ℕ, List, [], length, drop, Some, None, Ok, Err, OnOk, OnErr, IfOk, IfErr, IfSome, IfNone};
 ghost use Rattle.conf_text.specs.Parts.{parts, is_line_feed};
 ghost use Rattle.conn_model.specs.Answer.{answer_in};
 ghost use Rattle.conn_model.specs.History.{happening};
@@ -176,6 +176,7 @@ impl Session {
         ensures failures { OnOk result (O.failures writer.new ≡ O.failures writer.old) }
         ensures halts { IfErr result (λ f. (sent : List ℕ) → O.held writer.old ≡ Some sent → Halts sent self.old text.now (O.held writer.new) self.new f) }
         ensures gave_up { result ≡ Err ReplayFault.Write → GaveUp (O.failures writer.old) (O.failures writer.new) (O.stalls writer.new) }
+        ensures not_read { result ≢ Err ReplayFault.Read }
     {
         let mut rest = text;
         while let Some((line, more)) = cut_line(rest) {

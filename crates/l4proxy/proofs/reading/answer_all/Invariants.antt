@@ -12,7 +12,7 @@ invariant-loop-session g l = record {
   writes : g.O.Output.failures l.writer ≡ g.O.Output.failures l.initial.writer;
   unended : IsUnended l.carry.items;
   reached : (script sent : List ℕ) → g.I.Input.left l.initial.reader ≡ Some script → g.O.Output.held l.initial.writer ≡ Some sent →
-    Reached sent l.initial.session script (g.I.Input.left l.reader) (g.O.Output.held l.writer) l.session l.carry.items;
+      Reached sent l.initial.session script (g.I.Input.left l.reader) (g.O.Output.held l.writer) l.session l.carry.items;
 }
 
 abbrev pub decreases-loop-session : goal.decreases-loop-session

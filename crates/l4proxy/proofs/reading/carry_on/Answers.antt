@@ -13,14 +13,14 @@ returns-then-saturating_add-gt131200-clause-halts c =
       now = sent;
       is_held = is;
       same = λ more. ap (total sent c.args.session.now)
-        (rw c.next_line.ensures (too_long c.args.session.now.plain c.args.session.now.before (c.args.carry.now.items ++ c.args.rest.now) c.requires long more));
+          (rw c.next_line.ensures (too_long c.args.session.now.plain c.args.session.now.before (c.args.carry.now.items ++ c.args.rest.now) c.requires long more));
     }
 
 pub returns-clause-halts : goal.returns-clause-halts
 returns-clause-halts c =
     IfErr-weaker c.append.result _ _
     (λ fault none sent held is.
-      halts_memory sent c.args.session.now (c.args.carry.now.items ++ c.args.rest.now) held c.args.session.now fault none
-      (front_goes sent c.args.session.now (c.args.carry.now.items ++ c.args.rest.now) held c.args.session.now (c.args.carry.now.items ++ c.args.rest.now)
-        (goes_start sent c.args.session.now (c.args.carry.now.items ++ c.args.rest.now) held is)))
+    halts_memory sent c.args.session.now (c.args.carry.now.items ++ c.args.rest.now) held c.args.session.now fault none
+    (front_goes sent c.args.session.now (c.args.carry.now.items ++ c.args.rest.now) held c.args.session.now (c.args.carry.now.items ++ c.args.rest.now)
+    (goes_start sent c.args.session.now (c.args.carry.now.items ++ c.args.rest.now) held is)))
     c.append.ensures.err

@@ -15,8 +15,8 @@ returns-in_err-send_many-clause-halts g c =
     let p = err_from_is_err_and c.from_residual-in_err-send_many.result c.from_residual-in_err-send_many.ensures.1 in
     rw (p.1, p.2)
     (λ sent is.
-      halts_write _ _ _ _ _ _ c.in_err-send_many.ensures.err
-      (front_sent _ _ _ _ _ _ _ (goes_line _ _ _ _ _ _ _ _ c.in-Some.more.now (c.loop-line.invariant.goes sent is) c.in-Some.ensures.line c.in_ok-answer_line.ensures.ok) c.in_err-send_many.ensures.front))
+    halts_write _ _ _ _ _ _ c.in_err-send_many.ensures.err
+    (front_sent _ _ _ _ _ _ _ (goes_line _ _ _ _ _ _ _ _ c.in-Some.more.now (c.loop-line.invariant.goes sent is) c.in-Some.ensures.line c.in_ok-answer_line.ensures.ok) c.in_err-send_many.ensures.front))
 
 pub loop-line-preserved : goal.loop-line-preserved
 loop-line-preserved g c =
