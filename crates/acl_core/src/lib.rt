@@ -3,6 +3,8 @@
 
 pub use condition::{Condition, Term, Test};
 pub use criterion::{Criterion, Pattern, Value, View};
+pub use fault::AclFault;
 
 mod condition;
 mod criterion;
+mod fault;

@@ -8,7 +8,7 @@ abbrev pub digits_in : ℕ → ℕ → List ℕ
 digits_in zero number = (48 + number) ∷ []
 digits_in (suc more) number = if nat_lt number 10 then (48 + number) ∷ [] else digits_in more (number / 10) ++ (48 + number % 10) ∷ []
 
--- a number in decimal, with no leading zero
+-- a number in decimal, with no leading zero. None has more digits beside the last than its own number
 unfoldable pub decimal : ℕ → List ℕ
 decimal number = digits_in number number
 

@@ -18,7 +18,7 @@ use Rattle.addr_core.specs.declared.reading.AddrFault.TheVariants.{Empty, BadDig
 abbrev pub octets_of : ℕ → List ℕ
 octets_of number = (number / 2 ^ 24) ∷ (number / 2 ^ 16 % 2 ^ 8) ∷ (number / 2 ^ 8 % 2 ^ 8) ∷ (number % 2 ^ 8) ∷ []
 
--- an IPv4 address in dotted decimal
+-- an IPv4 address in dotted decimal: 46 is the dot
 abbrev pub text_of : Addr → List ℕ
 text_of (V4 number) = join_with_byte 46 (map decimal (octets_of number))
 
@@ -51,6 +51,10 @@ is_dot byte = byte == 46
 
 abbrev pub is_colon : ℕ → Bool
 is_colon byte = byte == 58
+
+-- whether an address in brackets begins there
+abbrev pub begins_bracket : List ℕ → Bool
+begins_bracket text = slice_index text 0 == 91
 
 abbrev pub is_empty : List ℕ → Bool
 is_empty text = length text == 0
@@ -114,7 +118,7 @@ bare_of (Some parts) = addr_of parts.0 >>= with_port parts.1
 abbrev pub endpoint_of : List ℕ → Result Endpoint AddrFault
 endpoint_of text =
     if is_empty text then Err Empty
-    else if slice_index text 0 == 91 then bracketed_of (cut (codes "]:") (drop 1 text))
+    else if begins_bracket text then bracketed_of (cut (codes "]:") (drop 1 text))
     else bare_of (cut (codes ":") text)
 
 -- the address with the bits that a text stands for

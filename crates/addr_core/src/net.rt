@@ -4,8 +4,8 @@ ghost use Rattle.std.specs.Prelude.{◌≡◌, ◌≤◌};
 use crate::addr::Addr;
 use std::marker::Model;
 
-/// The addresses that agree with one in its first bits, as RFC 4632 (section 3.1) writes them:
-/// 10.0.0.0/8. The bits of `addr` after those do not count.
+/// The addresses that agree with one in its first bits, as 10.0.0.0/8 (RFC 4632, section 3.1; RFC 4291,
+/// section 2.3). The bits of `addr` after those do not count.
 #[derive(Clone, Copy, Debug, PartialEq, Eq)]
 pub struct Net {
     addr: Addr,

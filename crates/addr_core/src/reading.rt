@@ -198,8 +198,8 @@ fn net_in(text: &[u8]) -> Result<Net, AddrFault>
     }
 }
 
-/// The address of a text in dotted decimal, as `127.0.0.1`. No part has a 0 before another digit,
-/// which some readers take for octal.
+/// The address of a text in dotted decimal, as `127.0.0.1`: the rule `IPv4address` of RFC 3986, section
+/// 3.2.2. No part has a 0 before another digit, which some readers take for octal.
 pub fn read_addr(text: &[u8]) -> Result<Addr, AddrFault>
     ensures exact { result ≡ addr_of text.now }
 
@@ -209,7 +209,8 @@ pub fn read_addr(text: &[u8]) -> Result<Addr, AddrFault>
     addr_in(text)
 }
 
-/// The endpoint of a text as `127.0.0.1:80`, as HAProxy's keywords `bind` and `server` take it.
+/// The endpoint of a text as `127.0.0.1:80`, the form of an address with its port in HAProxy's keywords
+/// `bind` and `server`. Brackets stand round an address of IPv6 (RFC 3986, section 3.2.2).
 pub fn read_endpoint(text: &[u8]) -> Result<Endpoint, AddrFault>
     ensures exact { result ≡ endpoint_of text.now }
 
@@ -220,7 +221,8 @@ pub fn read_endpoint(text: &[u8]) -> Result<Endpoint, AddrFault>
     endpoint_in(text)
 }
 
-/// The network of a text as `10.0.0.0/8` (RFC 4632, section 3.1), or of one address.
+/// The network of a text as `10.0.0.0/8` (RFC 4632, section 3.1; RFC 4291, section 2.3), or of one
+/// address, as a value of HAProxy's `src`.
 pub fn read_net(text: &[u8]) -> Result<Net, AddrFault>
     ensures exact { result ≡ net_of text.now }
 

@@ -56,6 +56,11 @@ impl LineKind {
 
 /// The kind's name.
 impl fmt::Display for LineKind {
+    ghost use Rattle.std.specs.Prelude.{Some};
+    ghost use Rattle.conf_text.specs.Names.{name_of};
+
+    ghost output = { λ k. Some (name_of k) };
+
     fn fmt<W: fmt::Write>(&self, f: &mut fmt::Formatter<W>) -> fmt::Result {
         f.write_str(self.name())
     }
@@ -63,6 +68,11 @@ impl fmt::Display for LineKind {
 
 /// As `line 3: Quoting`.
 impl fmt::Display for LineFault {
+    ghost use Rattle.std.specs.Prelude.{Some};
+    ghost use Rattle.conf_text.specs.Names.{fault_text};
+
+    ghost output = { λ f. Some (fault_text f) };
+
     fn fmt<W: fmt::Write>(&self, f: &mut fmt::Formatter<W>) -> fmt::Result {
         write!(f, "line {}: {}", self.line, self.kind)
     }

@@ -128,11 +128,11 @@ ends_that number serial said id says is =
 
 -- Serials that were given out.
 
-given_more : (a b : ℕ) (rows : List Row) → a ≤ b → AreGiven a rows → AreGiven b rows
+pub given_more : (a b : ℕ) (rows : List Row) → a ≤ b → AreGiven a rows → AreGiven b rows
 given_more a b [] le given = tt
 given_more a b (row ∷ rows) le given = (omega (arith, given.0, le), given_more a b rows le given.1)
 
-given_append : (a : ℕ) (xs ys : List Row) → AreGiven a xs → AreGiven a ys → AreGiven a (xs ++ ys)
+pub given_append : (a : ℕ) (xs ys : List Row) → AreGiven a xs → AreGiven a ys → AreGiven a (xs ++ ys)
 given_append a [] ys one two = two
 given_append a (x ∷ xs) ys one two = (one.0, given_append a xs ys one.1 two)
 

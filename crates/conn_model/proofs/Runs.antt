@@ -59,13 +59,10 @@ ran_more p h es rs old new e (Err f) well ran reply fault same =
     let kept = told-err p h es rs e f ran.0 in
     (answers-err p h es rs e f ran.0 (fault p (told h es rs) ran.2), subst (λ g. IsLegal p g) (sym kept) ran.1, same ∙ ran.2 ∙ ap (λ g. after p g) (sym kept))
 
--- what stands past the end of a list of events
-abbrev pub no_event : ℕ × Event
-no_event = (0, Accept 0 (record { source = record { addr = V4 0; port = 0 }; destination = record { addr = V4 0; port = 0 } }))
-
-pub ran_on : (p : Plain) (h : List Entry) (es : List (ℕ × Event)) (i : ℕ) (rs rs' : List (Result Reply StepFault)) (old new : Plain) (r : Result Reply StepFault) → i < length es → rs' ≡ rs ++ r ∷ [] → IsWell p → Ran p h (take i es) rs old →
-    IfOk r (λ s. (p : Plain) (h : List Entry) → IsWell p → IsLegal p h → old ≡ after p h → (answer p h (get_or es i no_event).0 (happening (get_or es i no_event).1) ≡ Ok s) × (new ≡ after p (entry (get_or es i no_event).0 (happening (get_or es i no_event).1) s ∷ h))) →
-    IfErr r (λ f. (p : Plain) (h : List Entry) → old ≡ after p h → (f ≡ NoMemory) ⊎ (answer p h (get_or es i no_event).0 (happening (get_or es i no_event).1) ≡ Err f)) →
+pub ran_on : (p : Plain) (h : List Entry) (es : List (ℕ × Event)) (i : ℕ) (e : ℕ × Event) (rs rs' : List (Result Reply StepFault)) (old new : Plain) (r : Result Reply StepFault) →
+    take (i + 1) es ≡ take i es ++ e ∷ [] → rs' ≡ rs ++ r ∷ [] → IsWell p → Ran p h (take i es) rs old →
+    IfOk r (λ s. (p : Plain) (h : List Entry) → IsWell p → IsLegal p h → old ≡ after p h → (answer p h e.0 (happening e.1) ≡ Ok s) × (new ≡ after p (entry e.0 (happening e.1) s ∷ h))) →
+    IfErr r (λ f. (p : Plain) (h : List Entry) → old ≡ after p h → (f ≡ NoMemory) ⊎ (answer p h e.0 (happening e.1) ≡ Err f)) →
     OnErr r (new ≡ old) → Ran p h (take (i + 1) es) rs' new
-ran_on p h es i rs rs' old new r lt pushed well ran reply fault same =
-    rw (pushed, take_more es i no_event lt) (ran_more p h (take i es) rs old new (get_or es i no_event) r well ran reply fault same)
+ran_on p h es i e rs rs' old new r more pushed well ran reply fault same =
+    rw (pushed, more) (ran_more p h (take i es) rs old new e r well ran reply fault same)

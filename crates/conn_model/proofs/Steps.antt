@@ -2,7 +2,7 @@
 use Rattle.std.proofs.Common.{◌≡◌, ◌≢◌, ℕ, zero, suc, ◌+◌, ◌<◌, Bool, true, false, not, ◌||◌, cond, eqb, List, [], ◌∷◌, ◌++◌, Some, None, refl, ◌∙◌, sym, ap, arith, max, get_or}
 use Rattle.std.proofs.lemmas.List.Elements.{filter-append, filter_agree}
 use Rattle.std.proofs.lemmas.List.{append-nil}
-use Rattle.std.specs.Prelude.{slice_get, slice_set, ◌==◌, filter, Option}
+use Rattle.std.specs.Prelude.{slice_get, slice_set, ◌==◌, filter, is_some, Option, option_to_list, IfSome}
 use Rattle.std.proofs.lemmas.Bool.Decides.{nat_tests}
 use Rattle.addr_core.specs.Ends.{Ends}
 use Rattle.conn_model.specs.declared.plain.Row.{Row}
@@ -17,7 +17,8 @@ use Rattle.conn_model.specs.declared.reply.Said.TheVariants.{Offer, Refuse, Clos
 use Rattle.conn_model.specs.declared.reply.Reply.{Reply}
 use Rattle.conn_model.specs.Words.{newest, AreGiven}
 use Rattle.conn_model.specs.Answer.{saying, row_in}
-use Rattle.conn_model.specs.History.{id_of, is_of, ends, kept, kept_by, lane_after, after, entry}
+use Rattle.conn_model.specs.declared.plain.Phase.TheVariants.{Offered}
+use Rattle.conn_model.specs.History.{identity_of, id_of, is_of, ends, kept, kept_by, lane_after, after, entry}
 use Rattle.conn_model.proofs.Numbered.{map_from-one, filter-every}
 
 -- what a reply to another connection ends is not this one
@@ -126,7 +127,29 @@ after-closed p moment id why lane there =
     (λ g y differs. close_elsewhere g p moment id why y (λ e. differs (omega arith))))
 
 -- where a connection is open, its frontend is there
-pub lane_there : (lanes : List Lane) (number serial : ℕ) (lane : Lane) (row : Row) → row_in serial (slice_get lanes number) ≡ Some row → lane ≡ get_or lanes number lane → slice_get lanes number ≡ Some lane
-lane_there [] number serial lane row found read = cc
-lane_there (l ∷ lanes) zero serial lane row found read = ap (λ x. Some x) (sym read)
-lane_there (l ∷ lanes) (suc number) serial lane row found read = lane_there lanes number serial lane row found read
+pub lane_there : (lanes : List Lane) (number serial : ℕ) (lane : Lane) → is_some (row_in serial (slice_get lanes number)) ≡ true → lane ≡ get_or lanes number lane → slice_get lanes number ≡ Some lane
+lane_there [] number serial lane found read = cc
+lane_there (l ∷ lanes) zero serial lane found read = ap (λ x. Some x) (sym read)
+lane_there (l ∷ lanes) (suc number) serial lane found read = lane_there lanes number serial lane found read
+
+-- the row that an accept leaves has the serial of its connection
+kept_serial : (version : Version) (clock : ℕ) (real : Ends) (reply : Reply) (said : Said) (row : Row) (id : ConnId) → row ∷ [] ≡ kept version clock real reply said → id_of said ≡ Some id → row.serial ≡ id.serial
+kept_serial version clock real reply (Offer id' used line server to judged send) row id is says =
+    let same : id' ≡ id = cc in
+    let left : row ≡ record {
+      serial = id'.serial;
+      version = version.number;
+      real = real;
+      accepted = clock;
+      phase = Offered (record { server = identity_of version.plan line server to; line = line; judged = judged });
+      tracks = reply.tracks.items;
+    } = cc in
+    ap (λ r. r.serial) left ∙ ap (λ i. i.serial) same
+kept_serial version clock real reply (Refuse id' used cause) row id is says = absurd (cc)
+kept_serial version clock real reply (Closed id' why) row id is says = absurd (cc)
+
+pub left_serial : (version : Option Version) (clock : ℕ) (real : Ends) (reply : Reply) (row : Option Row) (id : ConnId) (n : ℕ) →
+    option_to_list row ≡ kept_by version clock real reply → id_of reply.said ≡ Some id → id.serial ≡ n → IfSome row (λ r. r.serial ≡ n)
+left_serial version clock real reply None id n is says next = tt
+left_serial None clock real reply (Some row) id n is says next = absurd (cc)
+left_serial (Some version) clock real reply (Some row) id n is says next = kept_serial version clock real reply reply.said row id is says ∙ next

@@ -14,7 +14,7 @@ pub struct Calls {
 
 /// How one call goes.
 #[derive(Clone, Copy, Debug, PartialEq, Eq)]
-pub enum Turn {
+pub(crate) enum Turn {
     Fails,
     Blocks,
     Moves,
@@ -75,14 +75,14 @@ impl Schedule {
         Ok(schedule)
     }
 
-    pub fn per_call(&self) -> usize
+    pub(crate) fn per_call(&self) -> usize
         ensures per_call { result ≡ self.now.per_call }
         ensures some { 0 < result }
     {
         self.per_call
     }
 
-    pub fn turn(&self, number: u64) -> Turn
+    pub(crate) fn turn(&self, number: u64) -> Turn
         ensures { result ≡ turn_of self.now number }
     {
         if is_among(&self.failing, number) {

@@ -1,5 +1,5 @@
 //! A growing list.
-ghost use Rattle.std.specs.Prelude.{◌≡◌, ◌↔◌, [], ◌∷◌, ◌++◌, length, IsTrue, OnOk, OnErr};
+ghost use Rattle.std.specs.Prelude.{◌≡◌, ◌↔◌, [], ◌∷◌, ◌++◌, length, IfOk, IsTrue, OnOk, OnErr};
 
 use crate::duplicate::Duplicate;
 use std::alloc::{AllocError, AllocFailed, Global};
@@ -75,12 +75,21 @@ impl<T> Seq<T> {
     }
 }
 
+impl<T: Duplicate> Seq<T> {
+    /// A list of items that equal those of a slice.
+    pub fn duplicate_of(alloc: Global, items: &[T]) -> Result<Seq<T>, AllocError>
+        ensures { IfOk result (λ list. list ≡ items.now) }
+    {
+        let mut copies = Vec::with_capacity(alloc, items.len())?;
+        for item in items {
+            copies.push(item.duplicate(alloc)?)?;
+        }
+        Ok(Seq { items: copies })
+    }
+}
+
 impl<T: Duplicate> Duplicate for Seq<T> {
     fn duplicate(&self, alloc: Global) -> Result<Seq<T>, AllocError> {
-        let mut items = Vec::with_capacity(alloc, self.items.len())?;
-        for item in &self.items {
-            items.push(item.duplicate(alloc)?)?;
-        }
-        Ok(Seq { items })
+        Seq::duplicate_of(alloc, self.as_slice())
     }
 }

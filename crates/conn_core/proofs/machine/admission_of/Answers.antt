@@ -1,0 +1,15 @@
+use Rattle.std.proofs.Common.{◌∙◌, ap}
+use Rattle.conn_model.specs.History.{id_of}
+use Rattle.conn_model.proofs.Facts.{id_of-admitted}
+use Rattle.conn_core.specs.Judging.{scene_view}
+use Rattle.conn_core.proofs.Identities.{left_is_kept}
+use Rattle.conn_core.proofs.machine.admission_of.Goals as goal
+
+pub returns-clause-row : goal.returns-clause-row
+returns-clause-row c =
+    rw c.said.ensures
+    (c.in-Ok.ensures ∙ left_is_kept c.args.scene.now c.args.now c.args.real c.admit-verdict.result c.requires c.admit-verdict.ensures.found)
+
+pub returns-clause-speaks : goal.returns-clause-speaks
+returns-clause-speaks c =
+    rw c.said.ensures (ap (λ s. id_of s) c.admit-verdict.ensures.says ∙ id_of-admitted (scene_view c.args.scene.now) c.args.real)

@@ -1,0 +1,134 @@
+-- What a configuration means: its plan, or the fault that stands against it.
+use Rattle.std.specs.Prelude.{ℕ, false, List, [], ◌∷◌, map, position, option_to_list, Option, Some, None, Result, Ok, Err}
+use Rattle.std.specs.List.{filter_map}
+use Rattle.std.specs.Option.{option_or}
+use Rattle.std.specs.Str.{bytes_eq}
+use Rattle.plan_core.specs.declared.plan.Bind.{Bind}
+use Rattle.plan_core.specs.declared.plan.Rule.{Rule}
+use Rattle.plan_core.specs.declared.plan.Server.{Server}
+use Rattle.plan_core.specs.declared.plan.Backend.{Backend}
+use Rattle.plan_core.specs.declared.plan.Frontend.{Frontend}
+use Rattle.plan_core.specs.declared.plan.Method.TheVariants.{RoundRobin}
+use Rattle.plan_core.specs.declared.plan.Plan.{Plan}
+use Rattle.conn_core.specs.declared.fault.ConfFault.{ConfFault}
+use Rattle.conn_core.specs.declared.fault.PlanFault.{PlanFault}
+use Rattle.conn_core.specs.declared.fault.PlanKind.TheVariants as plans
+use Rattle.conn_core.specs.declared.fault.OpenFault.{OpenFault}
+use Rattle.conn_core.specs.declared.fault.OpenFault.TheVariants as opens
+use Rattle.conn_core.specs.declared.item.Item.{Item}
+use Rattle.conn_core.specs.declared.item.Named.{Named}
+use Rattle.conn_core.specs.declared.item.Says.{Says}
+use Rattle.conn_core.specs.declared.item.Says.TheVariants as says
+use Rattle.conn_core.specs.Config.{items_of}
+
+-- What each line puts into the plan. A text has one frontend and one backend at most, so each line is
+-- of that one.
+
+abbrev pub frontend_said : ℕ → Says → Option Named
+frontend_said line (says.Frontend name) = Some (record { name = name; line = line })
+frontend_said line other = None
+
+abbrev pub backend_said : ℕ → Says → Option Named
+backend_said line (says.Backend name) = Some (record { name = name; line = line })
+backend_said line other = None
+
+abbrev pub default_said : ℕ → Says → Option Named
+default_said line (says.DefaultBackend name) = Some (record { name = name; line = line })
+default_said line other = None
+
+abbrev pub bind_said : ℕ → Says → Option Bind
+bind_said line (says.Bind at) = Some (record { at = at; accept_proxy = false })
+bind_said line other = None
+
+abbrev pub rule_said : ℕ → Says → Option Rule
+rule_said line (says.Rule action condition) = Some (record { line = line; action = action; condition = condition })
+rule_said line other = None
+
+-- a server without options: weight 1, and any number of connections
+abbrev pub server_said : ℕ → Says → Option Server
+server_said line (says.Server name to) =
+    Some (record { name = name; line = line; to = to; weight = 1; limit = 0; disabled = false; send_proxy = false; send_proxy_v2 = false })
+server_said line other = None
+
+-- all that the lines put, in their order
+abbrev pub all_said : {X : Type 0} → (ℕ → Says → Option X) → List Item → List X
+all_said said items = filter_map (λ item. said item.line item.says) items
+
+-- the first and the last
+abbrev pub first_said : {X : Type 0} → (ℕ → Says → Option X) → List Item → Option X
+first_said said [] = None
+first_said said (item ∷ rest) = option_or (said item.line item.says) (first_said said rest)
+
+abbrev pub last_said : {X : Type 0} → (ℕ → Says → Option X) → List Item → Option X
+last_said said [] = None
+last_said said (item ∷ rest) = option_or (last_said said rest) (said item.line item.says)
+
+-- The plan.
+
+-- a backend with its servers; round robin where nothing is said
+abbrev pub backend_with : List Server → Named → Backend
+backend_with servers named = record { name = named.name; line = named.line; method = RoundRobin; servers = servers }
+
+abbrev pub backends_in : List Item → List Backend
+backends_in items = map (backend_with (all_said server_said items)) (option_to_list (first_said backend_said items))
+
+-- a frontend with its lines; 2,000 connections where nothing is said
+abbrev pub frontend_with : List Bind → List Rule → Option ℕ → Named → Frontend
+frontend_with binds rules default named = record {
+  name = named.name;
+  line = named.line;
+  binds = binds;
+  limit = 2000;
+  limit_line = named.line;
+  connection_rules = rules;
+  session_rules = [];
+  choices = [];
+  default = default;
+}
+
+abbrev pub plan_with : List Item → Named → Option ℕ → Plan
+plan_with items named default = record {
+  frontends = frontend_with (all_said bind_said items) (all_said rule_said items) default named ∷ [];
+  backends = backends_in items;
+  tables = [];
+}
+
+-- the number of the backend of that name
+abbrev pub backend_number : List Backend → Named → Option ℕ
+backend_number backends named = position (λ backend. bytes_eq backend.name named.name) backends
+
+abbrev pub no_frontend : PlanFault
+no_frontend = record { line = 0; kind = plans.NoFrontend }
+
+abbrev pub numbered : List Item → Named → Named → Option ℕ → Result Plan PlanFault
+numbered items named default None = Err (record { line = default.line; kind = plans.NoBackend })
+numbered items named default (Some number) = Ok (plan_with items named (Some number))
+
+abbrev pub defaulted : List Item → Named → Option Named → Result Plan PlanFault
+defaulted items named None = Ok (plan_with items named None)
+defaulted items named (Some default) = numbered items named default (backend_number (backends_in items) default)
+
+-- the frontend's own line comes before those in it
+abbrev pub bound : List Item → Named → Option Bind → Result Plan PlanFault
+bound items named None = Err (record { line = named.line; kind = plans.NoBind })
+bound items named (Some bind) = defaulted items named (last_said default_said items)
+
+abbrev pub framed : List Item → Option Named → Result Plan PlanFault
+framed items None = Err no_frontend
+framed items (Some named) = bound items named (first_said bind_said items)
+
+-- the plan of the items, or the fault of the least line
+abbrev pub plan_of : List Item → Result Plan PlanFault
+plan_of items = framed items (first_said frontend_said items)
+
+abbrev pub opened : Result Plan PlanFault → Result Plan OpenFault
+opened (Err fault) = Err (opens.Plan fault)
+opened (Ok plan) = Ok plan
+
+abbrev pub planned : Result (List Item) ConfFault → Result Plan OpenFault
+planned (Err fault) = Err (opens.Config fault)
+planned (Ok items) = opened (plan_of items)
+
+-- what a text means
+abbrev pub meaning : List ℕ → Result Plan OpenFault
+meaning text = planned (items_of text)

@@ -1,0 +1,44 @@
+//! What the lines of a configuration say.
+use acl_core::Condition;
+use addr_core::Endpoint;
+use conf_text::Word;
+use plan_core::Action;
+
+/// The kind of the section in which a line stands.
+#[derive(Clone, Copy, Debug, PartialEq, Eq)]
+pub enum SectionKind {
+    /// Before any section.
+    Outside,
+    Global,
+    Defaults,
+    Frontend,
+    Backend,
+}
+
+/// What a line says.
+#[derive(Debug, Drop)]
+pub enum Says<'a> {
+    /// It has no word.
+    Nothing,
+    Frontend(Word<'a>),
+    Backend(Word<'a>),
+    Bind(Endpoint),
+    Rule(Action, Condition),
+    DefaultBackend(Word<'a>),
+    Server(Word<'a>, Endpoint),
+}
+
+/// What a line says, with its number and the section that it stands in or opens.
+#[derive(Debug, Drop)]
+pub struct Item<'a> {
+    pub line: u32,
+    pub section: SectionKind,
+    pub says: Says<'a>,
+}
+
+/// A name, and the line that has it.
+#[derive(Debug, Drop)]
+pub struct Named<'a> {
+    pub name: Word<'a>,
+    pub line: u32,
+}
