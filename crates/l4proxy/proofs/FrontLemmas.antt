@@ -2,7 +2,7 @@
 use Rattle.std.proofs.Common.{◌≡◌, ℕ, ◌<◌, List, ◌++◌, length, take, drop, Option, Some, None, refl, ap, subst, sym, ◌∙◌, append_assoc, arith}
 use Rattle.std.proofs.lemmas.List.{take-append-drop}
 use Rattle.std.specs.Io.KnownBytes.{Appends}
-use Rattle.l4proxy.specs.Standing.{IsFront}
+use Rattle.l4proxy.specs.Replay.{IsFront}
 
 cut_text : (sent unsent rest : List ℕ) (n : ℕ) → sent ++ unsent ++ rest ≡ sent ++ take n unsent ++ (drop n unsent ++ rest)
 cut_text sent unsent rest n =

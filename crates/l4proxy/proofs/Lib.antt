@@ -5,3 +5,4 @@ pub mod FrontLemmas
 pub mod GoesLemmas
 pub mod CarryLemmas
 pub mod ReachedLemmas
+pub mod OutcomeLemmas

@@ -4,7 +4,7 @@ use Rattle.std.proofs.lemmas.List.{append-nil}
 use Rattle.std.specs.Io.KnownBytes.{Keeps, Consumes, IsAtEnd}
 use Rattle.l4proxy.specs.Replay.{ended}
 use Rattle.l4proxy.specs.Standing.{Standing, Goes, Ends, Halts, IsFrontOf, IsLineFault, total, total_of}
-use Rattle.l4proxy.specs.Reading.{Reached, Done, Cut, Stops}
+use Rattle.l4proxy.specs.Reading.{Reached, Done, Cut, Stopped, Stops}
 use Rattle.l4proxy.specs.declared.fault.ReplayFault.{ReplayFault}
 use Rattle.l4proxy.specs.declared.fault.ReplayFault.TheVariants.{Config, Format, TooLong, Read, Write, NoMemory}
 use Rattle.l4proxy.proofs.GoesLemmas.{front_goes, goes_more, goes_on, goes_start, halts_on}
@@ -41,13 +41,23 @@ reached_on sent s script left held t kept bytes less new u next reached moved st
       goes = goes_on sent s (reached.got ++ bytes) held t (kept ++ bytes) new u next (goes_more sent s reached.got held t kept bytes reached.goes) step;
     }
 
--- a reader that fails cuts it short
-pub cut_reached : (sent : List ℕ) (s : Standing) (script : List ℕ) (left held : Option (List ℕ)) (t : Standing) (kept : List ℕ) (new : Option (List ℕ))
-    → Reached sent s script left held t kept → Keeps left new → Cut sent s script new held
-cut_reached sent s script left held t kept new reached keeps = record {
+-- a reader that gives nothing more
+pub reached_kept : (sent : List ℕ) (s : Standing) (script : List ℕ) (left held : Option (List ℕ)) (t : Standing) (kept : List ℕ) (new : Option (List ℕ))
+    → Reached sent s script left held t kept → Keeps left new → Reached sent s script new held t kept
+reached_kept sent s script left held t kept new reached keeps = record {
   got = reached.got;
   rest = reached.rest;
   is_left = kept_left reached.rest new (subst (λ l. Keeps l new) reached.is_left keeps);
+  is_read = reached.is_read;
+  goes = reached.goes;
+}
+
+pub cut_reached : (sent : List ℕ) (s : Standing) (script : List ℕ) (left held : Option (List ℕ)) (t : Standing) (kept : List ℕ) → Reached sent s script left held t kept
+    → Cut sent s script left held
+cut_reached sent s script left held t kept reached = record {
+  got = reached.got;
+  rest = reached.rest;
+  is_left = reached.is_left;
   is_read = reached.is_read;
   front = front_goes sent s reached.got held t kept reached.goes;
 }
@@ -64,8 +74,10 @@ stops_block sent s script left held t kept bytes less new u fault reached moved 
   where
     by : (f : ReplayFault) (got rest : List ℕ) → less ≡ Some rest → script ≡ got ++ rest → Halts sent s got new u f → Stops sent s script less new u f
     by (Config f) got rest is read halts = halts
-    by (Format line) got rest is read halts = record { now = halts.now; is_held = halts.is_held; same = halts.same rest ∙ ap (total_of sent s) (sym read) }
-    by (TooLong line) got rest is read halts = record { now = halts.now; is_held = halts.is_held; same = halts.same rest ∙ ap (total_of sent s) (sym read) }
+    by (Format line) got rest is read halts =
+        record { got = got; rest = rest; now = halts.now; is_left = is; is_read = read; is_held = halts.is_held; same = λ more only. halts.same more }
+    by (TooLong line) got rest is read halts =
+        record { got = got; rest = rest; now = halts.now; is_left = is; is_read = read; is_held = halts.is_held; same = λ more only. halts.same more }
     by Read got rest is read halts = absurd halts
     by Write got rest is read halts = record { got = got; rest = rest; is_left = is; is_read = read; front = halts }
     by NoMemory got rest is read halts = record { got = got; rest = rest; is_left = is; is_read = read; front = halts }
@@ -86,20 +98,36 @@ done_last sent s script left held t u kept fault reached end step =
       same = step reached.goes.now ∙ ap (total_of reached.goes.now t) (sym (append-nil kept)) ∙ reached.goes.same [] ∙ ap (total_of sent s) (sym read);
     }
 
+stopped_last : (sent : List ℕ) (s : Standing) (script : List ℕ) (left held : Option (List ℕ)) (t u : Standing) (kept : List ℕ) (less : Option (List ℕ)) (fault : Option ReplayFault)
+    → Reached sent s script left held t kept → IsAtEnd left → Keeps left less → Done sent s script held u fault → Stopped sent s script less held u fault
+stopped_last sent s script left held t u kept less fault reached end keeps done =
+    let none : reached.rest ≡ [] = at_end reached.rest left reached.is_left end in
+    record {
+      got = script;
+      rest = [];
+      now = done.now;
+      is_left = kept_left reached.rest less (subst (λ l. Keeps l less) reached.is_left keeps) ∙ ap Some none;
+      is_read = sym (append-nil script);
+      is_held = done.is_held;
+      same = λ more only. done.same ∙ ap (total_of sent s) (sym (ap (λ xs. script ++ xs) (only refl) ∙ append-nil script));
+    }
+
 -- a fault in the last line
 pub stops_last : (sent : List ℕ) (s : Standing) (script : List ℕ) (left held : Option (List ℕ)) (t u : Standing) (kept : List ℕ) (less : Option (List ℕ)) (fault : ReplayFault)
     → Reached sent s script left held t kept → IsAtEnd left → Keeps left less
     → ((fault ≡ NoMemory) ⊎ (IsLineFault fault × ((now : List ℕ) → total now u (ended (Some fault)) ≡ total_of now t kept)))
     → Stops sent s script less held u fault
 stops_last sent s script left held t u kept less fault reached end keeps (inl is) =
-    subst (Stops sent s script less held u) (sym is) (cut_reached sent s script left held t kept less reached keeps)
+    subst (Stops sent s script less held u) (sym is) (cut_reached sent s script less held t kept (reached_kept sent s script left held t kept less reached keeps))
 stops_last sent s script left held t u kept less fault reached end keeps (inr stop) =
-    by fault stop.0 (done_last sent s script left held t u kept (Some fault) reached end stop.1)
+    by fault stop.0
+    (stopped_last sent s script left held t u kept less (Some fault) reached end keeps
+      (done_last sent s script left held t u kept (Some fault) reached end stop.1))
   where
-    by : (f : ReplayFault) → IsLineFault f → Done sent s script held u (Some f) → Stops sent s script less held u f
-    by (Config f) kind done = absurd kind
-    by (Format line) kind done = done
-    by (TooLong line) kind done = done
-    by Read kind done = absurd kind
-    by Write kind done = absurd kind
-    by NoMemory kind done = absurd kind
+    by : (f : ReplayFault) → IsLineFault f → Stopped sent s script less held u (Some f) → Stops sent s script less held u f
+    by (Config f) kind stopped = absurd kind
+    by (Format line) kind stopped = stopped
+    by (TooLong line) kind stopped = stopped
+    by Read kind stopped = absurd kind
+    by Write kind stopped = absurd kind
+    by NoMemory kind stopped = absurd kind

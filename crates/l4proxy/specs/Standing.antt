@@ -3,7 +3,7 @@ use Rattle.std.specs.Prelude.{◌≡◌, ◌⊎◌, ℕ, ◌≤◌, List, [], �
 use Rattle.conf_text.specs.Parts.{parts, is_line_feed, onto_first}
 use Rattle.device_core.specs.Device.{raised}
 use Rattle.conn_model.specs.declared.plain.Plain.{Plain}
-use Rattle.l4proxy.specs.Replay.{Outcome, before_rest, ended}
+use Rattle.l4proxy.specs.Replay.{IsFront, Outcome, before_rest, ended}
 use Rattle.l4proxy.specs.Turns.{outcome_in, replayed_in}
 use Rattle.l4proxy.specs.declared.fault.ReplayFault.{ReplayFault}
 use Rattle.l4proxy.specs.declared.fault.ReplayFault.TheVariants.{Config, Format, TooLong, Read, Write, NoMemory}
@@ -47,10 +47,6 @@ IsLineFault (TooLong line) = Unit {0}
 IsLineFault Read = ⊥
 IsLineFault Write = ⊥
 IsLineFault NoMemory = ⊥
-
--- what is held is the front of a text
-abbrev pub IsFront : Option (List ℕ) → List ℕ → Type 0
-IsFront held text = (now : List ℕ) × (rest : List ℕ) × (held ≡ Some now) × (text ≡ now ++ rest)
 
 -- a writer gave up: it failed in the call, or its last million calls were blocked
 abbrev pub GaveUp : ℕ → ℕ → ℕ → Type 0

@@ -1,12 +1,12 @@
 use Rattle.std.proofs.Common.{◌≡◌, ℕ, ◌-◌, ◌≤◌, ap, ◌∙◌, arith, inl, inr}
 use Rattle.l4proxy.specs.Standing.{total_of}
 use Rattle.std.proofs.lemmas.Result.{IfErr-weaker, on_ok_weaker, err_from_is_err_and}
-use Rattle.l4proxy.proofs.ReachedLemmas.{cut_reached, done_last, reached_on, reached_start, stops_block, stops_last}
+use Rattle.l4proxy.proofs.ReachedLemmas.{reached_kept, done_last, reached_on, reached_start, stops_block, stops_last}
 use Rattle.l4proxy.proofs.reading.answer_all.Goals as goal
 
 pub returns-in-Err-clause-stops : goal.returns-in-Err-clause-stops
 returns-in-Err-clause-stops g c = λ script sent left held.
-    cut_reached _ _ _ _ _ _ _ _ (c.loop-session.invariant.reached script sent left held) c.in-Err.ensures.moved
+    (c.loop-session.carry.items, reached_kept _ _ _ _ _ _ _ _ (c.loop-session.invariant.reached script sent left held) c.in-Err.ensures.moved)
 
 pub returns-in-Err-clause-calls : goal.returns-in-Err-clause-calls
 returns-in-Err-clause-calls g c = (1000000000 - c.read_on.new.reads, omega arith, omega (arith, c.in-Err.ensures.calls, c.loop-session.invariant.calls))
