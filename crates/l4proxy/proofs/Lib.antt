@@ -6,3 +6,5 @@ pub mod GoesLemmas
 pub mod CarryLemmas
 pub mod ReachedLemmas
 pub mod OutcomeLemmas
+pub mod EndLemmas
+pub mod PlanLemmas

@@ -86,6 +86,12 @@ at_end : (rest : List ℕ) (left : Option (List ℕ)) → left ≡ Some rest →
 at_end rest None is end = cc
 at_end rest (Some xs) is end = let same : xs ≡ rest = cc in sym same ∙ end
 
+-- nothing is left
+pub left_last : (sent : List ℕ) (s : Standing) (script : List ℕ) (left held : Option (List ℕ)) (t : Standing) (kept : List ℕ) (less : Option (List ℕ))
+    → Reached sent s script left held t kept → IsAtEnd left → Keeps left less → less ≡ Some []
+left_last sent s script left held t kept less reached end keeps =
+    kept_left reached.rest less (subst (λ l. Keeps l less) reached.is_left keeps) ∙ ap Some (at_end reached.rest left reached.is_left end)
+
 -- all of it
 pub done_last : (sent : List ℕ) (s : Standing) (script : List ℕ) (left held : Option (List ℕ)) (t u : Standing) (kept : List ℕ) (fault : Option ReplayFault)
     → Reached sent s script left held t kept → IsAtEnd left → ((now : List ℕ) → total now u (ended fault) ≡ total_of now t kept) → Done sent s script held u fault
@@ -122,7 +128,7 @@ stops_last sent s script left held t u kept less fault reached end keeps (inl is
 stops_last sent s script left held t u kept less fault reached end keeps (inr stop) =
     by fault stop.0
     (stopped_last sent s script left held t u kept less (Some fault) reached end keeps
-      (done_last sent s script left held t u kept (Some fault) reached end stop.1))
+    (done_last sent s script left held t u kept (Some fault) reached end stop.1))
   where
     by : (f : ReplayFault) → IsLineFault f → Stopped sent s script less held u (Some f) → Stops sent s script less held u f
     by (Config f) kind stopped = absurd kind

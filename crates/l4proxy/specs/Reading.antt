@@ -1,5 +1,5 @@
 -- How a script is read.
-use Rattle.std.specs.Prelude.{◌≡◌, ◌⊎◌, ℕ, ◌≤◌, List, [], ◌++◌, Option, Some, None}
+use Rattle.std.specs.Prelude.{◌≡◌, ◌⊎◌, ℕ, Bool, true, false, ◌≤◌, List, [], ◌++◌, Option, Some, None}
 use Rattle.device_core.specs.Device.{raised, raised_by}
 use Rattle.l4proxy.specs.Standing.{Standing, Goes, IsFrontOf, total, total_of}
 use Rattle.l4proxy.specs.Replay.{IsFront, ended}
@@ -46,6 +46,15 @@ Stops sent s script left held t (TooLong line) = Stopped sent s script left held
 Stops sent s script left held t Read = (kept : List ℕ) × Reached sent s script left held t kept
 Stops sent s script left held t Write = Cut sent s script left held
 Stops sent s script left held t NoMemory = Cut sent s script left held
+
+-- what was answered before the fault is still written
+abbrev pub is_told : ReplayFault → Bool
+is_told (Config fault) = false
+is_told (Format line) = true
+is_told (TooLong line) = true
+is_told Read = true
+is_told Write = false
+is_told NoMemory = false
 
 -- All answers to a script were written, and so many they are.
 pub record Wrote (sent : List ℕ) (s : Standing) (script : List ℕ) (held : Option (List ℕ)) (lines : ℕ) (fault : Option ReplayFault) : Type 0 where

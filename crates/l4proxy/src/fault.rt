@@ -3,7 +3,7 @@ use conn_core::OpenFault;
 use thiserror::Error;
 
 /// Why a replay ends early. Lines are counted from 1.
-#[derive(Debug, Drop, Error)]
+#[derive(Clone, Copy, Debug, PartialEq, Eq, Error)]
 pub enum ReplayFault {
     /// The configuration is refused.
     #[error("the configuration is refused")]

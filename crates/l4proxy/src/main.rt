@@ -3,6 +3,7 @@
 
 mod fault;
 mod reading;
+mod replay;
 mod replies;
 mod script;
 mod session;

@@ -1,6 +1,7 @@
 //! Reading a script in blocks.
 ghost use Rattle.std.specs.Prelude.{◌≡◌, ◌≢◌, ◌⊎◌, ◌+◌, ◌-◌, ◌<◌, ◌≤◌, ◌++◌, ◌∷◌, ℕ, List, [], length, drop, take, Option, Some, None, Ok, Err, OnOk, OnErr, IfOk, IfErr};
 ghost use Rattle.device_core.specs.Device.{raised_by};
+ghost use Rattle.conn_core.specs.declared.fault.OpenFault.{OpenFault};
 ghost use Rattle.l4proxy.specs.Replay.{ended};
 ghost use Rattle.l4proxy.specs.Standing.{total, total_of, total_of_lines, GaveUp, Goes, Halts, IsLineFault, IsUnended};
 ghost use Rattle.l4proxy.specs.Reading.{Done, IsSpent, Stops};
@@ -27,6 +28,7 @@ fn carry_on(session: &Session, carry: &mut Vec<u8>, rest: &[u8]) -> Result<(), R
         Halts sent session.now (carry.old.items ++ rest.now) held session.now f) }
     ensures not_write { result ≢ Err ReplayFault.Write }
     ensures not_read { result ≢ Err ReplayFault.Read }
+    ensures not_config { (o : OpenFault) → result ≢ Err (ReplayFault.Config o) }
 {
     if carry.len().saturating_add(rest.len()) > 131_200 {
         return Err(ReplayFault::TooLong(session.next_line()));
@@ -64,7 +66,9 @@ fn answer_block<O: Output>(
     ensures halts { IfErr result (λ f. (sent : List ℕ) → O.held writer.old ≡ Some sent →
         Halts sent session.old (carry.old.items ++ block.now) (O.held writer.new) session.new f) }
     ensures gave_up { result ≡ Err ReplayFault.Write → GaveUp (O.failures writer.old) (O.failures writer.new) (O.stalls writer.new) }
+    ensures unfailed { result ≢ Err ReplayFault.Write → O.failures writer.new ≡ O.failures writer.old }
     ensures not_read { result ≢ Err ReplayFault.Read }
+    ensures not_config { (o : OpenFault) → result ≢ Err (ReplayFault.Config o) }
 {
     match cut_line(block) {
         None => carry_on(session, carry, block),
@@ -100,13 +104,14 @@ pub fn answer_all<I: Input, O: Output>(
     requires some { 0 < length block.old }
     requires nothing { carry.old.items ≡ [] }
     ensures ok { OnOk result ((script sent : List ℕ) → I.left reader.old ≡ Some script → O.held writer.old ≡ Some sent →
-        Done sent session.old script (O.held writer.new) session.new None) }
+        (I.left reader.new ≡ Some []) × Done sent session.old script (O.held writer.new) session.new None) }
     ensures stops { IfErr result (λ f. (script sent : List ℕ) → I.left reader.old ≡ Some script → O.held writer.old ≡ Some sent →
         Stops sent session.old script (I.left reader.new) (O.held writer.new) session.new f) }
     ensures calls { (n : ℕ) × (n ≤ 1000000000) × (I.calls reader.new ≡ raised_by n (I.calls reader.old)) }
     ensures spent { result ≡ Err ReplayFault.Read → IsSpent (I.failures reader.old) (I.failures reader.new) (I.stalls reader.new) (I.calls reader.old) (I.calls reader.new) }
-    ensures failures { OnOk result (O.failures writer.new ≡ O.failures writer.old) }
+    ensures unfailed { result ≢ Err ReplayFault.Write → O.failures writer.new ≡ O.failures writer.old }
     ensures gave_up { result ≡ Err ReplayFault.Write → GaveUp (O.failures writer.old) (O.failures writer.new) (O.stalls writer.new) }
+    ensures not_config { (o : OpenFault) → result ≢ Err (ReplayFault.Config o) }
 {
     let mut reads = MOST_READS;
     loop {

@@ -3,6 +3,7 @@ ghost use Rattle.std.specs.Prelude.{◌≡◌, ◌≢◌, ◌⊎◌, ◌+◌, �
 ghost use Rattle.conf_text.specs.Parts.{parts, is_line_feed};
 ghost use Rattle.conn_model.specs.Answer.{answer_in};
 ghost use Rattle.conn_model.specs.History.{happening};
+ghost use Rattle.conn_core.specs.declared.fault.OpenFault.{OpenFault};
 ghost use Rattle.l4proxy.specs.Replay.{answer_text, asked, asked_for, ended};
 ghost use Rattle.l4proxy.specs.Turns.{plain_after};
 ghost use Rattle.l4proxy.specs.Standing.{total, total_of_lines, Ends, GaveUp, Goes, Halts, IsFrontOf, IsLineFault, IsUnended};
@@ -115,6 +116,13 @@ impl Session {
         self.before + 1
     }
 
+    /// How many events were answered.
+    pub fn answered(&self) -> u64
+        ensures { result ≡ self.now.answered }
+    {
+        self.answered
+    }
+
     /// Answers one line.
     pub fn answer_line(&mut self, line: &[u8]) -> Result<(), ReplayFault>
         ensures ok { OnOk result ((sent : List ℕ) (more : List (List ℕ)) → total_of_lines sent self.new more ≡ total_of_lines sent self.old (line.now ∷ more)) }
@@ -135,6 +143,7 @@ impl Session {
     /// Writes the answers that were collected.
     pub fn send<O: Output>(&mut self, writer: &mut O) -> Result<(), ReplayFault>
         ensures ok { OnOk result ((sent bytes : List ℕ) → O.held writer.old ≡ Some sent → Goes sent self.old bytes (O.held writer.new) self.new bytes) }
+        ensures wrote { OnOk result ((sent : List ℕ) → O.held writer.old ≡ Some sent → O.held writer.new ≡ Some (sent ++ self.old.unsent)) }
         ensures empty { OnOk result (self.new ≡ record self.old { unsent = [] }) }
         ensures failures { OnOk result (O.failures writer.new ≡ O.failures writer.old) }
         ensures err { IfErr result (λ f. f ≡ ReplayFault.Write) }
@@ -176,7 +185,9 @@ impl Session {
         ensures failures { OnOk result (O.failures writer.new ≡ O.failures writer.old) }
         ensures halts { IfErr result (λ f. (sent : List ℕ) → O.held writer.old ≡ Some sent → Halts sent self.old text.now (O.held writer.new) self.new f) }
         ensures gave_up { result ≡ Err ReplayFault.Write → GaveUp (O.failures writer.old) (O.failures writer.new) (O.stalls writer.new) }
+        ensures unfailed { result ≢ Err ReplayFault.Write → O.failures writer.new ≡ O.failures writer.old }
         ensures not_read { result ≢ Err ReplayFault.Read }
+        ensures not_config { (o : OpenFault) → result ≢ Err (ReplayFault.Config o) }
     {
         let mut rest = text;
         while let Some((line, more)) = cut_line(rest) {

@@ -1,7 +1,7 @@
 use Rattle.std.proofs.Common.{◌≡◌, ℕ, ◌-◌, ◌≤◌, ap, ◌∙◌, arith, inl, inr}
 use Rattle.l4proxy.specs.Standing.{total_of}
 use Rattle.std.proofs.lemmas.Result.{IfErr-weaker, on_ok_weaker, err_from_is_err_and}
-use Rattle.l4proxy.proofs.ReachedLemmas.{reached_kept, done_last, reached_on, reached_start, stops_block, stops_last}
+use Rattle.l4proxy.proofs.ReachedLemmas.{done_last, left_last, reached_kept, reached_on, reached_start, stops_block, stops_last}
 use Rattle.l4proxy.proofs.reading.answer_all.Goals as goal
 
 pub returns-in-Err-clause-stops : goal.returns-in-Err-clause-stops
@@ -16,8 +16,11 @@ returns-in-Ok-End-clause-ok g c =
     let moved = rw c.in-Ok-End.field-0-is at c.in-Ok-End.ensures.moved in
     on_ok_weaker c.answer_last.result
     (λ step script sent left held.
-    done_last _ _ _ _ _ _ _ c.loop-session.carry.items _ (c.loop-session.invariant.reached script sent left held) moved.0
-    (λ now. step now ∙ ap (total_of now c.loop-session.session) c.as_slice.ensures.value))
+    let reached = c.loop-session.invariant.reached script sent left held in (
+      left_last _ _ _ _ _ _ _ _ reached moved.0 moved.1,
+      done_last _ _ _ _ _ _ _ c.loop-session.carry.items _ reached moved.0
+          (λ now. step now ∙ ap (total_of now c.loop-session.session) c.as_slice.ensures.value),
+    ))
     c.answer_last.ensures.ok
 
 pub returns-in-Ok-End-clause-stops : goal.returns-in-Ok-End-clause-stops
