@@ -1,4 +1,5 @@
 pub mod Script
+pub mod Status
 pub mod Replies
 pub mod Replay
 pub mod Turns

@@ -1,4 +1,7 @@
 //! Why a replay ends early.
+ghost use Rattle.std.specs.Prelude.{◌≡◌};
+ghost use Rattle.l4proxy.specs.Status.{status_of};
+
 use conn_core::OpenFault;
 use thiserror::Error;
 
@@ -6,18 +9,30 @@ use thiserror::Error;
 #[derive(Clone, Copy, Debug, PartialEq, Eq, Error)]
 pub enum ReplayFault {
     /// The configuration is refused.
-    #[error("the configuration is refused")]
+    #[error(transparent)]
     Config(OpenFault),
     /// The line hands in no event.
-    #[error("line {0} of the script hands in no event")]
+    #[error("line {0}: Format")]
     Format(u64),
-    /// The line is longer than any that is read, or there are too many before it.
-    #[error("line {0} of the script is past what is read")]
+    /// The line is longer than any that is read, or it is one too many.
+    #[error("line {0}: TooLong")]
     TooLong(u64),
-    #[error("the script cannot be read")]
+    #[error("cannot be read")]
     Read,
-    #[error("the answers cannot be written")]
+    #[error("cannot be written")]
     Write,
-    #[error("there is no memory left")]
+    #[error("no memory")]
     NoMemory,
+}
+
+impl ReplayFault {
+    /// The exit status of a program that it ends.
+    pub fn status(&self) -> u8
+        ensures { result ≡ status_of self.now }
+    {
+        match self {
+            ReplayFault::Config(_) | ReplayFault::Format(_) | ReplayFault::TooLong(_) => 1,
+            ReplayFault::Read | ReplayFault::Write | ReplayFault::NoMemory => 3,
+        }
+    }
 }
