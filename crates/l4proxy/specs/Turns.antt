@@ -1,0 +1,32 @@
+-- What a script is answered, by the plain state alone.
+use Rattle.std.specs.Prelude.{ℕ, ◌+◌, List, [], ◌∷◌, Option, Some, None, Result, Ok, Err}
+use Rattle.conf_text.specs.Parts.{parts, is_line_feed}
+use Rattle.conn_model.specs.declared.event.Happening.{Happening}
+use Rattle.conn_model.specs.declared.plain.Plain.{Plain}
+use Rattle.conn_model.specs.declared.reply.Reply.{Reply}
+use Rattle.conn_model.specs.declared.reply.StepFault.{StepFault}
+use Rattle.conn_model.specs.Answer.{answer_in}
+use Rattle.conn_model.specs.History.{after, entry}
+use Rattle.l4proxy.specs.Replay.{Outcome, answer_text, asked, before_rest, ended}
+use Rattle.l4proxy.specs.declared.fault.ReplayFault.{ReplayFault}
+
+-- the state after an answer
+abbrev pub plain_after : Plain → ℕ → Happening → Result Reply StepFault → Plain
+plain_after p moment event (Ok reply) = after p (entry moment event reply ∷ [])
+plain_after p moment event (Err fault) = p
+
+-- what comes of a line in a state, and of the rest
+abbrev pub turn : Plain → Result (Option (ℕ × Happening)) ReplayFault → (Plain → Outcome) → Outcome
+turn p (Err fault) rest = ended (Some fault)
+turn p (Ok None) rest = rest p
+turn p (Ok (Some timed)) rest =
+    let answered = answer_in p timed.0 timed.1 in before_rest (answer_text answered) 1 (rest (plain_after p timed.0 timed.1 answered))
+
+-- what comes of lines in a state, behind so many lines before them
+abbrev pub outcome_in : Plain → ℕ → List (List ℕ) → Outcome
+outcome_in p before [] = ended None
+outcome_in p before (line ∷ lines) = turn p (asked (before + 1) line) (λ q. outcome_in q (before + 1) lines)
+
+-- what comes of the bytes of a script
+abbrev pub replayed_in : Plain → ℕ → List ℕ → Outcome
+replayed_in p before script = outcome_in p before (parts is_line_feed script)

@@ -1,0 +1,111 @@
+//! A layer 4 load balancer.
+//!
+//! `l4proxy replay FILE SCRIPT` opens the configuration FILE and answers the events of SCRIPT, one
+//! line each, on standard output. The exit status is 0 when that is done, 1 where the configuration
+//! is refused or a line of the script hands in no event, 2 for words that are no command, and 3
+//! where something cannot be read or written, or memory ran out.
+#![tactic(auto)]
+
+use crate::command::commands;
+use crate::fault::ReplayFault;
+use crate::replay::run_replay;
+use clap::error::ErrorKind;
+use device_core::{FromRead, Input, ToWrite};
+use std::process::ExitCode;
+use std::rt::Files;
+use std::{env, fs, io};
+
+mod command;
+mod fault;
+mod reading;
+mod replay;
+mod replies;
+mod script;
+mod session;
+#[cfg(test)]
+mod tests;
+
+/// All was done.
+const DONE: u8 = 0;
+
+/// The words are no command.
+const USAGE: u8 = 2;
+
+/// Something cannot be read or written, or memory ran out.
+const DEVICE: u8 = 3;
+
+/// Says why the program ends, and with which status.
+fn refuse(rt: &impl Eprint, what: &str, fault: &ReplayFault) -> u8 {
+    let _told = eprintln!(rt; "l4proxy: {what}: {fault}");
+    fault.status()
+}
+
+/// Says what cannot be read.
+fn unreadable(rt: &impl Eprint, what: &str) -> u8 {
+    let _told = eprintln!(rt; "l4proxy: {what}: cannot be read");
+    DEVICE
+}
+
+/// Which file the fault speaks of.
+fn place<'a>(fault: &ReplayFault, file: &'a str, script: &'a str) -> &'a str {
+    match fault {
+        ReplayFault::Config(_) | ReplayFault::NoMemory => file,
+        ReplayFault::Format(_) | ReplayFault::TooLong(_) | ReplayFault::Read => script,
+        ReplayFault::Write => "standard output",
+    }
+}
+
+/// Replays a script. The configuration is read before the script is opened.
+fn replay_files<R: Files + AllocGlobal + Print + Eprint>(rt: &R, file: &str, script: &str) -> u8 {
+    let Ok(text) = fs::read_to_string(rt, file) else {
+        return unreadable(rt, file);
+    };
+    let Ok(opened) = fs::open(rt, script) else {
+        return unreadable(rt, script);
+    };
+    let mut reader = FromRead::of(opened);
+    let mut writer = ToWrite::of(io::writer(rt));
+    match run_replay(rt.alloc(), text.as_str(), &mut reader, &mut writer) {
+        Ok(_done) => DONE,
+        Err(fault) => {
+            if matches!(&fault, ReplayFault::Config(_)) && reader.read(&mut [0u8; 1]).is_err() {
+                return unreadable(rt, script);
+            }
+            refuse(rt, place(&fault, file, script), &fault)
+        }
+    }
+}
+
+/// Does what the words ask for.
+fn run<R: Files + AllocGlobal + Print + Eprint>(rt: &R, words: &[String]) -> Result<u8, clap::Error> {
+    let matches = commands(rt.alloc())?.try_get_matches_from(words)?;
+    let Some(given) = matches.subcommand_matches("replay") else {
+        return Ok(USAGE);
+    };
+    match (given.get_str("FILE"), given.get_str("SCRIPT")) {
+        (Some(file), Some(script)) => Ok(replay_files(rt, file, script)),
+        _ => Ok(USAGE),
+    }
+}
+
+fn main(rt: HostRuntime) -> ExitCode {
+    let words: Vec<String> = match env::args(&rt) {
+        Ok(words) => match words.collect(rt.alloc()) {
+            Ok(words) => words,
+            Err(_) => return ExitCode::from(DEVICE),
+        },
+        Err(_) => return ExitCode::from(USAGE),
+    };
+    match run(&rt, words.as_slice()) {
+        Ok(status) => ExitCode::from(status),
+        Err(error) => ExitCode::from(explain(&rt, &error)),
+    }
+}
+
+/// Prints why the words are no command, or the help that they ask for.
+fn explain(rt: &(impl Print + Eprint), error: &clap::Error) -> u8 {
+    if error.print(rt).is_err() || error.kind() == ErrorKind::OutOfMemory {
+        return DEVICE;
+    }
+    if error.use_stderr() { USAGE } else { DONE }
+}
