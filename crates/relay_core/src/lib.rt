@@ -1,0 +1,6 @@
+//! Bytes on their way from a reader to a writer: none is lost, none comes twice, and none overtakes another.
+#![tactic(auto)]
+
+pub use flow::{Drained, Filled, Flow, FlowFault};
+
+mod flow;
