@@ -1,5 +1,5 @@
 -- What a flow holds, and what a fill and a drain do to it.
-use Rattle.std.specs.Prelude.{◌≡◌, ℕ, ◌-◌, ◌<◌, ◌≤◌, Bool, true, false, ◌&&◌, not, nat_lt, min, List, [], ◌++◌, length, take, drop, Option, Result, Ok, Err, IsTrue, if◌then◌else◌}
+use Rattle.std.specs.Prelude.{◌≡◌, ℕ, ◌-◌, ◌<◌, ◌≤◌, Bool, true, false, ◌&&◌, not, nat_lt, min, List, [], ◌∷◌, ◌++◌, length, take, drop, Option, Result, Ok, Err, IsTrue, if◌then◌else◌}
 use Rattle.std.specs.Io.KnownBytes.{IsAtEnd}
 use Rattle.device_core.specs.Device.{raised}
 use Rattle.relay_core.specs.declared.flow.Filled.{Filled}
@@ -71,12 +71,17 @@ fill_stalls true (Ok filled.Blocked) count = raised count
 fill_stalls true (Ok filled.NoRoom) count = count
 fill_stalls true (Err e) count = 0
 
+-- What one write of so many bytes answers.
+abbrev pub IsWriteAnswer : ℕ → Result Drained FlowFault → Type 0
+IsWriteAnswer count (Ok (drained.Bytes n)) = (0 < n) × (n ≤ count)
+IsWriteAnswer count (Ok drained.Blocked) = Unit {0}
+IsWriteAnswer count (Ok drained.Empty) = ⊥
+IsWriteAnswer count (Err e) = e ≡ Write
+
 -- What a drain answers: it asks the writer where something is held.
-abbrev pub IsDrainAnswer : Held → Result Drained FlowFault → Type 0
-IsDrainAnswer flow (Ok (drained.Bytes n)) = (0 < n) × (n ≤ length flow.bytes)
-IsDrainAnswer flow (Ok drained.Blocked) = 0 < length flow.bytes
-IsDrainAnswer flow (Ok drained.Empty) = flow.bytes ≡ []
-IsDrainAnswer flow (Err e) = (e ≡ Write) × (0 < length flow.bytes)
+abbrev pub IsDrainAnswer : List ℕ → Result Drained FlowFault → Type 0
+IsDrainAnswer [] answer = answer ≡ Ok drained.Empty
+IsDrainAnswer (byte ∷ bytes) answer = IsWriteAnswer (length (byte ∷ bytes)) answer
 
 -- how many of the held bytes were written out
 abbrev pub drained_count : Result Drained FlowFault → ℕ

@@ -1,11 +1,12 @@
 //! A flow: one direction of a connection.
 ghost use Rattle.std.specs.Prelude.{◌≡◌, ◌<◌, ◌≤◌, ◌+◌, ◌++◌, [], ◌↔◌, IfOk, IsTrue, true, length, take};
 ghost use Rattle.std.specs.Io.KnownBytes.{Consumes, Appends};
-ghost use Rattle.device_core.specs.Device.{raised};
-ghost use Rattle.relay_core.specs.Flow.{room, IsDone, asks_reader, IsReadAnswer, IsFillAnswer, read_in, after_fill, fill_calls, fill_failures, fill_stalls, IsDrainAnswer, drained_count, after_drain, drain_failures, drain_stalls};
+ghost use Rattle.relay_core.specs.Law.{Moves};
+ghost use Rattle.relay_core.specs.Flow.{room, IsDone, asks_reader, IsFillAnswer, read_in, after_fill, fill_calls, fill_failures, fill_stalls, IsDrainAnswer, drained_count, after_drain, drain_failures, drain_stalls};
 
+use crate::once::{read_front, write_once};
 use circular_buffer::HeapCircularBuffer;
-use device_core::{Got, Input, Output, Put};
+use device_core::{Input, Output};
 use std::alloc::{AllocError, Global};
 use std::marker::Model;
 
@@ -78,7 +79,14 @@ impl Flow {
     pub fn is_done(&self) -> bool
         ensures { IsTrue result ↔ IsDone self.now }
     {
-        self.ended && self.ring.is_empty()
+        self.ended && self.is_empty()
+    }
+
+    /// Whether nothing is held.
+    pub fn is_empty(&self) -> bool
+        ensures { IsTrue result ↔ (self.now.bytes ≡ []) }
+    {
+        self.ring.is_empty()
     }
 
     /// Lets bytes follow those that are held.
@@ -89,7 +97,7 @@ impl Flow {
         self.ring.fill_from_slice(bytes);
     }
 
-    fn asks_reader(&self) -> bool
+    pub(crate) fn asks_reader(&self) -> bool
         ensures asks { result ≡ asks_reader self.now }
         ensures some { IsTrue result → 0 < room self.now }
     {
@@ -103,6 +111,7 @@ impl Flow {
         ensures answer { IsFillAnswer (asks_reader self.old) self.old (length piece.old) (I.left reader.old) result }
         ensures after { self.new ≡ after_fill self.old result piece.new }
         ensures read { Consumes (I.left reader.old) (I.left reader.new) (read_in result piece.new) }
+        ensures law { Moves self.old.bytes (read_in result piece.new) [] self.new.bytes }
         ensures calls { I.calls reader.new ≡ fill_calls (asks_reader self.old) (I.calls reader.old) }
         ensures failures { I.failures reader.new ≡ fill_failures result (I.failures reader.old) }
         ensures stalls { I.stalls reader.new ≡ fill_stalls (asks_reader self.old) result (I.stalls reader.old) }
@@ -118,14 +127,20 @@ impl Flow {
         let answer = read_front(reader, piece, most);
         match answer {
             Ok(Filled::Bytes(count)) => {
-                self.ring.fill_from_slice(&piece[..count]);
+                self.put(&piece[..count]);
             }
             Ok(Filled::End) => {
-                self.ended = true;
+                self.end();
             }
             _ => {}
         }
         answer
+    }
+
+    pub(crate) fn end(&mut self)
+        ensures { self.new ≡ record self.old { ended = true } }
+    {
+        self.ended = true;
     }
 
     /// The held bytes as far as they lie side by side, from the first on.
@@ -140,41 +155,21 @@ impl Flow {
     /// Writes once, from the first byte on. What the writer did not take stays held; held bytes that
     /// go round the end of their block go out in two calls.
     pub fn drain<O: Output>(&mut self, writer: &mut O) -> Result<Drained, FlowFault>
-        ensures answer { IsDrainAnswer self.old result }
+        ensures answer { IsDrainAnswer self.old.bytes result }
         ensures after { self.new ≡ after_drain self.old result }
         ensures written { Appends (O.held writer.old) (O.held writer.new) (take (drained_count result) self.old.bytes) }
+        ensures law { Moves self.old.bytes [] (take (drained_count result) self.old.bytes) self.new.bytes }
         ensures failures { O.failures writer.new ≡ drain_failures result (O.failures writer.old) }
         ensures stalls { O.stalls writer.new ≡ drain_stalls result (O.stalls writer.old) }
     {
-        if self.ring.is_empty() {
+        if self.is_empty() {
             return Ok(Drained::Empty);
         }
-        match writer.write(self.front()) {
-            Ok(Put::Bytes(count)) => {
-                let left = self.ring.len() - count;
-                self.ring.truncate_front(left);
-                Ok(Drained::Bytes(count))
-            }
-            Ok(Put::Blocked) => Ok(Drained::Blocked),
-            Err(_) => Err(FlowFault::Write),
+        let answer = write_once(writer, self.front());
+        if let Ok(Drained::Bytes(count)) = answer {
+            let left = self.ring.len() - count;
+            self.ring.truncate_front(left);
         }
-    }
-}
-
-/// Reads once, into the front of the piece.
-fn read_front<I: Input>(reader: &mut I, piece: &mut [u8], most: usize) -> Result<Filled, FlowFault>
-    requires some { 0 < most }
-    requires fits { most ≤ length piece.old }
-    ensures answer { IsReadAnswer most (I.left reader.old) result }
-    ensures read { Consumes (I.left reader.old) (I.left reader.new) (read_in result piece.new) }
-    ensures calls { I.calls reader.new ≡ raised (I.calls reader.old) }
-    ensures failures { I.failures reader.new ≡ fill_failures result (I.failures reader.old) }
-    ensures stalls { I.stalls reader.new ≡ fill_stalls true result (I.stalls reader.old) }
-{
-    match reader.read(&mut piece[..most]) {
-        Ok(Got::Bytes(count)) => Ok(Filled::Bytes(count)),
-        Ok(Got::End) => Ok(Filled::End),
-        Ok(Got::Blocked) => Ok(Filled::Blocked),
-        Err(_) => Err(FlowFault::Read),
+        answer
     }
 }

@@ -2,5 +2,10 @@
 #![tactic(auto)]
 
 pub use flow::{Drained, Filled, Flow, FlowFault};
+pub use law::run_carries;
+pub use pass::Moved;
 
 mod flow;
+mod law;
+mod once;
+mod pass;
