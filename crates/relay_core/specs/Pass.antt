@@ -1,10 +1,11 @@
 -- What a pass does: one fill, then one drain.
-use Rattle.std.specs.Prelude.{ℕ, List, [], length, take, drop, Result, Ok, Err}
+use Rattle.std.specs.Prelude.{◌≡◌, ℕ, Option, List, [], length, take, drop, Result, Ok, Err}
 use Rattle.device_core.specs.Device.{raised}
+use Rattle.relay_core.specs.declared.flow.Filled.{Filled}
 use Rattle.relay_core.specs.declared.flow.FlowFault.{FlowFault}
 use Rattle.relay_core.specs.declared.flow.FlowFault.TheVariants.{Read, Write}
 use Rattle.relay_core.specs.declared.pass.Moved.{Moved}
-use Rattle.relay_core.specs.Flow.{Held, read_in, after_fill, drained_count}
+use Rattle.relay_core.specs.Flow.{Held, read_in, after_fill, drained_count, drain_stalls, asks_reader, IsFillAnswer}
 
 -- what a pass read in: the front of the piece, or after a failed write what is held more than before
 abbrev pub pass_read : Result Moved FlowFault → Held → Held → List ℕ → List ℕ
@@ -27,3 +28,14 @@ abbrev pub pass_write_failures : Result Moved FlowFault → ℕ → ℕ
 pass_write_failures (Ok moved) count = count
 pass_write_failures (Err Read) count = count
 pass_write_failures (Err Write) count = raised count
+
+-- the writer's blocked calls in a row after a pass
+abbrev pub pass_write_stalls : Result Moved FlowFault → ℕ → ℕ
+pass_write_stalls (Ok moved) count = drain_stalls (Ok moved.drained) count
+pass_write_stalls (Err Read) count = count
+pass_write_stalls (Err Write) count = 0
+
+-- The new flow is the old one after some fill with a piece of that length.
+abbrev pub HasFilled : Held → Held → ℕ → List ℕ → Option (List ℕ) → Type 0
+HasFilled old new size piece left =
+    (filled : Filled) × IsFillAnswer (asks_reader old) old size left (Ok filled) × (new ≡ after_fill old (Ok filled) piece)

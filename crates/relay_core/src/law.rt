@@ -6,5 +6,4 @@ ghost use Rattle.relay_core.specs.Law.{RunCarries};
 /// held at the end.
 pub fn run_carries()
     ensures { RunCarries }
-{
-}
+{}

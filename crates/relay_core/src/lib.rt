@@ -4,8 +4,10 @@
 pub use flow::{Drained, Filled, Flow, FlowFault};
 pub use law::run_carries;
 pub use pass::Moved;
+pub use relay::Relay;
 
 mod flow;
 mod law;
 mod once;
 mod pass;
+mod relay;
