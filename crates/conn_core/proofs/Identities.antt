@@ -67,11 +67,11 @@ pub left_is_kept : (scene : Scene) (now : ℕ) (real : Ends) (verdict : Verdict)
 left_is_kept scene now real (Served backend server) differ is =
     let same = identity_found scene.version.now.plan is.0 backend.now server.now differ is.1 is.2 in
     ap (λ i. record {
-        serial = scene.id.serial;
-        version = scene.version.now.number;
-        real = real;
-        accepted = now;
-        phase = Offered (record { server = i; line = server.now.line; judged = real });
-        tracks = [];
+      serial = scene.id.serial;
+      version = scene.version.now.number;
+      real = real;
+      accepted = now;
+      phase = Offered (record { server = i; line = server.now.line; judged = real });
+      tracks = [];
     } ∷ []) (sym same)
 left_is_kept scene now real (Refused cause) differ is = refl

@@ -1,7 +1,6 @@
 -- The keywords, and in which sections they stand (HAProxy manual, "proxy keywords matrix").
 use Rattle.std.specs.Prelude.{ℕ, Bool, true, false, List, Result, Ok, Err, codes, if◌then◌else◌}
 use Rattle.std.specs.Str.{bytes_eq}
-
 use Rattle.conn_core.specs.declared.fault.ConfKind.{ConfKind}
 use Rattle.conn_core.specs.declared.fault.ConfKind.TheVariants.{NoSection, UnknownKeyword, Unsupported}
 use Rattle.conn_core.specs.declared.item.SectionKind.{SectionKind}

@@ -1,5 +1,5 @@
 -- What a step decides before anything changes.
-use Rattle.std.specs.Prelude.{ℕ, List, [], ◌∷◌, Option, Some, slice_get, option_to_list, ◌≡◌, ◌+◌, ◌<◌, ◌^◌}
+use Rattle.std.specs.Prelude.{ℕ, List, [], ◌∷◌, Option, Some, slice_get, option_to_list, ◌≡◌, ◌+◌, ◌<◌, ◌^◌, Ok}
 use Rattle.std.specs.List.{AllByRecursion}
 use Rattle.addr_core.specs.Ends.{Ends}
 use Rattle.plan_core.specs.declared.plan.Server.{Server}
@@ -16,7 +16,9 @@ use Rattle.conn_model.specs.declared.plain.Version.{Version}
 use Rattle.conn_model.specs.declared.plain.Plain.{Plain}
 use Rattle.conn_model.specs.Words.{newest, AreGiven}
 use Rattle.conn_model.specs.Answer.{saying}
-use Rattle.conn_model.specs.History.{id_of, kept_by, LinesDiffer}
+use Rattle.conn_model.specs.History.{id_of, kept_by, opening, LinesDiffer}
+use Rattle.plan_core.specs.declared.plan.Plan.{Plan}
+use Rattle.conn_core.specs.Meaning.{meaning}
 
 -- the id is the next of its frontend, what is said is said to it, and the row is the one that it leaves
 pub record Next (p : Plain) (clock : ℕ) (real : Ends) (id : ConnId) (said : Said) (row : Option Row) (lane : Lane) : Type 0 where
@@ -46,3 +48,7 @@ offered_row scene now real backend server = record {
 abbrev pub left_by : Scene → ℕ → Ends → Verdict → List Row
 left_by scene now real (Served backend server) = offered_row scene now real backend.now server.now ∷ []
 left_by scene now real (Refused cause) = []
+
+-- the core stands at the opening of the text
+abbrev pub IsOpened : List ℕ → ℕ → Plain → Type 0
+IsOpened text last core = (plan : Plan) × (meaning text ≡ Ok plan) × (core ≡ opening plan last)

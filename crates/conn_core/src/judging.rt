@@ -108,7 +108,7 @@ fn rejecting_line(rules: &[Rule], scene: &Scene<'_>) -> Option<u32>
 }
 
 /// The server that the connection gets once no rule rejects it.
-fn serve<'a>(scene: &Scene<'a>, real: Pair) -> Verdict<'a>
+pub fn serve<'a>(scene: &Scene<'a>, real: Pair) -> Verdict<'a>
     ensures says { said_by scene.now.id real result ≡ choose (scene_view scene.now) 0 real }
     ensures found { IsFoundIn scene.now.version.now.plan result }
 {

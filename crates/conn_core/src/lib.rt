@@ -11,7 +11,10 @@ mod judging;
 mod keyword;
 mod lanes;
 mod machine;
+mod opening;
 mod planning;
 mod reading;
 mod statement;
+#[cfg(test)]
+mod tests;
 mod words;

@@ -1,5 +1,5 @@
 //! The decision core.
-ghost use Rattle.std.specs.Prelude.{◌≡◌, ◌≢◌, ◌⊎◌, ◌+◌, ◌^◌, ◌<◌, ℕ, List, [], ◌∷◌, ◌++◌, Option, Some, IfOk, IfErr, IfSome, OnOk, OnErr, slice_get, Ok, Err, max, is_some, option_to_list};
+ghost use Rattle.std.specs.Prelude.{◌≡◌, ◌≢◌, ◌⊎◌, ◌+◌, ◌^◌, ◌<◌, ◌≤◌, length, ℕ, List, [], ◌∷◌, ◌++◌, Option, Some, IfOk, IfErr, IfSome, OnOk, OnErr, slice_get, Ok, Err, max, is_some, option_to_list};
 ghost use Rattle.std.specs.Option.{option_copied};
 ghost use Rattle.conn_model.specs.Words.{newest, AreGiven};
 ghost use Rattle.conn_model.specs.Answer.{answer_in, accepted_at, closed, row_at, saying, admitted};
@@ -9,19 +9,21 @@ ghost use Rattle.conn_model.specs.declared.event.Happening.TheVariants.{Accepted
 ghost use Rattle.conn_model.specs.declared.plain.Lane.{Lane};
 ghost use Rattle.conn_model.specs.declared.plain.Plain.{Plain};
 ghost use Rattle.conn_core.specs.Judging.{scene_view, said_by, IsFoundIn};
-ghost use Rattle.conn_core.specs.Machine.{Next, HaveLines, offered_row, left_by};
+ghost use Rattle.conn_core.specs.Meaning.{meaning};
+ghost use Rattle.conn_core.specs.Machine.{IsOpened, Next, HaveLines, offered_row, left_by};
 
+use crate::fault::OpenFault;
 use crate::judging::{Scene, Verdict, admit, frontend_named, item, newest, said};
 use crate::lanes::{LaneState, row_of};
+use crate::opening::{cursors, lanes, listeners};
+use crate::planning::read_plan;
 use addr_core::Pair;
 use arrayvec::ArrayVec;
 use conn_model::event::{ConnId, Event, Why};
-use conn_model::plain::{
-    Identity, Kept, Lane, Listener, Phase, Plain, Row, Served, Version,
-};
+use conn_model::plain::{Identity, Kept, Lane, Listener, Phase, Plain, Row, Served, Version};
 use conn_model::reply::{Reply, Said, StepFault};
 use list_core::{Duplicate, Seq};
-use plan_core::{Backend, Server};
+use plan_core::{Backend, Plan, Server};
 use std::alloc::{AllocError, Global};
 use std::marker::Model;
 
@@ -41,7 +43,8 @@ impl Model for Core {
 
     ghost Value = { Plain };
 
-    ghost use Rattle.conn_core.specs.Machine.{HaveLines};
+    ghost use Rattle.conn_core.specs.Meaning.{meaning};
+    ghost use Rattle.conn_core.specs.Machine.{IsOpened, HaveLines};
 
     ghost view = { λ c. record { clock = c.clock; listeners = c.listeners; lanes = c.lanes.items; versions = c.versions; tables = c.tables } };
 
@@ -57,6 +60,48 @@ struct Admission {
 }
 
 impl Core {
+    /// A core that stands at the opening of a configuration's text: nothing is open, and the first
+    /// serial of each frontend is 1.
+    pub fn open(alloc: Global, text: &str) -> Result<Core, OpenFault>
+        // It is opened exactly where the text has no fault.
+        ensures ok { IfOk result (λ core. IsOpened text.now 0 core) }
+        ensures fault { IfErr result (λ f. (f ≡ OpenFault.NoMemory) ⊎ (meaning text.now ≡ Err f)) }
+
+        // So every history can be told from there.
+        ensures well { IfOk result IsWell }
+    {
+        let plan = read_plan(alloc, text)?;
+        Core::start(alloc, plan, 0)
+    }
+
+    pub(crate) fn start(alloc: Global, plan: Plan, last: u64) -> Result<Core, OpenFault>
+        requires few { length plan.frontends ≤ 64 }
+        requires lines { LinesDiffer plan }
+        ensures ok { IfOk result (λ core. core ≡ opening plan last) }
+        ensures fault { IfErr result (λ f. f ≡ OpenFault.NoMemory) }
+    {
+        let listeners = listeners(alloc, plan.frontends.as_slice())?;
+        let lanes = lanes(alloc, plan.frontends.as_slice(), last)?;
+        let version = Version {
+            number: 1,
+            tables: Seq::new(alloc),
+            cursors: cursors(alloc, plan.backends.as_slice())?,
+            plan,
+        };
+        let mut versions = Seq::new(alloc);
+        if versions.push(version).is_err() {
+            return Err(OpenFault::NoMemory);
+        }
+        Ok(Core {
+            alloc,
+            clock: 0,
+            listeners,
+            lanes,
+            versions,
+            tables: Seq::new(alloc),
+        })
+    }
+
     /// Answers one event. After a fault nothing is changed.
     pub fn step(&mut self, moment: u64, event: &Event) -> Result<Reply, StepFault>
         // Where the core stands after a history, the reply is the answer after it, and the core then

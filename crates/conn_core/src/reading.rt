@@ -196,11 +196,7 @@ fn allowed(items: &[Item], says: &Says) -> Result<(), ConfKind>
 }
 
 /// What the line after those says.
-fn judge<'a>(
-    alloc: Global,
-    items: &[Item<'a>],
-    line: &Line<'a>,
-) -> Result<Item<'a>, Stop<ConfKind>>
+fn judge<'a>(alloc: Global, items: &[Item<'a>], line: &Line<'a>) -> Result<Item<'a>, Stop<ConfKind>>
     ensures { Gives result (judged items.now line.now) }
 {
     let section = section_after(items);

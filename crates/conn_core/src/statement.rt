@@ -102,11 +102,7 @@ fn given<'a>(says: Result<Says<'a>, ConfKind>) -> Result<Says<'a>, Stop<ConfKind
 }
 
 /// What a line says behind its keyword. The language's other lines are not taken.
-fn says<'a>(
-    alloc: Global,
-    keyword: Keyword,
-    words: &[Word<'a>],
-) -> Result<Says<'a>, Stop<ConfKind>>
+fn says<'a>(alloc: Global, keyword: Keyword, words: &[Word<'a>]) -> Result<Says<'a>, Stop<ConfKind>>
     ensures { Gives result (says_of keyword words.now) }
 {
     match keyword {

@@ -8,7 +8,7 @@ pub enum Got {
     Bytes(usize),
     /// The reader is at its end.
     End,
-    /// Nothing for now: the same call may be made again.
+    /// Nothing at this moment; the same call may be made again.
     Blocked,
 }
 
@@ -17,7 +17,7 @@ pub enum Got {
 pub enum Put {
     /// So many bytes, the first of those that were handed in.
     Bytes(usize),
-    /// Nothing for now: the same call may be made again.
+    /// Nothing at this moment; the same call may be made again.
     Blocked,
 }
 

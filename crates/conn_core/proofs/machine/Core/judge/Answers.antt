@@ -16,8 +16,7 @@ returns-clause-lane c =
     let versions : c.self.inside.versions ≡ c.args.self.now.versions = ap (λ p. p.versions) c.self.view_is in
     let in_force : newest c.args.self.now.versions ≡ Some c.in-Some-newest.version.now = sym (c.in-Some-newest.ensures ∙ ap (λ xs. newest xs) (c.as_slice-3.ensures ∙ versions)) in
     let lane : slice_get c.args.self.now.lanes c.in-Some.listener.now.frontend ≡ Some c.in-Some-item.lane.now =
-    sym (c.in-Some-item.ensures ∙ ap (λ xs. slice_get xs c.in-Some.listener.now.frontend) (c.as_slice-2.ensures.value ∙ lanes)) in
-    (
+    sym (c.in-Some-item.ensures ∙ ap (λ xs. slice_get xs c.in-Some.listener.now.frontend) (c.as_slice-2.ensures.value ∙ lanes)) in (
       c.in-Some-item.lane.now,
       record {
         there = ap (λ i. slice_get c.args.self.now.lanes i.frontend) c.in_ok-admission.ensures.id ∙ lane;

@@ -1,0 +1,62 @@
+//! The state in which a plan is opened.
+ghost use Rattle.std.specs.Prelude.{◌≡◌, ◌≤◌, ◌<◌, ◌++◌, [], map, flat_map, length, None, IfOk, OnOk};
+ghost use Rattle.std.specs.List.{enumerate_from};
+ghost use Rattle.conn_model.specs.History.{listeners_of};
+
+use crate::lanes::LaneState;
+use conn_model::plain::{Listener, Place};
+use list_core::{Duplicate, Seq};
+use plan_core::{Backend, Frontend};
+use std::alloc::{AllocError, Global};
+
+/// Adds where a frontend listens.
+fn push_listeners(
+    listeners: &mut Seq<Listener>,
+    number: u16,
+    frontend: &Frontend,
+) -> Result<(), AllocError>
+    ensures { OnOk result (listeners.new ≡ listeners.old ++ listeners_of (number, frontend.now)) }
+{
+    for bind in frontend.binds.as_slice() {
+        listeners.push(Listener {
+            frontend: number,
+            at: bind.at,
+            accept_proxy: bind.accept_proxy,
+        })?;
+    }
+    Ok(())
+}
+
+/// The listeners of all frontends, in written order.
+pub fn listeners(alloc: Global, frontends: &[Frontend]) -> Result<Seq<Listener>, AllocError>
+    requires { length frontends.now ≤ 64 }
+    ensures { IfOk result (λ all. all ≡ flat_map listeners_of (enumerate_from 0 frontends.now)) }
+{
+    let mut all = Seq::new(alloc);
+    for (number, frontend) in frontends.iter().enumerate() {
+        push_listeners(&mut all, number as u16, frontend)?;
+    }
+    Ok(all)
+}
+
+/// The lanes of all frontends, with nothing open.
+pub fn lanes(alloc: Global, frontends: &[Frontend], last: u64) -> Result<Vec<LaneState>, AllocError>
+    ensures { IfOk result (λ lanes. lanes.items ≡ map (λ frontend. record { name = frontend.name; serial = last; rows = [] }) frontends.now) }
+{
+    let mut lanes = Vec::new(alloc);
+    for frontend in frontends {
+        lanes.push(LaneState::new(alloc, frontend.name.duplicate(alloc)?, last))?;
+    }
+    Ok(lanes)
+}
+
+/// A cursor for each backend, unset.
+pub fn cursors(alloc: Global, backends: &[Backend]) -> Result<Seq<Option<Place>>, AllocError>
+    ensures { IfOk result (λ cursors. cursors ≡ map (λ backend. None) backends.now) }
+{
+    let mut cursors = Seq::new(alloc);
+    for _backend in backends {
+        cursors.push(None)?;
+    }
+    Ok(cursors)
+}
