@@ -1,7 +1,7 @@
 -- Any list of calls does together what one call does.
-use Rattle.std.proofs.Common.{◌≡◌, ℕ, List, [], ◌∷◌, ◌++◌, Option, Some, None, refl, sym, ap, ◌∙◌, append_assoc, append-nil}
+use Rattle.std.proofs.Common.{ℕ, List, [], ◌∷◌, ◌++◌, Option, Some, None, refl, sym, ap, ◌∙◌, append_assoc, append-nil}
 use Rattle.std.specs.Io.KnownBytes.{Consumes, Appends}
-use Rattle.relay_core.specs.Law.{Moves, Stream, Carries, Step, Follows, all_read, all_written, RunCarries}
+use Rattle.relay_core.specs.Law.{Moves, Stream, Carries, Step, Follows, all_read, all_written}
 
 Consumes-nil : (left : Option (List ℕ)) → Consumes left left []
 Consumes-nil None = tt

@@ -94,7 +94,13 @@ drained_count (Err e) = 0
 abbrev pub after_drain : Held → Result Drained FlowFault → Held
 after_drain flow answer = record flow { bytes = drop (drained_count answer) flow.bytes }
 
--- the writer's failures, and its blocked calls in a row after a drain
+-- the writer's calls, its failures, and its blocked calls in a row after a drain
+abbrev pub drain_calls : Result Drained FlowFault → ℕ → ℕ
+drain_calls (Ok (drained.Bytes n)) count = raised count
+drain_calls (Ok drained.Blocked) count = raised count
+drain_calls (Ok drained.Empty) count = count
+drain_calls (Err e) count = raised count
+
 abbrev pub drain_failures : Result Drained FlowFault → ℕ → ℕ
 drain_failures (Ok answer) count = count
 drain_failures (Err e) count = raised count

@@ -5,7 +5,7 @@ use Rattle.relay_core.specs.declared.flow.Filled.{Filled}
 use Rattle.relay_core.specs.declared.flow.FlowFault.{FlowFault}
 use Rattle.relay_core.specs.declared.flow.FlowFault.TheVariants.{Read, Write}
 use Rattle.relay_core.specs.declared.pass.Moved.{Moved}
-use Rattle.relay_core.specs.Flow.{Held, read_in, after_fill, drained_count, drain_stalls, asks_reader, IsFillAnswer}
+use Rattle.relay_core.specs.Flow.{Held, read_in, after_fill, drained_count, drain_calls, drain_stalls, asks_reader, IsFillAnswer}
 
 -- what a pass read in: the front of the piece, or after a failed write what is held more than before
 abbrev pub pass_read : Result Moved FlowFault → Held → Held → List ℕ → List ℕ
@@ -29,7 +29,12 @@ pass_write_failures (Ok moved) count = count
 pass_write_failures (Err Read) count = count
 pass_write_failures (Err Write) count = raised count
 
--- the writer's blocked calls in a row after a pass
+-- the writer's calls, and its blocked calls in a row after a pass
+abbrev pub pass_write_calls : Result Moved FlowFault → ℕ → ℕ
+pass_write_calls (Ok moved) count = drain_calls (Ok moved.drained) count
+pass_write_calls (Err Read) count = count
+pass_write_calls (Err Write) count = raised count
+
 abbrev pub pass_write_stalls : Result Moved FlowFault → ℕ → ℕ
 pass_write_stalls (Ok moved) count = drain_stalls (Ok moved.drained) count
 pass_write_stalls (Err Read) count = count

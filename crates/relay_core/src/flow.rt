@@ -2,7 +2,7 @@
 ghost use Rattle.std.specs.Prelude.{◌≡◌, ◌<◌, ◌≤◌, ◌+◌, ◌++◌, [], ◌↔◌, IfOk, IsTrue, true, length, take};
 ghost use Rattle.std.specs.Io.KnownBytes.{Consumes, Appends};
 ghost use Rattle.relay_core.specs.Law.{Moves};
-ghost use Rattle.relay_core.specs.Flow.{room, IsDone, asks_reader, IsFillAnswer, read_in, after_fill, fill_calls, fill_failures, fill_stalls, IsDrainAnswer, drained_count, after_drain, drain_failures, drain_stalls};
+ghost use Rattle.relay_core.specs.Flow.{room, IsDone, asks_reader, IsFillAnswer, read_in, after_fill, fill_calls, fill_failures, fill_stalls, IsDrainAnswer, drained_count, after_drain, drain_calls, drain_failures, drain_stalls};
 
 use crate::once::{read_front, write_once};
 use circular_buffer::HeapCircularBuffer;
@@ -159,6 +159,7 @@ impl Flow {
         ensures after { self.new ≡ after_drain self.old result }
         ensures written { Appends (O.held writer.old) (O.held writer.new) (take (drained_count result) self.old.bytes) }
         ensures law { Moves self.old.bytes [] (take (drained_count result) self.old.bytes) self.new.bytes }
+        ensures calls { O.calls writer.new ≡ drain_calls result (O.calls writer.old) }
         ensures failures { O.failures writer.new ≡ drain_failures result (O.failures writer.old) }
         ensures stalls { O.stalls writer.new ≡ drain_stalls result (O.stalls writer.old) }
     {

@@ -11,3 +11,5 @@ mod law;
 mod once;
 mod pass;
 mod relay;
+#[cfg(test)]
+mod tests;

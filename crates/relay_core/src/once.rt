@@ -2,7 +2,7 @@
 ghost use Rattle.std.specs.Prelude.{◌≡◌, ◌<◌, ◌≤◌, true, length, take};
 ghost use Rattle.std.specs.Io.KnownBytes.{Consumes, Appends};
 ghost use Rattle.device_core.specs.Device.{raised};
-ghost use Rattle.relay_core.specs.Flow.{IsReadAnswer, read_in, fill_failures, fill_stalls, IsWriteAnswer, drained_count, drain_failures, drain_stalls};
+ghost use Rattle.relay_core.specs.Flow.{IsReadAnswer, read_in, fill_failures, fill_stalls, IsWriteAnswer, drained_count, drain_calls, drain_failures, drain_stalls};
 
 use crate::flow::{Drained, Filled, FlowFault};
 use device_core::{Got, Input, Output, Put};
@@ -34,6 +34,7 @@ pub(crate) fn write_once<O: Output>(writer: &mut O, bytes: &[u8]) -> Result<Drai
     requires { 0 < length bytes.now }
     ensures answer { IsWriteAnswer (length bytes.now) result }
     ensures written { Appends (O.held writer.old) (O.held writer.new) (take (drained_count result) bytes.now) }
+    ensures calls { O.calls writer.new ≡ drain_calls result (O.calls writer.old) }
     ensures failures { O.failures writer.new ≡ drain_failures result (O.failures writer.old) }
     ensures stalls { O.stalls writer.new ≡ drain_stalls result (O.stalls writer.old) }
 {

@@ -1,9 +1,9 @@
 //! One fill and one drain in one call.
 ghost use Rattle.std.specs.Prelude.{◌≡◌, true, ℕ, ◌<◌, ◌≤◌, [], ◌++◌, IfOk, IsTrue, OnOk, OnErr, length, take, drop};
 ghost use Rattle.std.specs.Io.KnownBytes.{Consumes, Appends};
-ghost use Rattle.relay_core.specs.Flow.{room, asks_reader, IsFillAnswer, read_in, after_fill, fill_calls, fill_failures, fill_stalls, IsWriteAnswer, IsDrainAnswer, drained_count, after_drain, drain_failures, drain_stalls};
+ghost use Rattle.relay_core.specs.Flow.{room, asks_reader, IsFillAnswer, read_in, after_fill, fill_calls, fill_failures, fill_stalls, IsWriteAnswer, IsDrainAnswer, drained_count, after_drain, drain_calls, drain_failures, drain_stalls};
 ghost use Rattle.relay_core.specs.Law.{Moves};
-ghost use Rattle.relay_core.specs.Pass.{pass_read, pass_written, pass_read_failures, pass_write_failures, pass_write_stalls, HasFilled};
+ghost use Rattle.relay_core.specs.Pass.{pass_read, pass_written, pass_read_failures, pass_write_calls, pass_write_failures, pass_write_stalls, HasFilled};
 ghost use Rattle.relay_core.specs.declared.flow.Filled.{Filled};
 
 use crate::flow::{Drained, Filled, Flow, FlowFault};
@@ -40,8 +40,9 @@ impl Flow {
         ensures written { Appends (O.held writer.old) (O.held writer.new) (pass_written result self.old piece.new) }
         ensures law { Moves self.old.bytes (pass_read result self.old self.new piece.new) (pass_written result self.old piece.new) self.new.bytes }
 
-        // One read at most, and a fault only where the device failed.
-        ensures calls { I.calls reader.new ≡ fill_calls (asks_reader self.old) (I.calls reader.old) }
+        // One read at most and one write at most, and a fault only where the device failed.
+        ensures read_calls { I.calls reader.new ≡ fill_calls (asks_reader self.old) (I.calls reader.old) }
+        ensures write_calls { O.calls writer.new ≡ pass_write_calls result (O.calls writer.old) }
         ensures read_failures { I.failures reader.new ≡ pass_read_failures result (I.failures reader.old) }
         ensures write_failures { O.failures writer.new ≡ pass_write_failures result (O.failures writer.old) }
         ensures read_stalls { IfOk result (λ m. I.stalls reader.new ≡ fill_stalls (asks_reader self.old) (Ok m.filled) (I.stalls reader.old)) }
@@ -61,6 +62,7 @@ impl Flow {
         ensures answer { IsWriteAnswer (length bytes.now) result }
         ensures after { self.new ≡ record self.old { bytes = drop (drained_count result) bytes.now } }
         ensures written { Appends (O.held writer.old) (O.held writer.new) (take (drained_count result) bytes.now) }
+        ensures calls { O.calls writer.new ≡ drain_calls result (O.calls writer.old) }
         ensures failures { O.failures writer.new ≡ drain_failures result (O.failures writer.old) }
         ensures stalls { O.stalls writer.new ≡ drain_stalls result (O.stalls writer.old) }
     {
@@ -89,9 +91,10 @@ impl Flow {
         ensures after { self.new ≡ after_drain (after_fill self.old result.0 piece.new) result.1 }
         ensures read { Consumes (I.left reader.old) (I.left reader.new) (read_in result.0 piece.new) }
         ensures written { Appends (O.held writer.old) (O.held writer.new) (take (drained_count result.1) (after_fill self.old result.0 piece.new).bytes) }
-        ensures calls { I.calls reader.new ≡ fill_calls true (I.calls reader.old) }
+        ensures read_calls { I.calls reader.new ≡ fill_calls true (I.calls reader.old) }
         ensures read_failures { I.failures reader.new ≡ fill_failures result.0 (I.failures reader.old) }
         ensures read_stalls { I.stalls reader.new ≡ fill_stalls true result.0 (I.stalls reader.old) }
+        ensures write_calls { O.calls writer.new ≡ drain_calls result.1 (O.calls writer.old) }
         ensures write_failures { O.failures writer.new ≡ drain_failures result.1 (O.failures writer.old) }
         ensures write_stalls { O.stalls writer.new ≡ drain_stalls result.1 (O.stalls writer.old) }
     {
@@ -123,9 +126,10 @@ impl Flow {
         ensures written { Appends (O.held writer.old) (O.held writer.new) (take (drained_count result.1) (after_fill self.old result.0 piece.new).bytes) }
         ensures read_in { OnErr result.1 (drop (length self.old.bytes) self.new.bytes ≡ read_in result.0 piece.new) }
         ensures law { OnErr result.1 (self.old.bytes ++ read_in result.0 piece.new ≡ self.new.bytes) }
-        ensures calls { I.calls reader.new ≡ fill_calls (asks_reader self.old) (I.calls reader.old) }
+        ensures read_calls { I.calls reader.new ≡ fill_calls (asks_reader self.old) (I.calls reader.old) }
         ensures read_failures { I.failures reader.new ≡ fill_failures result.0 (I.failures reader.old) }
         ensures read_stalls { I.stalls reader.new ≡ fill_stalls (asks_reader self.old) result.0 (I.stalls reader.old) }
+        ensures write_calls { O.calls writer.new ≡ drain_calls result.1 (O.calls writer.old) }
         ensures write_failures { O.failures writer.new ≡ drain_failures result.1 (O.failures writer.old) }
         ensures write_stalls { O.stalls writer.new ≡ drain_stalls result.1 (O.stalls writer.old) }
     {

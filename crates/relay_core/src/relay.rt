@@ -3,7 +3,7 @@ ghost use Rattle.std.specs.Prelude.{◌≡◌, true, ℕ, ◌<◌, ◌≤◌, �
 ghost use Rattle.std.specs.Io.KnownBytes.{Consumes, Appends};
 ghost use Rattle.relay_core.specs.Flow.{IsDone, asks_reader, IsFillAnswer, after_fill, fill_calls, fill_stalls, IsDrainAnswer, after_drain};
 ghost use Rattle.relay_core.specs.Law.{Moves};
-ghost use Rattle.relay_core.specs.Pass.{pass_read, pass_written, pass_read_failures, pass_write_failures, pass_write_stalls, HasFilled};
+ghost use Rattle.relay_core.specs.Pass.{pass_read, pass_written, pass_read_failures, pass_write_calls, pass_write_failures, pass_write_stalls, HasFilled};
 
 use crate::flow::{Flow, FlowFault};
 use crate::pass::Moved;
@@ -66,8 +66,9 @@ impl Relay {
         ensures written { Appends (O.held writer.old) (O.held writer.new) (pass_written result self.old.forth piece.new) }
         ensures law { Moves self.old.forth.bytes (pass_read result self.old.forth self.new.forth piece.new) (pass_written result self.old.forth piece.new) self.new.forth.bytes }
 
-        // One read at most, and a fault only where the device failed.
-        ensures calls { I.calls reader.new ≡ fill_calls (asks_reader self.old.forth) (I.calls reader.old) }
+        // One read at most and one write at most, and a fault only where the device failed.
+        ensures read_calls { I.calls reader.new ≡ fill_calls (asks_reader self.old.forth) (I.calls reader.old) }
+        ensures write_calls { O.calls writer.new ≡ pass_write_calls result (O.calls writer.old) }
         ensures read_failures { I.failures reader.new ≡ pass_read_failures result (I.failures reader.old) }
         ensures write_failures { O.failures writer.new ≡ pass_write_failures result (O.failures writer.old) }
         ensures read_stalls { IfOk result (λ m. I.stalls reader.new ≡ fill_stalls (asks_reader self.old.forth) (Ok m.filled) (I.stalls reader.old)) }
@@ -98,8 +99,9 @@ impl Relay {
         ensures written { Appends (O.held writer.old) (O.held writer.new) (pass_written result self.old.back piece.new) }
         ensures law { Moves self.old.back.bytes (pass_read result self.old.back self.new.back piece.new) (pass_written result self.old.back piece.new) self.new.back.bytes }
 
-        // One read at most, and a fault only where the device failed.
-        ensures calls { I.calls reader.new ≡ fill_calls (asks_reader self.old.back) (I.calls reader.old) }
+        // One read at most and one write at most, and a fault only where the device failed.
+        ensures read_calls { I.calls reader.new ≡ fill_calls (asks_reader self.old.back) (I.calls reader.old) }
+        ensures write_calls { O.calls writer.new ≡ pass_write_calls result (O.calls writer.old) }
         ensures read_failures { I.failures reader.new ≡ pass_read_failures result (I.failures reader.old) }
         ensures write_failures { O.failures writer.new ≡ pass_write_failures result (O.failures writer.old) }
         ensures read_stalls { IfOk result (λ m. I.stalls reader.new ≡ fill_stalls (asks_reader self.old.back) (Ok m.filled) (I.stalls reader.old)) }
