@@ -8,3 +8,4 @@ pub mod ReachedLemmas
 pub mod OutcomeLemmas
 pub mod EndLemmas
 pub mod PlanLemmas
+pub mod EventLemmas
