@@ -9,3 +9,4 @@ pub mod OutcomeLemmas
 pub mod EndLemmas
 pub mod PlanLemmas
 pub mod EventLemmas
+pub mod NumberLemmas
