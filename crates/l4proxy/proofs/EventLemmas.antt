@@ -1,14 +1,13 @@
 -- The line that writes an event hands it in.
-use Rattle.std.proofs.Common.{◌≡◌, ℕ, ◌+◌, ◌<◌, ◌≤◌, ◌^◌, Bool, true, false, List, [], ◌∷◌, ◌++◌, Option, Some, None, Ok, refl, ap, sym, ◌∙◌, append_assoc, arith}
-use Rattle.std.specs.Prelude.{◌||◌, codes, option_map}
+use Rattle.std.proofs.Common.{◌≡◌, ℕ, ◌<◌, ◌^◌, Bool, true, false, List, [], ◌∷◌, ◌++◌, Some, Ok, refl, ap, sym, ◌∙◌, append_assoc, arith}
+use Rattle.std.specs.Prelude.{codes}
 use Rattle.std.specs.List.{list_all, list_any, slice_split, join_with_byte, All, AllByRecursion}
 use Rattle.std.specs.Char.{is_ascii_digit}
-use Rattle.std.specs.Result.{result_ok}
 use Rattle.std.proofs.lemmas.Bool.Decides.{nat_tests}
 use Rattle.std.proofs.lemmas.List.Splits.{slice_split_at, slice_split_none}
 use Rattle.std.proofs.lemmas.List.Elements.{All-nil, All-cons, All-append}
 use Rattle.addr_core.specs.Decimal.{decimal, decimal_of}
-use Rattle.addr_core.specs.Ends.{Ends, pair_of}
+use Rattle.addr_core.specs.Ends.{Ends}
 use Rattle.addr_core.specs.Family.{same_family}
 use Rattle.addr_core.specs.Text.{endpoint_of, endpoint_text, text_of, IsEndpoint}
 use Rattle.addr_core.specs.declared.addr.Addr.{Addr}
@@ -21,7 +20,7 @@ use Rattle.conn_model.specs.declared.event.Happening.{Happening}
 use Rattle.conn_model.specs.declared.event.Happening.TheVariants.{Accepted, Closing}
 use Rattle.conn_model.specs.declared.event.Why.{Why}
 use Rattle.conn_model.specs.declared.event.Why.TheVariants.{Done, Fault, Stopped, Failed}
-use Rattle.l4proxy.specs.Script.{accept_of, close_of, ends_of, event_line, event_of, event_words, happening_of, id_of, id_in, id_text, is_mark, why_of, why_text, words_of, IsHandedIn}
+use Rattle.l4proxy.specs.Script.{ends_of, event_line, event_of, event_words, id_of, id_in, id_text, is_mark, why_of, why_text, words_of, IsHandedIn}
 
 -- no byte is the mark
 abbrev Lacks : ℕ → List ℕ → Type 0

@@ -1,4 +1,4 @@
-use Rattle.std.proofs.Common.{◌≡◌, ◌+◌, ◌++◌, ◌∷◌, ◌/◌, ◌%◌, [], ap, sym, ◌∙◌, append_assoc, arith}
+use Rattle.std.proofs.Common.{◌+◌, ◌++◌, ◌∷◌, ◌/◌, ◌%◌, [], ap, sym, ◌∙◌, append_assoc, arith}
 use Rattle.std.proofs.lemmas.Grind.{common_steps}
 use Rattle.std.proofs.lemmas.Result.{on_ok_weaker}
 use Rattle.addr_core.specs.Decimal.{decimal}
@@ -16,6 +16,6 @@ pub returns : goal.returns
 returns t c =
     on_ok_weaker c.write_pair-2.result
     (λ same. same ∙ ap (λ xs. xs ++ (48 + c.args.number % 100 / 10) ∷ (48 + c.args.number % 100 % 10) ∷ []) c.in_ok-write_number.ensures
-      ∙ append_assoc c.args.out.now.items (decimal (c.args.number / 100)) ((48 + c.args.number % 100 / 10) ∷ (48 + c.args.number % 100 % 10) ∷ [])
-      ∙ ap (λ xs. c.args.out.now.items ++ xs) (sym (decimal_pairs c.args.number c.if-number-lt100.false)))
+    ∙ append_assoc c.args.out.now.items (decimal (c.args.number / 100)) ((48 + c.args.number % 100 / 10) ∷ (48 + c.args.number % 100 % 10) ∷ [])
+    ∙ ap (λ xs. c.args.out.now.items ++ xs) (sym (decimal_pairs c.args.number c.if-number-lt100.false)))
     c.write_pair-2.ensures
