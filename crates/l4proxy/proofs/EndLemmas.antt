@@ -1,5 +1,5 @@
 -- How a replay ends.
-use Rattle.std.proofs.Common.{◌≡◌, ◌≢◌, ◌⊎◌, ℕ, ◌+◌, Bool, true, false, List, [], ◌∷◌, ◌++◌, Option, Some, None, refl, ap, subst, sym, ◌∙◌, inl, inr, add-zero}
+use Rattle.std.proofs.Common.{◌≡◌, ◌≢◌, ◌⊎◌, ℕ, true, List, [], ◌∷◌, ◌++◌, Option, Some, ap, subst, sym, ◌∙◌, inl, inr, add-zero}
 use Rattle.std.proofs.lemmas.List.{append-nil}
 use Rattle.l4proxy.specs.Replay.{IsFront, Outcome, ended}
 use Rattle.l4proxy.specs.Standing.{Standing, Goes, IsFrontOf, total, total_of}

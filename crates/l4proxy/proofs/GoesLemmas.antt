@@ -2,7 +2,7 @@
 use Rattle.std.proofs.Common.{◌≡◌, ◌⊎◌, ℕ, List, ◌∷◌, ◌++◌, Option, Some, refl, ap, subst, sym, ◌∙◌, append_assoc, inl, inr}
 use Rattle.conf_text.specs.Parts.{parts, is_line_feed}
 use Rattle.l4proxy.specs.Replay.{IsFront, Outcome, ended}
-use Rattle.l4proxy.specs.Turns.{outcome_in, replayed_in}
+use Rattle.l4proxy.specs.Turns.{replayed_in}
 use Rattle.l4proxy.specs.Standing.{Standing, Goes, Ends, Halts, IsFrontOf, IsLineFault, total, total_of, total_of_lines}
 use Rattle.l4proxy.specs.declared.fault.ReplayFault.{ReplayFault}
 use Rattle.l4proxy.specs.declared.fault.ReplayFault.TheVariants.{Config, Format, TooLong, Read, Write, NoMemory}

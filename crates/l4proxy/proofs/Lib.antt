@@ -8,3 +8,5 @@ pub mod ReachedLemmas
 pub mod OutcomeLemmas
 pub mod EndLemmas
 pub mod PlanLemmas
+pub mod EventLemmas
+pub mod NumberLemmas

@@ -1,5 +1,5 @@
 -- What comes of a script by the state alone is what comes of it over its history.
-use Rattle.std.proofs.Common.{◌≡◌, ℕ, ◌+◌, List, [], ◌∷◌, ◌++◌, Option, Some, None, Result, Ok, Err, refl, ap, sym, ◌∙◌, zero-add}
+use Rattle.std.proofs.Common.{◌≡◌, ℕ, ◌+◌, List, [], ◌∷◌, Option, Some, None, Result, Ok, Err, refl, ap, sym, ◌∙◌}
 use Rattle.std.proofs.lemmas.List.{append-nil}
 use Rattle.conf_text.specs.Parts.{parts, is_line_feed}
 use Rattle.plan_core.specs.declared.plan.Plan.{Plan}

@@ -1,11 +1,10 @@
 -- A replay from the opening of a plan on.
-use Rattle.std.proofs.Common.{◌≡◌, ◌⊎◌, ℕ, ◌+◌, List, [], ◌++◌, Option, Some, None, Result, Ok, refl, ap, subst, sym, ◌∙◌, inl, inr, zero-add}
+use Rattle.std.proofs.Common.{◌≡◌, ◌⊎◌, ℕ, List, ◌++◌, Option, Some, None, Ok, ap, subst, sym, ◌∙◌, inl, inr, zero-add}
 use Rattle.plan_core.specs.declared.plan.Plan.{Plan}
 use Rattle.conn_core.specs.Meaning.{meaning}
 use Rattle.conn_model.specs.History.{IsWell, opening}
 use Rattle.l4proxy.specs.Replay.{IsCutAtEnd, IsCutShort, IsEndedBy, IsFront, IsReplayed, IsStopped, Outcome, replayed}
 use Rattle.l4proxy.specs.Reading.{Cut, CutAtEnd, Ended, Wrote}
-use Rattle.l4proxy.specs.Standing.{Standing}
 use Rattle.l4proxy.specs.declared.fault.ReplayFault.{ReplayFault}
 use Rattle.l4proxy.specs.declared.fault.ReplayFault.TheVariants.{Config, Format, TooLong, Read, Write, NoMemory}
 use Rattle.l4proxy.proofs.OutcomeLemmas.{start, total_start}

@@ -1,9 +1,9 @@
 -- How far a script was read and answered.
-use Rattle.std.proofs.Common.{◌≡◌, ◌⊎◌, ℕ, ◌+◌, ◌-◌, ◌<◌, ◌≤◌, List, [], ◌++◌, Option, Some, None, refl, ap, subst, sym, ◌∙◌, append_assoc, arith, inl, inr}
+use Rattle.std.proofs.Common.{◌≡◌, ◌⊎◌, ℕ, List, [], ◌++◌, Option, Some, None, refl, ap, subst, sym, ◌∙◌, append_assoc, inl, inr}
 use Rattle.std.proofs.lemmas.List.{append-nil}
 use Rattle.std.specs.Io.KnownBytes.{Keeps, Consumes, IsAtEnd}
 use Rattle.l4proxy.specs.Replay.{ended}
-use Rattle.l4proxy.specs.Standing.{Standing, Goes, Ends, Halts, IsFrontOf, IsLineFault, total, total_of}
+use Rattle.l4proxy.specs.Standing.{Standing, Goes, Halts, IsLineFault, total, total_of}
 use Rattle.l4proxy.specs.Reading.{Reached, Done, Cut, Stopped, Stops}
 use Rattle.l4proxy.specs.declared.fault.ReplayFault.{ReplayFault}
 use Rattle.l4proxy.specs.declared.fault.ReplayFault.TheVariants.{Config, Format, TooLong, Read, Write, NoMemory}

@@ -1,5 +1,5 @@
 -- How a script is read.
-use Rattle.std.specs.Prelude.{◌≡◌, ◌⊎◌, ℕ, Bool, true, false, ◌≤◌, List, [], ◌++◌, Option, Some, None}
+use Rattle.std.specs.Prelude.{◌≡◌, ◌⊎◌, ℕ, Bool, true, false, ◌≤◌, List, [], ◌++◌, Option, Some}
 use Rattle.device_core.specs.Device.{raised, raised_by}
 use Rattle.l4proxy.specs.Standing.{Standing, Goes, IsFrontOf, total, total_of}
 use Rattle.l4proxy.specs.Replay.{IsFront, ended}

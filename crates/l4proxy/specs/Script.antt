@@ -1,11 +1,12 @@
 -- Scripts: the lines that hand in events.
-use Rattle.std.specs.Prelude.{ℕ, Bool, ◌==◌, List, [], ◌∷◌, ◌++◌, codes, Option, Some, None, option_map, if◌then◌else◌}
+use Rattle.std.specs.Prelude.{◌≡◌, ℕ, Bool, true, ◌<◌, ◌^◌, ◌==◌, List, [], ◌∷◌, ◌++◌, codes, Option, Some, None, option_map, if◌then◌else◌}
 use Rattle.std.specs.List.{join_with_byte, slice_split}
 use Rattle.std.specs.Result.{result_ok}
 use Rattle.std.specs.Str.{bytes_eq}
 use Rattle.addr_core.specs.Decimal.{decimal, decimal_of}
 use Rattle.addr_core.specs.Ends.{Ends, pair_of}
-use Rattle.addr_core.specs.Text.{endpoint_of, endpoint_text}
+use Rattle.addr_core.specs.Text.{endpoint_of, endpoint_text, IsEndpoint}
+use Rattle.addr_core.specs.Family.{same_family}
 use Rattle.conn_model.specs.declared.event.ConnId.{ConnId}
 use Rattle.conn_model.specs.declared.event.Event.{Event}
 use Rattle.conn_model.specs.declared.event.Happening.{Happening}
@@ -108,3 +109,9 @@ event_of words = None
 -- the same of an event that was read
 abbrev pub timed_event : ℕ × Event → ℕ × Happening
 timed_event timed = (timed.0, happening timed.1)
+
+-- the numbers of an event are in range, and its pair is of one family
+abbrev pub IsHandedIn : Happening → Type 0
+IsHandedIn (Accepted listener real) =
+    (listener < 2 ^ 16) × IsEndpoint real.source × IsEndpoint real.destination × (same_family real.source.addr real.destination.addr ≡ true)
+IsHandedIn (Closing id why) = (id.frontend < 2 ^ 16) × (id.serial < 2 ^ 64)

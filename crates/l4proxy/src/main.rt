@@ -77,7 +77,10 @@ fn replay_files<R: Files + AllocGlobal + Print + Eprint>(rt: &R, file: &str, scr
 }
 
 /// Does what the words ask for.
-fn run<R: Files + AllocGlobal + Print + Eprint>(rt: &R, words: &[String]) -> Result<u8, clap::Error> {
+fn run<R: Files + AllocGlobal + Print + Eprint>(
+    rt: &R,
+    words: &[String],
+) -> Result<u8, clap::Error> {
     let matches = commands(rt.alloc())?.try_get_matches_from(words)?;
     let Some(given) = matches.subcommand_matches("replay") else {
         return Ok(USAGE);

@@ -1,5 +1,5 @@
 //! Replies as lines.
-ghost use Rattle.std.specs.Prelude.{◌≡◌, ◌+◌, ◌<◌, ◌≤◌, ◌++◌, ◌∷◌, [], length, codes, OnOk};
+ghost use Rattle.std.specs.Prelude.{◌≡◌, ◌+◌, ◌/◌, ◌%◌, ◌<◌, ◌≤◌, ◌++◌, ◌∷◌, [], length, codes, OnOk};
 ghost use Rattle.std.specs.List.{flat_map};
 ghost use Rattle.hex.specs.Hex.{encode_lower};
 ghost use Rattle.addr_core.specs.Decimal.{decimal};
@@ -20,6 +20,14 @@ fn write_text(out: &mut Vec<u8>, text: &[u8]) -> Result<(), AllocError>
     out.extend_from_slice(text)
 }
 
+/// The two last digits of a number.
+fn write_pair(out: &mut Vec<u8>, pair: u8) -> Result<(), AllocError>
+    requires { pair < 100 }
+    ensures { OnOk result (out.new.items ≡ out.old.items ++ (48 + pair / 10) ∷ (48 + pair % 10) ∷ []) }
+{
+    out.extend_from_slice(&[b'0' + pair / 10, b'0' + pair % 10])
+}
+
 fn write_number(out: &mut Vec<u8>, number: u64) -> Result<(), AllocError>
     ensures { OnOk result (out.new.items ≡ out.old.items ++ decimal number) }
 {
@@ -27,9 +35,11 @@ fn write_number(out: &mut Vec<u8>, number: u64) -> Result<(), AllocError>
         out.push(b'0' + number as u8)?;
         return Ok(());
     }
-    write_number(out, number / 10)?;
-    out.push(b'0' + (number % 10) as u8)?;
-    Ok(())
+    if number < 100 {
+        return write_pair(out, number as u8);
+    }
+    write_number(out, number / 100)?;
+    write_pair(out, (number % 100) as u8)
 }
 
 /// An IPv4 address in dotted decimal.

@@ -1,9 +1,10 @@
 //! Scripts: the lines that hand in events.
-ghost use Rattle.std.specs.Prelude.{◌≡◌, ◌==◌, ◌∷◌, ◌<◌, [], IfSome, IfNone, option_map};
+ghost use Rattle.std.specs.Prelude.{◌≡◌, ◌==◌, ◌∷◌, ◌<◌, ◌^◌, ℕ, [], IfSome, IfNone, option_map};
 ghost use Rattle.std.specs.List.{slice_split};
 ghost use Rattle.std.specs.Str.{bytes_eq};
+ghost use Rattle.conn_model.specs.declared.event.Happening.{Happening};
 ghost use Rattle.conn_model.specs.History.{happening};
-ghost use Rattle.l4proxy.specs.Script.{accept_of, close_of, ends_of, event_of, happening_of, id_of, is_mark, timed_event, why_of, words_of};
+ghost use Rattle.l4proxy.specs.Script.{accept_of, close_of, ends_of, event_line, event_of, happening_of, id_of, is_mark, timed_event, why_of, words_of, IsHandedIn};
 
 use addr_core::decimal::read_decimal;
 use addr_core::{Pair, read_endpoint};
@@ -112,8 +113,7 @@ fn read_happening(verb: &[u8], rest: &[u8]) -> Option<Event>
     None
 }
 
-/// The moment and the event that a line hands in.
-pub fn read_event(line: &[u8]) -> Option<(u64, Event)>
+fn event_in(line: &[u8]) -> Option<(u64, Event)>
     ensures { option_map timed_event result ≡ event_of (words_of line.now) }
 {
     let (moment, rest) = cut_word(line)?;
@@ -121,4 +121,15 @@ pub fn read_event(line: &[u8]) -> Option<(u64, Event)>
     let moment = read_decimal(moment, u64::MAX)?;
     let event = read_happening(verb, rest)?;
     Some((moment, event))
+}
+
+/// The moment and the event that a line hands in.
+pub fn read_event(line: &[u8]) -> Option<(u64, Event)>
+    ensures exact { option_map timed_event result ≡ event_of (words_of line.now) }
+
+    // The line that writes an event hands it in.
+    ensures again { (moment : ℕ) (event : Happening) → moment < 2 ^ 64 → IsHandedIn event →
+        line.now ≡ event_line moment event → option_map timed_event result ≡ Some (moment, event) }
+{
+    event_in(line)
 }

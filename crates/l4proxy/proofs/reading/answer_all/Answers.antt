@@ -1,7 +1,7 @@
-use Rattle.std.proofs.Common.{◌≡◌, ℕ, ◌-◌, ◌≤◌, ap, ◌∙◌, arith, inl, inr}
+use Rattle.std.proofs.Common.{◌-◌, ap, ◌∙◌, arith, inl, inr}
 use Rattle.l4proxy.specs.Standing.{total_of}
 use Rattle.std.proofs.lemmas.Result.{IfErr-weaker, on_ok_weaker, err_from_is_err_and}
-use Rattle.l4proxy.proofs.ReachedLemmas.{done_last, left_last, reached_kept, reached_on, reached_start, stops_block, stops_last}
+use Rattle.l4proxy.proofs.ReachedLemmas.{done_last, left_last, reached_kept, reached_on, stops_block, stops_last}
 use Rattle.l4proxy.proofs.reading.answer_all.Goals as goal
 
 pub returns-in-Err-clause-stops : goal.returns-in-Err-clause-stops

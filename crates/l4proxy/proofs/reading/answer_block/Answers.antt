@@ -1,4 +1,4 @@
-use Rattle.std.proofs.Common.{◌≡◌, ◌++◌, ap, sym, subst, ◌∙◌}
+use Rattle.std.proofs.Common.{◌++◌, sym, subst, ◌∙◌}
 use Rattle.std.proofs.lemmas.Result.{IfErr-weaker, on_ok_weaker, err_from_is_err_and}
 use Rattle.l4proxy.specs.Standing.{Goes, Halts, IsUnended}
 use Rattle.l4proxy.proofs.CarryLemmas.{carried, cut_carried, unended_both}

@@ -1,4 +1,4 @@
-use Rattle.std.proofs.Common.{◌≡◌, ◌++◌, ◌<◌, length, arith, length-append, ap}
+use Rattle.std.proofs.Common.{◌++◌, ◌<◌, length, arith, length-append, ap}
 use Rattle.std.proofs.lemmas.Result.{IfErr-weaker}
 use Rattle.l4proxy.specs.Standing.{total}
 use Rattle.l4proxy.proofs.CarryLemmas.{too_long}

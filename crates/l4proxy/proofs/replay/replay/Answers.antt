@@ -1,4 +1,4 @@
-use Rattle.std.proofs.Common.{◌≡◌, None, Err, ap, subst, sym, ◌∙◌, inl, inr}
+use Rattle.std.proofs.Common.{◌≡◌, None, Err, ap, subst, sym, inl, inr}
 use Rattle.std.proofs.lemmas.Result.{err_from_is_err_and}
 use Rattle.l4proxy.specs.Standing.{GaveUp, Standing}
 use Rattle.l4proxy.specs.Reading.{Wrote}

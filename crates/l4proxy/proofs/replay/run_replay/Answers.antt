@@ -1,4 +1,4 @@
-use Rattle.std.proofs.Common.{◌≡◌, ℕ, List, [], None, ap, subst, ◌∙◌}
+use Rattle.std.proofs.Common.{◌≡◌, [], None, ap, subst, ◌∙◌}
 use Rattle.conn_model.specs.declared.plain.Plain.{Plain}
 use Rattle.conn_model.specs.History.{IsWell, opening}
 use Rattle.l4proxy.specs.Reading.{Ended, Wrote}
