@@ -18,7 +18,7 @@ pub enum Filled {
     Bytes(usize),
     /// The reader is at its end, now or since an earlier fill.
     End,
-    /// The reader has nothing for now.
+    /// The reader has nothing at this moment.
     Blocked,
     /// There is no room, and the reader was not asked.
     NoRoom,
@@ -29,7 +29,7 @@ pub enum Filled {
 pub enum Drained {
     /// So many bytes went out.
     Bytes(usize),
-    /// The writer takes nothing for now.
+    /// The writer takes nothing at this moment.
     Blocked,
     /// Nothing is held, and the writer was not asked.
     Empty,
