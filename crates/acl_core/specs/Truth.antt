@@ -9,8 +9,8 @@ use Rattle.acl_core.specs.declared.criterion.Value.{Value}
 use Rattle.acl_core.specs.declared.criterion.Value.TheVariants.{Absent, Number, Source}
 use Rattle.acl_core.specs.declared.condition.Test.{Test}
 use Rattle.acl_core.specs.declared.condition.Term.{Term}
-use Rattle.acl_core.specs.declared.condition.Condition.{Condition}
-use Rattle.acl_core.specs.declared.condition.Condition.TheVariants.{Always, If, Unless}
+use Rattle.acl_core.specs.declared.condition.Cond.{Cond}
+use Rattle.acl_core.specs.declared.condition.Cond.TheVariants.{Always, If, Unless}
 
 -- a pattern holds a value; an absent value matches nothing
 abbrev pub matches : Value → Pattern → Bool
@@ -29,7 +29,7 @@ term_holds worth term = if term.negated then not (list_any (test_holds worth) te
 abbrev pub some_group : (Criterion → Value) → List (List Term) → Bool
 some_group worth groups = list_any (λ group. list_all (term_holds worth) group) groups
 
-abbrev pub condition_holds : (Criterion → Value) → Condition → Bool
+abbrev pub condition_holds : (Criterion → Value) → Cond → Bool
 condition_holds worth Always = true
 condition_holds worth (If groups) = some_group worth groups
 condition_holds worth (Unless groups) = not (some_group worth groups)

@@ -25,7 +25,7 @@ pub struct Term {
 
 /// When a line applies (HAProxy manual, "using ACLs to form conditions").
 #[derive(Debug, Drop)]
-pub enum Condition {
+pub enum Cond {
     Always,
     /// Some group has all its terms.
     If(Seq<Seq<Term>>),
@@ -33,15 +33,15 @@ pub enum Condition {
     Unless(Seq<Seq<Term>>),
 }
 
-impl Condition {
+impl Cond {
     /// Whether the condition is true of the connection.
     pub fn holds<V: View>(&self, view: &V) -> bool
         ensures { result ≡ condition_holds (V.worth view.now) self.now }
     {
         match self {
-            Condition::Always => true,
-            Condition::If(groups) => holds_in_some(groups.as_slice(), view),
-            Condition::Unless(groups) => !holds_in_some(groups.as_slice(), view),
+            Cond::Always => true,
+            Cond::If(groups) => holds_in_some(groups.as_slice(), view),
+            Cond::Unless(groups) => !holds_in_some(groups.as_slice(), view),
         }
     }
 }
@@ -106,12 +106,12 @@ impl Duplicate for Term {
     }
 }
 
-impl Duplicate for Condition {
-    fn duplicate(&self, alloc: Global) -> Result<Condition, AllocError> {
+impl Duplicate for Cond {
+    fn duplicate(&self, alloc: Global) -> Result<Cond, AllocError> {
         match self {
-            Condition::Always => Ok(Condition::Always),
-            Condition::If(groups) => Ok(Condition::If(groups.duplicate(alloc)?)),
-            Condition::Unless(groups) => Ok(Condition::Unless(groups.duplicate(alloc)?)),
+            Cond::Always => Ok(Cond::Always),
+            Cond::If(groups) => Ok(Cond::If(groups.duplicate(alloc)?)),
+            Cond::Unless(groups) => Ok(Cond::Unless(groups.duplicate(alloc)?)),
         }
     }
 }

@@ -14,8 +14,8 @@ use Rattle.acl_core.specs.declared.criterion.Criterion.TheVariants as criteria
 use Rattle.acl_core.specs.declared.criterion.Pattern.{Pattern}
 use Rattle.acl_core.specs.declared.criterion.Pattern.TheVariants.{Network}
 use Rattle.acl_core.specs.declared.condition.Term.{Term}
-use Rattle.acl_core.specs.declared.condition.Condition.{Condition}
-use Rattle.acl_core.specs.declared.condition.Condition.TheVariants as conditions
+use Rattle.acl_core.specs.declared.condition.Cond.{Cond}
+use Rattle.acl_core.specs.declared.condition.Cond.TheVariants as conditions
 use Rattle.plan_core.specs.declared.plan.Action.{Action}
 use Rattle.plan_core.specs.declared.plan.Action.TheVariants as actions
 use Rattle.conn_core.specs.declared.fault.ConfKind.{ConfKind}
@@ -120,7 +120,7 @@ test_of (word ∷ rest) = if bytes_eq word (codes "{") then braced_of rest else 
 abbrev pub groups_of : List Pattern → List (List Term)
 groups_of patterns = (record { negated = false; tests = record { criterion = criteria.Source; patterns = patterns } ∷ [] } ∷ []) ∷ []
 
-abbrev pub condition_of : List (List ℕ) → Result Condition ConfKind
+abbrev pub condition_of : List (List ℕ) → Result Cond ConfKind
 condition_of [] = Ok conditions.Always
 condition_of (word ∷ rest) =
     if bytes_eq word (codes "if") then (test_of rest >>= λ patterns. Ok (conditions.If (groups_of patterns)))

@@ -5,7 +5,7 @@ ghost use Rattle.addr_core.specs.Text.{net_of};
 ghost use Rattle.conn_core.specs.Statements.{pattern_of, closed_at, patterns_of, braced_of, test_of, groups_of, condition_of};
 
 use crate::fault::ConfKind;
-use acl_core::{AclFault, Condition, Criterion, Pattern, Term, Test};
+use acl_core::{AclFault, Cond, Criterion, Pattern, Term, Test};
 use addr_core::read_net;
 use conf_text::Word;
 use list_core::{Seq, Stop};
@@ -112,18 +112,18 @@ fn groups(alloc: Global, patterns: Seq<Pattern>) -> Result<Seq<Seq<Term>>, Alloc
 }
 
 /// When a rule applies, by the words behind its action.
-pub fn condition(alloc: Global, words: &[Word]) -> Result<Condition, Stop<ConfKind>>
+pub fn condition(alloc: Global, words: &[Word]) -> Result<Cond, Stop<ConfKind>>
     ensures { Gives result (condition_of words.now) }
 {
     match words {
-        [] => Ok(Condition::Always),
+        [] => Ok(Cond::Always),
         [word, rest @ ..] => {
             if word.is(b"if") {
                 let patterns = test(alloc, rest)?;
-                Ok(Condition::If(groups(alloc, patterns)?))
+                Ok(Cond::If(groups(alloc, patterns)?))
             } else if word.is(b"unless") {
                 let patterns = test(alloc, rest)?;
-                Ok(Condition::Unless(groups(alloc, patterns)?))
+                Ok(Cond::Unless(groups(alloc, patterns)?))
             } else {
                 Err(Stop::Fault(ConfKind::Unsupported))
             }

@@ -1,5 +1,5 @@
 //! What the lines of a configuration say.
-use acl_core::Condition;
+use acl_core::Cond;
 use addr_core::Endpoint;
 use conf_text::Word;
 use plan_core::Action;
@@ -23,7 +23,7 @@ pub enum Says<'a> {
     Frontend(Word<'a>),
     Backend(Word<'a>),
     Bind(Endpoint),
-    Rule(Action, Condition),
+    Rule(Action, Cond),
     DefaultBackend(Word<'a>),
     Server(Word<'a>, Endpoint),
 }

@@ -7,7 +7,7 @@ ghost use Rattle.conn_model.specs.Rules.{worth, decides, is_true_in, deciding, r
 ghost use Rattle.conn_model.specs.Answer.{frontend_in, admitted, choose, row_in};
 ghost use Rattle.conn_core.specs.Judging.{scene_view, said_by, IsFoundIn};
 
-use acl_core::{Condition, Criterion, Value, View};
+use acl_core::{Cond, Criterion, Value, View};
 use addr_core::{Addr, Pair};
 use arrayvec::ArrayVec;
 use conn_model::event::ConnId;
@@ -74,7 +74,7 @@ fn has_name(frontend: &Frontend, name: &[u8]) -> bool
     frontend.name.as_slice() == name
 }
 
-fn applies(condition: &Condition, scene: &Scene<'_>) -> bool
+fn applies(condition: &Cond, scene: &Scene<'_>) -> bool
     ensures { result ≡ is_true_in (scene_view scene.now) condition.now }
 {
     condition.holds(scene)
@@ -108,7 +108,7 @@ fn rejecting_line(rules: &[Rule], scene: &Scene<'_>) -> Option<u32>
 }
 
 /// The server that the connection gets once no rule rejects it.
-fn serve<'a>(scene: &Scene<'a>, real: Pair) -> Verdict<'a>
+pub fn serve<'a>(scene: &Scene<'a>, real: Pair) -> Verdict<'a>
     ensures says { said_by scene.now.id real result ≡ choose (scene_view scene.now) 0 real }
     ensures found { IsFoundIn scene.now.version.now.plan result }
 {

@@ -15,4 +15,6 @@ mod opening;
 mod planning;
 mod reading;
 mod statement;
+#[cfg(test)]
+mod tests;
 mod words;

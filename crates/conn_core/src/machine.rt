@@ -74,7 +74,7 @@ impl Core {
         Core::start(alloc, plan, 0)
     }
 
-    fn start(alloc: Global, plan: Plan, last: u64) -> Result<Core, OpenFault>
+    pub(crate) fn start(alloc: Global, plan: Plan, last: u64) -> Result<Core, OpenFault>
         requires few { length plan.frontends ≤ 64 }
         requires lines { LinesDiffer plan }
         ensures ok { IfOk result (λ core. core ≡ opening plan last) }

@@ -3,3 +3,4 @@ pub mod Facts
 pub mod Law
 pub mod Steps
 pub mod Runs
+pub mod Rows

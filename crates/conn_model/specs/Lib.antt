@@ -3,3 +3,4 @@ pub mod Rules
 pub mod Answer
 pub mod History
 pub mod Runs
+pub mod Samples

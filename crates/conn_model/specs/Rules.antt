@@ -5,7 +5,7 @@ use Rattle.acl_core.specs.declared.criterion.Criterion.{Criterion}
 use Rattle.acl_core.specs.declared.criterion.Criterion.TheVariants as criteria
 use Rattle.acl_core.specs.declared.criterion.Value.{Value}
 use Rattle.acl_core.specs.declared.criterion.Value.TheVariants as values
-use Rattle.acl_core.specs.declared.condition.Condition.{Condition}
+use Rattle.acl_core.specs.declared.condition.Cond.{Cond}
 use Rattle.acl_core.specs.Truth.{condition_holds}
 use Rattle.plan_core.specs.declared.plan.Action.{Action}
 use Rattle.plan_core.specs.declared.plan.Action.TheVariants.{Accept, Reject}
@@ -32,7 +32,7 @@ view seat source = record { seat = seat; source = source }
 abbrev pub worth : View → Criterion → Value
 worth v criteria.Source = values.Source v.source
 
-abbrev pub is_true_in : View → Condition → Bool
+abbrev pub is_true_in : View → Cond → Bool
 is_true_in v condition = condition_holds (worth v) condition
 
 -- such a rule ends its list

@@ -9,3 +9,5 @@ pub mod event;
 pub mod laws;
 pub mod plain;
 pub mod reply;
+#[cfg(test)]
+mod tests;

@@ -101,6 +101,8 @@ impl<W: Write> Output for ToWrite<W> {
 
     ghost failures = { λ t. t.failures };
 
+    ghost calls = { λ t. t.calls };
+
     ghost stalls = { λ t. t.stalls };
 
     fn write(&mut self, bytes: &[u8]) -> Result<Put, Failed> {

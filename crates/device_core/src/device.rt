@@ -8,7 +8,7 @@ pub enum Got {
     Bytes(usize),
     /// The reader is at its end.
     End,
-    /// Nothing for now: the same call may be made again.
+    /// Nothing at this moment; the same call may be made again.
     Blocked,
 }
 
@@ -17,7 +17,7 @@ pub enum Got {
 pub enum Put {
     /// So many bytes, the first of those that were handed in.
     Bytes(usize),
-    /// Nothing for now: the same call may be made again.
+    /// Nothing at this moment; the same call may be made again.
     Blocked,
 }
 
@@ -52,13 +52,16 @@ pub trait Input {
 
 /// A writer.
 pub trait Output {
-    ghost use Rattle.device_core.specs.Device.{Writes, failures_after, write_stalls};
+    ghost use Rattle.device_core.specs.Device.{Writes, failures_after, raised, write_stalls};
 
     /// The bytes that were written, where the writer tells them.
     ghost held: { Self → Option (List ℕ) };
 
-    /// How often it failed. This count and the next stay at the greatest `u64`.
+    /// How often it failed. This count and the next two stay at the greatest `u64`.
     ghost failures: { Self → ℕ };
+
+    /// How many writes were made.
+    ghost calls: { Self → ℕ };
 
     /// How many of the last writes in a row were blocked.
     ghost stalls: { Self → ℕ };
@@ -68,5 +71,6 @@ pub trait Output {
         requires { 0 < length bytes.now }
         ensures moved { Writes result (held self.old) (held self.new) bytes.now }
         ensures failures { failures self.new ≡ failures_after result (failures self.old) }
+        ensures calls { calls self.new ≡ raised (calls self.old) }
         ensures stalls { stalls self.new ≡ write_stalls result (stalls self.old) };
 }

@@ -200,12 +200,14 @@ impl MemoryOutput {
 
 impl Output for MemoryOutput {
     ghost use Rattle.std.specs.Prelude.{Some, ◌<◌};
-    ghost use Rattle.device_core.specs.Device.{Writes, failures_after, write_stalls};
+    ghost use Rattle.device_core.specs.Device.{Writes, failures_after, raised, write_stalls};
     ghost use Rattle.device_core.specs.Memory.{write_answer, after_write};
 
     ghost held = { λ o. Some o.held };
 
     ghost failures = { λ o. o.failures };
+
+    ghost calls = { λ o. o.calls };
 
     ghost stalls = { λ o. o.stalls };
 
@@ -213,6 +215,7 @@ impl Output for MemoryOutput {
         requires { 0 < length bytes.now }
         ensures moved { Writes result (Some self.old.held) (Some self.new.held) bytes.now }
         ensures failures { self.new.failures ≡ failures_after result self.old.failures }
+        ensures calls { self.new.calls ≡ raised self.old.calls }
         ensures stalls { self.new.stalls ≡ write_stalls result self.old.stalls }
 
         // What it answers, and what it leaves, to the last bit.

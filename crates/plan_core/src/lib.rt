@@ -8,4 +8,6 @@ pub use track::{TableId, Track};
 
 mod copies;
 mod plan;
+#[cfg(test)]
+mod tests;
 mod track;

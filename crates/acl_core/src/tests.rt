@@ -1,0 +1,167 @@
+//! Tests with outside values.
+use crate::{AclFault, Cond, Criterion, Pattern, Term, Test, Value, View};
+use addr_core::{Addr, Net};
+use list_core::{Duplicate, Seq};
+use std::alloc::Global;
+use std::test::Fail;
+
+/// A connection of which no more is known than its source, if that.
+#[derive(Drop)]
+struct Peer {
+    value: Value,
+}
+
+impl View for Peer {
+    ghost worth = { λ peer _. peer.value };
+
+    fn value(&self, _criterion: &Criterion) -> Value {
+        self.value
+    }
+}
+
+fn coming_from(addr: u32) -> Peer {
+    Peer {
+        value: Value::Source(Addr::V4(addr)),
+    }
+}
+
+/// 10.0.0.0/8, or 192.168.0.0/16.
+fn network(private: bool) -> Pattern {
+    if private {
+        Pattern::Network(Net::of(Addr::V4(0xC0A8_0000), 16))
+    } else {
+        Pattern::Network(Net::of(Addr::V4(0x0A00_0000), 8))
+    }
+}
+
+/// A test of the source against these networks.
+fn source_in(alloc: Global, first: Pattern, second: Option<Pattern>) -> Result<Test, Fail> {
+    let mut patterns = Seq::new(alloc);
+    patterns.push(first)?;
+    if let Some(second) = second {
+        patterns.push(second)?;
+    }
+    Ok(Test {
+        criterion: Criterion::Source,
+        patterns,
+    })
+}
+
+fn term_of(alloc: Global, negated: bool, test: Test) -> Result<Term, Fail> {
+    let mut tests = Seq::new(alloc);
+    tests.push(test)?;
+    Ok(Term { negated, tests })
+}
+
+/// The word `FALSE`, or `TRUE`.
+fn constant(alloc: Global, truth: bool) -> Term {
+    Term {
+        negated: truth,
+        tests: Seq::new(alloc),
+    }
+}
+
+/// `{ src 10.0.0.0/8 192.168.0.0/16 } !{ src 10.1.2.3 } or { src 203.0.113.7 } TRUE`
+fn groups(alloc: Global) -> Result<Seq<Seq<Term>>, Fail> {
+    let near = source_in(alloc, network(false), Some(network(true)))?;
+    let one = source_in(
+        alloc,
+        Pattern::Network(Net::of(Addr::V4(0x0A01_0203), 32)),
+        None,
+    )?;
+    let far = source_in(
+        alloc,
+        Pattern::Network(Net::of(Addr::V4(0xCB00_7107), 32)),
+        None,
+    )?;
+    let mut first = Seq::new(alloc);
+    first.push(term_of(alloc, false, near)?)?;
+    first.push(term_of(alloc, true, one)?)?;
+    let mut second = Seq::new(alloc);
+    second.push(term_of(alloc, false, far)?)?;
+    second.push(constant(alloc, true))?;
+    let mut groups = Seq::new(alloc);
+    groups.push(first)?;
+    groups.push(second)?;
+    Ok(groups)
+}
+
+#[test]
+fn conditions_on_the_source(rt: HostRuntime) -> Result<(), Fail> {
+    let plain = Cond::If(groups(rt.alloc())?);
+    let turned = Cond::Unless(groups(rt.alloc())?);
+    let copy = plain.duplicate(rt.alloc())?;
+    let turned_copy = turned.duplicate(rt.alloc())?;
+    let cases = [
+        (0x0A00_0000, true),
+        (0x0AFF_FFFF, true),
+        (0x0A01_0203, false),
+        (0x0B00_0000, false),
+        (0x09FF_FFFF, false),
+        (0xC0A8_FFFF, true),
+        (0xC0A9_0000, false),
+        (0xCB00_7107, true),
+        (0xCB00_7108, false),
+    ];
+    for (addr, truth) in cases {
+        assert_eq!(rt; plain.holds(&coming_from(addr)), truth, "{addr}");
+        assert_eq!(rt; turned.holds(&coming_from(addr)), !truth, "{addr}");
+        assert_eq!(rt; copy.holds(&coming_from(addr)), truth, "{addr}");
+        assert_eq!(rt; turned_copy.holds(&coming_from(addr)), !truth, "{addr}");
+    }
+    Ok(())
+}
+
+#[test]
+fn what_is_absent_matches_nothing(rt: HostRuntime) -> Result<(), Fail> {
+    let absent = Peer {
+        value: Value::Absent,
+    };
+    let number = Peer {
+        value: Value::Number(0),
+    };
+    let everywhere = Pattern::Network(Net::of(Addr::V4(0), 0));
+    assert!(rt; everywhere.holds(&Value::Source(Addr::V4(0xFFFF_FFFF))));
+    let test = source_in(rt.alloc(), everywhere, None)?.duplicate(rt.alloc())?;
+    assert!(rt; test.holds(&coming_from(7)));
+    assert!(rt; !test.holds(&absent));
+    assert!(rt; !test.holds(&number));
+    let mut group = Seq::new(rt.alloc());
+    group.push(term_of(rt.alloc(), true, test)?)?;
+    let mut groups = Seq::new(rt.alloc());
+    groups.push(group)?;
+    assert!(rt; Cond::If(groups).holds(&absent));
+    Ok(())
+}
+
+#[test]
+fn words_without_a_test(rt: HostRuntime) -> Result<(), Fail> {
+    for truth in [false, true] {
+        let mut group = Seq::new(rt.alloc());
+        group.push(constant(rt.alloc(), truth))?;
+        let mut groups = Seq::new(rt.alloc());
+        groups.push(group)?;
+        assert_eq!(rt; Cond::If(groups).holds(&coming_from(1)), truth);
+    }
+    let always = Cond::Always.duplicate(rt.alloc())?;
+    assert!(rt; always.holds(&coming_from(1)));
+    Ok(())
+}
+
+#[test]
+fn names_of_faults(rt: HostRuntime) -> Result<(), Fail> {
+    let cases = [
+        (AclFault::UnknownCriterion, "UnknownCriterion"),
+        (AclFault::BadPattern, "BadPattern"),
+        (AclFault::NoPattern, "NoPattern"),
+        (AclFault::UnknownName, "UnknownName"),
+        (AclFault::BadBraces, "BadBraces"),
+        (AclFault::EmptyGroup, "EmptyGroup"),
+        (AclFault::BadName, "BadName"),
+        (AclFault::NoMemory, "NoMemory"),
+    ];
+    for (fault, name) in cases {
+        assert_eq!(rt; format!(in rt.alloc(); "{fault}")?.as_str(), name);
+    }
+    Ok(())
+}
