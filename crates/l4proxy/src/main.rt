@@ -10,7 +10,7 @@ use crate::command::commands;
 use crate::fault::ReplayFault;
 use crate::replay::run_replay;
 use clap::error::ErrorKind;
-use device_core::{FromRead, Input, ToWrite};
+use device_core::{FromRead, ToWrite};
 use std::process::ExitCode;
 use std::rt::Files;
 use std::{env, fs, io};
@@ -55,24 +55,28 @@ fn place<'a>(fault: &ReplayFault, file: &'a str, script: &'a str) -> &'a str {
     }
 }
 
+/// Opens what can be read. A directory can be opened, and not read.
+fn open_script<R: Files>(rt: &R, script: &str) -> Option<R::File> {
+    let kind = fs::metadata(rt, script).ok()?;
+    if kind.is_dir() {
+        return None;
+    }
+    fs::open(rt, script).ok()
+}
+
 /// Replays a script. The configuration is read before the script is opened.
 fn replay_files<R: Files + AllocGlobal + Print + Eprint>(rt: &R, file: &str, script: &str) -> u8 {
     let Ok(text) = fs::read_to_string(rt, file) else {
         return unreadable(rt, file);
     };
-    let Ok(opened) = fs::open(rt, script) else {
+    let Some(opened) = open_script(rt, script) else {
         return unreadable(rt, script);
     };
     let mut reader = FromRead::of(opened);
     let mut writer = ToWrite::of(io::writer(rt));
     match run_replay(rt.alloc(), text.as_str(), &mut reader, &mut writer) {
         Ok(_done) => DONE,
-        Err(fault) => {
-            if matches!(&fault, ReplayFault::Config(_)) && reader.read(&mut [0u8; 1]).is_err() {
-                return unreadable(rt, script);
-            }
-            refuse(rt, place(&fault, file, script), &fault)
-        }
+        Err(fault) => refuse(rt, place(&fault, file, script), &fault),
     }
 }
 

@@ -162,6 +162,7 @@ impl Session {
     /// Writes the answers that were collected once they are many.
     fn send_many<O: Output>(&mut self, writer: &mut O) -> Result<(), ReplayFault>
         ensures ok { OnOk result ((sent bytes : List ℕ) → O.held writer.old ≡ Some sent → Goes sent self.old bytes (O.held writer.new) self.new bytes) }
+        ensures few { OnOk result (length self.new.unsent < 65536) }
         ensures failures { OnOk result (O.failures writer.new ≡ O.failures writer.old) }
         ensures err { IfErr result (λ f. f ≡ ReplayFault.Write) }
         ensures front { OnErr result ((sent bytes : List ℕ) → O.held writer.old ≡ Some sent → IsFrontOf sent self.old bytes (O.held writer.new)) }
