@@ -1,7 +1,7 @@
 //! Tests, and conditions made of them.
 ghost use Rattle.std.specs.Prelude.{◌≡◌, IfOk};
 ghost use Rattle.std.specs.List.{list_any, list_all};
-ghost use Rattle.acl_core.specs.Truth.{matches, test_holds, term_holds, some_group, condition_holds};
+ghost use Rattle.acl_core.specs.Truth.{matches, test_holds, term_holds, some_group, condition_holds, applies};
 
 use crate::criterion::{Criterion, Pattern, Value, View};
 use list_core::{Duplicate, Seq};
@@ -23,14 +23,34 @@ pub struct Term {
     pub tests: Seq<Test>,
 }
 
-/// When a line applies (HAProxy manual, "using ACLs to form conditions").
+/// Groups of terms (HAProxy manual, "using ACLs to form conditions"). The terms of a group have to
+/// hold together; the groups are alternatives.
 #[derive(Debug, Drop)]
-pub enum Cond {
+pub struct Cond {
+    pub groups: Seq<Seq<Term>>,
+}
+
+/// When a line applies.
+#[derive(Debug, Drop)]
+pub enum When {
     Always,
-    /// Some group has all its terms.
-    If(Seq<Seq<Term>>),
-    /// No group has all its terms.
-    Unless(Seq<Seq<Term>>),
+    /// Where the condition is true.
+    If(Cond),
+    /// Where it is not.
+    Unless(Cond),
+}
+
+impl When {
+    /// Whether the line applies to the connection.
+    pub fn applies<V: View>(&self, view: &V) -> bool
+        ensures { result ≡ applies (V.worth view.now) self.now }
+    {
+        match self {
+            When::Always => true,
+            When::If(condition) => condition.holds(view),
+            When::Unless(condition) => !condition.holds(view),
+        }
+    }
 }
 
 impl Cond {
@@ -38,11 +58,7 @@ impl Cond {
     pub fn holds<V: View>(&self, view: &V) -> bool
         ensures { result ≡ condition_holds (V.worth view.now) self.now }
     {
-        match self {
-            Cond::Always => true,
-            Cond::If(groups) => holds_in_some(groups.as_slice(), view),
-            Cond::Unless(groups) => !holds_in_some(groups.as_slice(), view),
-        }
+        holds_in_some(self.groups.as_slice(), view)
     }
 }
 
@@ -108,10 +124,18 @@ impl Duplicate for Term {
 
 impl Duplicate for Cond {
     fn duplicate(&self, alloc: Global) -> Result<Cond, AllocError> {
+        Ok(Cond {
+            groups: self.groups.duplicate(alloc)?,
+        })
+    }
+}
+
+impl Duplicate for When {
+    fn duplicate(&self, alloc: Global) -> Result<When, AllocError> {
         match self {
-            Cond::Always => Ok(Cond::Always),
-            Cond::If(groups) => Ok(Cond::If(groups.duplicate(alloc)?)),
-            Cond::Unless(groups) => Ok(Cond::Unless(groups.duplicate(alloc)?)),
+            When::Always => Ok(When::Always),
+            When::If(condition) => Ok(When::If(condition.duplicate(alloc)?)),
+            When::Unless(condition) => Ok(When::Unless(condition.duplicate(alloc)?)),
         }
     }
 }

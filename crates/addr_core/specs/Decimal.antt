@@ -31,3 +31,7 @@ up_to most number = if nat_le number most then Some number else None
 -- the number that a text in decimal stands for
 abbrev pub decimal_of : List ℕ → ℕ → Option ℕ
 decimal_of text most = if is_decimal text then up_to most (value_of text) else None
+
+-- the number that digits stand for, at least one; leading zeros count nothing
+abbrev pub number_of : List ℕ → ℕ → Option ℕ
+number_of text most = if nat_lt 0 (length text) && list_all is_ascii_digit text then up_to most (value_of text) else None

@@ -2,7 +2,7 @@
 ghost use Rattle.std.specs.Prelude.{◌≡◌, ◌+◌, ◌-◌, ◌*◌, ◌^◌, ◌<◌, ◌≤◌, ◌↔◌, ◌++◌, ◌∷◌, [], ℕ, length, Some, IfSome};
 ghost use Rattle.std.specs.List.{list_all};
 ghost use Rattle.std.specs.Char.{is_ascii_digit};
-ghost use Rattle.addr_core.specs.Decimal.{decimal, decimal_of, has_leading_zero, is_decimal, up_to, value_of};
+ghost use Rattle.addr_core.specs.Decimal.{decimal, decimal_of, has_leading_zero, is_decimal, number_of, up_to, value_of};
 
 use arrayvec::ArrayString;
 
@@ -42,6 +42,17 @@ pub(crate) fn number_up_to(digits: &[u8], most: u64) -> Option<u64>
         number = with_digit(number, *digit, most)?;
     }
     Some(number)
+}
+
+/// The number that a text of decimal digits stands for, leading zeros or not. There is none where the
+/// text is empty or has another character, and above `most`.
+pub fn read_number(text: &[u8], most: u64) -> Option<u64>
+    ensures { result ≡ number_of text.now most }
+{
+    if text.is_empty() || !are_digits(text) {
+        return None;
+    }
+    number_up_to(text, most)
 }
 
 fn is_decimal(text: &[u8]) -> bool

@@ -6,7 +6,6 @@
 
 pub use line::{Line, LineFault, LineKind};
 pub use lines::Lines;
-pub use word::Word;
 
 mod cut;
 mod line;
@@ -14,4 +13,3 @@ mod lines;
 mod reading;
 #[cfg(test)]
 mod tests;
-mod word;

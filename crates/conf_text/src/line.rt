@@ -1,5 +1,5 @@
 //! A line, and what may be wrong with one.
-use crate::word::Word;
+use word_core::Word;
 use list_core::Seq;
 use std::error::Error;
 use std::fmt;

@@ -11,7 +11,7 @@ use Rattle.addr_core.specs.Ends.{Ends}
 use Rattle.conn_model.specs.declared.plain.Phase.TheVariants.{Offered}
 use Rattle.conn_model.specs.Answer.{saying}
 use Rattle.conn_model.specs.History.{LinesDiffer, has_line, identity_of, identity_at, nobody, kept}
-use Rattle.conn_core.specs.declared.judging.Scene.{Scene}
+use Rattle.conn_core.specs.declared.judging.Seat.{Seat}
 use Rattle.conn_core.specs.declared.judging.Verdict.{Verdict}
 use Rattle.conn_core.specs.declared.judging.Verdict.TheVariants.{Served, Refused}
 use Rattle.conn_core.specs.Judging.{said_by, IsFoundIn}
@@ -62,16 +62,16 @@ identity_found plan n backend server differ there first =
     ∙ ap (λ o. record { backend = backend.name; name = option_map_or (λ s. s.name) o []; to = server.to }) first
 
 -- what a verdict leaves is what its reply keeps
-pub left_is_kept : (scene : Scene) (now : ℕ) (real : Ends) (verdict : Verdict) → LinesDiffer scene.version.now.plan → IsFoundIn scene.version.now.plan verdict →
-    left_by scene now real verdict ≡ kept scene.version.now now real (saying (said_by scene.id real verdict)) (said_by scene.id real verdict)
-left_is_kept scene now real (Served backend server) differ is =
-    let same = identity_found scene.version.now.plan is.0 backend.now server.now differ is.1 is.2 in
+pub left_is_kept : (seat : Seat) (now : ℕ) (real : Ends) (verdict : Verdict) → LinesDiffer seat.version.now.plan → IsFoundIn seat.version.now.plan verdict →
+    left_by seat now real verdict ≡ kept seat.version.now now real (saying (said_by seat.id real verdict)) (said_by seat.id real verdict)
+left_is_kept seat now real (Served backend server) differ is =
+    let same = identity_found seat.version.now.plan is.0 backend.now server.now differ is.1 is.2 in
     ap (λ i. record {
-      serial = scene.id.serial;
-      version = scene.version.now.number;
+      serial = seat.id.serial;
+      version = seat.version.now.number;
       real = real;
       accepted = now;
       phase = Offered (record { server = i; line = server.now.line; judged = real });
       tracks = [];
     } ∷ []) (sym same)
-left_is_kept scene now real (Refused cause) differ is = refl
+left_is_kept seat now real (Refused cause) differ is = refl

@@ -1,5 +1,5 @@
 -- A configuration as the list of what its lines say, each with the section that it stands in.
-use Rattle.std.specs.Prelude.{◌≡◌, ℕ, Bool, true, false, ◌&&◌, ◌==◌, ◌⊎◌, nat_le, List, [], length, filter, Option, Some, None, Result, Ok, Err, if◌then◌else◌}
+use Rattle.std.specs.Prelude.{◌≡◌, ℕ, Bool, true, false, ◌&&◌, ◌==◌, ◌⊎◌, nat_le, nat_lt, List, [], length, filter, Option, Some, None, Result, Ok, Err, if◌then◌else◌}
 use Rattle.std.specs.List.{list_any}
 use Rattle.std.specs.Str.{bytes_eq}
 use Rattle.list_core.specs.Each.{◌>>=◌, each, IsRead, IsFirstFault}
@@ -73,6 +73,7 @@ allowed items (says.Backend name) = once (list_any (λ i. is_backend (λ other. 
 allowed items (says.Server name to) = once (list_any (λ i. is_server (λ other. bytes_eq other name) i.says) items) (list_any (λ i. is_server (λ other. true) i.says) items)
 allowed items (says.Bind at) = once (list_any (λ i. is_bind (λ other. same_endpoint other at) i.says) items) (list_any (λ i. is_bind (λ other. true) i.says) items)
 allowed items (says.Rule action condition) = if nat_le 256 (length (filter (λ i. is_rule i.says) items)) then Err kinds.Limit else Ok tt
+allowed items (says.MaxConn limit) = if nat_lt 1048576 limit then Err kinds.Limit else Ok tt
 allowed items (says.DefaultBackend name) = Ok tt
 allowed items says.Nothing = Ok tt
 

@@ -5,13 +5,13 @@ use Rattle.plan_core.specs.declared.plan.Plan.{Plan}
 use Rattle.conn_model.specs.declared.event.ConnId.{ConnId}
 use Rattle.conn_model.specs.declared.reply.Said.{Said}
 use Rattle.conn_model.specs.declared.reply.Said.TheVariants.{Offer, Refuse}
-use Rattle.conn_model.specs.Rules.{View}
-use Rattle.conn_core.specs.declared.judging.Scene.{Scene}
+use Rattle.conn_model.specs.Rules as rules
+use Rattle.conn_core.specs.declared.judging.Seat.{Seat}
 use Rattle.conn_core.specs.declared.judging.Verdict.{Verdict}
 use Rattle.conn_core.specs.declared.judging.Verdict.TheVariants.{Served, Refused}
 
-abbrev pub scene_view : Scene → View
-scene_view scene = record { seat = record { version = scene.version.now; frontend = scene.frontend.now; id = scene.id }; source = scene.source }
+abbrev pub seat_here : Seat → rules.Seat
+seat_here seat = record { others = seat.others.now; version = seat.version.now; frontend = seat.frontend.now; id = seat.id }
 
 -- what a connection is told of its verdict
 abbrev pub said_by : ConnId → Ends → Verdict → Said

@@ -5,7 +5,7 @@ use Rattle.addr_core.specs.Ends.{Ends}
 use Rattle.plan_core.specs.declared.plan.Server.{Server}
 use Rattle.plan_core.specs.declared.plan.Backend.{Backend}
 use Rattle.conn_model.specs.declared.plain.Phase.TheVariants.{Offered}
-use Rattle.conn_core.specs.declared.judging.Scene.{Scene}
+use Rattle.conn_core.specs.declared.judging.Seat.{Seat}
 use Rattle.conn_core.specs.declared.judging.Verdict.{Verdict}
 use Rattle.conn_core.specs.declared.judging.Verdict.TheVariants.{Served, Refused}
 use Rattle.conn_model.specs.declared.event.ConnId.{ConnId}
@@ -34,10 +34,10 @@ abbrev pub HaveLines : List Version → Type 0
 HaveLines versions = AllByRecursion (λ version. LinesDiffer version.plan) versions
 
 -- what is kept of a connection that is offered a server
-abbrev pub offered_row : Scene → ℕ → Ends → Backend → Server → Row
-offered_row scene now real backend server = record {
-  serial = scene.id.serial;
-  version = scene.version.now.number;
+abbrev pub offered_row : Seat → ℕ → Ends → Backend → Server → Row
+offered_row seat now real backend server = record {
+  serial = seat.id.serial;
+  version = seat.version.now.number;
   real = real;
   accepted = now;
   phase = Offered (record { server = record { backend = backend.name; name = server.name; to = server.to }; line = server.line; judged = real });
@@ -45,9 +45,9 @@ offered_row scene now real backend server = record {
 }
 
 -- what a verdict leaves of the connection
-abbrev pub left_by : Scene → ℕ → Ends → Verdict → List Row
-left_by scene now real (Served backend server) = offered_row scene now real backend.now server.now ∷ []
-left_by scene now real (Refused cause) = []
+abbrev pub left_by : Seat → ℕ → Ends → Verdict → List Row
+left_by seat now real (Served backend server) = offered_row seat now real backend.now server.now ∷ []
+left_by seat now real (Refused cause) = []
 
 -- the core stands at the opening of the text
 abbrev pub IsOpened : List ℕ → ℕ → Plain → Type 0

@@ -16,6 +16,7 @@ use Rattle.conn_core.specs.declared.fault.PlanKind.TheVariants as plans
 use Rattle.conn_core.specs.declared.fault.OpenFault.{OpenFault}
 use Rattle.conn_core.specs.declared.fault.OpenFault.TheVariants as opens
 use Rattle.conn_core.specs.declared.item.Item.{Item}
+use Rattle.conn_core.specs.declared.item.Limit.{Limit}
 use Rattle.conn_core.specs.declared.item.Named.{Named}
 use Rattle.conn_core.specs.declared.item.Says.{Says}
 use Rattle.conn_core.specs.declared.item.Says.TheVariants as says
@@ -41,8 +42,12 @@ bind_said line (says.Bind at) = Some (record { at = at; accept_proxy = false })
 bind_said line other = None
 
 abbrev pub rule_said : ℕ → Says → Option Rule
-rule_said line (says.Rule action condition) = Some (record { line = line; action = action; condition = condition })
+rule_said line (says.Rule action when) = Some (record { line = line; action = action; when = when })
 rule_said line other = None
+
+abbrev pub limit_said : ℕ → Says → Option Limit
+limit_said line (says.MaxConn limit) = Some (record { limit = limit; line = line })
+limit_said line other = None
 
 -- a server without options: weight 1, and any number of connections
 abbrev pub server_said : ℕ → Says → Option Server
@@ -72,14 +77,19 @@ backend_with servers named = record { name = named.name; line = named.line; meth
 abbrev pub backends_in : List Item → List Backend
 backends_in items = map (backend_with (all_said server_said items)) (option_to_list (first_said backend_said items))
 
--- a frontend with its lines; 2,000 connections where nothing is said
-abbrev pub frontend_with : List Bind → List Rule → Option ℕ → Named → Frontend
-frontend_with binds rules default named = record {
+-- 2,000 connections where nothing is said, in the name of the frontend's own line
+abbrev pub limit_or : Named → Option Limit → Limit
+limit_or named None = record { limit = 2000; line = named.line }
+limit_or named (Some limit) = limit
+
+-- a frontend with its lines
+abbrev pub frontend_with : List Bind → Limit → List Rule → Option ℕ → Named → Frontend
+frontend_with binds limit rules default named = record {
   name = named.name;
   line = named.line;
   binds = binds;
-  limit = 2000;
-  limit_line = named.line;
+  limit = limit.limit;
+  limit_line = limit.line;
   connection_rules = rules;
   session_rules = [];
   choices = [];
@@ -88,7 +98,7 @@ frontend_with binds rules default named = record {
 
 abbrev pub plan_with : List Item → Named → Option ℕ → Plan
 plan_with items named default = record {
-  frontends = frontend_with (all_said bind_said items) (all_said rule_said items) default named ∷ [];
+  frontends = frontend_with (all_said bind_said items) (limit_or named (last_said limit_said items)) (all_said rule_said items) default named ∷ [];
   backends = backends_in items;
   tables = [];
 }

@@ -1,25 +1,21 @@
 -- What a line says by its words alone, or the first word that cannot stand.
-use Rattle.std.specs.Prelude.{ℕ, Bool, false, not, ◌≡◌, ◌||◌, ◌&&◌, ◌==◌, ◌∷◌, ◌++◌, nat_le, List, [], Option, Some, None, Result, Ok, Err, codes, if◌then◌else◌}
+use Rattle.std.specs.Prelude.{ℕ, Bool, not, ◌≡◌, ◌||◌, ◌&&◌, ◌==◌, ◌∷◌, nat_le, List, [], Option, Some, None, Result, Ok, Err, codes, if◌then◌else◌}
 use Rattle.std.specs.List.{list_all}
 use Rattle.std.specs.Str.{bytes_eq}
 use Rattle.list_core.specs.Each.{◌>>=◌}
 use Rattle.addr_core.specs.declared.addr.Addr.TheVariants.{V4}
 use Rattle.addr_core.specs.declared.addr.Endpoint.{Endpoint}
 use Rattle.addr_core.specs.declared.reading.AddrFault.{AddrFault}
-use Rattle.addr_core.specs.Prefix.{Prefix}
-use Rattle.addr_core.specs.Decimal.{decimal_of}
-use Rattle.addr_core.specs.Text.{endpoint_of, net_of}
-use Rattle.acl_core.specs.declared.fault.AclFault.TheVariants as acls
-use Rattle.acl_core.specs.declared.criterion.Criterion.TheVariants as criteria
-use Rattle.acl_core.specs.declared.criterion.Pattern.{Pattern}
-use Rattle.acl_core.specs.declared.criterion.Pattern.TheVariants.{Network}
-use Rattle.acl_core.specs.declared.condition.Term.{Term}
-use Rattle.acl_core.specs.declared.condition.Cond.{Cond}
-use Rattle.acl_core.specs.declared.condition.Cond.TheVariants as conditions
+use Rattle.addr_core.specs.Decimal.{decimal_of, number_of}
+use Rattle.addr_core.specs.Text.{endpoint_of}
+use Rattle.acl_core.specs.declared.fault.AclFault.{AclFault}
+use Rattle.acl_core.specs.declared.condition.When.{When}
+use Rattle.acl_core.specs.declared.condition.When.TheVariants as whens
+use Rattle.acl_core.specs.Reading.{condition_of}
 use Rattle.plan_core.specs.declared.plan.Action.{Action}
 use Rattle.plan_core.specs.declared.plan.Action.TheVariants as actions
 use Rattle.conn_core.specs.declared.fault.ConfKind.{ConfKind}
-use Rattle.conn_core.specs.declared.fault.ConfKind.TheVariants.{MissingWord, ExtraWord, BadAddress, Unsupported, Acl}
+use Rattle.conn_core.specs.declared.fault.ConfKind.TheVariants.{MissingWord, ExtraWord, BadNumber, BadAddress, Unsupported, Acl}
 use Rattle.conn_core.specs.declared.item.SectionKind.{SectionKind}
 use Rattle.conn_core.specs.declared.item.Says.{Says}
 use Rattle.conn_core.specs.declared.item.Says.TheVariants as says
@@ -84,47 +80,17 @@ bind_at (a ∷ rest) =
     else if a == 42 then star_at rest
     else served_at (endpoint_of (a ∷ rest))
 
--- Conditions: `if` or `unless`, and one test of the source in braces.
+-- When a rule applies: always, or by a condition behind `if` or `unless`.
 
-abbrev pub pattern_of : Result Prefix AddrFault → Result Pattern ConfKind
-pattern_of (Err fault) = Err (Acl acls.BadPattern)
-pattern_of (Ok net) = Ok (Network net)
+abbrev pub told : {X : Type 0} → Result X AclFault → Result X ConfKind
+told (Ok x) = Ok x
+told (Err fault) = Err (Acl fault)
 
--- behind the closing brace
-abbrev pub closed_at : List Pattern → List (List ℕ) → Result (List Pattern) ConfKind
-closed_at [] rest = Err (Acl acls.NoPattern)
-closed_at (p ∷ patterns) [] = Ok (p ∷ patterns)
-closed_at (p ∷ patterns) (word ∷ rest) = Err (Acl acls.UnknownName)
-
--- networks up to the closing brace
-abbrev pub patterns_of : List Pattern → List (List ℕ) → Result (List Pattern) ConfKind
-patterns_of done [] = Err (Acl acls.BadBraces)
-patterns_of done (word ∷ rest) =
-    if bytes_eq word (codes "}") then closed_at done rest
-    else (pattern_of (net_of word) >>= λ pattern. patterns_of (done ++ pattern ∷ []) rest)
-
--- behind the opening brace
-abbrev pub braced_of : List (List ℕ) → Result (List Pattern) ConfKind
-braced_of [] = Err (Acl acls.BadBraces)
-braced_of (word ∷ rest) =
-    if bytes_eq word (codes "src") then patterns_of [] rest
-    else if bytes_eq word (codes "}") then Err (Acl acls.BadBraces)
-    else Err (Acl acls.UnknownCriterion)
-
--- one test in braces
-abbrev pub test_of : List (List ℕ) → Result (List Pattern) ConfKind
-test_of [] = Err (Acl acls.EmptyGroup)
-test_of (word ∷ rest) = if bytes_eq word (codes "{") then braced_of rest else Err (Acl acls.UnknownName)
-
--- one group of one term, which is one test of the source
-abbrev pub groups_of : List Pattern → List (List Term)
-groups_of patterns = (record { negated = false; tests = record { criterion = criteria.Source; patterns = patterns } ∷ [] } ∷ []) ∷ []
-
-abbrev pub condition_of : List (List ℕ) → Result Cond ConfKind
-condition_of [] = Ok conditions.Always
-condition_of (word ∷ rest) =
-    if bytes_eq word (codes "if") then (test_of rest >>= λ patterns. Ok (conditions.If (groups_of patterns)))
-    else if bytes_eq word (codes "unless") then (test_of rest >>= λ patterns. Ok (conditions.Unless (groups_of patterns)))
+abbrev pub when_of : List (List ℕ) → Result When ConfKind
+when_of [] = Ok whens.Always
+when_of (word ∷ rest) =
+    if bytes_eq word (codes "if") then (told (condition_of rest) >>= λ condition. Ok (whens.If condition))
+    else if bytes_eq word (codes "unless") then (told (condition_of rest) >>= λ condition. Ok (whens.Unless condition))
     else Err Unsupported
 
 -- Lines.
@@ -181,8 +147,21 @@ action_at words = do
 abbrev pub tcp_request_of : List (List ℕ) → Result Says ConfKind
 tcp_request_of words = do
   action ← action_at words
-  condition ← condition_of action.1
-  Ok (says.Rule action.0 condition)
+  when ← when_of action.1
+  Ok (says.Rule action.0 when)
+
+-- a number of connections from 1 on
+abbrev pub counted : Option ℕ → Result ℕ ConfKind
+counted None = Err BadNumber
+counted (Some n) = if n == 0 then Err BadNumber else Ok n
+
+-- a number alone
+abbrev pub max_conn_of : List (List ℕ) → Result Says ConfKind
+max_conn_of words = do
+  word ← word_at words
+  limit ← counted (number_of word.0 0xFFFF_FFFF_FFFF_FFFF)
+  _ ← end_at word.1
+  Ok (says.MaxConn limit)
 
 -- what a line says behind its keyword; the language's other lines are not taken
 abbrev pub says_of : Keyword → List (List ℕ) → Result Says ConfKind
@@ -190,6 +169,7 @@ says_of k.Frontend words = frontend_of words
 says_of k.Backend words = backend_of words
 says_of k.Bind words = bind_of words
 says_of k.TcpRequest words = tcp_request_of words
+says_of k.MaxConn words = max_conn_of words
 says_of k.DefaultBackend words = default_backend_of words
 says_of k.Server words = server_of words
 says_of other words = Err Unsupported

@@ -1,7 +1,7 @@
 //! What the lines of a configuration say.
-use acl_core::Cond;
+use acl_core::When;
 use addr_core::Endpoint;
-use conf_text::Word;
+use word_core::Word;
 use plan_core::Action;
 
 /// The kind of the section in which a line stands.
@@ -23,7 +23,9 @@ pub enum Says<'a> {
     Frontend(Word<'a>),
     Backend(Word<'a>),
     Bind(Endpoint),
-    Rule(Action, Cond),
+    /// How many connections may be open.
+    MaxConn(u64),
+    Rule(Action, When),
     DefaultBackend(Word<'a>),
     Server(Word<'a>, Endpoint),
 }
@@ -40,5 +42,12 @@ pub struct Item<'a> {
 #[derive(Debug, Drop)]
 pub struct Named<'a> {
     pub name: Word<'a>,
+    pub line: u32,
+}
+
+/// How many connections may be open, and the line that says so.
+#[derive(Clone, Copy, Debug)]
+pub struct Limit {
+    pub limit: u64,
     pub line: u32,
 }

@@ -4,7 +4,7 @@ ghost use Rattle.conn_core.specs.Keywords.{keyword_of, stands};
 
 use crate::fault::ConfKind;
 use crate::item::SectionKind;
-use conf_text::Word;
+use word_core::Word;
 
 /// The first word of a line.
 #[derive(Clone, Copy, Debug, PartialEq, Eq)]

@@ -3,6 +3,7 @@ ghost use Rattle.std.specs.Prelude.{◌≡◌, ◌+◌, ◌^◌, ◌<◌, ◌==�
 ghost use Rattle.std.specs.Option.{option_copied};
 ghost use Rattle.conn_model.specs.Words.{AreGiven};
 ghost use Rattle.conn_model.specs.Answer.{row_in};
+ghost use Rattle.conn_model.specs.Counts.{open_in};
 
 use conn_model::plain::{Lane, Row};
 use list_core::{Duplicate, Seq};
@@ -55,6 +56,13 @@ impl LaneState {
         self.serial
     }
 
+    /// How many connections are open.
+    pub fn count(&self) -> u64
+        ensures { result ≡ length self.now.rows }
+    {
+        self.rows.len() as u64
+    }
+
     /// Gives out the next serial to a connection that is refused.
     pub fn skip(&mut self)
         requires { self.old.serial + 1 < 2 ^ 64 }
@@ -105,4 +113,14 @@ pub fn row_of(lane: &LaneState, serial: u64) -> Option<&Row>
     ensures { option_copied result ≡ row_in serial (Some lane.now) }
 {
     lane.rows.iter().find(|row| row.serial == serial)
+}
+
+/// How many connections of the frontend of that number are open.
+pub fn open_in(lanes: &[LaneState], number: u16) -> u64
+    ensures { result ≡ open_in lanes.now number }
+{
+    match lanes.get(usize::from(number)) {
+        Some(lane) => lane.count(),
+        None => 0,
+    }
 }

@@ -1,24 +1,27 @@
 //! The decision core.
-ghost use Rattle.std.specs.Prelude.{◌≡◌, ◌≢◌, ◌⊎◌, ◌+◌, ◌^◌, ◌<◌, ◌≤◌, length, ℕ, List, [], ◌∷◌, ◌++◌, Option, Some, IfOk, IfErr, IfSome, OnOk, OnErr, slice_get, Ok, Err, max, is_some, option_to_list};
-ghost use Rattle.std.specs.Option.{option_copied};
+ghost use Rattle.std.specs.Prelude.{◌≡◌, ◌≢◌, ◌⊎◌, ◌+◌, ◌-◌, ◌^◌, ◌<◌, ◌≤◌, length, ℕ, List, [], ◌∷◌, ◌++◌, Option, Some, IfOk, IfErr, IfSome, OnOk, OnErr, slice_get, Ok, Err, max, is_some, option_to_list};
+ghost use Rattle.std.specs.Option.{option_copied, option_map};
 ghost use Rattle.conn_model.specs.Words.{newest, AreGiven};
 ghost use Rattle.conn_model.specs.Answer.{answer_in, accepted_at, closed, row_at, saying, admitted};
-ghost use Rattle.conn_model.specs.History.{after, answer, happening, opening, entry, id_of, kept_by, kept, identity_of, identity_at, NeedsNoMemory, IsLegal, IsWell, LinesDiffer, Entry};
+ghost use Rattle.conn_model.specs.History.{after, answer, counts, happening, opening, entry, id_of, kept_by, kept, identity_of, identity_at, NeedsNoMemory, IsLegal, IsWell, LinesDiffer, Entry};
+ghost use Rattle.conn_model.specs.Counts.{counts_in, open_of};
+ghost use Rattle.conn_model.specs.Rules.{view};
 ghost use Rattle.conn_model.specs.Runs.{AreAnswers, told};
 ghost use Rattle.conn_model.specs.declared.event.Happening.TheVariants.{Accepted, Closing};
 ghost use Rattle.conn_model.specs.declared.plain.Lane.{Lane};
 ghost use Rattle.conn_model.specs.declared.plain.Plain.{Plain};
-ghost use Rattle.conn_core.specs.Judging.{scene_view, said_by, IsFoundIn};
+ghost use Rattle.conn_core.specs.Judging.{seat_here, said_by, IsFoundIn};
 ghost use Rattle.conn_core.specs.Meaning.{meaning};
 ghost use Rattle.conn_core.specs.Machine.{IsOpened, Next, HaveLines, offered_row, left_by};
 
 use crate::fault::OpenFault;
-use crate::judging::{Scene, Verdict, admit, frontend_named, item, newest, said};
+use crate::judging::{Seat, Verdict, admit, frontend_named, item, newest, said};
 use crate::lanes::{LaneState, row_of};
 use crate::opening::{cursors, lanes, listeners};
 use crate::planning::read_plan;
 use addr_core::Pair;
 use arrayvec::ArrayVec;
+use conn_model::ask::{Ask, Counts};
 use conn_model::event::{ConnId, Event, Why};
 use conn_model::plain::{Identity, Kept, Lane, Listener, Phase, Plain, Row, Served, Version};
 use conn_model::reply::{Reply, Said, StepFault};
@@ -72,6 +75,18 @@ impl Core {
     {
         let plan = read_plan(alloc, text)?;
         Core::start(alloc, plan, 0)
+    }
+
+    /// A core that stands at the opening of a configuration's text, where the first serial of each
+    /// frontend is that number.
+    pub fn open_at(alloc: Global, text: &str, first_serial: u64) -> Result<Core, OpenFault>
+        requires { 1 ≤ first_serial }
+        ensures ok { IfOk result (λ core. IsOpened text.now (first_serial - 1) core) }
+        ensures fault { IfErr result (λ f. (f ≡ OpenFault.NoMemory) ⊎ (meaning text.now ≡ Err f)) }
+        ensures well { IfOk result IsWell }
+    {
+        let plan = read_plan(alloc, text)?;
+        Core::start(alloc, plan, first_serial - 1)
     }
 
     pub(crate) fn start(alloc: Global, plan: Plan, last: u64) -> Result<Core, OpenFault>
@@ -140,6 +155,19 @@ impl Core {
             replies.push(reply)?;
         }
         Ok(replies)
+    }
+
+    /// What is open of that which is asked for, if there is such a thing.
+    pub fn counts(&self, ask: &Ask) -> Option<Counts>
+        // Where the core stands after a history, they are the counts after it.
+        ensures told { (p : Plain) (h : List Entry) → self.now ≡ after p h → result ≡ counts p h ask.now }
+
+        // The same of the state alone.
+        ensures plain { result ≡ counts_in self.now ask.now }
+    {
+        match *ask {
+            Ask::Frontend(number) => frontend_counts(self.lanes.as_slice(), number),
+        }
     }
 
     /// The state at which the core stands.
@@ -211,16 +239,16 @@ impl Core {
         if last == u64::MAX {
             return Err(StepFault::Exhausted);
         }
-        let scene = Scene {
+        let seat = Seat {
+            others: self.lanes.as_slice(),
             version,
             frontend,
             id: ConnId {
                 frontend: listener.frontend,
                 serial: last + 1,
             },
-            source: real.source().addr,
         };
-        let admission = admission_of(self.alloc, &scene, now, real)?;
+        let admission = admission_of(self.alloc, &seat, now, real)?;
         Ok(admission)
     }
 
@@ -256,24 +284,24 @@ impl Core {
 /// Judges an accepted connection, and makes what is kept of it.
 fn admission_of(
     alloc: Global,
-    scene: &Scene<'_>,
+    seat: &Seat<'_>,
     now: u64,
     real: Pair,
 ) -> Result<Admission, StepFault>
-    requires { LinesDiffer scene.now.version.now.plan }
-    ensures id { IfOk result (λ a. a.id ≡ scene.now.id) }
-    ensures says { IfOk result (λ a. a.said ≡ admitted (scene_view scene.now) real) }
+    requires { LinesDiffer seat.now.version.now.plan }
+    ensures id { IfOk result (λ a. a.id ≡ seat.now.id) }
+    ensures says { IfOk result (λ a. a.said ≡ admitted (view (seat_here seat.now) real.source.addr) real) }
     ensures speaks { IfOk result (λ a. id_of a.said ≡ Some a.id) }
-    ensures row { IfOk result (λ a. option_to_list a.row ≡ kept scene.now.version.now now real (saying a.said) a.said) }
+    ensures row { IfOk result (λ a. option_to_list a.row ≡ kept seat.now.version.now now real (saying a.said) a.said) }
     ensures fault { IfErr result (λ f. f ≡ StepFault.NoMemory) }
 {
-    let verdict = admit(scene, real);
-    let Ok(row) = row_left(alloc, scene, now, real, &verdict) else {
+    let verdict = admit(seat, real);
+    let Ok(row) = row_left(alloc, seat, now, real, &verdict) else {
         return Err(StepFault::NoMemory);
     };
     Ok(Admission {
-        id: scene.id,
-        said: said(scene.id, real, &verdict),
+        id: seat.id,
+        said: said(seat.id, real, &verdict),
         row,
     })
 }
@@ -281,16 +309,16 @@ fn admission_of(
 /// What a verdict leaves of the connection.
 fn row_left(
     alloc: Global,
-    scene: &Scene<'_>,
+    seat: &Seat<'_>,
     now: u64,
     real: Pair,
     verdict: &Verdict<'_>,
 ) -> Result<Option<Row>, AllocError>
-    ensures { IfOk result (λ row. option_to_list row ≡ left_by scene.now now real verdict.now) }
+    ensures { IfOk result (λ row. option_to_list row ≡ left_by seat.now now real verdict.now) }
 {
     match verdict {
         Verdict::Served(backend, server) => {
-            Ok(Some(row_for(alloc, scene, now, real, backend, server)?))
+            Ok(Some(row_for(alloc, seat, now, real, backend, server)?))
         }
         Verdict::Refused(_) => Ok(None),
     }
@@ -299,17 +327,17 @@ fn row_left(
 /// What is kept of a connection that is offered a server.
 fn row_for(
     alloc: Global,
-    scene: &Scene<'_>,
+    seat: &Seat<'_>,
     now: u64,
     real: Pair,
     backend: &Backend,
     server: &Server,
 ) -> Result<Row, AllocError>
-    ensures { IfOk result (λ row. row ≡ offered_row scene.now now real backend.now server.now) }
+    ensures { IfOk result (λ row. row ≡ offered_row seat.now now real backend.now server.now) }
 {
     Ok(Row {
-        serial: scene.id.serial,
-        version: scene.version.number,
+        serial: seat.id.serial,
+        version: seat.version.number,
         real,
         accepted: now,
         phase: Phase::Offered(Served {
@@ -342,6 +370,16 @@ fn settle(lane: &mut LaneState, row: Option<Row>) -> Result<(), StepFault>
         None => lane.skip(),
     }
     Ok(())
+}
+
+fn frontend_counts(lanes: &[LaneState], number: u16) -> Option<Counts>
+    ensures { result ≡ option_map open_of (slice_get lanes.now number) }
+{
+    let lane = item(lanes, number)?;
+    Some(Counts {
+        cur: lane.count(),
+        cnt: 0,
+    })
 }
 
 /// Equal lanes, as plain data.

@@ -3,10 +3,10 @@ ghost use Rattle.std.specs.Prelude.{◌≡◌, ◌⊎◌, ◌≤◌, ℕ, length
 ghost use Rattle.list_core.specs.Each.{Gives};
 ghost use Rattle.std.specs.Str.{bytes_eq};
 ghost use Rattle.conn_model.specs.History.{LinesDiffer};
-ghost use Rattle.conn_core.specs.Meaning.{frontend_said, backend_said, default_said, bind_said, rule_said, server_said, all_said, first_said, last_said, backend_with, backends_in, frontend_with, plan_with, backend_number, numbered, defaulted, bound, framed, plan_of, planned, opened, meaning};
+ghost use Rattle.conn_core.specs.Meaning.{frontend_said, backend_said, default_said, bind_said, limit_said, limit_or, rule_said, server_said, all_said, first_said, last_said, backend_with, backends_in, frontend_with, plan_with, backend_number, numbered, defaulted, bound, framed, plan_of, planned, opened, meaning};
 
 use crate::fault::{OpenFault, PlanFault, PlanKind};
-use crate::item::{Item, Named, Says};
+use crate::item::{Item, Limit, Named, Says};
 use crate::reading::read_items;
 use list_core::{Duplicate, Seq, Stop};
 use plan_core::{Backend, Bind, Frontend, Method, Plan, Rule, Server};
@@ -60,14 +60,26 @@ fn bind_said(item: &Item) -> Option<Bind>
     }
 }
 
+fn limit_said(item: &Item) -> Option<Limit>
+    ensures { result ≡ limit_said item.now.line item.now.says }
+{
+    match &item.says {
+        Says::MaxConn(limit) => Some(Limit {
+            limit: *limit,
+            line: item.line,
+        }),
+        _ => None,
+    }
+}
+
 fn rule_said(alloc: Global, item: &Item) -> Result<Option<Rule>, AllocError>
     ensures { IfOk result (λ rule. rule ≡ rule_said item.now.line item.now.says) }
 {
     match &item.says {
-        Says::Rule(action, condition) => Ok(Some(Rule {
+        Says::Rule(action, when) => Ok(Some(Rule {
             line: item.line,
             action: *action,
-            condition: condition.duplicate(alloc)?,
+            when: when.duplicate(alloc)?,
         })),
         _ => Ok(None),
     }
@@ -132,6 +144,29 @@ fn default_in<'a>(items: &[Item<'a>]) -> Option<Named<'a>>
         last = default_said(item).or(last);
     }
     last
+}
+
+fn limit_in(items: &[Item]) -> Option<Limit>
+    ensures { result ≡ last_said limit_said items.now }
+{
+    let mut last = None;
+    for item in items {
+        last = limit_said(item).or(last);
+    }
+    last
+}
+
+/// The limit that is said, or that of a frontend that says none.
+fn limit_or(named: &Named, said: Option<Limit>) -> Limit
+    ensures { result ≡ limit_or named.now said }
+{
+    match said {
+        Some(limit) => limit,
+        None => Limit {
+            limit: 2000,
+            line: named.line,
+        },
+    }
 }
 
 fn binds_in(alloc: Global, items: &[Item]) -> Result<Seq<Bind>, AllocError>
@@ -206,14 +241,15 @@ fn frontend_with(
     named: &Named,
     default: Option<u16>,
 ) -> Result<Frontend, AllocError>
-    ensures { IfOk result (λ frontend. frontend ≡ frontend_with (all_said bind_said items.now) (all_said rule_said items.now) default named.now) }
+    ensures { IfOk result (λ frontend. frontend ≡ frontend_with (all_said bind_said items.now) (limit_or named.now (last_said limit_said items.now)) (all_said rule_said items.now) default named.now) }
 {
+    let limit = limit_or(named, limit_in(items));
     Ok(Frontend {
         name: Seq::duplicate_of(alloc, named.name.bytes())?,
         line: named.line,
         binds: binds_in(alloc, items)?,
-        limit: 2000,
-        limit_line: named.line,
+        limit: limit.limit,
+        limit_line: limit.line,
         connection_rules: rules_in(alloc, items)?,
         session_rules: Seq::new(alloc),
         choices: Seq::new(alloc),

@@ -11,7 +11,8 @@ use crate::item::{Item, Says, SectionKind};
 use crate::judging::newest;
 use crate::statement::line_says;
 use addr_core::{Addr, Endpoint};
-use conf_text::{Line, LineKind, Lines, Word};
+use conf_text::{Line, LineKind, Lines};
+use word_core::Word;
 use list_core::{Seq, Stop};
 use std::alloc::Global;
 
@@ -186,6 +187,12 @@ fn allowed(items: &[Item], says: &Says) -> Result<(), ConfKind>
         Says::Bind(at) => once(has_bind_at(items, *at), has_bind(items)),
         Says::Rule(_, _) => {
             if rule_count(items) >= 256 {
+                return Err(ConfKind::Limit);
+            }
+            Ok(())
+        }
+        Says::MaxConn(limit) => {
+            if *limit > 1_048_576 {
                 return Err(ConfKind::Limit);
             }
             Ok(())

@@ -1,15 +1,17 @@
 //! What a line says by its words alone.
 ghost use Rattle.std.specs.Prelude.{◌≡◌, Result};
 ghost use Rattle.list_core.specs.Each.{Gives};
+ghost use Rattle.addr_core.specs.Decimal.{number_of};
 ghost use Rattle.conn_core.specs.Keywords.{keyword_of, stands};
-ghost use Rattle.conn_core.specs.Statements.{frontend_of, backend_of, default_backend_of, bind_of, server_of, action_of, action_at, Sees, tcp_request_of, says_of, line_says};
+ghost use Rattle.conn_core.specs.Statements.{frontend_of, backend_of, default_backend_of, bind_of, server_of, counted, max_conn_of, action_of, action_at, Sees, tcp_request_of, says_of, line_says};
 
-use crate::condition::condition;
+use crate::condition::when;
 use crate::fault::ConfKind;
 use crate::item::{Says, SectionKind};
 use crate::keyword::{Keyword, keyword_of, stands};
 use crate::words::{bind_at, end_at, name_at, plain_end_at, served_at, word_at};
-use conf_text::Word;
+use word_core::Word;
+use addr_core::decimal::read_number;
 use list_core::Stop;
 use plan_core::Action;
 use std::alloc::Global;
@@ -57,6 +59,24 @@ fn server<'a>(words: &[Word<'a>]) -> Result<Says<'a>, ConfKind>
     Ok(Says::Server(name, to))
 }
 
+fn number(word: &Word) -> Result<u64, ConfKind>
+    ensures { result ≡ counted (number_of word.now 0xFFFF_FFFF_FFFF_FFFF) }
+{
+    match read_number(word.bytes(), u64::MAX) {
+        None | Some(0) => Err(ConfKind::BadNumber),
+        Some(number) => Ok(number),
+    }
+}
+
+fn max_conn<'a>(words: &[Word<'a>]) -> Result<Says<'a>, ConfKind>
+    ensures { result ≡ max_conn_of words.now }
+{
+    let (word, rest) = word_at(words)?;
+    let limit = number(word)?;
+    end_at(rest)?;
+    Ok(Says::MaxConn(limit))
+}
+
 fn action(word: &Word) -> Result<Action, ConfKind>
     ensures { result ≡ action_of word.now }
 {
@@ -86,7 +106,7 @@ fn tcp_request<'a>(alloc: Global, words: &[Word<'a>]) -> Result<Says<'a>, Stop<C
     ensures { Gives result (tcp_request_of words.now) }
 {
     match action_at(words) {
-        Ok((action, rest)) => Ok(Says::Rule(action, condition(alloc, rest)?)),
+        Ok((action, rest)) => Ok(Says::Rule(action, when(alloc, rest)?)),
         Err(kind) => Err(Stop::Fault(kind)),
     }
 }
@@ -109,6 +129,7 @@ fn says<'a>(alloc: Global, keyword: Keyword, words: &[Word<'a>]) -> Result<Says<
         Keyword::Frontend => given(frontend(words)),
         Keyword::Backend => given(backend(words)),
         Keyword::Bind => given(bind(words)),
+        Keyword::MaxConn => given(max_conn(words)),
         Keyword::TcpRequest => tcp_request(alloc, words),
         Keyword::DefaultBackend => given(default_backend(words)),
         Keyword::Server => given(server(words)),

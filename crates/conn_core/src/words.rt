@@ -8,7 +8,7 @@ ghost use Rattle.addr_core.specs.Decimal.{decimal_of};
 use crate::fault::ConfKind;
 use addr_core::decimal::read_decimal;
 use addr_core::{Addr, Endpoint, read_endpoint};
-use conf_text::Word;
+use word_core::Word;
 
 /// A word, and the words after it.
 pub fn word_at<'a, 'w>(words: &'w [Word<'a>]) -> Result<(&'w Word<'a>, &'w [Word<'a>]), ConfKind>

@@ -1,6 +1,6 @@
 -- What is known of an answer, and what holds along a legal history in one frontend.
 use Rattle.std.proofs.Common.{◌≡◌, ℕ, zero, suc, ◌+◌, ◌≤◌, ◌⊎◌, inl, inr, Bool, true, false, not, ◌&&◌, ◌||◌, cond, eqb, List, [], ◌∷◌, ◌++◌, Some, None, Ok, Err, refl, ◌∙◌, sym, ap, subst, arith, max, append_assoc}
-use Rattle.std.specs.Prelude.{slice_get, ◌==◌, filter, find, nat_lt, Option}
+use Rattle.std.specs.Prelude.{nat_le, slice_get, ◌==◌, filter, find, nat_lt, Option}
 use Rattle.std.specs.List.{AllByRecursion}
 use Rattle.std.proofs.lemmas.Bool.Decides.{nat_tests}
 use Rattle.std.proofs.lemmas.List.{append-nil}
@@ -18,12 +18,14 @@ use Rattle.conn_model.specs.declared.event.Why.{Why}
 use Rattle.conn_model.specs.declared.event.Happening.{Happening}
 use Rattle.conn_model.specs.declared.event.Happening.TheVariants.{Accepted, Closing}
 use Rattle.conn_model.specs.declared.reply.Said.{Said}
+use Rattle.conn_model.specs.declared.reply.Cause.TheVariants.{Line}
 use Rattle.conn_model.specs.declared.reply.Said.TheVariants.{Offer, Refuse, Closed}
 use Rattle.conn_model.specs.declared.reply.Reply.{Reply}
 use Rattle.conn_model.specs.declared.reply.StepFault.TheVariants.{Exhausted}
 use Rattle.conn_model.specs.Words.{is_conn, newest, AreGiven}
 use Rattle.conn_model.specs.Rules.{View, view, rejected}
-use Rattle.conn_model.specs.Answer.{row_in, row_at, frontend_in, saying, offer, served_by, served_at, ruled, admitted, next_id, accepted_by, accepted_in, accepted_on, accepted_at, closed, answer_in}
+use Rattle.conn_model.specs.Answer.{row_in, row_at, frontend_in, saying, offer, served_by, served_at, ruled, tried, admitted, next_id, seat_of, accepted_by, accepted_in, accepted_on, accepted_at, closed, answer_in}
+use Rattle.conn_model.specs.Counts.{open_in}
 use Rattle.conn_model.specs.History.{id_of, speaks, is_last, ends, ended, kept, kept_by, is_of, opened, accepts, lane_after, now_of, after, entry, Entry, IsLegal, IsWell}
 use Rattle.conn_model.proofs.Numbered.{slice_get-map_from}
 
@@ -47,7 +49,11 @@ id_of-ruled v real None = id_of-served_at v 0 real v.seat.frontend.default
 
 -- a reply to an accept speaks to the new connection
 pub id_of-admitted : (v : View) (real : Ends) → id_of (admitted v real) ≡ Some v.seat.id
-id_of-admitted v real = id_of-ruled v real (rejected v v.seat.frontend.connection_rules)
+id_of-admitted v real = by (nat_le v.seat.frontend.limit (open_in v.seat.others v.seat.id.frontend))
+  where
+    by : (full : Bool) → id_of (cond full (Refuse v.seat.id 0 (Line v.seat.frontend.limit_line)) (tried v real)) ≡ Some v.seat.id
+    by true = refl
+    by false = id_of-ruled v real (rejected v v.seat.frontend.connection_rules)
 
 -- What is known of an answer.
 
@@ -74,20 +80,20 @@ chosen true x y e is = (refl, cc)
 chosen false x y e is = cc
 
 new_by : (q : Plain) (number : ℕ) (real : Ends) (lane : Lane) (version : Version) (frontend : Frontend) (reply : Reply) →
-    slice_get q.lanes number ≡ Some lane → accepted_by number real lane version frontend ≡ Ok reply → IsNew q reply.said
+    slice_get q.lanes number ≡ Some lane → accepted_by q.lanes number real lane version frontend ≡ Ok reply → IsNew q reply.said
 new_by q number real lane version frontend reply there is =
-    let v : View = view (record { version = version; frontend = frontend; id = next_id number lane }) real.source.addr in
+    let v : View = view (seat_of q.lanes number lane version frontend) real.source.addr in
     let got = (chosen (nat_lt lane.serial 0xFFFF_FFFF_FFFF_FFFF) (saying (admitted v real)) reply Exhausted is).1 in
     let said : admitted v real ≡ reply.said = ap (λ r. r.said) got in
     record { id = next_id number lane; says = ap (λ s. id_of s) (sym said) ∙ id_of-admitted v real; lane = lane; there = there; next = refl }
 
 new_in : (q : Plain) (number : ℕ) (real : Ends) (lane : Lane) (version : Version) (frontend : Option Frontend) (reply : Reply) →
-    slice_get q.lanes number ≡ Some lane → accepted_in number real lane version frontend ≡ Ok reply → IsNew q reply.said
+    slice_get q.lanes number ≡ Some lane → accepted_in q.lanes number real lane version frontend ≡ Ok reply → IsNew q reply.said
 new_in q number real lane version None reply there is = cc
 new_in q number real lane version (Some frontend) reply there is = new_by q number real lane version frontend reply there is
 
 new_on : (q : Plain) (number : ℕ) (real : Ends) (lane : Option Lane) (version : Option Version) (reply : Reply) →
-    slice_get q.lanes number ≡ lane → accepted_on number real lane version ≡ Ok reply → IsNew q reply.said
+    slice_get q.lanes number ≡ lane → accepted_on q.lanes number real lane version ≡ Ok reply → IsNew q reply.said
 new_on q number real None version reply there is = cc
 new_on q number real (Some lane) None reply there is = cc
 new_on q number real (Some lane) (Some version) reply there is = new_in q number real lane version (frontend_in version.plan lane.name) reply there is

@@ -1,5 +1,5 @@
 -- What a balancer in a plain state answers to an event.
-use Rattle.std.specs.Prelude.{ℕ, List, [], find, slice_get, Option, Some, None, Result, Ok, Err, ◌+◌, ◌==◌, nat_lt, if◌then◌else◌}
+use Rattle.std.specs.Prelude.{ℕ, List, [], find, slice_get, Option, Some, None, Result, Ok, Err, ◌+◌, ◌==◌, nat_le, nat_lt, if◌then◌else◌}
 use Rattle.std.specs.Str.{bytes_eq}
 use Rattle.addr_core.specs.Ends.{Ends}
 use Rattle.plan_core.specs.declared.plan.Server.{Server}
@@ -21,7 +21,8 @@ use Rattle.conn_model.specs.declared.plain.Listener.{Listener}
 use Rattle.conn_model.specs.declared.plain.Version.{Version}
 use Rattle.conn_model.specs.declared.plain.Plain.{Plain}
 use Rattle.conn_model.specs.Words.{newest}
-use Rattle.conn_model.specs.Rules.{View, view, rejected}
+use Rattle.conn_model.specs.Counts.{open_in}
+use Rattle.conn_model.specs.Rules.{Seat, View, view, rejected}
 
 -- Connections of the state.
 
@@ -65,32 +66,42 @@ ruled v real (Some line) = Refuse v.seat.id 0 (Line line)
 ruled v real None = choose v 0 real
 
 -- the connection rules on the real source, then a server
+abbrev pub tried : View → Ends → Said
+tried v real = ruled v real (rejected v v.seat.frontend.connection_rules)
+
+-- the frontend's limit first, on the connections that are open before this one
 abbrev pub admitted : View → Ends → Said
-admitted v real = ruled v real (rejected v v.seat.frontend.connection_rules)
+admitted v real =
+    if nat_le v.seat.frontend.limit (open_in v.seat.others v.seat.id.frontend)
+    then Refuse v.seat.id 0 (Line v.seat.frontend.limit_line)
+    else tried v real
 
 -- the name of the next connection
 abbrev pub next_id : ℕ → Lane → ConnId
 next_id number lane = record { frontend = number; serial = lane.serial + 1 }
 
-abbrev pub accepted_by : ℕ → Ends → Lane → Version → Frontend → Result Reply StepFault
-accepted_by number real lane version frontend =
+abbrev pub seat_of : List Lane → ℕ → Lane → Version → Frontend → Seat
+seat_of lanes number lane version frontend = record { others = lanes; version = version; frontend = frontend; id = next_id number lane }
+
+abbrev pub accepted_by : List Lane → ℕ → Ends → Lane → Version → Frontend → Result Reply StepFault
+accepted_by lanes number real lane version frontend =
     if nat_lt lane.serial 0xFFFF_FFFF_FFFF_FFFF
-    then Ok (saying (admitted (view (record { version = version; frontend = frontend; id = next_id number lane }) real.source.addr) real))
+    then Ok (saying (admitted (view (seat_of lanes number lane version frontend) real.source.addr) real))
     else Err Exhausted
 
-abbrev pub accepted_in : ℕ → Ends → Lane → Version → Option Frontend → Result Reply StepFault
-accepted_in number real lane version None = Err NoListener
-accepted_in number real lane version (Some frontend) = accepted_by number real lane version frontend
+abbrev pub accepted_in : List Lane → ℕ → Ends → Lane → Version → Option Frontend → Result Reply StepFault
+accepted_in lanes number real lane version None = Err NoListener
+accepted_in lanes number real lane version (Some frontend) = accepted_by lanes number real lane version frontend
 
-abbrev pub accepted_on : ℕ → Ends → Option Lane → Option Version → Result Reply StepFault
-accepted_on number real None version = Err NoListener
-accepted_on number real (Some lane) None = Err NoListener
-accepted_on number real (Some lane) (Some version) = accepted_in number real lane version (frontend_in version.plan lane.name)
+abbrev pub accepted_on : List Lane → ℕ → Ends → Option Lane → Option Version → Result Reply StepFault
+accepted_on lanes number real None version = Err NoListener
+accepted_on lanes number real (Some lane) None = Err NoListener
+accepted_on lanes number real (Some lane) (Some version) = accepted_in lanes number real lane version (frontend_in version.plan lane.name)
 
 -- an accept is judged by the newest version, in the frontend of its listener
 abbrev pub accepted_at : Plain → Ends → Option Listener → Result Reply StepFault
 accepted_at p real None = Err NoListener
-accepted_at p real (Some listener) = accepted_on listener.frontend real (slice_get p.lanes listener.frontend) (newest p.versions)
+accepted_at p real (Some listener) = accepted_on p.lanes listener.frontend real (slice_get p.lanes listener.frontend) (newest p.versions)
 
 -- A close.
 

@@ -24,6 +24,9 @@ use Rattle.conn_model.specs.declared.plain.Listener.{Listener}
 use Rattle.conn_model.specs.declared.plain.Version.{Version}
 use Rattle.conn_model.specs.declared.plain.Plain.{Plain}
 use Rattle.conn_model.specs.Words.{is_conn, newest, map_from, AreGiven}
+use Rattle.conn_model.specs.declared.ask.Ask.{Ask}
+use Rattle.conn_model.specs.declared.ask.Counts.{Counts}
+use Rattle.conn_model.specs.Counts.{counts_in}
 use Rattle.conn_model.specs.Answer.{answer_in}
 
 -- an answered event, with the moment that was handed in
@@ -145,6 +148,10 @@ after p h = record {
 -- the answer to an event after the history
 abbrev pub answer : Plain → List Entry → ℕ → Happening → Result Reply StepFault
 answer p h moment event = answer_in (after p h) moment event
+
+-- the counts that are asked for after the history
+abbrev pub counts : Plain → List Entry → Ask → Option Counts
+counts p h ask = counts_in (after p h) ask
 
 -- each reply is the answer after what was before it
 abbrev pub IsLegal : Plain → List Entry → Type 0

@@ -1,21 +1,25 @@
 -- How a list of rules decides.
-use Rattle.std.specs.Prelude.{ℕ, Bool, true, List, find, Option, Some, None, option_and_then, ◌&&◌}
+use Rattle.std.specs.Prelude.{ℕ, Bool, true, List, find, Option, Some, None, option_and_then, ◌+◌, ◌&&◌}
 use Rattle.addr_core.specs.declared.addr.Addr.{Addr}
 use Rattle.acl_core.specs.declared.criterion.Criterion.{Criterion}
 use Rattle.acl_core.specs.declared.criterion.Criterion.TheVariants as criteria
 use Rattle.acl_core.specs.declared.criterion.Value.{Value}
 use Rattle.acl_core.specs.declared.criterion.Value.TheVariants as values
-use Rattle.acl_core.specs.declared.condition.Cond.{Cond}
-use Rattle.acl_core.specs.Truth.{condition_holds}
+use Rattle.acl_core.specs.declared.condition.When.{When}
+use Rattle.acl_core.specs.Truth.{applies}
 use Rattle.plan_core.specs.declared.plan.Action.{Action}
 use Rattle.plan_core.specs.declared.plan.Action.TheVariants.{Accept, Reject}
 use Rattle.plan_core.specs.declared.plan.Rule.{Rule}
 use Rattle.plan_core.specs.declared.plan.Frontend.{Frontend}
 use Rattle.conn_model.specs.declared.event.ConnId.{ConnId}
+use Rattle.conn_model.specs.declared.plain.Lane.{Lane}
 use Rattle.conn_model.specs.declared.plain.Version.{Version}
+use Rattle.conn_model.specs.Counts.{open_in}
 
--- Where a connection is judged: by a frontend of a version of the configuration.
+-- Where a connection is judged: by a frontend of a version of the configuration, beside the
+-- connections that are open before it.
 pub record Seat : Type 0 where
+  pub others : List Lane
   pub version : Version
   pub frontend : Frontend
   pub id : ConnId
@@ -28,12 +32,17 @@ pub record View : Type 0 where
 abbrev pub view : Seat → Addr → View
 view seat source = record { seat = seat; source = source }
 
+-- the open connections of its own frontend, itself included
+abbrev pub open_with_itself : Seat → ℕ
+open_with_itself seat = open_in seat.others seat.id.frontend + 1
+
 -- the value of a criterion in the view
 abbrev pub worth : View → Criterion → Value
 worth v criteria.Source = values.Source v.source
+worth v criteria.FrontendConnections = values.Number (open_with_itself v.seat)
 
-abbrev pub is_true_in : View → Cond → Bool
-is_true_in v condition = condition_holds (worth v) condition
+abbrev pub applies_in : View → When → Bool
+applies_in v when = applies (worth v) when
 
 -- such a rule ends its list
 abbrev pub is_final : Action → Bool
@@ -42,7 +51,7 @@ is_final Reject = true
 
 -- the rule ends the list in the view
 abbrev pub decides : View → Rule → Bool
-decides v rule = is_final rule.action && is_true_in v rule.condition
+decides v rule = is_final rule.action && applies_in v rule.when
 
 -- the rule that decides: the first in written order that ends the list
 abbrev pub deciding : View → List Rule → Option Rule

@@ -6,8 +6,8 @@ use Rattle.addr_core.specs.declared.addr.Endpoint.{Endpoint}
 use Rattle.addr_core.specs.Ends.{Ends}
 use Rattle.acl_core.specs.declared.criterion.Criterion.TheVariants as criteria
 use Rattle.acl_core.specs.declared.criterion.Pattern.TheVariants.{Network}
-use Rattle.acl_core.specs.declared.condition.Cond.{Cond}
-use Rattle.acl_core.specs.declared.condition.Cond.TheVariants.{If}
+use Rattle.acl_core.specs.declared.condition.When.{When}
+use Rattle.acl_core.specs.declared.condition.When.TheVariants.{If}
 use Rattle.plan_core.specs.declared.plan.Action.TheVariants.{Reject}
 use Rattle.plan_core.specs.declared.plan.Method.TheVariants.{RoundRobin}
 use Rattle.plan_core.specs.declared.plan.Server.{Server}
@@ -28,9 +28,9 @@ abbrev pub point : Addr → ℕ → Endpoint
 point addr port = record { addr = addr; port = port }
 
 -- the sources in 198.51.100.0/24
-abbrev pub from_there : Cond
+abbrev pub from_there : When
 from_there =
-    If ((record { negated = false; tests = record { criterion = criteria.Source; patterns = Network (record { addr = ip 198 51 100 0; bits = 24 }) ∷ [] } ∷ [] } ∷ []) ∷ [])
+    If (record { groups = (record { negated = false; tests = record { criterion = criteria.Source; patterns = Network (record { addr = ip 198 51 100 0; bits = 24 }) ∷ [] } ∷ [] } ∷ []) ∷ [] })
 
 -- the server `s` of line 6
 abbrev pub sample_server : Server
@@ -54,7 +54,7 @@ sample_with default servers = record {
     binds = record { at = point (ip 127 0 0 1) 9000; accept_proxy = false } ∷ [];
     limit = 2000;
     limit_line = 1;
-    connection_rules = record { line = 3; action = Reject; condition = from_there } ∷ [];
+    connection_rules = record { line = 3; action = Reject; when = from_there } ∷ [];
     session_rules = [];
     choices = [];
     default = default;

@@ -4,6 +4,7 @@
 //! what a list of answered events leaves of one.
 #![tactic(auto)]
 
+pub mod ask;
 mod copies;
 pub mod event;
 pub mod laws;

@@ -1,5 +1,5 @@
 -- What a list read item by item is, and which fault stands for it.
-use Rattle.std.proofs.Common.{◌≡◌, ℕ, zero, suc, List, [], ◌∷◌, ◌++◌, take, Some, Result, Ok, Err, refl, sym, ap, ◌∙◌, append_assoc}
+use Rattle.std.proofs.Common.{◌≡◌, ℕ, zero, suc, ◌+◌, drop, List, [], ◌∷◌, ◌++◌, take, Some, Result, Ok, Err, refl, sym, ap, ◌∙◌, append_assoc}
 use Rattle.std.specs.Prelude.{slice_get}
 use Rattle.std.proofs.lemmas.List.{append-nil}
 use Rattle.list_core.specs.Each.{◌>>=◌, each, IsReadAfter}
@@ -59,3 +59,9 @@ each_err {A} {B} {F} judged done (x ∷ xs) f e = by (λ y. each_err judged (don
           (ap (λ n. suc n) more.4.0, front judged done x y (take more.0 xs) more.2 is more.4.1),
           ap (λ d. judged d more.1) (sym (append_assoc done (y ∷ []) more.2)) ∙ more.5,
         )
+
+-- one item more
+pub each_more : {A B F : Type 0} (judged : List B → A → Result B F) (done : List B) (xs : List A) (i : ℕ) (a : A) (b : B) → drop i xs ≡ a ∷ drop (i + 1) xs → judged done a ≡ Ok b
+    → each judged (done ++ b ∷ []) (drop (i + 1) xs) ≡ each judged done (drop i xs)
+each_more judged done xs i a b there is =
+    sym (ap (λ ys. each judged done ys) there ∙ ap (λ r. r >>= λ b. each judged (done ++ b ∷ []) (drop (i + 1) xs)) is)

@@ -85,7 +85,7 @@ impl Duplicate for Rule {
         Ok(Rule {
             line: self.line,
             action: self.action,
-            condition: self.condition.duplicate(alloc)?,
+            when: self.when.duplicate(alloc)?,
         })
     }
 }
@@ -94,7 +94,7 @@ impl Duplicate for Choice {
     fn duplicate(&self, alloc: Global) -> Result<Choice, AllocError> {
         Ok(Choice {
             line: self.line,
-            condition: self.condition.duplicate(alloc)?,
+            when: self.when.duplicate(alloc)?,
             backend: self.backend,
         })
     }

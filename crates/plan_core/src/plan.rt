@@ -1,5 +1,5 @@
 //! Frontends with their rules, backends with their servers, and stick tables.
-use acl_core::Cond;
+use acl_core::When;
 use addr_core::Endpoint;
 use list_core::Seq;
 
@@ -15,14 +15,14 @@ pub enum Action {
 pub struct Rule {
     pub line: u32,
     pub action: Action,
-    pub condition: Cond,
+    pub when: When,
 }
 
 /// A `use_backend` line.
 #[derive(Debug, Drop)]
 pub struct Choice {
     pub line: u32,
-    pub condition: Cond,
+    pub when: When,
     /// The number of the backend.
     pub backend: u16,
 }

@@ -3,7 +3,7 @@ use crate::{
     Action, Backend, Bind, Choice, Frontend, Kind, Method, Plan, Rule, Section, Server, Table,
     TableId, Track,
 };
-use acl_core::Cond;
+use acl_core::{Cond, When};
 use addr_core::{Addr, Endpoint};
 use list_core::{Duplicate, Seq};
 use std::alloc::Global;
@@ -28,16 +28,20 @@ fn sample_frontend(alloc: Global) -> Result<Frontend, Fail> {
     let rejecting = Rule {
         line: 3,
         action: Action::Reject,
-        condition: Cond::If(Seq::new(alloc)),
+        when: When::If(Cond {
+            groups: Seq::new(alloc),
+        }),
     };
     let accepting = Rule {
         line: 4,
         action: Action::Accept,
-        condition: Cond::Always,
+        when: When::Always,
     };
     let choice = Choice {
         line: 5,
-        condition: Cond::Unless(Seq::new(alloc)),
+        when: When::Unless(Cond {
+            groups: Seq::new(alloc),
+        }),
         backend: 1,
     };
     Ok(Frontend {
@@ -121,15 +125,15 @@ fn a_copy_has_the_rules(rt: HostRuntime) -> Result<(), Fail> {
     assert_eq!(rt; frontend.connection_rules.len(), 1);
     let rule = &frontend.connection_rules.as_slice()[0];
     assert_eq!(rt; (rule.line, rule.action), (3, Action::Reject));
-    assert!(rt; matches!(&rule.condition, Cond::If(_)));
+    assert!(rt; matches!(&rule.when, When::If(_)));
     assert_eq!(rt; frontend.session_rules.len(), 1);
     let rule = &frontend.session_rules.as_slice()[0];
     assert_eq!(rt; (rule.line, rule.action), (4, Action::Accept));
-    assert!(rt; matches!(&rule.condition, Cond::Always));
+    assert!(rt; matches!(&rule.when, When::Always));
     assert_eq!(rt; frontend.choices.len(), 1);
     let choice = &frontend.choices.as_slice()[0];
     assert_eq!(rt; (choice.line, choice.backend), (5, 1));
-    assert!(rt; matches!(&choice.condition, Cond::Unless(_)));
+    assert!(rt; matches!(&choice.when, When::Unless(_)));
     Ok(())
 }
 
