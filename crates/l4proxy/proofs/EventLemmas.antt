@@ -1,6 +1,7 @@
 -- The line that writes an event hands it in.
-use Rattle.std.proofs.Common.{◌≡◌, ℕ, ◌<◌, ◌^◌, Bool, true, false, List, [], ◌∷◌, ◌++◌, Some, Ok, refl, ap, sym, ◌∙◌, append_assoc, arith}
-use Rattle.std.specs.Prelude.{codes}
+use Rattle.std.proofs.Common.{◌≡◌, ℕ, ◌<◌, ◌^◌, Bool, true, false, eqb, List, [], ◌∷◌, ◌++◌, Some, Ok, refl, ap, sym, ◌∙◌, append_assoc, arith}
+use Rattle.std.specs.Prelude.{codes, option_map}
+use Rattle.std.specs.Str.{bytes_eq}
 use Rattle.std.specs.List.{list_all, list_any, slice_split, join_with_byte, All, AllByRecursion}
 use Rattle.std.specs.Char.{is_ascii_digit}
 use Rattle.std.proofs.lemmas.Bool.Decides.{nat_tests}
@@ -20,7 +21,7 @@ use Rattle.conn_model.specs.declared.event.Happening.{Happening}
 use Rattle.conn_model.specs.declared.event.Happening.TheVariants.{Accepted, Closing}
 use Rattle.conn_model.specs.declared.event.Why.{Why}
 use Rattle.conn_model.specs.declared.event.Why.TheVariants.{Done, Fault, Stopped, Failed}
-use Rattle.l4proxy.specs.Script.{ends_of, event_line, event_of, event_words, id_of, id_in, id_text, is_mark, why_of, why_text, words_of, IsHandedIn}
+use Rattle.l4proxy.specs.Script.{ends_of, event_line, event_of, event_words, id_of, id_in, id_text, is_mark, why_of, why_text, wanted_of, words_of, IsHandedIn, Wanted}
 
 -- no byte is the mark
 abbrev Lacks : ℕ → List ℕ → Type 0
@@ -137,3 +138,24 @@ event_of-words moment (Closing id why) short given =
 pub event_of-line : (line : List ℕ) (moment : ℕ) (event : Happening) → moment < 2 ^ 64 → IsHandedIn event → line ≡ event_line moment event → event_of (words_of line) ≡ Some (moment, event)
 event_of-line line moment event short given is =
     ap (λ l. event_of (words_of l)) is ∙ ap event_of (words_of-line moment event) ∙ event_of-words moment event short given
+
+-- digits are not the word of a question
+digits_differ : (text : List ℕ) → list_all is_ascii_digit text ≡ true → bytes_eq text (codes "ask") ≡ false
+digits_differ [] all = refl
+digits_differ (b ∷ text) all = by (is_ascii_digit b) refl
+  where
+    by : (t : Bool) → is_ascii_digit b ≡ t → bytes_eq (b ∷ text) (codes "ask") ≡ false
+    by true is = let differs : eqb b 97 ≡ false = grind (arith, nat_tests) in rw differs refl
+    by false is = let wrong = rw is at all in absurd cc
+
+wanted_of-words : (moment : ℕ) (event : Happening) → moment < 2 ^ 64 → IsHandedIn event → wanted_of (event_words moment event) ≡ Some (Wanted.reply (moment, event))
+wanted_of-words moment (Accepted listener real) short given =
+    rw (digits_differ (decimal moment) (are_digits_decimal moment).digits) (ap (option_map (λ timed. Wanted.reply timed)) (event_of-words moment (Accepted listener real) short given))
+wanted_of-words moment (Closing id why) short given =
+    rw (digits_differ (decimal moment) (are_digits_decimal moment).digits) (ap (option_map (λ timed. Wanted.reply timed)) (event_of-words moment (Closing id why) short given))
+
+-- and wants an answer to it
+pub wanted_of-line : (line : List ℕ) (moment : ℕ) (event : Happening) → moment < 2 ^ 64 → IsHandedIn event → line ≡ event_line moment event
+    → wanted_of (words_of line) ≡ Some (Wanted.reply (moment, event))
+wanted_of-line line moment event short given is =
+    ap (λ l. wanted_of (words_of l)) is ∙ ap wanted_of (words_of-line moment event) ∙ wanted_of-words moment event short given

@@ -7,8 +7,10 @@ use Rattle.conn_model.specs.declared.event.Happening.{Happening}
 use Rattle.conn_model.specs.declared.plain.Plain.{Plain}
 use Rattle.conn_model.specs.declared.reply.Reply.{Reply}
 use Rattle.conn_model.specs.declared.reply.StepFault.{StepFault}
-use Rattle.conn_model.specs.History.{Entry, IsLegal, IsWell, after, answer, entry, opening}
+use Rattle.conn_model.specs.History.{Entry, IsLegal, IsWell, after, answer, counts, entry, opening}
 use Rattle.conn_model.proofs.Law.{after-cons, after-nil}
+use Rattle.l4proxy.specs.Script.{Wanted}
+use Rattle.l4proxy.specs.Replies.{count_line}
 use Rattle.l4proxy.specs.Replay.{Outcome, after_line, answer_text, asked, before_rest, history_after, outcome, replayed}
 use Rattle.l4proxy.specs.Turns.{outcome_in, plain_after, replayed_in, turn}
 use Rattle.l4proxy.specs.Standing.{Standing, total_of}
@@ -22,11 +24,12 @@ same_after p h moment event (Ok reply) rest rest_in well legal next is =
     next (entry moment event reply ∷ h) (legal, is) ∙ ap rest_in (after-cons p (entry moment event reply) h well (legal, is))
 same_after p h moment event (Err fault) rest rest_in well legal next is = next h legal
 
-same_line : (p : Plain) (h : List Entry) (asks : Result (Option (ℕ × Happening)) ReplayFault) (rest : List Entry → Outcome) (rest_in : Plain → Outcome)
+same_line : (p : Plain) (h : List Entry) (asks : Result (Option Wanted) ReplayFault) (rest : List Entry → Outcome) (rest_in : Plain → Outcome)
     → IsWell p → IsLegal p h → ((g : List Entry) → IsLegal p g → rest g ≡ rest_in (after p g)) → after_line p h asks rest ≡ turn (after p h) asks rest_in
 same_line p h (Err fault) rest rest_in well legal next = refl
 same_line p h (Ok None) rest rest_in well legal next = next h legal
-same_line p h (Ok (Some timed)) rest rest_in well legal next =
+same_line p h (Ok (Some (Wanted.count ask))) rest rest_in well legal next = ap (before_rest (count_line ask (counts p h ask)) 1) (next h legal)
+same_line p h (Ok (Some (Wanted.reply timed))) rest rest_in well legal next =
     ap (before_rest (answer_text (answer p h timed.0 timed.1)) 1)
     (same_after p h timed.0 timed.1 (answer p h timed.0 timed.1) rest rest_in well legal next refl)
 

@@ -2,15 +2,15 @@
 use Rattle.std.specs.Prelude.{◌≡◌, ◌⊎◌, ℕ, Bool, ◌+◌, ◌==◌, ◌||◌, nat_lt, List, [], ◌∷◌, ◌++◌, length, slice_index, Option, Some, None, option_map, Result, Ok, Err, if◌then◌else◌}
 use Rattle.conf_text.specs.Parts.{parts, is_line_feed}
 use Rattle.plan_core.specs.declared.plan.Plan.{Plan}
-use Rattle.conn_model.specs.declared.event.Event.{Event}
 use Rattle.conn_model.specs.declared.event.Happening.{Happening}
 use Rattle.conn_model.specs.declared.plain.Plain.{Plain}
 use Rattle.conn_model.specs.declared.reply.Reply.{Reply}
 use Rattle.conn_model.specs.declared.reply.StepFault.{StepFault}
-use Rattle.conn_model.specs.History.{Entry, answer, entry, opening}
+use Rattle.conn_model.specs.History.{Entry, answer, counts, entry, opening}
 use Rattle.conn_core.specs.Meaning.{meaning}
-use Rattle.l4proxy.specs.Script.{event_of, timed_event, words_of}
-use Rattle.l4proxy.specs.Replies.{fault_line, reply_line}
+use Rattle.l4proxy.specs.Script.{Wanted, wanted, wanted_of, words_of}
+use Rattle.l4proxy.specs.Replies.{count_line, fault_line, reply_line}
+use Rattle.l4proxy.specs.declared.script.Request.{Request}
 use Rattle.l4proxy.specs.declared.fault.ReplayFault.{ReplayFault}
 use Rattle.l4proxy.specs.declared.fault.ReplayFault.TheVariants.{Config, Format, TooLong, Read, Write, NoMemory}
 
@@ -33,20 +33,20 @@ before_rest text lines rest = record { text = text ++ rest.text; lines = lines +
 abbrev pub is_skipped : List ℕ → Bool
 is_skipped line = length line == 0 || slice_index line 0 == 0x23
 
-abbrev pub event_at : ℕ → Option (ℕ × Happening) → Result (Option (ℕ × Happening)) ReplayFault
-event_at number None = Err (Format number)
-event_at number (Some timed) = Ok (Some timed)
+abbrev pub wanted_at : ℕ → Option Wanted → Result (Option Wanted) ReplayFault
+wanted_at number None = Err (Format number)
+wanted_at number (Some wants) = Ok (Some wants)
 
--- what the line of that number asks for: an answer to an event, or nothing; else what is wrong with it
-abbrev pub asked : ℕ → List ℕ → Result (Option (ℕ × Happening)) ReplayFault
+-- what the line of that number asks for: an answer to an event, counts, or nothing; else what is wrong with it
+abbrev pub asked : ℕ → List ℕ → Result (Option Wanted) ReplayFault
 asked number line =
     if nat_lt 131200 (length line) || nat_lt 1000000 number then Err (TooLong number)
     else if is_skipped line then Ok None
-    else event_at number (event_of (words_of line))
+    else wanted_at number (wanted_of (words_of line))
 
 -- what was read of a line
-abbrev pub asked_for : Result (Option (ℕ × Event)) ReplayFault → Result (Option (ℕ × Happening)) ReplayFault
-asked_for (Ok timed) = Ok (option_map timed_event timed)
+abbrev pub asked_for : Result (Option Request) ReplayFault → Result (Option Wanted) ReplayFault
+asked_for (Ok request) = Ok (option_map wanted request)
 asked_for (Err fault) = Err fault
 
 -- ---- the lines of a script
@@ -62,10 +62,11 @@ history_after h moment event (Ok reply) = entry moment event reply ∷ h
 history_after h moment event (Err fault) = h
 
 -- what comes of a line behind a history, and of the rest
-abbrev pub after_line : Plain → List Entry → Result (Option (ℕ × Happening)) ReplayFault → (List Entry → Outcome) → Outcome
+abbrev pub after_line : Plain → List Entry → Result (Option Wanted) ReplayFault → (List Entry → Outcome) → Outcome
 after_line p h (Err fault) rest = ended (Some fault)
 after_line p h (Ok None) rest = rest h
-after_line p h (Ok (Some timed)) rest =
+after_line p h (Ok (Some (Wanted.count ask))) rest = before_rest (count_line ask (counts p h ask)) 1 (rest h)
+after_line p h (Ok (Some (Wanted.reply timed))) rest =
     let answered = answer p h timed.0 timed.1 in before_rest (answer_text answered) 1 (rest (history_after h timed.0 timed.1 answered))
 
 -- what comes of lines, behind a history and so many lines before them

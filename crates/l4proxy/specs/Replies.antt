@@ -1,10 +1,13 @@
--- Replies as lines.
-use Rattle.std.specs.Prelude.{ℕ, ◌==◌, List, ◌++◌, length, codes, if◌then◌else◌}
+-- Replies and counts as lines.
+use Rattle.std.specs.Prelude.{ℕ, ◌==◌, List, ◌++◌, length, codes, Option, Some, None, if◌then◌else◌}
 use Rattle.std.specs.List.{flat_map}
 use Rattle.hex.specs.Hex.{encode_lower}
 use Rattle.addr_core.specs.Decimal.{decimal}
 use Rattle.addr_core.specs.Text.{endpoint_text, text_of}
 use Rattle.plan_core.specs.declared.track.Track.{Track}
+use Rattle.conn_model.specs.declared.ask.Ask.{Ask}
+use Rattle.conn_model.specs.declared.ask.Ask.TheVariants as asks
+use Rattle.conn_model.specs.declared.ask.Counts.{Counts}
 use Rattle.conn_model.specs.declared.reply.Cause.{Cause}
 use Rattle.conn_model.specs.declared.reply.Cause.TheVariants.{Line, NoBackend, NoServer}
 use Rattle.conn_model.specs.declared.reply.Said.{Said}
@@ -45,6 +48,11 @@ fault_name NoListener = codes "NoListener"
 fault_name NoSuch = codes "NoSuch"
 fault_name Exhausted = codes "Exhausted"
 fault_name NoMemory = codes "NoMemory"
+
+-- the line of counts that were asked for, or of no such thing
+abbrev pub count_line : Ask → Option Counts → List ℕ
+count_line ask None = codes "count none\n"
+count_line (asks.Frontend number) (Some counts) = codes "count " ++ decimal counts.cur ++ codes "\n"
 
 -- the line that a refused step is
 abbrev pub fault_line : StepFault → List ℕ

@@ -1,4 +1,4 @@
--- Scripts: the lines that hand in events.
+-- Scripts: the lines that hand in events, and those that ask for counts.
 use Rattle.std.specs.Prelude.{◌≡◌, ℕ, Bool, true, ◌<◌, ◌^◌, ◌==◌, List, [], ◌∷◌, ◌++◌, codes, Option, Some, None, option_map, if◌then◌else◌}
 use Rattle.std.specs.List.{join_with_byte, slice_split}
 use Rattle.std.specs.Result.{result_ok}
@@ -7,6 +7,8 @@ use Rattle.addr_core.specs.Decimal.{decimal, decimal_of}
 use Rattle.addr_core.specs.Ends.{Ends, pair_of}
 use Rattle.addr_core.specs.Text.{endpoint_of, endpoint_text, IsEndpoint}
 use Rattle.addr_core.specs.Family.{same_family}
+use Rattle.conn_model.specs.declared.ask.Ask.{Ask}
+use Rattle.conn_model.specs.declared.ask.Ask.TheVariants as asks
 use Rattle.conn_model.specs.declared.event.ConnId.{ConnId}
 use Rattle.conn_model.specs.declared.event.Event.{Event}
 use Rattle.conn_model.specs.declared.event.Happening.{Happening}
@@ -14,6 +16,8 @@ use Rattle.conn_model.specs.declared.event.Happening.TheVariants.{Accepted, Clos
 use Rattle.conn_model.specs.declared.event.Why.{Why}
 use Rattle.conn_model.specs.declared.event.Why.TheVariants.{Done, Fault, Stopped, Failed}
 use Rattle.conn_model.specs.History.{happening}
+use Rattle.l4proxy.specs.declared.script.Request.{Request}
+use Rattle.l4proxy.specs.declared.script.Request.TheVariants as requests
 
 -- ---- what is written
 
@@ -109,6 +113,28 @@ event_of words = None
 -- the same of an event that was read
 abbrev pub timed_event : ℕ × Event → ℕ × Happening
 timed_event timed = (timed.0, happening timed.1)
+
+-- what is asked for by the words behind `ask`
+abbrev pub ask_of : List (List ℕ) → Option Ask
+ask_of (kind ∷ number ∷ []) = if bytes_eq kind (codes "frontend") then option_map (λ n. asks.Frontend n) (decimal_of number 0xFFFF) else None
+ask_of words = None
+
+-- What a line wants: an answer to an event at a moment, or counts.
+pub data Wanted : Type 0 where
+  reply : ℕ × Happening → Wanted
+  count : Ask → Wanted
+
+-- what the words of a line want
+abbrev pub wanted_of : List (List ℕ) → Option Wanted
+wanted_of [] = None
+wanted_of (word ∷ words) =
+    if bytes_eq word (codes "ask") then option_map (λ ask. Wanted.count ask) (ask_of words)
+    else option_map (λ timed. Wanted.reply timed) (event_of (word ∷ words))
+
+-- the same of a request that was read
+abbrev pub wanted : Request → Wanted
+wanted (requests.Event moment event) = Wanted.reply (moment, happening event)
+wanted (requests.Ask ask) = Wanted.count ask
 
 -- the numbers of an event are in range, and its pair is of one family
 abbrev pub IsHandedIn : Happening → Type 0

@@ -6,6 +6,9 @@ use Rattle.conn_model.specs.declared.plain.Plain.{Plain}
 use Rattle.conn_model.specs.declared.reply.Reply.{Reply}
 use Rattle.conn_model.specs.declared.reply.StepFault.{StepFault}
 use Rattle.conn_model.specs.Answer.{answer_in}
+use Rattle.conn_model.specs.Counts.{counts_in}
+use Rattle.l4proxy.specs.Script.{Wanted}
+use Rattle.l4proxy.specs.Replies.{count_line}
 use Rattle.conn_model.specs.History.{after, entry}
 use Rattle.l4proxy.specs.Replay.{Outcome, answer_text, asked, before_rest, ended}
 use Rattle.l4proxy.specs.declared.fault.ReplayFault.{ReplayFault}
@@ -16,10 +19,11 @@ plain_after p moment event (Ok reply) = after p (entry moment event reply ∷ []
 plain_after p moment event (Err fault) = p
 
 -- what comes of a line in a state, and of the rest
-abbrev pub turn : Plain → Result (Option (ℕ × Happening)) ReplayFault → (Plain → Outcome) → Outcome
+abbrev pub turn : Plain → Result (Option Wanted) ReplayFault → (Plain → Outcome) → Outcome
 turn p (Err fault) rest = ended (Some fault)
 turn p (Ok None) rest = rest p
-turn p (Ok (Some timed)) rest =
+turn p (Ok (Some (Wanted.count ask))) rest = before_rest (count_line ask (counts_in p ask)) 1 (rest p)
+turn p (Ok (Some (Wanted.reply timed))) rest =
     let answered = answer_in p timed.0 timed.1 in before_rest (answer_text answered) 1 (rest (plain_after p timed.0 timed.1 answered))
 
 -- what comes of lines in a state, behind so many lines before them

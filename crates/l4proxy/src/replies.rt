@@ -1,4 +1,4 @@
-//! Replies as lines.
+//! Replies and counts as lines.
 ghost use Rattle.std.specs.Prelude.{◌≡◌, ◌+◌, ◌/◌, ◌%◌, ◌<◌, ◌≤◌, ◌++◌, ◌∷◌, [], length, codes, OnOk};
 ghost use Rattle.std.specs.List.{flat_map};
 ghost use Rattle.hex.specs.Hex.{encode_lower};
@@ -6,9 +6,10 @@ ghost use Rattle.addr_core.specs.Decimal.{decimal};
 ghost use Rattle.addr_core.specs.declared.addr.Addr.TheVariants.{V4};
 ghost use Rattle.addr_core.specs.Text.{endpoint_text, text_of};
 ghost use Rattle.l4proxy.specs.Script.{id_text, why_text};
-ghost use Rattle.l4proxy.specs.Replies.{bytes_text, cause_text, fault_line, fault_name, reply_line, said_text, track_text};
+ghost use Rattle.l4proxy.specs.Replies.{bytes_text, cause_text, count_line, fault_line, fault_name, reply_line, said_text, track_text};
 
 use addr_core::{Addr, Endpoint, Pair};
+use conn_model::ask::{Ask, Counts};
 use conn_model::event::{ConnId, Why};
 use conn_model::reply::{Cause, Reply, Said, StepFault};
 use plan_core::Track;
@@ -215,6 +216,26 @@ pub fn write_reply(out: &mut Vec<u8>, reply: &Reply) -> Result<(), AllocError>
     write_said(out, &reply.said)?;
     write_tracks(out, reply.tracks.as_slice())?;
     write_text(out, b"\n")
+}
+
+/// Appends the line of counts that were asked for, or of no such thing. Where memory runs out, the front
+/// of that line may stand there.
+pub fn write_counts(
+    out: &mut Vec<u8>,
+    ask: &Ask,
+    counts: Option<Counts>,
+) -> Result<(), AllocError>
+    ensures { OnOk result (out.new.items ≡ out.old.items ++ count_line ask.now counts) }
+{
+    let Some(counts) = counts else {
+        return write_text(out, b"count none\n");
+    };
+    match *ask {
+        Ask::Frontend(_) => {
+            write_field(out, b"count ", counts.cur)?;
+            write_text(out, b"\n")
+        }
+    }
 }
 
 fn write_name(out: &mut Vec<u8>, fault: &StepFault) -> Result<(), AllocError>

@@ -1,15 +1,25 @@
-//! Scripts: the lines that hand in events.
+//! Scripts: the lines that hand in events, and those that ask for counts.
 ghost use Rattle.std.specs.Prelude.{◌≡◌, ◌==◌, ◌∷◌, ◌<◌, ◌^◌, ℕ, [], IfSome, IfNone, option_map};
 ghost use Rattle.std.specs.List.{slice_split};
 ghost use Rattle.std.specs.Str.{bytes_eq};
 ghost use Rattle.conn_model.specs.declared.event.Happening.{Happening};
 ghost use Rattle.conn_model.specs.History.{happening};
-ghost use Rattle.l4proxy.specs.Script.{accept_of, close_of, ends_of, event_line, event_of, happening_of, id_of, is_mark, timed_event, why_of, words_of, IsHandedIn};
+ghost use Rattle.l4proxy.specs.Script.{accept_of, ask_of, close_of, ends_of, event_line, event_of, happening_of, id_of, is_mark, timed_event, wanted, wanted_of, why_of, words_of, Wanted, IsHandedIn};
 
 use addr_core::decimal::read_decimal;
 use addr_core::{Pair, read_endpoint};
+use conn_model::ask::Ask;
 use conn_model::event::{ConnId, Event, Why};
 use memchr::memchr;
+
+/// What a line asks for.
+#[derive(Clone, Copy)]
+pub enum Request {
+    /// An answer to an event, which is handed in at that moment.
+    Event(u64, Event),
+    /// Counts of what is open.
+    Ask(Ask),
+}
 
 /// What stands before the first such byte, and what stands after it.
 fn cut(text: &[u8], mark: u8) -> Option<(&[u8], &[u8])>
@@ -123,13 +133,56 @@ fn event_in(line: &[u8]) -> Option<(u64, Event)>
     Some((moment, event))
 }
 
-/// The moment and the event that a line hands in.
-pub fn read_event(line: &[u8]) -> Option<(u64, Event)>
-    ensures exact { option_map timed_event result ≡ event_of (words_of line.now) }
+/// What is asked for behind `ask`.
+fn read_ask(rest: &[u8]) -> Option<Ask>
+    ensures { result ≡ ask_of (words_of rest.now) }
+{
+    let (kind, number) = cut_word(rest)?;
+    if let Some((_last, _more)) = cut_word(number) {
+        return None;
+    }
+    if !is(kind, b"frontend") {
+        return None;
+    }
+    let number = read_decimal(number, 65535)?;
+    Some(Ask::Frontend(number as u16))
+}
+
+fn timed_request(line: &[u8]) -> Option<Request>
+    ensures { option_map wanted result ≡ option_map (λ timed. Wanted.reply timed) (event_of (words_of line.now)) }
+{
+    let (moment, event) = event_in(line)?;
+    Some(Request::Event(moment, event))
+}
+
+fn count_request(rest: &[u8]) -> Option<Request>
+    ensures { option_map wanted result ≡ option_map (λ ask. Wanted.count ask) (ask_of (words_of rest.now)) }
+{
+    let ask = read_ask(rest)?;
+    Some(Request::Ask(ask))
+}
+
+fn request_in(line: &[u8]) -> Option<Request>
+    ensures { option_map wanted result ≡ wanted_of (words_of line.now) }
+{
+    match cut_word(line) {
+        Some((word, rest)) => {
+            if is(word, b"ask") {
+                return count_request(rest);
+            }
+            timed_request(line)
+        }
+        None => None,
+    }
+}
+
+/// What a line asks for.
+pub fn read_request(line: &[u8]) -> Option<Request>
+    ensures exact { option_map wanted result ≡ wanted_of (words_of line.now) }
 
     // The line that writes an event hands it in.
     ensures again { (moment : ℕ) (event : Happening) → moment < 2 ^ 64 → IsHandedIn event →
-        line.now ≡ event_line moment event → option_map timed_event result ≡ Some (moment, event) }
+        line.now ≡ event_line moment event → option_map wanted result ≡ Some (Wanted.reply (moment, event)) }
 {
-    event_in(line)
+    request_in(line)
 }

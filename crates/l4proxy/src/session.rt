@@ -2,6 +2,8 @@
 ghost use Rattle.std.specs.Prelude.{◌≡◌, ◌≢◌, ◌⊎◌, ◌+◌, ◌-◌, ◌<◌, ◌≤◌, ◌++◌, ◌∷◌, ℕ, List, [], length, drop, Some, None, Ok, Err, OnOk, OnErr, IfOk, IfErr, IfSome, IfNone};
 ghost use Rattle.conf_text.specs.Parts.{parts, is_line_feed};
 ghost use Rattle.conn_model.specs.Answer.{answer_in};
+ghost use Rattle.conn_model.specs.Counts.{counts_in};
+ghost use Rattle.l4proxy.specs.Replies.{count_line};
 ghost use Rattle.conn_model.specs.History.{happening};
 ghost use Rattle.conn_core.specs.declared.fault.OpenFault.{OpenFault};
 ghost use Rattle.l4proxy.specs.Replay.{answer_text, asked, asked_for, ended};
@@ -9,9 +11,10 @@ ghost use Rattle.l4proxy.specs.Turns.{plain_after};
 ghost use Rattle.l4proxy.specs.Standing.{total, total_of_lines, Ends, GaveUp, Goes, Halts, IsFrontOf, IsLineFault, IsUnended};
 
 use crate::fault::ReplayFault;
-use crate::replies::{write_fault, write_reply};
-use crate::script::read_event;
+use crate::replies::{write_counts, write_fault, write_reply};
+use crate::script::{Request, read_request};
 use conn_core::Core;
+use conn_model::ask::Ask;
 use conn_model::event::Event;
 use conn_model::reply::StepFault;
 use device_core::{Failed, Output, write_all};
@@ -43,7 +46,7 @@ impl Model for Session {
 }
 
 /// What a line asks for.
-fn read_line(number: u64, line: &[u8]) -> Result<Option<(u64, Event)>, ReplayFault>
+fn read_line(number: u64, line: &[u8]) -> Result<Option<Request>, ReplayFault>
     ensures exact { asked_for result ≡ asked number line.now }
     ensures small { IfOk result (λ _. number ≤ 1000000) }
     ensures kind { IfErr result IsLineFault }
@@ -54,8 +57,8 @@ fn read_line(number: u64, line: &[u8]) -> Result<Option<(u64, Event)>, ReplayFau
     if line.is_empty() || line[0] == b'#' {
         return Ok(None);
     }
-    match read_event(line) {
-        Some(timed) => Ok(Some(timed)),
+    match read_request(line) {
+        Some(request) => Ok(Some(request)),
         None => Err(ReplayFault::Format(number)),
     }
 }
@@ -77,6 +80,17 @@ fn answer(
         Err(fault) => write_fault(unsent, &fault),
     };
     if written.is_err() {
+        return Err(ReplayFault::NoMemory);
+    }
+    Ok(())
+}
+
+/// Collects the line of the counts that are asked for.
+fn count(core: &Core, unsent: &mut Vec<u8>, ask: &Ask) -> Result<(), ReplayFault>
+    ensures text { OnOk result (unsent.new.items ≡ unsent.old.items ++ count_line ask.now (counts_in core.now ask.now)) }
+    ensures err { IfErr result (λ f. f ≡ ReplayFault.NoMemory) }
+{
+    if write_counts(unsent, ask, core.counts(ask)).is_err() {
         return Err(ReplayFault::NoMemory);
     }
     Ok(())
@@ -116,7 +130,7 @@ impl Session {
         self.before + 1
     }
 
-    /// How many events were answered.
+    /// How many events and questions were answered.
     pub fn answered(&self) -> u64
         ensures { result ≡ self.now.answered }
     {
@@ -130,8 +144,12 @@ impl Session {
             × ((sent : List ℕ) (more : List (List ℕ)) → total sent self.new (ended (Some f)) ≡ total_of_lines sent self.old (line.now ∷ more)))) }
     {
         match read_line(self.before + 1, line)? {
-            Some((moment, event)) => {
+            Some(Request::Event(moment, event)) => {
                 answer(&mut self.core, &mut self.unsent, moment, &event)?;
+                self.answered += 1;
+            }
+            Some(Request::Ask(ask)) => {
+                count(&self.core, &mut self.unsent, &ask)?;
                 self.answered += 1;
             }
             None => {}
