@@ -1,4 +1,4 @@
-use crate::{LineFault, LineKind, Lines, Word};
+use crate::{LineFault, LineKind, Lines};
 use std::alloc::Global;
 use std::test::Fail;
 
@@ -116,10 +116,6 @@ fn lines_and_words_one_by_one(rt: HostRuntime) -> Result<(), Fail> {
     let lines = Lines::of(rt.alloc(), "a\n\nbc d").ok().ok_or("no memory")?;
     assert!(rt; !lines.is_empty());
     assert_eq!(rt; lines.len(), 3);
-    let word = Word::of(b"bind");
-    assert!(rt; word.is(b"bind"));
-    assert!(rt; !word.again().is(b"Bind"));
-    assert!(rt; !word.is(b"bin"));
     assert_eq!(rt; LineKind::NoMemory.name(), "NoMemory");
     Ok(())
 }

@@ -1,7 +1,7 @@
 //! What a configuration and a list of events are answered, by worked examples.
 use crate::Core;
-use crate::planning::read_plan;
 use addr_core::{Addr, Endpoint, Pair};
+use conn_model::ask::{Ask, Counts};
 use conn_model::event::{ConnId, Event, Why};
 use conn_model::plain::Phase;
 use conn_model::reply::{Cause, Reply, Said, StepFault};
@@ -161,11 +161,83 @@ fn keeps_what_is_open(rt: HostRuntime) -> Result<(), Fail> {
 #[test]
 fn gives_out_the_last_serial_once(rt: HostRuntime) -> Result<(), Fail> {
     let alloc = rt.alloc();
-    let plan = read_plan(alloc, EXAMPLE).map_err(|_| "refused")?;
-    let mut core = Core::start(alloc, plan, u64::MAX - 1).map_err(|_| "memory")?;
+    let mut core = Core::open_at(alloc, EXAMPLE, u64::MAX).map_err(|_| "refused")?;
     let accept = Event::Accept(0, from(0xc000_0205, 4000)?);
     assert!(rt; is_offer(&core.step(0, &accept), u64::MAX, end(0xc000_0205, 4000)));
     assert!(rt; matches!(core.step(0, &accept), Err(StepFault::Exhausted)));
+    Ok(())
+}
+
+/// A frontend with these lines behind its `bind`, and its backend.
+fn limited(alloc: Global, lines: &str) -> Result<Core, Fail> {
+    let text = format!(in alloc;
+        "frontend f\nbind 127.0.0.1:9000\n{lines}default_backend b\nbackend b\nserver s 10.0.0.20:80\n"
+    )?;
+    Ok(Core::open(alloc, text.as_str()).map_err(|_| "refused")?)
+}
+
+fn is_offered(answer: &Result<Reply, StepFault>, serial: u64) -> bool {
+    match answer {
+        Ok(reply) => match &reply.said {
+            Said::Offer { id: told, .. } => *told == id(serial),
+            _ => false,
+        },
+        Err(_) => false,
+    }
+}
+
+const FRONTEND: Ask = Ask::Frontend(0);
+
+fn open(cur: u64) -> Option<Counts> {
+    Some(Counts { cur, cnt: 0 })
+}
+
+#[test]
+fn counts_a_connection_with_itself(rt: HostRuntime) -> Result<(), Fail> {
+    let lines = "maxconn 2\ntcp-request connection reject if { fe_conn gt 1 }\n";
+    let mut core = limited(rt.alloc(), lines)?;
+    let accept = Event::Accept(0, from(0xc000_0205, 4000)?);
+    assert!(rt; is_offered(&core.step(0, &accept), 1));
+    assert!(rt; is_refusal(&core.step(0, &accept), 2, Cause::Line(4)));
+    assert_eq!(rt; core.counts(&FRONTEND), open(1));
+    assert_eq!(rt; core.counts(&Ask::Frontend(1)), None);
+    Ok(())
+}
+
+#[test]
+fn keeps_to_a_limit_before_the_rules(rt: HostRuntime) -> Result<(), Fail> {
+    let lines = "maxconn 2\ntcp-request connection reject if { fe_conn gt 2 }\n";
+    let mut core = limited(rt.alloc(), lines)?;
+    let accept = Event::Accept(0, from(0xc000_0205, 4000)?);
+    assert!(rt; is_offered(&core.step(0, &accept), 1));
+    assert!(rt; is_offered(&core.step(0, &accept), 2));
+    assert!(rt; is_refusal(&core.step(0, &accept), 3, Cause::Line(3)));
+    assert_eq!(rt; core.counts(&FRONTEND), open(2));
+    assert!(rt; is_closed(&core.step(1, &Event::Close(id(1), Why::Done)), 1, Why::Done));
+    assert_eq!(rt; core.counts(&FRONTEND), open(1));
+    assert!(rt; is_offered(&core.step(2, &accept), 4));
+    Ok(())
+}
+
+#[test]
+fn the_last_limit_holds(rt: HostRuntime) -> Result<(), Fail> {
+    let mut core = limited(rt.alloc(), "maxconn 5\nmaxconn 1\n")?;
+    let accept = Event::Accept(0, from(0xc000_0205, 4000)?);
+    assert!(rt; is_offered(&core.step(0, &accept), 1));
+    assert!(rt; is_refusal(&core.step(0, &accept), 2, Cause::Line(4)));
+    Ok(())
+}
+
+/// A frontend that says no limit has one of 2,000, in the name of its own line.
+#[test]
+fn keeps_to_a_limit_that_is_not_said(rt: HostRuntime) -> Result<(), Fail> {
+    let mut core = limited(rt.alloc(), "")?;
+    let accept = Event::Accept(0, from(0xc000_0205, 4000)?);
+    for serial in 1..2001u64 {
+        assert!(rt; is_offered(&core.step(0, &accept), serial), "{serial}");
+    }
+    assert!(rt; is_refusal(&core.step(0, &accept), 2001, Cause::Line(1)));
+    assert_eq!(rt; core.counts(&FRONTEND), open(2000));
     Ok(())
 }
 
@@ -205,7 +277,7 @@ fn refuses_texts_by_their_least_faulty_line(rt: HostRuntime) -> Result<(), Fail>
             "ok",
         ),
         ("frontend f\nserver s 1.2.3.4:80", "line 2: Unsupported"),
-        ("frontend f\nmaxconn 5", "line 2: Unsupported"),
+        ("backend b\nmaxconn 5", "line 2: Unsupported"),
         ("frontend f\nbind :80 \"x\"", "line 2: Text Quoting"),
     ];
     for (text, told) in cases {
@@ -226,6 +298,18 @@ fn refuses_words_by_the_first_that_cannot_stand(rt: HostRuntime) -> Result<(), F
         ("bind :80 accept-proxy", "line 2: Unsupported"),
         ("bind :80\nbind :80", "line 3: Duplicate"),
         ("bind :80\nbind :81", "line 3: Unsupported"),
+        ("maxconn", "line 2: MissingWord"),
+        ("maxconn 5 6", "line 2: ExtraWord"),
+        ("maxconn x 6", "line 2: BadNumber"),
+        ("maxconn 0", "line 2: BadNumber"),
+        ("maxconn 000", "line 2: BadNumber"),
+        ("maxconn -1", "line 2: BadNumber"),
+        ("maxconn 18446744073709551616", "line 2: BadNumber"),
+        ("maxconn 18446744073709551615", "line 2: Limit"),
+        ("maxconn 1048577", "line 2: Limit"),
+        ("bind :80\nmaxconn 1048576", "ok"),
+        ("bind :80\nmaxconn 0001\nmaxconn 2", "ok"),
+        ("maxconn 1048577\nbind", "line 2: Limit"),
         ("tcp-request", "line 2: MissingWord"),
         ("tcp-request content accept", "line 2: Unsupported"),
         ("tcp-request session reject", "line 2: Unsupported"),
@@ -265,6 +349,12 @@ fn reads_conditions(rt: HostRuntime) -> Result<(), Fail> {
         (" if { src }", "line 3: Acl NoPattern"),
         (" if { src 10.0.0.0/33 }", "line 3: Acl BadPattern"),
         (" if { src x", "line 3: Acl BadPattern"),
+        (" if { fe_conn gt 5 }", "ok"),
+        (" unless { fe_conn 1:5 7 }", "ok"),
+        (" if { fe_conn gt 5", "line 3: Acl BadBraces"),
+        (" if { fe_conn gt }", "line 3: Acl NoPattern"),
+        (" if { fe_conn gt x }", "line 3: Acl BadPattern"),
+        (" if { fe_conn(f) 1 }", "line 3: Acl UnknownCriterion"),
         (" if lan", "line 3: Acl UnknownName"),
         (" if !{ src 10.0.0.0/8 }", "line 3: Acl UnknownName"),
         (" if { src 10.0.0.0/8 } or", "line 3: Acl UnknownName"),

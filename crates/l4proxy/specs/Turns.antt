@@ -18,13 +18,21 @@ abbrev pub plain_after : Plain → ℕ → Happening → Result Reply StepFault 
 plain_after p moment event (Ok reply) = after p (entry moment event reply ∷ [])
 plain_after p moment event (Err fault) = p
 
+-- the line that is wanted in a state
+abbrev pub text_in : Plain → Wanted → List ℕ
+text_in p (Wanted.count ask) = count_line ask (counts_in p ask)
+text_in p (Wanted.reply timed) = answer_text (answer_in p timed.0 timed.1)
+
+-- the state that it leaves
+abbrev pub left_in : Plain → Wanted → Plain
+left_in p (Wanted.count ask) = p
+left_in p (Wanted.reply timed) = plain_after p timed.0 timed.1 (answer_in p timed.0 timed.1)
+
 -- what comes of a line in a state, and of the rest
 abbrev pub turn : Plain → Result (Option Wanted) ReplayFault → (Plain → Outcome) → Outcome
 turn p (Err fault) rest = ended (Some fault)
 turn p (Ok None) rest = rest p
-turn p (Ok (Some (Wanted.count ask))) rest = before_rest (count_line ask (counts_in p ask)) 1 (rest p)
-turn p (Ok (Some (Wanted.reply timed))) rest =
-    let answered = answer_in p timed.0 timed.1 in before_rest (answer_text answered) 1 (rest (plain_after p timed.0 timed.1 answered))
+turn p (Ok (Some wants)) rest = before_rest (text_in p wants) 1 (rest (left_in p wants))
 
 -- what comes of lines in a state, behind so many lines before them
 abbrev pub outcome_in : Plain → ℕ → List (List ℕ) → Outcome

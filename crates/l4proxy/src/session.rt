@@ -146,14 +146,14 @@ impl Session {
         match read_line(self.before + 1, line)? {
             Some(Request::Event(moment, event)) => {
                 answer(&mut self.core, &mut self.unsent, moment, &event)?;
-                self.answered += 1;
             }
-            Some(Request::Ask(ask)) => {
-                count(&self.core, &mut self.unsent, &ask)?;
-                self.answered += 1;
+            Some(Request::Ask(ask)) => count(&self.core, &mut self.unsent, &ask)?,
+            None => {
+                self.before += 1;
+                return Ok(());
             }
-            None => {}
         }
+        self.answered += 1;
         self.before += 1;
         Ok(())
     }

@@ -3,4 +3,6 @@
 
 pub use word::Word;
 
+#[cfg(test)]
+mod tests;
 mod word;
