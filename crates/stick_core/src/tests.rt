@@ -1,5 +1,7 @@
 use crate::{Entry, Kind, Stores, Table, Tracked};
 use addr_core::Addr;
+use std::alloc::Global;
+use std::process::Abort;
 use std::test::Fail;
 
 const BOTH: Stores = Stores {
@@ -12,26 +14,31 @@ fn source(n: u8) -> Addr {
     Addr::V4(0xcb00_7100 + u32::from(n))
 }
 
-fn track(rt: &HostRuntime, table: &mut Table, n: u8) -> Option<Tracked> {
+fn track(rt: &impl Abort, table: &mut Table, n: u8) -> Option<Tracked> {
     let addr = source(n);
     assert!(rt; table.cur(&addr) < u64::MAX);
     table.track(&addr).expect(rt, "memory")
 }
 
-fn release(rt: &HostRuntime, table: &mut Table, tracked: Option<Tracked>) {
+fn release(rt: &impl Abort, table: &mut Table, tracked: Option<Tracked>) {
     let tracked = tracked.expect(rt, "a tracking");
     assert!(rt; table.trackers(&tracked) > 0);
     table.release(tracked);
 }
 
-fn assert_counts(rt: &HostRuntime, table: &Table, n: u8, cur: u64, cnt: u64) {
+fn assert_counts(rt: &impl Abort, table: &Table, n: u8, cur: u64, cnt: u64) {
     assert_eq!(rt; table.cur(&source(n)), cur);
     assert_eq!(rt; table.cnt(&source(n)), cnt);
 }
 
 /// The keys in order of touch, by their last octet, with their counts.
-fn assert_entries(rt: &HostRuntime, table: &Table, wanted: &[(u8, u64)]) -> Result<(), Fail> {
-    let entries = table.entries(rt.alloc())?;
+fn assert_entries(
+    rt: &impl Abort,
+    alloc: Global,
+    table: &Table,
+    wanted: &[(u8, u64)],
+) -> Result<(), Fail> {
+    let entries = table.entries(alloc)?;
     assert_eq!(rt; entries.len(), wanted.len());
     for ((key, cnt), (n, wanted)) in entries.as_slice().iter().zip(wanted) {
         assert_eq!(rt; *key, source(*n));
@@ -55,7 +62,7 @@ fn a_key_counts_once_for_each_tracking(rt: HostRuntime) -> Result<(), Fail> {
     let third = track(&rt, &mut table, 7);
     assert_counts(&rt, &table, 7, 1, 3);
     release(&rt, &mut table, third);
-    assert_entries(&rt, &table, &[(7, 3)])
+    assert_entries(&rt, rt.alloc(), &table, &[(7, 3)])
 }
 
 #[test]
@@ -80,7 +87,7 @@ fn a_full_table_purges_one_entry_without_trackers(rt: HostRuntime) -> Result<(),
     assert_counts(&rt, &table, 10, 0, 0);
     release(&rt, &mut table, eight);
     release(&rt, &mut table, nine);
-    assert_entries(&rt, &table, &[(8, 1), (9, 1)])
+    assert_entries(&rt, rt.alloc(), &table, &[(8, 1), (9, 1)])
 }
 
 #[test]
@@ -97,11 +104,11 @@ fn the_order_is_that_of_the_last_touch(rt: HostRuntime) -> Result<(), Fail> {
     assert_counts(&rt, &table, 8, 0, 0);
     assert_counts(&rt, &table, 7, 0, 1);
     release(&rt, &mut table, ten);
-    assert_entries(&rt, &table, &[(7, 1), (9, 1), (10, 1)])?;
+    assert_entries(&rt, rt.alloc(), &table, &[(7, 1), (9, 1), (10, 1)])?;
     // Tracked again, 7 stands behind the others.
     let seven = track(&rt, &mut table, 7);
     release(&rt, &mut table, seven);
-    assert_entries(&rt, &table, &[(9, 1), (10, 1), (7, 2)])
+    assert_entries(&rt, rt.alloc(), &table, &[(9, 1), (10, 1), (7, 2)])
 }
 
 #[test]
@@ -113,7 +120,7 @@ fn a_table_of_size_one_changes_its_key(rt: HostRuntime) -> Result<(), Fail> {
     let eight = track(&rt, &mut table, 8);
     assert_counts(&rt, &table, 7, 0, 0);
     release(&rt, &mut table, eight);
-    assert_entries(&rt, &table, &[(8, 1)])
+    assert_entries(&rt, rt.alloc(), &table, &[(8, 1)])
 }
 
 #[test]
@@ -141,5 +148,5 @@ fn a_table_keeps_what_it_was_made_with(rt: HostRuntime) -> Result<(), Fail> {
     assert_eq!(rt; table.kind(), Kind::Ip);
     assert_eq!(rt; table.size(), 20);
     assert_eq!(rt; table.stores(), only_cnt);
-    assert_entries(&rt, &table, &[])
+    assert_entries(&rt, rt.alloc(), &table, &[])
 }
