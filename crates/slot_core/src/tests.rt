@@ -23,12 +23,15 @@ fn count(rt: &impl Abort, slots: &Slots, ix: SlotIx) -> u64 {
 }
 
 fn take(rt: &impl Abort, slots: &mut Slots, ix: SlotIx) -> Slot {
-    assert!(rt; count(rt, slots, ix) < u64::MAX);
+    assert!(rt; ix.place < slots.len());
+    assert!(rt; slots.count(ix) < u64::MAX);
     slots.take(ix)
 }
 
 fn give_back(rt: &impl Abort, slots: &mut Slots, slot: Slot) {
-    assert!(rt; count(rt, slots, slot.ix()) > 0);
+    let ix = slot.ix();
+    assert!(rt; ix.place < slots.len());
+    assert!(rt; slots.count(ix) > 0);
     slots.give_back(slot);
 }
 
