@@ -8,7 +8,7 @@ use Rattle.std.proofs.lemmas.List.Folds.{position_or_len_push}
 use Rattle.std.proofs.lemmas.List.Sums.{prefix_len-le-length}
 use Rattle.std.proofs.lemmas.Slice.Eq.{bytes_eq-Decides}
 use Rattle.addr_core.specs.declared.addr.Addr.{Addr}
-use Rattle.addr_core.specs.declared.addr.Addr.TheVariants.{V4}
+use Rattle.addr_core.specs.declared.addr.Addr.TheVariants.{V4, V6}
 use Rattle.slot_core.specs.declared.identity.Identity.{Identity}
 use Rattle.slot_core.specs.Identity.{same_addr, same_identity}
 
@@ -33,6 +33,7 @@ same_text xs = (bytes_eq-Decides xs xs).1 refl
 
 itself : (a : Addr) → same_addr a a ≡ true
 itself (V4 n) = same_number n
+itself (V6 n) = same_number n
 
 pub same_identity-refl : (i : Identity) → same_identity i i ≡ true
 same_identity-refl i = rw (same_text i.backend, same_text i.name, itself i.to.addr, same_number i.to.port) refl
