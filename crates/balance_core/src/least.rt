@@ -50,7 +50,11 @@ fn with_server<L: Load>(later: Option<u16>, number: u16, load: &L) -> Option<u16
         return later;
     }
     match later {
-        Some(other) => Some(if has_fewer(other, number, load) { other } else { number }),
+        Some(other) => Some(if has_fewer(other, number, load) {
+            other
+        } else {
+            number
+        }),
         None => Some(number),
     }
 }

@@ -9,7 +9,7 @@ invariant-loop-number g l =
     (l.begin ≤ l.number)
     × (l.number ≤ l.end)
     × ((rest : List ℕ) → l.fn.later ≡ least (is_lighter (g.L.Load.servers l.load)) rest →
-      l.lightest ≡ least (is_lighter (g.L.Load.servers l.load)) (filter (is_ready_at (g.L.Load.servers l.load)) (range_with_len l.number (l.end - l.number)) ++ rest))
+    l.lightest ≡ least (is_lighter (g.L.Load.servers l.load)) (filter (is_ready_at (g.L.Load.servers l.load)) (range_with_len l.number (l.end - l.number)) ++ rest))
 
 abbrev pub decreases-loop-number : goal.decreases-loop-number
 decreases-loop-number g l = l.number

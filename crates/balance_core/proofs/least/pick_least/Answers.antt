@@ -15,9 +15,9 @@ returns g c =
     let first = range_with_len begin (c.count-count.result - begin) in
     let second = range_with_len 0 begin in
     let rest : filter ready (range_with_len 0 (begin - 0)) ++ [] ≡ filter ready second =
-      append-nil (filter ready (range_with_len 0 (begin - 0))) ∙ ap (λ n. filter ready (range_with_len 0 n)) (sub-zero begin) in
+    append-nil (filter ready (range_with_len 0 (begin - 0))) ∙ ap (λ n. filter ready (range_with_len 0 n)) (sub-zero begin) in
     let all : c.lightest_of.result ≡ least (is_lighter servers) (filter ready first ++ (filter ready (range_with_len 0 (begin - 0)) ++ [])) =
-      c.lightest_of.ensures (filter ready (range_with_len 0 (begin - 0)) ++ []) (c.lightest_of-later.ensures [] refl) in
+    c.lightest_of.ensures (filter ready (range_with_len 0 (begin - 0)) ++ []) (c.lightest_of-later.ensures [] refl) in
     let both : c.lightest_of.result ≡ least (is_lighter servers) (filter ready (first ++ second)) =
-      all ∙ ap (λ xs. least (is_lighter servers) (filter ready first ++ xs)) rest ∙ ap (least (is_lighter servers)) (sym (filter-append ready first second)) in
+    all ∙ ap (λ xs. least (is_lighter servers) (filter ready first ++ xs)) rest ∙ ap (least (is_lighter servers)) (sym (filter-append ready first second)) in
     rw (c.begin_after-begin.ensures, c.count-count.ensures) at both

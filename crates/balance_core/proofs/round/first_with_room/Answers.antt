@@ -12,10 +12,10 @@ returns-then-has_room g c =
     let test : ℕ → Bool = can_take (g.L.Load.servers c.args.load.now) c.args.places.now in
     let first : Place = record { server = 0; turn = 0 } in
     let there : slice_get c.args.places.now c.loop-n.n ≡ Some (get_or c.args.places.now c.loop-n.n first) =
-      slice_get-get_or c.args.places.now c.loop-n.n first (omega (arith, c.loop-n-test.true, c.requires)) in
+    slice_get-get_or c.args.places.now c.loop-n.n first (omega (arith, c.loop-n-test.true, c.requires)) in
     let passes : test c.loop-n.n ≡ true = rw there (sym c.has_room.ensures ∙ c.if-has_room.true) in
     let found : find test (range_with_len c.args.begin (c.args.end - c.args.begin)) ≡ Some c.loop-n.n =
-      c.loop-n.invariant ∙ find-here test c.loop-n.n c.args.end c.loop-n-test.true passes in
+    c.loop-n.invariant ∙ find-here test c.loop-n.n c.args.end c.loop-n-test.true passes in
     rw (found, there) refl
 
 pub loop-n-preserved : goal.loop-n-preserved
@@ -23,6 +23,6 @@ loop-n-preserved g c =
     let test : ℕ → Bool = can_take (g.L.Load.servers c.args.load.now) c.args.places.now in
     let first : Place = record { server = 0; turn = 0 } in
     let there : slice_get c.args.places.now c.loop-n.n ≡ Some (get_or c.args.places.now c.loop-n.n first) =
-      slice_get-get_or c.args.places.now c.loop-n.n first (omega (arith, c.loop-n-test.true, c.requires)) in
+    slice_get-get_or c.args.places.now c.loop-n.n first (omega (arith, c.loop-n-test.true, c.requires)) in
     let fails : test c.loop-n.n ≡ false = rw there (sym c.has_room.ensures ∙ c.if-has_room.false) in
     c.loop-n.invariant ∙ find-past test c.loop-n.n c.args.end c.loop-n-test.true fails

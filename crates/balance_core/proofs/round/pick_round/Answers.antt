@@ -12,7 +12,7 @@ returns-in-Some g c =
     let test : ℕ → Bool = can_take (g.L.Load.servers c.args.load.now) cycle in
     let begin = first_after c.args.last (length cycle) in
     found_first (placed_at cycle) test (range_with_len begin (length cycle - begin)) (range_with_len 0 begin) c.in-Some.placed
-      (rw (c.begin_after-begin.ensures, c.places-places.ensures) at c.in-Some.ensures)
+    (rw (c.begin_after-begin.ensures, c.places-places.ensures) at c.in-Some.ensures)
 
 pub returns-in-None : goal.returns-in-None
 returns-in-None g c =
@@ -21,4 +21,4 @@ returns-in-None g c =
     let begin = first_after c.args.last (length cycle) in
     rw (c.begin_after-begin.ensures, c.places-places.ensures, sub-zero begin) at c.first_with_room-in-None.ensures
     ∙ found_then (placed_at cycle) test (range_with_len begin (length cycle - begin)) (range_with_len 0 begin)
-      (rw (c.begin_after-begin.ensures, c.places-places.ensures) at c.in-None.ensures)
+    (rw (c.begin_after-begin.ensures, c.places-places.ensures) at c.in-None.ensures)
