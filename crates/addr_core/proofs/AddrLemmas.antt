@@ -9,10 +9,10 @@ use Rattle.std.proofs.lemmas.List.Folds.{list_any-append, list_any_none}
 use Rattle.std.proofs.lemmas.List.Elements.{All-nil, All-cons}
 use Rattle.list_core.specs.Each.{◌>>=◌}
 use Rattle.addr_core.specs.Decimal.{decimal, value_of, has_leading_zero, decimal_of}
-use Rattle.addr_core.specs.Text.{addr_of, bare_of, bracketed_of, cut, dotted_of, endpoint_of, endpoint_text, four_of, in_brackets, is_colon, is_dot, is_empty, net_in, net_of, net_text, octet_of, one_address, text_of, with_bits, with_port, IsAddr, IsEndpoint, IsNet, IsNetText}
+use Rattle.addr_core.specs.Text.{addr_of, bare_of, bracketed_of, cut, dotted_of, endpoint_of, endpoint_text, four_of, host_text, in_brackets, is_colon, is_dot, is_empty, net_in, net_of, net_text, octet_of, one_address, text_of, with_bits, with_port, IsAddr, IsEndpoint, IsNet, IsNetText}
 use Rattle.addr_core.specs.Prefix.{Prefix, width_of}
 use Rattle.addr_core.specs.declared.addr.Addr.{Addr}
-use Rattle.addr_core.specs.declared.addr.Addr.TheVariants.{V4}
+use Rattle.addr_core.specs.declared.addr.Addr.TheVariants.{V4, V6}
 use Rattle.addr_core.specs.declared.addr.Endpoint.{Endpoint}
 use Rattle.addr_core.specs.declared.reading.AddrFault.{AddrFault}
 use Rattle.addr_core.proofs.DecimalLemmas.{are_digits_decimal, has_leading_zero-decimal, decimal-value_of, decimal-decimal_of, decimal_of_written}
@@ -46,11 +46,19 @@ none_in_decimal p outside n = list_any_none p (decimal n) (without p outside.dig
 none_before_dot : (p : ℕ → Bool) → IsOutside p → (n : ℕ) (rest : List ℕ) → list_any p rest ≡ false → list_any p (decimal n ++ 46 ∷ rest) ≡ false
 none_before_dot p outside n rest none = rw (list_any-append p (decimal n) (46 ∷ rest), none_in_decimal p outside n, outside.dot, none) refl
 
-none_in_text : (p : ℕ → Bool) → IsOutside p → (addr : Addr) → list_any p (text_of addr) ≡ false
-none_in_text p outside (V4 n) =
+none_in_text : (p : ℕ → Bool) → IsOutside p → (n : ℕ) → list_any p (text_of (V4 n)) ≡ false
+none_in_text p outside n =
     none_before_dot p outside (n / 2 ^ 24) (decimal (n / 2 ^ 16 % 2 ^ 8) ++ 46 ∷ (decimal (n / 2 ^ 8 % 2 ^ 8) ++ 46 ∷ decimal (n % 2 ^ 8)))
     (none_before_dot p outside (n / 2 ^ 16 % 2 ^ 8) (decimal (n / 2 ^ 8 % 2 ^ 8) ++ 46 ∷ decimal (n % 2 ^ 8))
     (none_before_dot p outside (n / 2 ^ 8 % 2 ^ 8) (decimal (n % 2 ^ 8)) (none_in_decimal p outside (n % 2 ^ 8))))
+
+none_in_addr : (p : ℕ → Bool) → IsOutside p → (addr : Addr) → IsAddr addr → list_any p (text_of addr) ≡ false
+none_in_addr p outside (V4 n) fits = none_in_text p outside n
+none_in_addr p outside (V6 n) fits = absurd fits
+
+host_is : (addr : Addr) → IsAddr addr → host_text addr ≡ text_of addr
+host_is (V4 n) fits = refl
+host_is (V6 n) fits = absurd fits
 
 colon_outside : IsOutside is_colon
 colon_outside = record { digits = λ b low high. grind (arith, nat_tests); dot = refl }
@@ -112,8 +120,8 @@ split-text n =
 some_decimal : (n : ℕ) → is_empty (decimal n) ≡ false
 some_decimal n = let some : 0 < length (decimal n) = (are_digits_decimal n).some in grind (arith, nat_tests)
 
-some_text : (addr : Addr) → is_empty (text_of addr) ≡ false
-some_text (V4 n) =
+some_text : (n : ℕ) → is_empty (text_of (V4 n)) ≡ false
+some_text n =
     let some : 0 < length (decimal (n / 2 ^ 24)) = (are_digits_decimal (n / 2 ^ 24)).some in
     let both = length-append (decimal (n / 2 ^ 24)) (46 ∷ (decimal (n / 2 ^ 16 % 2 ^ 8) ++ 46 ∷ (decimal (n / 2 ^ 8 % 2 ^ 8) ++ 46 ∷ decimal (n % 2 ^ 8)))) in
     above (length (text_of (V4 n))) (omega (arith, some, both))
@@ -125,8 +133,8 @@ some_text (V4 n) =
 pub addr_of-text_of : (addr : Addr) → IsAddr addr → addr_of (text_of addr) ≡ Ok addr
 addr_of-text_of (V4 n) small =
     rw (
-      some_text (V4 n),
-      none_in_text is_colon colon_outside (V4 n),
+      some_text n,
+      none_in_text is_colon colon_outside n,
       split-text n,
       some_decimal (n / 2 ^ 24),
       some_decimal (n / 2 ^ 16 % 2 ^ 8),
@@ -138,6 +146,7 @@ addr_of-text_of (V4 n) small =
       octet_of-decimal (n % 2 ^ 8) (omega arith),
     )
     (ap (λ number. Ok (V4 number)) (number-octets n small))
+addr_of-text_of (V6 n) small = absurd small
 
 joined-octets : (p q r s : List ℕ) (w x y z : ℕ) (addr : Addr) → p ≡ decimal w → q ≡ decimal x → r ≡ decimal y → s ≡ decimal z → w < 256 → x < 256 → y < 256 → z < 256 → V4 (((w * 2 ^ 8 + x) * 2 ^ 8 + y) * 2 ^ 8 + z) ≡ addr
     → join_with_byte 46 (p ∷ q ∷ r ∷ s ∷ []) ≡ text_of addr
@@ -203,33 +212,36 @@ port_is text addr endpoint is = by (decimal_of text 65535) refl
         let written = decimal-decimal_of text 65535 port read in
         (written.0 ∙ ap (λ e. decimal e.port) same, ap (λ e. e.addr) same)
 
-endpoint-joins : (text front back : List ℕ) (endpoint : Endpoint) → text ≡ front ++ 58 ∷ back → front ≡ text_of endpoint.addr → back ≡ decimal endpoint.port → text ≡ endpoint_text endpoint
-endpoint-joins text front back endpoint joined a b = joined ∙ rw (a, b) (sym (append_assoc (text_of endpoint.addr) (58 ∷ []) (decimal endpoint.port)))
+endpoint-joins : (text front back : List ℕ) (endpoint : Endpoint) → IsAddr endpoint.addr → text ≡ front ++ 58 ∷ back → front ≡ text_of endpoint.addr → back ≡ decimal endpoint.port → text ≡ endpoint_text endpoint
+endpoint-joins text front back endpoint fits joined a b = joined ∙ rw (a, b, host_is endpoint.addr fits) (sym (append_assoc (text_of endpoint.addr) (58 ∷ []) (decimal endpoint.port)))
 
-bare_is : (text : List ℕ) (parts : Option (List ℕ × List ℕ)) (endpoint : Endpoint) → cut (58 ∷ []) text ≡ parts → bare_of parts ≡ Ok endpoint → text ≡ endpoint_text endpoint
-bare_is text None endpoint found is = absurd cc
-bare_is text (Some parts) endpoint found is =
+bare_is : (text : List ℕ) (parts : Option (List ℕ × List ℕ)) (endpoint : Endpoint) → IsAddr endpoint.addr → cut (58 ∷ []) text ≡ parts → bare_of parts ≡ Ok endpoint → text ≡ endpoint_text endpoint
+bare_is text None endpoint fits found is = absurd cc
+bare_is text (Some parts) endpoint fits found is =
     let read = bind_is (addr_of parts.0) (with_port parts.1) endpoint is in
     let port = port_is parts.1 read.0 endpoint read.2 in
-    endpoint-joins text parts.0 parts.1 endpoint (cut-joins 58 text parts.0 parts.1 found) (text_of-addr_of parts.0 read.0 read.1 ∙ ap (λ a. text_of a) port.1) port.0
+    endpoint-joins text parts.0 parts.1 endpoint fits (cut-joins 58 text parts.0 parts.1 found) (text_of-addr_of parts.0 read.0 read.1 ∙ ap (λ a. text_of a) port.1) port.0
 
-bracketed_is : (parts : Option (List ℕ × List ℕ)) (endpoint : Endpoint) → bracketed_of parts ≡ Ok endpoint → ⊥
-bracketed_is None endpoint is = absurd cc
-bracketed_is (Some parts) endpoint is =
+bracketed_is : (parts : Option (List ℕ × List ℕ)) (endpoint : Endpoint) → IsAddr endpoint.addr → bracketed_of parts ≡ Ok endpoint → ⊥
+bracketed_is None endpoint fits is = absurd cc
+bracketed_is (Some parts) endpoint fits is =
     let outer = bind_is (addr_of parts.0 >>= in_brackets) (with_port parts.1) endpoint is in
     let inner = bind_is (addr_of parts.0) in_brackets outer.0 outer.1 in
-    by inner.0 outer.0 inner.2
+    let port = port_is parts.1 outer.0 endpoint outer.2 in
+    by inner.0 outer.0 endpoint.addr inner.2 port.1 fits
   where
-    by : (addr found : Addr) → in_brackets addr ≡ Ok found → ⊥
-    by (V4 n) found wrong = absurd cc
+    by : (addr found own : Addr) → in_brackets addr ≡ Ok found → found ≡ own → IsAddr own → ⊥
+    by (V4 n) found own wrong same fits = absurd cc
+    by (V6 n) found (V6 m) is same fits = absurd fits
+    by (V6 n) found (V4 m) is same fits = let wrong : V6 n ≡ V4 m = addr_is (V6 n) found is ∙ same in absurd cc
 
-pub endpoint_text-endpoint_of : (text : List ℕ) (endpoint : Endpoint) → endpoint_of text ≡ Ok endpoint → text ≡ endpoint_text endpoint
-endpoint_text-endpoint_of text endpoint is = by (is_empty text) (slice_index text 0 == 91) refl refl
+pub endpoint_text-endpoint_of : (text : List ℕ) (endpoint : Endpoint) → IsAddr endpoint.addr → endpoint_of text ≡ Ok endpoint → text ≡ endpoint_text endpoint
+endpoint_text-endpoint_of text endpoint fits is = by (is_empty text) (slice_index text 0 == 91) refl refl
   where
     by : (empty bracket : Bool) → is_empty text ≡ empty → (slice_index text 0 == 91) ≡ bracket → text ≡ endpoint_text endpoint
     by true bracket a b = let wrong = rw a at is in absurd cc
-    by false true a b = absurd (bracketed_is (cut (93 ∷ 58 ∷ []) (drop 1 text)) endpoint (rw (a, b) at is))
-    by false false a b = bare_is text (cut (58 ∷ []) text) endpoint refl (rw (a, b) at is)
+    by false true a b = absurd (bracketed_is (cut (93 ∷ 58 ∷ []) (drop 1 text)) endpoint fits (rw (a, b) at is))
+    by false false a b = bare_is text (cut (58 ∷ []) text) endpoint fits refl (rw (a, b) at is)
 
 first_all : (p : ℕ → Bool) (text : List ℕ) → 0 < length text → list_all p text ≡ true → p (get_or text 0 0) ≡ true
 first_all p [] some all = absurd (omega arith)
@@ -244,8 +256,9 @@ first-append [] ys some = absurd (omega arith)
 first-append (x ∷ xs) ys some = refl
 
 -- the text of an address begins with a digit
-first_text : (addr : Addr) (more : List ℕ) → is_ascii_digit (get_or (text_of addr ++ more) 0 0) ≡ true
-first_text (V4 n) more =
+first_text : (addr : Addr) (more : List ℕ) → IsAddr addr → is_ascii_digit (get_or (text_of addr ++ more) 0 0) ≡ true
+first_text (V6 n) more fits = absurd fits
+first_text (V4 n) more fits =
     let digits = are_digits_decimal (n / 2 ^ 24) in
     let rest = 46 ∷ (decimal (n / 2 ^ 16 % 2 ^ 8) ++ 46 ∷ (decimal (n / 2 ^ 8 % 2 ^ 8) ++ 46 ∷ decimal (n % 2 ^ 8))) in
     rw (append_assoc (decimal (n / 2 ^ 24)) rest more, first-append (decimal (n / 2 ^ 24)) (rest ++ more) digits.some) (first_all is_ascii_digit (decimal (n / 2 ^ 24)) digits.some digits.digits)
@@ -259,18 +272,21 @@ not_empty (b ∷ text) is = grind (arith, nat_tests)
 
 endpoint_of-joined : (addr : Addr) (port : ℕ) → IsAddr addr → port < 2 ^ 16 → endpoint_of (text_of addr ++ 58 ∷ decimal port) ≡ Ok (record { addr = addr; port = port })
 endpoint_of-joined addr port fits small =
-    let digit = first_text addr (58 ∷ decimal port) in
+    let digit = first_text addr (58 ∷ decimal port) fits in
     rw (
       not_empty (text_of addr ++ 58 ∷ decimal port) digit,
       no_bracket (get_or (text_of addr ++ 58 ∷ decimal port) 0 0) digit,
-      cut-at_mark 58 (text_of addr) (decimal port) (none_in_text is_colon colon_outside addr),
+      cut-at_mark 58 (text_of addr) (decimal port) (none_in_addr is_colon colon_outside addr fits),
       addr_of-text_of addr fits,
       decimal_of_written (decimal port) 65535 port (omega arith) refl,
     ) refl
 
+joined : (addr : Addr) (port : ℕ) → IsAddr addr → host_text addr ++ (58 ∷ []) ++ decimal port ≡ text_of addr ++ 58 ∷ decimal port
+joined addr port fits = rw (host_is addr fits) (append_assoc (text_of addr) (58 ∷ []) (decimal port))
+
 pub endpoint_of_written : (text : List ℕ) (endpoint : Endpoint) → IsEndpoint endpoint → text ≡ endpoint_text endpoint → endpoint_of text ≡ Ok endpoint
 endpoint_of_written text endpoint fits is =
-    ap (λ t. endpoint_of t) (is ∙ append_assoc (text_of endpoint.addr) (58 ∷ []) (decimal endpoint.port)) ∙ endpoint_of-joined endpoint.addr endpoint.port fits.0 fits.1
+    ap (λ t. endpoint_of t) (is ∙ joined endpoint.addr endpoint.port fits.0) ∙ endpoint_of-joined endpoint.addr endpoint.port fits.0 fits.1
 
 -- ---- networks
 
@@ -306,10 +322,10 @@ net_text-net_of text net is = net_in_is text (cut (47 ∷ []) text) net refl is
 
 net_of-joined : (addr : Addr) (bits : ℕ) → IsAddr addr → bits ≤ width_of addr → net_of (text_of addr ++ 47 ∷ decimal bits) ≡ Ok (record { addr = addr; bits = bits })
 net_of-joined addr bits fits small =
-    rw (cut-at_mark 47 (text_of addr) (decimal bits) (none_in_text (λ b. b == 47) slash_outside addr), addr_of-text_of addr fits, decimal_of_written (decimal bits) (width_of addr) bits small refl) refl
+    rw (cut-at_mark 47 (text_of addr) (decimal bits) (none_in_addr (λ b. b == 47) slash_outside addr fits), addr_of-text_of addr fits, decimal_of_written (decimal bits) (width_of addr) bits small refl) refl
 
 net_of-address : (addr : Addr) → IsAddr addr → net_of (text_of addr) ≡ Ok (record { addr = addr; bits = width_of addr })
-net_of-address addr fits = rw (cut-no_mark 47 (text_of addr) (none_in_text (λ b. b == 47) slash_outside addr), addr_of-text_of addr fits) refl
+net_of-address addr fits = rw (cut-no_mark 47 (text_of addr) (none_in_addr (λ b. b == 47) slash_outside addr fits), addr_of-text_of addr fits) refl
 
 pub net_of_written : (text : List ℕ) (net : Prefix) → IsNet net → IsNetText text net → net_of text ≡ Ok net
 net_of_written text net fits (inl is) =

@@ -1,3 +1,5 @@
 pub mod AddrLemmas
 pub mod DecimalLemmas
+pub mod GroupLemmas
+pub mod HexLemmas
 pub mod TextLemmas

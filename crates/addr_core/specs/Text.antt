@@ -5,9 +5,10 @@ use Rattle.std.specs.Option.{ok_or, option_map}
 use Rattle.std.specs.Char.{is_ascii_digit}
 use Rattle.list_core.specs.Each.{◌>>=◌}
 use Rattle.addr_core.specs.Decimal.{decimal, decimal_of, has_leading_zero, value_of}
+use Rattle.addr_core.specs.Groups.{groups_of, groups_text}
 use Rattle.addr_core.specs.Prefix.{Prefix, width_of}
 use Rattle.addr_core.specs.declared.addr.Addr.{Addr}
-use Rattle.addr_core.specs.declared.addr.Addr.TheVariants.{V4}
+use Rattle.addr_core.specs.declared.addr.Addr.TheVariants.{V4, V6}
 use Rattle.addr_core.specs.declared.addr.Endpoint.{Endpoint}
 use Rattle.addr_core.specs.declared.reading.AddrFault.{AddrFault}
 use Rattle.addr_core.specs.declared.reading.AddrFault.TheVariants.{Empty, BadDigit, LeadingZero, OutOfRange, BadGroups, BadPrefix, BadPort}
@@ -21,10 +22,16 @@ octets_of number = (number / 2 ^ 24) ∷ (number / 2 ^ 16 % 2 ^ 8) ∷ (number /
 -- an IPv4 address in dotted decimal: 46 is the dot
 abbrev pub text_of : Addr → List ℕ
 text_of (V4 number) = join_with_byte 46 (map decimal (octets_of number))
+text_of (V6 number) = groups_text (groups_of number)
+
+-- an address before a port: of IPv6 in brackets
+abbrev pub host_text : Addr → List ℕ
+host_text (V4 number) = text_of (V4 number)
+host_text (V6 number) = codes "[" ++ text_of (V6 number) ++ codes "]"
 
 -- an endpoint: the address, a colon and the port
 abbrev pub endpoint_text : Endpoint → List ℕ
-endpoint_text endpoint = text_of endpoint.addr ++ codes ":" ++ decimal endpoint.port
+endpoint_text endpoint = host_text endpoint.addr ++ codes ":" ++ decimal endpoint.port
 
 -- a network: the address, a slash and the bits
 abbrev pub net_text : Prefix → List ℕ
@@ -37,6 +44,7 @@ IsNetText text net = (text ≡ net_text net) ⊎ ((text ≡ text_of net.addr) ×
 -- the number is one of the family
 abbrev pub IsAddr : Addr → Type 0
 IsAddr (V4 number) = number < 2 ^ 32
+IsAddr (V6 number) = ⊥
 
 abbrev pub IsEndpoint : Endpoint → Type 0
 IsEndpoint endpoint = IsAddr endpoint.addr × (endpoint.port < 2 ^ 16)
@@ -103,6 +111,7 @@ with_port text addr = ok_or (decimal_of text 65535) BadPort >>= λ port. Ok (rec
 -- an IPv4 address does not stand between brackets
 abbrev pub in_brackets : Addr → Result Addr AddrFault
 in_brackets (V4 number) = Err BadGroups
+in_brackets (V6 number) = Ok (V6 number)
 
 -- an address in brackets, and a port
 abbrev pub bracketed_of : Option (List ℕ × List ℕ) → Result Endpoint AddrFault

@@ -4,10 +4,13 @@ ghost use Rattle.addr_core.specs.Family.{same_family};
 ghost use Rattle.addr_core.specs.Prefix.{width_of};
 
 /// An internet address. The number of an IPv4 address is that of its four octets in network byte
-/// order, so that 127.0.0.1 is 0x7F00_0001 (RFC 791, section 3.2).
+/// order, so that 127.0.0.1 is 0x7F00_0001 (RFC 791, section 3.2). The number of an IPv6 address is
+/// that of its sixteen octets, so that ::1 is 1 (RFC 4291, section 2). An IPv4 address and the IPv6
+/// address ::ffff:a.b.c.d that maps it are two addresses.
 #[derive(Clone, Copy, Debug, PartialEq, Eq, PartialOrd, Ord, Hash)]
 pub enum Addr {
     V4(u32),
+    V6(u128),
 }
 
 impl Addr {
@@ -17,15 +20,19 @@ impl Addr {
     {
         match *self {
             Addr::V4(_) => 32,
+            Addr::V6(_) => 128,
         }
     }
 
-    /// Whether both are addresses of IPv4.
+    /// Whether both are addresses of IPv4, or both of IPv6.
     pub fn is_same_family(&self, other: &Addr) -> bool
         ensures { result ≡ same_family self.now other.now }
     {
         match (*self, *other) {
             (Addr::V4(_), Addr::V4(_)) => true,
+            (Addr::V6(_), Addr::V6(_)) => true,
+            (Addr::V4(_), Addr::V6(_)) => false,
+            (Addr::V6(_), Addr::V4(_)) => false,
         }
     }
 }

@@ -9,6 +9,7 @@ pub use writing::{write_addr, write_endpoint};
 
 mod addr;
 pub mod decimal;
+mod groups;
 mod net;
 mod pair;
 mod reading;

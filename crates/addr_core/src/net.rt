@@ -1,5 +1,5 @@
 //! Networks.
-ghost use Rattle.std.specs.Prelude.{◌≡◌, ◌≤◌};
+ghost use Rattle.std.specs.Prelude.{◌≡◌, ◌≤◌, ◌-◌, ◌/◌, ◌^◌, ◌==◌};
 
 use crate::addr::Addr;
 use std::marker::Model;
@@ -24,6 +24,18 @@ impl Model for Net {
     ghost invariant = { λ n. n.bits ≤ width_of n.addr };
 
     ghost inverse = { λ p. record { addr = p.addr; bits = p.bits } };
+}
+
+/// Whether two IPv6 addresses have so many first bits in common.
+fn have_common_bits(own: u128, other: u128, bits: u8) -> bool
+    requires { bits ≤ 128 }
+    ensures { result ≡ (own / 2 ^ (128 - bits) == other / 2 ^ (128 - bits)) }
+{
+    if bits == 0 {
+        return true;
+    }
+    let shift = 128 - bits;
+    own >> shift == other >> shift
 }
 
 impl Net {
@@ -61,6 +73,9 @@ impl Net {
                 let shift = 32 - self.bits;
                 u64::from(own) >> shift == u64::from(other) >> shift
             }
+            (Addr::V6(own), Addr::V6(other)) => have_common_bits(own, other, self.bits),
+            (Addr::V4(_), Addr::V6(_)) => false,
+            (Addr::V6(_), Addr::V4(_)) => false,
         }
     }
 }

@@ -144,6 +144,7 @@ fn in_brackets(addr: Addr) -> Result<Addr, AddrFault>
 {
     match addr {
         Addr::V4(_) => Err(AddrFault::BadGroups),
+        Addr::V6(_) => Ok(addr),
     }
 }
 

@@ -2,10 +2,11 @@
 ghost use Rattle.std.specs.Prelude.{◌≡◌, ◌+◌, ◌^◌, ◌<◌, ◌≤◌, ◌∷◌, ◌++◌, [], length, map, Ok};
 ghost use Rattle.std.specs.List.{join_with_byte};
 ghost use Rattle.addr_core.specs.Decimal.{decimal};
-ghost use Rattle.addr_core.specs.Text.{addr_of, endpoint_of, endpoint_text, octets_of, text_of, IsAddr, IsEndpoint};
+ghost use Rattle.addr_core.specs.Text.{addr_of, endpoint_of, endpoint_text, host_text, octets_of, text_of, IsAddr, IsEndpoint};
 
 use crate::addr::{Addr, Endpoint};
 use crate::decimal::push_decimal;
+use crate::groups::{groups_of, write_groups};
 use arrayvec::ArrayString;
 
 fn push_octet(text: &mut ArrayString<39>, octet: u8)
@@ -40,20 +41,21 @@ fn dotted(number: u32) -> ArrayString<39>
 }
 
 fn addr_text(addr: &Addr) -> ArrayString<39>
-    ensures text { result.bytes ≡ text_of addr.now }
-    ensures addr { IsAddr addr.now }
+    ensures { result.bytes ≡ text_of addr.now }
 {
     match *addr {
         Addr::V4(number) => dotted(number),
+        Addr::V6(number) => write_groups(&groups_of(number)),
     }
 }
 
-/// The address as text: an IPv4 address in dotted decimal, as `127.0.0.1`.
+/// The address as text: an IPv4 address in dotted decimal, as `127.0.0.1`, an IPv6 address by RFC
+/// 5952, section 4, as `2001:db8::1`.
 pub fn write_addr(addr: &Addr) -> ArrayString<39>
     ensures text { result.bytes ≡ text_of addr.now }
 
     // What is written is read again.
-    ensures read_again { addr_of result.bytes ≡ Ok addr.now }
+    ensures read_again { IsAddr addr.now → addr_of result.bytes ≡ Ok addr.now }
 {
     addr_text(addr)
 }
@@ -67,23 +69,41 @@ fn push_port(text: &mut ArrayString<47>, port: u16)
     push_decimal(text, u64::from(port));
 }
 
-fn endpoint_text(endpoint: &Endpoint) -> ArrayString<47>
-    ensures text { result.bytes ≡ endpoint_text endpoint.now }
-    ensures endpoint { IsEndpoint endpoint.now }
+fn host_text(addr: &Addr) -> ArrayString<47>
+    ensures text { result.bytes ≡ host_text addr.now }
+    ensures room { length result.bytes ≤ 41 }
 {
-    let addr = addr_text(&endpoint.addr);
+    let bare = addr_text(addr);
     let mut text = ArrayString::new();
-    text.push_str(addr.as_str());
+    match addr {
+        Addr::V4(_) => {
+            text.push_str(bare.as_str());
+            text
+        }
+        Addr::V6(_) => {
+            text.push('[');
+            text.push_str(bare.as_str());
+            text.push(']');
+            text
+        }
+    }
+}
+
+fn endpoint_text(endpoint: &Endpoint) -> ArrayString<47>
+    ensures { result.bytes ≡ endpoint_text endpoint.now }
+{
+    let mut text = host_text(&endpoint.addr);
     push_port(&mut text, endpoint.port);
     text
 }
 
-/// The endpoint as text: the address, a colon and the port, as `127.0.0.1:80`.
+/// The endpoint as text: the address, a colon and the port, as `127.0.0.1:80`. An IPv6 address stands
+/// in brackets, as in `[2001:db8::1]:80` (RFC 5952, section 6).
 pub fn write_endpoint(endpoint: &Endpoint) -> ArrayString<47>
     ensures text { result.bytes ≡ endpoint_text endpoint.now }
 
     // What is written is read again.
-    ensures read_again { endpoint_of result.bytes ≡ Ok endpoint.now }
+    ensures read_again { IsEndpoint endpoint.now → endpoint_of result.bytes ≡ Ok endpoint.now }
 {
     endpoint_text(endpoint)
 }

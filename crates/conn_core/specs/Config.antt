@@ -4,7 +4,7 @@ use Rattle.std.specs.List.{list_any}
 use Rattle.std.specs.Str.{bytes_eq}
 use Rattle.list_core.specs.Each.{◌>>=◌, each, IsRead, IsFirstFault}
 use Rattle.addr_core.specs.declared.addr.Addr.{Addr}
-use Rattle.addr_core.specs.declared.addr.Addr.TheVariants.{V4}
+use Rattle.addr_core.specs.declared.addr.Addr.TheVariants.{V4, V6}
 use Rattle.addr_core.specs.declared.addr.Endpoint.{Endpoint}
 use Rattle.conf_text.specs.declared.line.Line.{Line}
 use Rattle.conf_text.specs.declared.line.LineFault.{LineFault}
@@ -36,6 +36,9 @@ section_of kind other = kind
 
 abbrev pub same_addr : Addr → Addr → Bool
 same_addr (V4 a) (V4 b) = a == b
+same_addr (V6 a) (V6 b) = a == b
+same_addr (V4 a) (V6 b) = false
+same_addr (V6 a) (V4 b) = false
 
 abbrev pub same_endpoint : Endpoint → Endpoint → Bool
 same_endpoint a b = same_addr a.addr b.addr && (a.port == b.port)

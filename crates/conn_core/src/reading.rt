@@ -41,6 +41,9 @@ fn is_same_endpoint(a: Endpoint, b: Endpoint) -> bool
 {
     match (a.addr, b.addr) {
         (Addr::V4(x), Addr::V4(y)) => x == y && a.port == b.port,
+        (Addr::V6(x), Addr::V6(y)) => x == y && a.port == b.port,
+        (Addr::V4(_), Addr::V6(_)) => false,
+        (Addr::V6(_), Addr::V4(_)) => false,
     }
 }
 

@@ -10,11 +10,13 @@ use Rattle.std.proofs.lemmas.List.Elements.{All-nil, All-cons, All-append}
 use Rattle.addr_core.specs.Decimal.{decimal, decimal_of}
 use Rattle.addr_core.specs.Ends.{Ends}
 use Rattle.addr_core.specs.Family.{same_family}
-use Rattle.addr_core.specs.Text.{endpoint_of, endpoint_text, text_of, IsEndpoint}
+use Rattle.addr_core.specs.Text.{endpoint_of, endpoint_text, host_text, text_of, IsEndpoint}
 use Rattle.addr_core.specs.declared.addr.Addr.{Addr}
-use Rattle.addr_core.specs.declared.addr.Addr.TheVariants.{V4}
+use Rattle.addr_core.specs.declared.addr.Addr.TheVariants.{V4, V6}
 use Rattle.addr_core.specs.declared.addr.Endpoint.{Endpoint}
+use Rattle.addr_core.specs.Groups.{groups_of}
 use Rattle.addr_core.proofs.AddrLemmas.{endpoint_of_written}
+use Rattle.addr_core.proofs.GroupLemmas.{groups_text_all}
 use Rattle.addr_core.proofs.DecimalLemmas.{are_digits_decimal, decimal_of_written}
 use Rattle.conn_model.specs.declared.event.ConnId.{ConnId}
 use Rattle.conn_model.specs.declared.event.Happening.{Happening}
@@ -54,10 +56,16 @@ text_lacks (V4 n) =
     (both_lack 0x20 _ _ (decimal_lacks 0x20 _ (omega arith)) (and_lacks 0x20 46 _ refl
     (both_lack 0x20 _ _ (decimal_lacks 0x20 _ (omega arith)) (and_lacks 0x20 46 _ refl (decimal_lacks 0x20 _ (omega arith)))))))
 
+text_lacks (V6 n) = groups_text_all (λ b. is_mark 0x20 b ≡ false) (λ d. grind (arith, nat_tests)) refl (groups_of n)
+
+host_lacks : (addr : Addr) → Lacks 0x20 (host_text addr)
+host_lacks (V4 n) = text_lacks (V4 n)
+host_lacks (V6 n) = and_lacks 0x20 91 (text_of (V6 n) ++ 93 ∷ []) refl (both_lack 0x20 (text_of (V6 n)) (93 ∷ []) (text_lacks (V6 n)) (one_lacks 0x20 93 refl))
+
 endpoint_lacks : (endpoint : Endpoint) → Lacks 0x20 (endpoint_text endpoint)
 endpoint_lacks endpoint =
-    both_lack 0x20 (text_of endpoint.addr ++ codes ":") (decimal endpoint.port)
-    (both_lack 0x20 (text_of endpoint.addr) (codes ":") (text_lacks endpoint.addr) (one_lacks 0x20 58 refl)) (decimal_lacks 0x20 endpoint.port (omega arith))
+    both_lack 0x20 (host_text endpoint.addr ++ codes ":") (decimal endpoint.port)
+    (both_lack 0x20 (host_text endpoint.addr) (codes ":") (host_lacks endpoint.addr) (one_lacks 0x20 58 refl)) (decimal_lacks 0x20 endpoint.port (omega arith))
 
 id_lacks : (id : ConnId) → Lacks 0x20 (id_text id)
 id_lacks id =

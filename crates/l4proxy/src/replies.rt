@@ -4,7 +4,7 @@ ghost use Rattle.std.specs.List.{flat_map};
 ghost use Rattle.hex.specs.Hex.{encode_lower};
 ghost use Rattle.addr_core.specs.Decimal.{decimal};
 ghost use Rattle.addr_core.specs.declared.addr.Addr.TheVariants.{V4};
-ghost use Rattle.addr_core.specs.Text.{endpoint_text, text_of};
+ghost use Rattle.addr_core.specs.Text.{endpoint_text, host_text, text_of};
 ghost use Rattle.l4proxy.specs.Script.{id_text, why_text};
 ghost use Rattle.l4proxy.specs.Replies.{bytes_text, cause_text, count_line, fault_line, fault_name, reply_line, said_text, track_text};
 
@@ -61,13 +61,27 @@ fn write_addr(out: &mut Vec<u8>, addr: &Addr) -> Result<(), AllocError>
 {
     match *addr {
         Addr::V4(number) => write_dotted(out, number),
+        Addr::V6(_) => write_text(out, addr_core::write_addr(addr).as_str().as_bytes()),
+    }
+}
+
+fn write_host(out: &mut Vec<u8>, addr: &Addr) -> Result<(), AllocError>
+    ensures { OnOk result (out.new.items ≡ out.old.items ++ host_text addr.now) }
+{
+    match *addr {
+        Addr::V4(number) => write_dotted(out, number),
+        Addr::V6(_) => {
+            write_text(out, b"[")?;
+            write_addr(out, addr)?;
+            write_text(out, b"]")
+        }
     }
 }
 
 fn write_endpoint(out: &mut Vec<u8>, endpoint: &Endpoint) -> Result<(), AllocError>
     ensures { OnOk result (out.new.items ≡ out.old.items ++ endpoint_text endpoint.now) }
 {
-    write_addr(out, &endpoint.addr)?;
+    write_host(out, &endpoint.addr)?;
     write_text(out, b":")?;
     write_number(out, u64::from(endpoint.port))
 }

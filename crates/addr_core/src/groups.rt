@@ -1,0 +1,154 @@
+//! Writing the groups of an IPv6 address.
+ghost use Rattle.std.specs.Prelude.{◌≡◌, ◌+◌, ◌*◌, ◌^◌, ◌<◌, ◌≤◌, ◌∷◌, ◌++◌, [], length};
+ghost use Rattle.std.specs.Char.{digit_char};
+ghost use Rattle.std.specs.List.{flat_map};
+ghost use Rattle.addr_core.specs.Groups.{colon_text, groups_of, groups_text, hexadecimal, longest, without_run, zeros};
+
+use arrayvec::ArrayString;
+
+/// The eight groups of an address.
+pub(crate) fn groups_of(number: u128) -> [u16; 8]
+    ensures { result ≡ groups_of number }
+{
+    [
+        (number >> 112) as u16,
+        ((number >> 96) % 0x1_0000) as u16,
+        ((number >> 80) % 0x1_0000) as u16,
+        ((number >> 64) % 0x1_0000) as u16,
+        ((number >> 48) % 0x1_0000) as u16,
+        ((number >> 32) % 0x1_0000) as u16,
+        ((number >> 16) % 0x1_0000) as u16,
+        (number % 0x1_0000) as u16,
+    ]
+}
+
+/// The hexadecimal digit of a value below 16, in lower case.
+fn hex_digit(value: u16) -> u8
+    requires { value < 16 }
+    ensures digit { result ≡ digit_char value }
+    ensures ascii { result < 128 }
+{
+    if value < 10 {
+        return b'0' + value as u8;
+    }
+    b'a' + (value as u8 - 10)
+}
+
+fn push_digit(text: &mut ArrayString<39>, value: u16)
+    requires value { value < 16 }
+    requires room { length text.old.bytes < 39 }
+    ensures { text.new.bytes ≡ text.old.bytes ++ digit_char value ∷ [] }
+{
+    text.push(char::from(hex_digit(value)));
+}
+
+fn push_group(text: &mut ArrayString<39>, group: u16)
+    requires { length text.old.bytes + length (hexadecimal group) ≤ 39 }
+    ensures { text.new.bytes ≡ text.old.bytes ++ hexadecimal group }
+{
+    if group < 16 {
+        push_digit(text, group);
+        return;
+    }
+    push_group(text, group / 16);
+    push_digit(text, group % 16);
+}
+
+/// Appends the group, which has at most four digits.
+fn push_short(text: &mut ArrayString<39>, group: u16)
+    requires { length text.old.bytes + 4 ≤ 39 }
+    ensures bytes { text.new.bytes ≡ text.old.bytes ++ hexadecimal group }
+    ensures room { length text.new.bytes ≤ length text.old.bytes + 4 }
+{
+    push_group(text, group);
+}
+
+fn push_colon(text: &mut ArrayString<39>)
+    requires { length text.old.bytes < 39 }
+    ensures bytes { text.new.bytes ≡ text.old.bytes ++ 58 ∷ [] }
+    ensures room { length text.new.bytes ≡ length text.old.bytes + 1 }
+{
+    text.push(':');
+}
+
+/// Appends the groups, each behind a colon.
+fn push_more(text: &mut ArrayString<39>, groups: &[u16])
+    requires { length text.old.bytes + 5 * length groups.now ≤ 39 }
+    ensures bytes { text.new.bytes ≡ text.old.bytes ++ flat_map (λ group. 58 ∷ hexadecimal group) groups.now }
+    ensures room { length text.new.bytes ≤ length text.old.bytes + 5 * length groups.now }
+{
+    for group in groups {
+        push_colon(text);
+        push_short(text, *group);
+    }
+}
+
+/// Appends the groups with single colons.
+fn push_groups(text: &mut ArrayString<39>, groups: &[u16])
+    requires { length text.old.bytes + 5 * length groups.now ≤ 40 }
+    ensures bytes { text.new.bytes ≡ text.old.bytes ++ colon_text groups.now }
+    ensures room { length text.new.bytes ≤ length text.old.bytes + 5 * length groups.now }
+{
+    let [first, rest @ ..] = groups else {
+        return;
+    };
+    push_short(text, *first);
+    push_more(text, rest);
+}
+
+/// How many zero groups stand before the first that is not zero.
+fn zeros(groups: &[u16]) -> usize
+    ensures count { result ≡ zeros groups.now }
+    ensures bound { result ≤ length groups.now }
+{
+    groups.iter().take_while(|group| **group == 0).count()
+}
+
+/// A run of zero groups: where it begins, and how many there are.
+#[derive(Clone, Copy)]
+struct Run {
+    place: usize,
+    count: usize,
+}
+
+/// The longest run of zero groups, the first of equal ones.
+fn longest(groups: &[u16]) -> Run
+    ensures place { result.place ≡ (longest groups.now).place }
+    ensures count { result.count ≡ (longest groups.now).count }
+    ensures bound { result.place + result.count ≤ length groups.now }
+{
+    let [_, rest @ ..] = groups else {
+        return Run { place: 0, count: 0 };
+    };
+    let here = zeros(groups);
+    let later = longest(rest);
+    if here >= later.count {
+        return Run {
+            place: 0,
+            count: here,
+        };
+    }
+    Run {
+        place: later.place + 1,
+        count: later.count,
+    }
+}
+
+/// The groups as text, with `::` for the longest run of two zero groups or more, the first of equal
+/// ones (RFC 5952, section 4.2).
+pub(crate) fn write_groups(groups: &[u16]) -> ArrayString<39>
+    requires { length groups.now ≤ 8 }
+    ensures { result.bytes ≡ groups_text groups.now }
+{
+    let run = longest(groups);
+    let mut text = ArrayString::new();
+    if run.count < 2 {
+        push_groups(&mut text, groups);
+        return text;
+    }
+    push_groups(&mut text, &groups[..run.place]);
+    push_colon(&mut text);
+    push_colon(&mut text);
+    push_groups(&mut text, &groups[run.place + run.count..]);
+    text
+}

@@ -1,0 +1,15 @@
+use Rattle.std.proofs.Common.{◌-◌, ◌≡◌, ◌≤◌, ◌++◌, List, ℕ, filter}
+use Rattle.std.specs.List.{range_with_len}
+use Rattle.balance_core.specs.Loads.{is_ready_at}
+use Rattle.balance_core.specs.Least.{is_lighter, least}
+use Rattle.balance_core.proofs.least.lightest_of.Given as goal
+
+abbrev pub invariant-loop-number : goal.invariant-loop-number
+invariant-loop-number g l =
+    (l.begin ≤ l.number)
+    × (l.number ≤ l.end)
+    × ((rest : List ℕ) → l.fn.later ≡ least (is_lighter (g.L.Load.servers l.load)) rest →
+    l.lightest ≡ least (is_lighter (g.L.Load.servers l.load)) (filter (is_ready_at (g.L.Load.servers l.load)) (range_with_len l.number (l.end - l.number)) ++ rest))
+
+abbrev pub decreases-loop-number : goal.decreases-loop-number
+decreases-loop-number g l = l.number

@@ -1,0 +1,16 @@
+//! Which server of a backend is offered (HAProxy manual, `balance`).
+#![tactic(auto)]
+
+pub use cycle::{Cycle, Place};
+pub use least::pick_least;
+pub use load::{Load, ServerLoad};
+pub use round::{Placed, pick_round};
+pub use source::pick_source;
+
+mod cycle;
+mod least;
+mod load;
+mod round;
+mod source;
+#[cfg(test)]
+mod tests;

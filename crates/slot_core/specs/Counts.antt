@@ -1,0 +1,28 @@
+-- Counts of open connections, in the order in which their identities were added.
+use Rattle.std.specs.Prelude.{ℕ, Bool, List, [], ◌∷◌, ◌++◌, slice_get, slice_set, Option, option_map, if◌then◌else◌}
+use Rattle.std.specs.Option.{is_some, option_map_or}
+use Rattle.std.specs.List.{position}
+use Rattle.slot_core.specs.declared.identity.Identity.{Identity}
+use Rattle.slot_core.specs.declared.slots.Count.{Count}
+use Rattle.slot_core.specs.Identity.{same_identity}
+
+abbrev pub is_of : Identity → Count → Bool
+is_of identity count = same_identity count.identity identity
+
+abbrev pub place_of : Identity → List Count → Option ℕ
+place_of identity counts = position (is_of identity) counts
+
+-- one that is new stands last, with no open connection
+abbrev pub with_identity : Identity → List Count → List Count
+with_identity identity counts = if is_some (place_of identity counts) then counts else counts ++ record { identity = identity; connections = 0 } ∷ []
+
+-- the open connections of the count at a place
+abbrev pub open_at : ℕ → List Count → Option ℕ
+open_at place counts = option_map (λ count. count.connections) (slice_get counts place)
+
+abbrev pub changed : (ℕ → ℕ) → Count → Count
+changed change count = record count { connections = change count.connections }
+
+-- one count changed, and no other
+abbrev pub with_open : (ℕ → ℕ) → ℕ → List Count → List Count
+with_open change place counts = option_map_or (λ count. slice_set counts place (changed change count)) (slice_get counts place) counts

@@ -1,0 +1,13 @@
+//! Tables of tracked sources: how many open connections track a key, and how often it was tracked
+//! (HAProxy manual, `stick-table`, `tcp-request connection track-sc0`).
+#![tactic(auto)]
+
+pub use entries::Entry;
+pub use key::Kind;
+pub use table::{Stores, Table, Tracked};
+
+mod entries;
+mod key;
+mod table;
+#[cfg(test)]
+mod tests;
