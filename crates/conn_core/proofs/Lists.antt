@@ -8,15 +8,6 @@ use Rattle.conn_core.specs.Machine.{HaveLines}
 use Rattle.conn_model.specs.Words.{newest, AreGiven}
 use Rattle.conn_model.proofs.Facts.{given_more, given_append}
 
--- the item before the end is the newest
-pub slice_get-last : {X : Type 0} (xs : List X) → slice_get xs (length xs - 1) ≡ newest xs
-slice_get-last [] = refl
-slice_get-last (x ∷ []) = refl
-slice_get-last (x ∷ y ∷ xs) =
-    let before : suc (suc (length xs)) - 1 ≡ suc (length xs) = omega arith in
-    let here : suc (length xs) - 1 ≡ length xs = omega arith in
-    ap (λ n. slice_get (x ∷ y ∷ xs) n) before ∙ ap (λ n. slice_get (y ∷ xs) n) (sym here) ∙ slice_get-last (y ∷ xs)
-
 -- one more serial was given out
 pub AreGiven-open : (serial : ℕ) (rows : List Row) (row : Row) → AreGiven serial rows → row.serial ≡ serial + 1 → AreGiven (serial + 1) (rows ++ row ∷ [])
 AreGiven-open serial rows row given next =

@@ -2,7 +2,6 @@
 ghost use Rattle.std.specs.Prelude.{◌≡◌, find, slice_get, Option, IfOk};
 ghost use Rattle.std.specs.Option.{option_copied};
 ghost use Rattle.std.specs.Str.{bytes_eq};
-ghost use Rattle.conn_model.specs.Words as words;
 ghost use Rattle.conn_model.specs.Rules.{view, worth, decides, applies_in, deciding, open_with_itself, rejected, reject_line};
 ghost use Rattle.conn_model.specs.Answer.{frontend_in, admitted, tried, choose, row_in};
 ghost use Rattle.conn_core.specs.Judging.{seat_here, said_by, IsFoundIn};
@@ -73,13 +72,6 @@ pub fn item<T>(items: &[T], number: u16) -> Option<&T>
     ensures { option_copied result ≡ slice_get items.now number }
 {
     items.get(usize::from(number))
-}
-
-/// The last item.
-pub fn newest<T>(items: &[T]) -> Option<&T>
-    ensures { option_copied result ≡ words.newest items.now }
-{
-    items.last()
 }
 
 /// The frontend of that name.

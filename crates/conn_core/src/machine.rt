@@ -15,7 +15,7 @@ ghost use Rattle.conn_core.specs.Meaning.{meaning};
 ghost use Rattle.conn_core.specs.Machine.{IsOpened, Next, HaveLines, offered_row, left_by};
 
 use crate::fault::OpenFault;
-use crate::judging::{Seat, Verdict, admit, frontend_named, item, newest, said};
+use crate::judging::{Seat, Verdict, admit, frontend_named, item, said};
 use crate::lanes::{LaneState, row_of};
 use crate::opening::{cursors, lanes, listeners};
 use crate::planning::read_plan;
@@ -25,7 +25,7 @@ use conn_model::ask::{Ask, Counts};
 use conn_model::event::{ConnId, Event, Why};
 use conn_model::plain::{Identity, Kept, Lane, Listener, Phase, Plain, Row, Served, Version};
 use conn_model::reply::{Reply, Said, StepFault};
-use list_core::{Duplicate, Seq};
+use list_core::{Duplicate, Seq, newest};
 use plan_core::{Backend, Plan, Server};
 use std::alloc::{AllocError, Global};
 use std::marker::Model;

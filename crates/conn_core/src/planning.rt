@@ -1,322 +1,47 @@
-//! The plan of a configuration.
-ghost use Rattle.std.specs.Prelude.{◌≡◌, ◌⊎◌, ◌≤◌, ℕ, length, Option, IfOk, IfErr, IfSome, IfNone, Some, None, Ok, Err};
-ghost use Rattle.list_core.specs.Each.{Gives};
-ghost use Rattle.std.specs.Str.{bytes_eq};
+//! The plan of a text.
+ghost use Rattle.std.specs.Prelude.{◌≡◌, ◌⊎◌, length, IfOk, IfErr, Ok, Err};
+ghost use Rattle.conf_tree.specs.declared.item.Item.{Item};
+ghost use Rattle.plan_core.specs.Compiled.{plan_of};
 ghost use Rattle.conn_model.specs.History.{LinesDiffer};
-ghost use Rattle.conn_core.specs.Meaning.{frontend_said, backend_said, default_said, bind_said, limit_said, limit_or, rule_said, server_said, all_said, first_said, last_said, backend_with, backends_in, frontend_with, plan_with, backend_number, numbered, defaulted, bound, framed, plan_of, planned, opened, meaning};
+ghost use Rattle.conn_core.specs.Meaning.{opened, meaning};
 
-use crate::fault::{OpenFault, PlanFault, PlanKind};
-use crate::item::{Item, Limit, Named, Says};
-use crate::reading::read_items;
-use list_core::{Duplicate, Seq, Stop};
-use plan_core::{Backend, Bind, Frontend, Method, Plan, Rule, Server};
-use std::alloc::{AllocError, Global};
+use crate::fault::OpenFault;
+use conf_tree::{ConfKind, Tree, read_config};
+use plan_core::{Plan, PlanKind, compile};
+use std::alloc::Global;
 
-fn frontend_said<'a>(item: &Item<'a>) -> Option<Named<'a>>
-    ensures { result ≡ frontend_said item.now.line item.now.says }
-{
-    match &item.says {
-        Says::Frontend(name) => Some(Named {
-            name: name.again(),
-            line: item.line,
-        }),
-        _ => None,
-    }
-}
-
-fn backend_said<'a>(item: &Item<'a>) -> Option<Named<'a>>
-    ensures { result ≡ backend_said item.now.line item.now.says }
-{
-    match &item.says {
-        Says::Backend(name) => Some(Named {
-            name: name.again(),
-            line: item.line,
-        }),
-        _ => None,
-    }
-}
-
-fn default_said<'a>(item: &Item<'a>) -> Option<Named<'a>>
-    ensures { result ≡ default_said item.now.line item.now.says }
-{
-    match &item.says {
-        Says::DefaultBackend(name) => Some(Named {
-            name: name.again(),
-            line: item.line,
-        }),
-        _ => None,
-    }
-}
-
-fn bind_said(item: &Item) -> Option<Bind>
-    ensures { result ≡ bind_said item.now.line item.now.says }
-{
-    match &item.says {
-        Says::Bind(at) => Some(Bind {
-            at: *at,
-            accept_proxy: false,
-        }),
-        _ => None,
-    }
-}
-
-fn limit_said(item: &Item) -> Option<Limit>
-    ensures { result ≡ limit_said item.now.line item.now.says }
-{
-    match &item.says {
-        Says::MaxConn(limit) => Some(Limit {
-            limit: *limit,
-            line: item.line,
-        }),
-        _ => None,
-    }
-}
-
-fn rule_said(alloc: Global, item: &Item) -> Result<Option<Rule>, AllocError>
-    ensures { IfOk result (λ rule. rule ≡ rule_said item.now.line item.now.says) }
-{
-    match &item.says {
-        Says::Rule(action, when) => Ok(Some(Rule {
-            line: item.line,
-            action: *action,
-            when: when.duplicate(alloc)?,
-        })),
-        _ => Ok(None),
-    }
-}
-
-fn server_said(alloc: Global, item: &Item) -> Result<Option<Server>, AllocError>
-    ensures { IfOk result (λ server. server ≡ server_said item.now.line item.now.says) }
-{
-    match &item.says {
-        Says::Server(name, to) => Ok(Some(Server {
-            name: Seq::duplicate_of(alloc, name.bytes())?,
-            line: item.line,
-            to: *to,
-            weight: 1,
-            limit: 0,
-            disabled: false,
-            send_proxy: false,
-            send_proxy_v2: false,
-        })),
-        _ => Ok(None),
-    }
-}
-
-fn frontend_in<'a>(items: &[Item<'a>]) -> Option<Named<'a>>
-    ensures { result ≡ first_said frontend_said items.now }
-{
-    for item in items {
-        if let Some(named) = frontend_said(item) {
-            return Some(named);
-        }
-    }
-    None
-}
-
-fn backend_in<'a>(items: &[Item<'a>]) -> Option<Named<'a>>
-    ensures { result ≡ first_said backend_said items.now }
-{
-    for item in items {
-        if let Some(named) = backend_said(item) {
-            return Some(named);
-        }
-    }
-    None
-}
-
-fn bind_in(items: &[Item]) -> Option<Bind>
-    ensures { result ≡ first_said bind_said items.now }
-{
-    for item in items {
-        if let Some(bind) = bind_said(item) {
-            return Some(bind);
-        }
-    }
-    None
-}
-
-fn default_in<'a>(items: &[Item<'a>]) -> Option<Named<'a>>
-    ensures { result ≡ last_said default_said items.now }
-{
-    let mut last = None;
-    for item in items {
-        last = default_said(item).or(last);
-    }
-    last
-}
-
-fn limit_in(items: &[Item]) -> Option<Limit>
-    ensures { result ≡ last_said limit_said items.now }
-{
-    let mut last = None;
-    for item in items {
-        last = limit_said(item).or(last);
-    }
-    last
-}
-
-/// The limit that is said, or that of a frontend that says none.
-fn limit_or(named: &Named, said: Option<Limit>) -> Limit
-    ensures { result ≡ limit_or named.now said }
-{
-    match said {
-        Some(limit) => limit,
-        None => Limit {
-            limit: 2000,
-            line: named.line,
-        },
-    }
-}
-
-fn binds_in(alloc: Global, items: &[Item]) -> Result<Seq<Bind>, AllocError>
-    ensures { IfOk result (λ binds. binds ≡ all_said bind_said items.now) }
-{
-    let mut binds = Seq::new(alloc);
-    for item in items {
-        if let Some(bind) = bind_said(item) {
-            binds.push(bind)?;
-        }
-    }
-    Ok(binds)
-}
-
-fn rules_in(alloc: Global, items: &[Item]) -> Result<Seq<Rule>, AllocError>
-    ensures { IfOk result (λ rules. rules ≡ all_said rule_said items.now) }
-{
-    let mut rules = Seq::new(alloc);
-    for item in items {
-        if let Some(rule) = rule_said(alloc, item)? {
-            rules.push(rule)?;
-        }
-    }
-    Ok(rules)
-}
-
-fn servers_in(alloc: Global, items: &[Item]) -> Result<Seq<Server>, AllocError>
-    ensures { IfOk result (λ servers. servers ≡ all_said server_said items.now) }
-{
-    let mut servers = Seq::new(alloc);
-    for item in items {
-        if let Some(server) = server_said(alloc, item)? {
-            servers.push(server)?;
-        }
-    }
-    Ok(servers)
-}
-
-fn backends_in(alloc: Global, items: &[Item]) -> Result<Seq<Backend>, AllocError>
-    ensures value { IfOk result (λ backends. backends ≡ backends_in items.now) }
-    ensures one { IfOk result (λ backends. length backends ≤ 1) }
-{
-    let mut backends = Seq::new(alloc);
-    if let Some(named) = backend_in(items) {
-        backends.push(Backend {
-            name: Seq::duplicate_of(alloc, named.name.bytes())?,
-            line: named.line,
-            method: Method::RoundRobin,
-            servers: servers_in(alloc, items)?,
-        })?;
-    }
-    Ok(backends)
-}
-
-fn is_named(backend: &Backend, named: &Named) -> bool
-    ensures { result ≡ bytes_eq backend.now.name named.now.name }
-{
-    backend.name.as_slice() == named.name.bytes()
-}
-
-/// The number of the backend of that name.
-fn backend_number(backends: &[Backend], named: &Named) -> Option<usize>
-    ensures { result ≡ backend_number backends.now named.now }
-{
-    backends.iter().position(|backend| is_named(backend, named))
-}
-
-/// A frontend with its lines.
-fn frontend_with(
-    alloc: Global,
-    items: &[Item],
-    named: &Named,
-    default: Option<u16>,
-) -> Result<Frontend, AllocError>
-    ensures { IfOk result (λ frontend. frontend ≡ frontend_with (all_said bind_said items.now) (limit_or named.now (last_said limit_said items.now)) (all_said rule_said items.now) default named.now) }
-{
-    let limit = limit_or(named, limit_in(items));
-    Ok(Frontend {
-        name: Seq::duplicate_of(alloc, named.name.bytes())?,
-        line: named.line,
-        binds: binds_in(alloc, items)?,
-        limit: limit.limit,
-        limit_line: limit.line,
-        connection_rules: rules_in(alloc, items)?,
-        session_rules: Seq::new(alloc),
-        choices: Seq::new(alloc),
-        default,
-    })
-}
-
-fn plan_with(
-    alloc: Global,
-    items: &[Item],
-    named: &Named,
-    backends: Seq<Backend>,
-    default: Option<u16>,
-) -> Result<Plan, AllocError>
-    requires { backends ≡ backends_in items.now }
-    ensures value { IfOk result (λ plan. plan ≡ plan_with items.now named.now default) }
+/// The plan of a configuration whose lines are right.
+fn plan(alloc: Global, tree: &Tree) -> Result<Plan, OpenFault>
+    ensures ok { IfOk result (λ plan. plan_of tree.now.items ≡ Ok plan) }
+    ensures fault { IfErr result (λ f. (f ≡ OpenFault.NoMemory) ⊎ (opened (plan_of tree.now.items) ≡ Err f)) }
     ensures one { IfOk result (λ plan. length plan.frontends ≡ 1) }
+    ensures lines { IfOk result (λ plan. LinesDiffer plan) }
 {
-    let mut frontends = Seq::new(alloc);
-    frontends.push(frontend_with(alloc, items, named, default)?)?;
-    Ok(Plan {
-        frontends,
-        backends,
-        tables: Seq::new(alloc),
-    })
-}
-
-/// The plan of a text whose lines are right, or the fault of the least line.
-fn plan(alloc: Global, items: &[Item]) -> Result<Plan, OpenFault>
-    ensures ok { IfOk result (λ plan. plan_of items.now ≡ Ok plan) }
-    ensures fault { IfErr result (λ fault. (fault ≡ OpenFault.NoMemory) ⊎ (opened (plan_of items.now) ≡ Err fault)) }
-    ensures one { IfOk result (λ plan. length plan.frontends ≡ 1) }
-    ensures lines { IfOk result (λ plan. length plan.backends ≤ 1) }
-{
-    let Some(named) = frontend_in(items) else {
-        return refused(0, PlanKind::NoFrontend);
-    };
-    if bind_in(items).is_none() {
-        return refused(named.line, PlanKind::NoBind);
+    match compile(alloc, tree) {
+        Ok(plan) => Ok(plan),
+        Err(fault) => {
+            if matches!(fault.kind, PlanKind::NoMemory) {
+                return Err(OpenFault::NoMemory);
+            }
+            Err(OpenFault::Plan(fault))
+        }
     }
-    let backends = backends_in(alloc, items)?;
-    let default = match default_in(items) {
-        None => None,
-        Some(default) => match backend_number(backends.as_slice(), &default) {
-            None => return refused(default.line, PlanKind::NoBackend),
-            Some(number) => Some(number as u16),
-        },
-    };
-    Ok(plan_with(alloc, items, &named, backends, default)?)
-}
-
-fn refused<X>(line: u32, kind: PlanKind) -> Result<X, OpenFault>
-    ensures { result ≡ Err (OpenFault.Plan (record { line = line; kind = kind })) }
-{
-    Err(OpenFault::Plan(PlanFault { line, kind }))
 }
 
 /// The plan that a text means.
 pub fn read_plan(alloc: Global, text: &str) -> Result<Plan, OpenFault>
     ensures ok { IfOk result (λ plan. meaning text.now ≡ Ok plan) }
-    ensures fault { IfErr result (λ fault. (fault ≡ OpenFault.NoMemory) ⊎ (meaning text.now ≡ Err fault)) }
+    ensures fault { IfErr result (λ f. (f ≡ OpenFault.NoMemory) ⊎ (meaning text.now ≡ Err f)) }
     ensures one { IfOk result (λ plan. length plan.frontends ≡ 1) }
     ensures lines { IfOk result (λ plan. LinesDiffer plan) }
 {
-    match read_items(alloc, text) {
-        Ok(items) => plan(alloc, items.as_slice()),
-        Err(Stop::Memory) => Err(OpenFault::NoMemory),
-        Err(Stop::Fault(fault)) => Err(OpenFault::Config(fault)),
+    match read_config(alloc, text) {
+        Ok(tree) => plan(alloc, &tree),
+        Err(fault) => {
+            if matches!(fault.kind, ConfKind::NoMemory) {
+                return Err(OpenFault::NoMemory);
+            }
+            Err(OpenFault::Config(fault))
+        }
     }
 }

@@ -1,18 +1,13 @@
 -- Names of connections, and words on lists.
 use Rattle.std.specs.Prelude.{ℕ, Bool, List, [], ◌∷◌, Option, Some, None, ◌+◌, ◌==◌, ◌&&◌, ◌≤◌}
 use Rattle.std.specs.List.{AllByRecursion}
+pub use Rattle.list_core.specs.Newest.{newest}
 use Rattle.conn_model.specs.declared.event.ConnId.{ConnId}
 use Rattle.conn_model.specs.declared.plain.Row.{Row}
 
 -- the connection of that frontend and serial
 abbrev pub is_conn : ℕ → ℕ → ConnId → Bool
 is_conn number serial id = (id.frontend == number) && (id.serial == serial)
-
--- the last of a list
-abbrev pub newest : {X : Type 0} → List X → Option X
-newest [] = None
-newest (x ∷ []) = Some x
-newest (x ∷ y ∷ xs) = newest (y ∷ xs)
 
 -- each item changed by its number
 abbrev pub map_from : {X : Type 0} → (ℕ → X → X) → ℕ → List X → List X

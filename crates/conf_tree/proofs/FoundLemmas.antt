@@ -1,0 +1,34 @@
+-- What the lines of a configuration say, line by line.
+use Rattle.std.proofs.Common.{◌≡◌, ℕ, List, [], Result, Ok, Err, refl, sym, ap, ◌∙◌, subst, inl, inr}
+use Rattle.list_core.specs.Each.{◌>>=◌, each, IsRead}
+use Rattle.list_core.proofs.EachLaws.{each_ok, each_err}
+use Rattle.conf_text.specs.declared.line.Line.{Line}
+use Rattle.conf_text.specs.declared.line.LineFault.{LineFault}
+use Rattle.conf_text.specs.Lines.{lines_of}
+use Rattle.conf_tree.specs.declared.fault.ConfFault.{ConfFault}
+use Rattle.conf_tree.specs.declared.fault.ConfKind.TheVariants.{Text}
+use Rattle.conf_tree.specs.declared.item.Item.{Item}
+use Rattle.conf_tree.specs.Config.{next_item, text_fault, items_of, AreItems, IsConfFault}
+
+pub found : (text : List ℕ) (items : List Item) → items_of text ≡ Ok items → AreItems text items
+found text items is = by (lines_of text) refl
+  where
+    by : (read : Result (List Line) LineFault) → lines_of text ≡ read → AreItems text items
+    by (Err fault) read = let wrong = rw read at is in absurd cc
+    by (Ok lines) read =
+        let reads : each next_item [] lines ≡ Ok items = rw read at is in
+        let more = each_ok next_item [] lines items reads in
+        let P : List Item → Type 0 = λ ys. IsRead next_item lines ys in
+        (lines, read, subst P (sym more.1) more.2)
+
+pub fault_found : (text : List ℕ) (fault : ConfFault) → items_of text ≡ Err fault → IsConfFault text fault
+fault_found text fault is = by (lines_of text) refl
+  where
+    by : (read : Result (List Line) LineFault) → lines_of text ≡ read → IsConfFault text fault
+    by (Err f) read =
+        let same : (text_fault (Err f) >>= λ lines. each next_item [] lines) ≡ Err fault = rw read at is in
+        let fault_is : record { line = f.line; kind = Text f.kind } ≡ fault = cc in
+        inl (ap (λ r. text_fault r) read ∙ ap (λ x. Err x) fault_is)
+    by (Ok lines) read =
+        let reads : each next_item [] lines ≡ Err fault = rw read at is in
+        inr (lines, read, each_err next_item [] lines fault reads)

@@ -1,0 +1,4 @@
+pub mod Names
+pub mod Keywords
+pub mod Statements
+pub mod Config
