@@ -1,6 +1,7 @@
 //! Why a text opens no balancer.
 use conf_tree::ConfFault;
 use plan_core::PlanFault;
+use std::alloc::AllocError;
 use std::error::Error;
 use std::fmt;
 
@@ -29,3 +30,14 @@ impl fmt::Display for OpenFault {
 }
 
 impl Error for OpenFault {}
+
+impl From<AllocError> for OpenFault {
+    ghost use Rattle.std.specs.Prelude.{◌≡◌};
+    ghost use Rattle.conn_core.specs.declared.fault.OpenFault.TheVariants.{NoMemory};
+
+    ghost from_gives = { λ _ fault. fault ≡ NoMemory };
+
+    fn from(_error: AllocError) -> OpenFault {
+        OpenFault::NoMemory
+    }
+}

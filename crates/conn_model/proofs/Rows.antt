@@ -14,8 +14,9 @@ use Rattle.conn_model.specs.declared.reply.Said.{Said}
 use Rattle.conn_model.specs.declared.reply.Said.TheVariants.{Offer, Refuse, Closed}
 use Rattle.conn_model.specs.declared.reply.StepFault.{StepFault}
 use Rattle.conn_model.specs.declared.reply.StepFault.TheVariants.{NoListener, NoSuch, Exhausted}
-use Rattle.conn_model.specs.History.{after, opening}
-use Rattle.conn_model.specs.Samples.{sample, sample_with, sample_server, comes, done, ip, answers, history}
+use Rattle.conn_model.specs.declared.ask.Ask.TheVariants as asks
+use Rattle.conn_model.specs.History.{after, counts, opening}
+use Rattle.conn_model.specs.Samples.{limited, sample, sample_with, sample_server, comes, done, ip, answers, history}
 
 abbrev says : Said → Result Reply StepFault
 says said = Ok (record { said = said; tracks = record { items = [] } })
@@ -97,3 +98,24 @@ listens = refl
 -- moments that are handed in out of order
 pub clock_stands : (after (opening sample 0) (history (opening sample 0) [] ((9, comes 0 (ip 192 0 2 5) 4000) ∷ (7, done 1) ∷ []))).clock ≡ 9
 clock_stands = refl
+
+-- Limits and counts.
+
+abbrev somebody : Happening
+somebody = comes 0 (ip 192 0 2 5) 4000
+
+-- the second connection is one too many for the rule, which counts it
+pub by_the_rule : answers (opening (limited 1) 0) [] ((1, somebody) ∷ (2, somebody) ∷ []) ≡ says (offered 1) ∷ refused 2 (Line 4) ∷ []
+by_the_rule = refl
+
+-- the third is one too many for the limit, and the fourth comes after a close
+pub by_the_limit : answers (opening (limited 2) 0) [] ((0, somebody) ∷ (0, somebody) ∷ (0, somebody) ∷ (1, done 1) ∷ (2, somebody) ∷ [])
+    ≡ says (offered 1) ∷ says (offered 2) ∷ refused 3 (Line 3) ∷ says (Closed (record { frontend = 0; serial = 1 }) Done) ∷ says (offered 4) ∷ []
+by_the_limit = refl
+
+pub one_is_counted : counts (opening (limited 1) 0) (history (opening (limited 1) 0) [] ((1, somebody) ∷ (2, somebody) ∷ [])) (asks.Frontend 0)
+    ≡ Some (record { cur = 1; cnt = 0 })
+one_is_counted = refl
+
+pub none_is_there : counts (opening (limited 1) 0) [] (asks.Frontend 1) ≡ None
+none_is_there = refl

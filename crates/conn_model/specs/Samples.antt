@@ -5,7 +5,8 @@ use Rattle.addr_core.specs.declared.addr.Addr.TheVariants.{V4}
 use Rattle.addr_core.specs.declared.addr.Endpoint.{Endpoint}
 use Rattle.addr_core.specs.Ends.{Ends}
 use Rattle.acl_core.specs.declared.criterion.Criterion.TheVariants as criteria
-use Rattle.acl_core.specs.declared.criterion.Pattern.TheVariants.{Network}
+use Rattle.acl_core.specs.declared.criterion.Operator.TheVariants.{Above}
+use Rattle.acl_core.specs.declared.criterion.Pattern.TheVariants.{Compared, Network}
 use Rattle.acl_core.specs.declared.condition.When.{When}
 use Rattle.acl_core.specs.declared.condition.When.TheVariants.{If}
 use Rattle.plan_core.specs.declared.plan.Action.TheVariants.{Reject}
@@ -65,6 +66,29 @@ sample_with default servers = record {
 
 abbrev pub sample : Plan
 sample = sample_with (Some 0) (sample_server ∷ [])
+
+-- more open connections than that
+abbrev pub more_than : ℕ → When
+more_than bound =
+    If (record { groups = (record { negated = false; tests = record { criterion = criteria.FrontendConnections; patterns = Compared Above bound ∷ [] } ∷ [] } ∷ []) ∷ [] })
+
+-- two connections at most, and a rule of line 4 that rejects where more are open, itself included
+abbrev pub limited : ℕ → Plan
+limited bound = record {
+  frontends = record {
+    name = 102 ∷ [];
+    line = 1;
+    binds = record { at = point (ip 127 0 0 1) 9000; accept_proxy = false } ∷ [];
+    limit = 2;
+    limit_line = 3;
+    connection_rules = record { line = 4; action = Reject; when = more_than bound } ∷ [];
+    session_rules = [];
+    choices = [];
+    default = Some 0;
+  } ∷ [];
+  backends = record { name = 98 ∷ []; line = 5; method = RoundRobin; servers = sample_server ∷ [] } ∷ [];
+  tables = [];
+}
 
 -- from an address to where the frontend is bound
 abbrev pub from : Addr → ℕ → Ends

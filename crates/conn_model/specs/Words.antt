@@ -1,5 +1,5 @@
 -- Names of connections, and words on lists.
-use Rattle.std.specs.Prelude.{ℕ, Bool, List, [], ◌∷◌, Option, Some, None, ◌+◌, ◌==◌, ◌&&◌, ◌≤◌}
+use Rattle.std.specs.Prelude.{ℕ, Bool, List, [], ◌∷◌, ◌+◌, ◌==◌, ◌&&◌, ◌≤◌}
 use Rattle.std.specs.List.{AllByRecursion}
 pub use Rattle.list_core.specs.Newest.{newest}
 use Rattle.conn_model.specs.declared.event.ConnId.{ConnId}
