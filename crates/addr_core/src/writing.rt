@@ -1,8 +1,8 @@
 //! Writing addresses and endpoints.
-ghost use Rattle.std.specs.Prelude.{◌≡◌, ◌+◌, ◌^◌, ◌<◌, ◌≤◌, ◌∷◌, ◌++◌, [], length, map, Ok};
-ghost use Rattle.std.specs.List.{join_with_byte};
+ghost use Rattle.std.specs.Prelude.{◌≡◌, ◌+◌, ◌^◌, ◌<◌, ◌≤◌, ◌∷◌, ◌++◌, [], length, Ok};
 ghost use Rattle.addr_core.specs.Decimal.{decimal};
-ghost use Rattle.addr_core.specs.Text.{addr_of, endpoint_of, endpoint_text, host_text, octets_of, text_of, IsAddr, IsEndpoint};
+ghost use Rattle.addr_core.specs.Dotted.{dotted_text};
+ghost use Rattle.addr_core.specs.Text.{addr_of, endpoint_of, endpoint_text, host_text, text_of, IsAddr, IsEndpoint};
 
 use crate::addr::{Addr, Endpoint};
 use crate::decimal::push_decimal;
@@ -26,7 +26,7 @@ fn push_dot(text: &mut ArrayString<39>)
 }
 
 fn dotted(number: u32) -> ArrayString<39>
-    ensures text { result.bytes ≡ join_with_byte 46 (map decimal (octets_of number)) }
+    ensures text { result.bytes ≡ dotted_text number }
     ensures number { number < 2 ^ 32 }
 {
     let mut text = ArrayString::new();
