@@ -17,7 +17,9 @@ use Rattle.addr_core.specs.declared.addr.Endpoint.{Endpoint}
 use Rattle.addr_core.specs.declared.reading.AddrFault.{AddrFault}
 use Rattle.addr_core.proofs.DecimalLemmas.{decimal-decimal_of, decimal_of_written}
 use Rattle.addr_core.proofs.DottedLemmas.{bind_is, dotted_of-dotted_text, dotted_text-dotted_of, dotted_text_all, some_dotted}
-use Rattle.addr_core.proofs.SixLemmas.{six_is, six_of_text, six_text_all, six_text_colon, six_text_some, six_text_written}
+use Rattle.addr_core.proofs.SixLemmas.{six_of_text, six_text_all, six_text_colon, six_text_some}
+use Rattle.addr_core.proofs.SixReading.{six_is}
+use Rattle.addr_core.proofs.SixWritten.{six_text_written}
 use Rattle.addr_core.proofs.TextLemmas.{cut-at_mark, cut-first, cut-joins, cut-no_mark, cut_pair-at_mark, cut_pair-joins}
 
 -- one answer has one value
@@ -41,19 +43,19 @@ no_colon n = list_any_none is_colon (dotted_text n) (dotted_text_all (λ b. is_c
 -- an address is read of a text that stands for it
 pub addr_of_text : (text : List ℕ) (addr : Addr) → IsAddr addr → IsText text addr → addr_of text ≡ Ok addr
 addr_of_text text (V4 n) small is = ap (λ t. addr_of t) is ∙ rw (not_empty (dotted_text n) (some_dotted n), no_colon n, dotted_of-dotted_text n small) refl
-addr_of_text text (V6 n) small is = rw (not_empty text (six_text_some text n small is), six_text_colon text n small is, six_of_text text n small is) refl
+addr_of_text text (V6 n) small is = rw (not_empty text (six_text_some text n is), six_text_colon text n is, six_of_text text n is) refl
 
 -- and of no other
-pub addr_text-addr_of : (text : List ℕ) (addr : Addr) → IsAddr addr → addr_of text ≡ Ok addr → IsText text addr
-addr_text-addr_of text addr fits is = by (is_empty text) (list_any is_colon text) refl refl
+pub addr_text-addr_of : (text : List ℕ) (addr : Addr) → addr_of text ≡ Ok addr → IsText text addr
+addr_text-addr_of text addr is = by (is_empty text) (list_any is_colon text) refl refl
   where
     by : (empty colon : Bool) → is_empty text ≡ empty → list_any is_colon text ≡ colon → IsText text addr
     by true colon a b = let wrong = rw a at is in absurd cc
     by false true a b =
         let read = bind_is (six_of text) (λ number. Ok (V6 number)) addr (rw (a, b) at is) in
         let same : V6 read.0 ≡ addr = addr_is (V6 read.0) addr read.2 in
-        let P : Addr → Type 0 = λ own. IsAddr own → IsText text own in
-        subst P same (λ small. six_is text read.0 small read.1) fits
+        let P : Addr → Type 0 = λ own. IsText text own in
+        subst P same (six_is text read.0 read.1)
     by false false a b =
         let read = bind_is (dotted_of (slice_split is_dot text)) (λ number. Ok (V4 number)) addr (rw (a, b) at is) in
         let same : V4 read.0 ≡ addr = addr_is (V4 read.0) addr read.2 in
@@ -84,7 +86,7 @@ digit_is_six_byte b low high = grind (arith, nat_tests)
 -- what holds of the bytes of addresses holds of each byte of a text
 text_all : (P : ℕ → Type 0) → ((b : ℕ) → is_six_byte b ≡ true → P b) → (text : List ℕ) (addr : Addr) → IsAddr addr → IsText text addr → All P text
 text_all P each text (V4 n) small is = subst (λ (t : List ℕ). All P t) (sym is) (dotted_text_all P (λ b low high. each b (digit_is_six_byte b low high)) (each 46 refl) n)
-text_all P each text (V6 n) small is = All-weaker (λ b. is_six_byte b ≡ true) P each text (six_text_all text n small is)
+text_all P each text (V6 n) small is = All-weaker (λ b. is_six_byte b ≡ true) P each text (six_text_all text n is)
 
 -- ---- endpoints
 
@@ -98,32 +100,33 @@ port_is text addr endpoint is = by (decimal_of text 65535) refl
         let written = decimal-decimal_of text 65535 port read in
         (written.0 ∙ ap (λ e. decimal e.port) same, ap (λ e. e.addr) same)
 
-bare_is : (text : List ℕ) (parts : Option (List ℕ × List ℕ)) (endpoint : Endpoint) → IsAddr endpoint.addr → cut (58 ∷ []) text ≡ parts → bare_of parts ≡ Ok endpoint → IsEndpointText text endpoint
-bare_is text None endpoint fits found is = absurd cc
-bare_is text (Some parts) endpoint fits found is =
+bare_is : (text : List ℕ) (parts : Option (List ℕ × List ℕ)) (endpoint : Endpoint) → cut (58 ∷ []) text ≡ parts → bare_of parts ≡ Ok endpoint → IsEndpointText text endpoint
+bare_is text None endpoint found is = absurd cc
+bare_is text (Some parts) endpoint found is =
     let read = bind_is (addr_of parts.0) (with_port parts.1) endpoint is in
     let port = port_is parts.1 read.0 endpoint read.2 in
     let four = without_colon parts.0 read.0 (cut-first 58 text parts.0 parts.1 found) read.1 in
-    let host : IsText parts.0 endpoint.addr = addr_text-addr_of parts.0 endpoint.addr fits (read.1 ∙ ap (λ a. Ok a) port.1) in
+    let host : IsText parts.0 endpoint.addr = addr_text-addr_of parts.0 endpoint.addr (read.1 ∙ ap (λ a. Ok a) port.1) in
     (parts.0, cut-joins 58 text parts.0 parts.1 found ∙ rw port.0 refl, as_host parts.0 endpoint.addr four.0 (sym port.1 ∙ four.1) host)
   where
     as_host : (text : List ℕ) (addr : Addr) (n : ℕ) → addr ≡ V4 n → IsText text addr → IsHost text addr
     as_host text (V4 m) n same is = is
     as_host text (V6 m) n same is = absurd cc
 
-bracketed_is : (text : List ℕ) (parts : Option (List ℕ × List ℕ)) (endpoint : Endpoint) → IsAddr endpoint.addr → cut (93 ∷ 58 ∷ []) text ≡ parts → bracketed_of parts ≡ Ok endpoint → IsEndpointText (91 ∷ text) endpoint
-bracketed_is text None endpoint fits found is = absurd cc
-bracketed_is text (Some parts) endpoint fits found is =
+bracketed_is : (text : List ℕ) (parts : Option (List ℕ × List ℕ)) (endpoint : Endpoint) → cut (93 ∷ 58 ∷ []) text ≡ parts → bracketed_of parts ≡ Ok endpoint → IsEndpointText (91 ∷ text) endpoint
+bracketed_is text None endpoint found is = absurd cc
+bracketed_is text (Some parts) endpoint found is =
     let outer = bind_is (addr_of parts.0 >>= in_brackets) (with_port parts.1) endpoint is in
     let inner = bind_is (addr_of parts.0) in_brackets outer.0 outer.1 in
     let port = port_is parts.1 outer.0 endpoint outer.2 in
     let same = in_brackets_is inner.0 endpoint.addr (inner.2 ∙ ap (λ a. Ok a) port.1) in
-    let host : IsText parts.0 endpoint.addr = addr_text-addr_of parts.0 endpoint.addr fits (inner.1 ∙ ap (λ a. Ok a) same.0) in
+    let host : IsText parts.0 endpoint.addr = addr_text-addr_of parts.0 endpoint.addr (inner.1 ∙ ap (λ a. Ok a) same.0) in
     (91 ∷ parts.0 ++ 93 ∷ [], ap (λ t. 91 ∷ t) (cut_pair-joins 93 58 text parts.0 parts.1 found ∙ rw port.0 (sym (append_assoc parts.0 (93 ∷ []) (58 ∷ decimal endpoint.port)))), as_host parts.0 endpoint.addr same.1 same.2 host)
   where
     in_brackets_is : (addr own : Addr) → in_brackets addr ≡ Ok own → (addr ≡ own) × (n : ℕ) × (own ≡ V6 n)
     in_brackets_is (V4 n) own is = absurd cc
     in_brackets_is (V6 n) own is = let same = addr_is (V6 n) own is in (same, n, sym same)
+
     as_host : (text : List ℕ) (addr : Addr) (n : ℕ) → addr ≡ V6 n → IsText text addr → IsHost (91 ∷ text ++ 93 ∷ []) addr
     as_host text (V4 m) n same is = absurd cc
     as_host text (V6 m) n same is = (text, refl, is)
@@ -132,15 +135,15 @@ first_and_rest : (text : List ℕ) → is_empty text ≡ false → (slice_index 
 first_and_rest [] some first = absurd cc
 first_and_rest (b ∷ text) some first = let same : b ≡ 91 = grind (arith, nat_tests) in rw same refl
 
-pub endpoint_text-endpoint_of : (text : List ℕ) (endpoint : Endpoint) → IsAddr endpoint.addr → endpoint_of text ≡ Ok endpoint → IsEndpointText text endpoint
-endpoint_text-endpoint_of text endpoint fits is = by (is_empty text) (slice_index text 0 == 91) refl refl
+pub endpoint_text-endpoint_of : (text : List ℕ) (endpoint : Endpoint) → endpoint_of text ≡ Ok endpoint → IsEndpointText text endpoint
+endpoint_text-endpoint_of text endpoint is = by (is_empty text) (slice_index text 0 == 91) refl refl
   where
     by : (empty bracket : Bool) → is_empty text ≡ empty → (slice_index text 0 == 91) ≡ bracket → IsEndpointText text endpoint
     by true bracket a b = let wrong = rw a at is in absurd cc
     by false true a b =
         let P : List ℕ → Type 0 = λ t. IsEndpointText t endpoint in
-        subst P (sym (first_and_rest text a b)) (bracketed_is (drop 1 text) (cut (93 ∷ 58 ∷ []) (drop 1 text)) endpoint fits refl (rw (a, b) at is))
-    by false false a b = bare_is text (cut (58 ∷ []) text) endpoint fits refl (rw (a, b) at is)
+        subst P (sym (first_and_rest text a b)) (bracketed_is (drop 1 text) (cut (93 ∷ 58 ∷ []) (drop 1 text)) endpoint refl (rw (a, b) at is))
+    by false false a b = bare_is text (cut (58 ∷ []) text) endpoint refl (rw (a, b) at is)
 
 first_append : (xs ys : List ℕ) → 0 < length xs → get_or (xs ++ ys) 0 0 ≡ get_or xs 0 0
 first_append [] ys some = absurd (omega arith)
@@ -200,18 +203,18 @@ bits_is text addr net is = by (decimal_of text (width_of addr)) refl
         let written = decimal-decimal_of text (width_of addr) bits read in
         (written.0 ∙ ap (λ n. decimal n.bits) same, ap (λ n. n.addr) same)
 
-net_in_is : (text : List ℕ) (parts : Option (List ℕ × List ℕ)) (net : Prefix) → IsAddr net.addr → cut (47 ∷ []) text ≡ parts → net_in text parts ≡ Ok net → IsNetText text net
-net_in_is text None net fits found is =
+net_in_is : (text : List ℕ) (parts : Option (List ℕ × List ℕ)) (net : Prefix) → cut (47 ∷ []) text ≡ parts → net_in text parts ≡ Ok net → IsNetText text net
+net_in_is text None net found is =
     let read = bind_is (addr_of text) one_address net is in
     let same = net_is (record { addr = read.0; bits = width_of read.0 }) net read.2 in
-    inr (addr_text-addr_of text net.addr fits (read.1 ∙ ap (λ n. Ok n.addr) same), ap (λ n. n.bits) (sym same) ∙ ap (λ n. width_of n.addr) same)
-net_in_is text (Some parts) net fits found is =
+    inr (addr_text-addr_of text net.addr (read.1 ∙ ap (λ n. Ok n.addr) same), ap (λ n. n.bits) (sym same) ∙ ap (λ n. width_of n.addr) same)
+net_in_is text (Some parts) net found is =
     let read = bind_is (addr_of parts.0) (with_bits parts.1) net is in
     let bits = bits_is parts.1 read.0 net read.2 in
-    inl (parts.0, cut-joins 47 text parts.0 parts.1 found ∙ rw bits.0 refl, addr_text-addr_of parts.0 net.addr fits (read.1 ∙ ap (λ a. Ok a) bits.1))
+    inl (parts.0, cut-joins 47 text parts.0 parts.1 found ∙ rw bits.0 refl, addr_text-addr_of parts.0 net.addr (read.1 ∙ ap (λ a. Ok a) bits.1))
 
-pub net_text-net_of : (text : List ℕ) (net : Prefix) → IsAddr net.addr → net_of text ≡ Ok net → IsNetText text net
-net_text-net_of text net fits is = net_in_is text (cut (47 ∷ []) text) net fits refl is
+pub net_text-net_of : (text : List ℕ) (net : Prefix) → net_of text ≡ Ok net → IsNetText text net
+net_text-net_of text net is = net_in_is text (cut (47 ∷ []) text) net refl is
 
 no_slash : (b : ℕ) → is_six_byte b ≡ true → (b == 47) ≡ false
 no_slash b is = grind (arith, nat_tests)

@@ -1,16 +1,17 @@
 -- IPv4 addresses as text, and what is read of it.
 use Rattle.std.proofs.Common.{◌≡◌, ℕ, ◌+◌, ◌*◌, ◌/◌, ◌%◌, ◌^◌, ◌<◌, ◌≤◌, Bool, true, false, List, [], ◌∷◌, ◌++◌, length, refl, ◌∙◌, sym, ap, arith, length-append}
 use Rattle.std.specs.Prelude.{◌||◌, nat_lt, Result, Ok, Err}
-use Rattle.std.specs.List.{list_all, slice_split, join_with_byte, All}
+use Rattle.std.specs.List.{list_all, list_any, slice_split, join_with_byte, All}
 use Rattle.std.specs.Char.{is_ascii_digit}
 use Rattle.std.proofs.lemmas.Bool.Decides.{nat_tests}
 use Rattle.std.proofs.lemmas.List.Splits.{slice_split_at, slice_split_none, join_with_byte-slice_split}
 use Rattle.std.proofs.lemmas.List.Elements.{All-nil, All-cons, All-append}
+use Rattle.std.proofs.lemmas.List.Folds.{list_any-append}
 use Rattle.list_core.specs.Each.{◌>>=◌}
 use Rattle.addr_core.specs.Decimal.{decimal, value_of, has_leading_zero}
 use Rattle.addr_core.specs.Dotted.{dotted_of, dotted_text, four_of, is_dot, is_empty, octet_of}
 use Rattle.addr_core.specs.declared.reading.AddrFault.{AddrFault}
-use Rattle.addr_core.proofs.DecimalLemmas.{are_digits_decimal, has_leading_zero-decimal, decimal-value_of}
+use Rattle.addr_core.proofs.DecimalLemmas.{length-decimal-le, are_digits_decimal, has_leading_zero-decimal, decimal-value_of}
 
 -- ---- each byte
 
@@ -156,3 +157,25 @@ dotted_is text (p ∷ q ∷ r ∷ s ∷ t ∷ more) n joined is = absurd cc
 -- what is read of a text is written as that text
 pub dotted_text-dotted_of : (text : List ℕ) (n : ℕ) → dotted_of (slice_split is_dot text) ≡ Ok n → (text ≡ dotted_text n) × (n < 2 ^ 32)
 dotted_text-dotted_of text n is = dotted_is text (slice_split is_dot text) n (join_with_byte-slice_split 46 text) is
+
+-- there is a dot in it
+pub has_dot_text : (n : ℕ) → list_any is_dot (dotted_text n) ≡ true
+has_dot_text n = list_any-append is_dot (decimal (n / 2 ^ 24)) (46 ∷ (decimal (n / 2 ^ 16 % 2 ^ 8) ++ 46 ∷ (decimal (n / 2 ^ 8 % 2 ^ 8) ++ 46 ∷ decimal (n % 2 ^ 8)))) ∙ by (list_any is_dot (decimal (n / 2 ^ 24)))
+  where
+    by : (t : Bool) → (t || true) ≡ true
+    by true = refl
+    by false = refl
+
+-- it has at most 15 bytes
+pub length-dotted_text : (n : ℕ) → n < 2 ^ 32 → length (dotted_text n) ≤ 15
+length-dotted_text n small =
+    omega (
+      arith,
+      length-decimal-le 3 (n / 2 ^ 24) (omega arith) (omega arith),
+      length-decimal-le 3 (n / 2 ^ 16 % 2 ^ 8) (omega arith) (omega arith),
+      length-decimal-le 3 (n / 2 ^ 8 % 2 ^ 8) (omega arith) (omega arith),
+      length-decimal-le 3 (n % 2 ^ 8) (omega arith) (omega arith),
+      length-append (decimal (n / 2 ^ 24)) (46 ∷ (decimal (n / 2 ^ 16 % 2 ^ 8) ++ 46 ∷ (decimal (n / 2 ^ 8 % 2 ^ 8) ++ 46 ∷ decimal (n % 2 ^ 8)))),
+      length-append (decimal (n / 2 ^ 16 % 2 ^ 8)) (46 ∷ (decimal (n / 2 ^ 8 % 2 ^ 8) ++ 46 ∷ decimal (n % 2 ^ 8))),
+      length-append (decimal (n / 2 ^ 8 % 2 ^ 8)) (46 ∷ decimal (n % 2 ^ 8)),
+    )

@@ -80,6 +80,7 @@ room_last used whole word is room = by (is_empty word) refl (has_dot word) refl 
   where
     count : group_count room.0 (word ∷ []) ≡ Some room.1
     count = ap (group_count room.0) (sym is) ∙ room.2
+
     by : (empty : Bool) → is_empty word ≡ empty → (dot : Bool) → has_dot word ≡ dot → (dotted : Bool) → room.0 ≡ dotted → used + (if has_dot word then 2 else 1) ≤ 8
     by true a dot b dotted c = let wrong = rw a at count in absurd cc
     by false a false b dotted c = let same = rw (a, b) at count in let number : 1 ≡ room.1 = cc in rw b (omega (arith, number, room.3))
@@ -88,7 +89,7 @@ room_last used whole word is room = by (is_empty word) refl (has_dot word) refl 
 
 -- ---- collecting
 
-groups_are : (a b : List ℕ) → ◌≡◌ {A = Result (List ℕ) AddrFault} (Ok a) (Ok b) → a ≡ b
+pub groups_are : (a b : List ℕ) → ◌≡◌ {A = Result (List ℕ) AddrFault} (Ok a) (Ok b) → a ≡ b
 groups_are a b is = cc
 
 -- a word without a dot stands for one group

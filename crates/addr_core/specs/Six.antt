@@ -26,31 +26,29 @@ number_of groups = fold (λ number group. number * 2 ^ 16 + group) 0 groups
 abbrev pub is_group : List ℕ → Bool
 is_group word = not (is_empty word) && (nat_lt (length word) 5 && list_all is_ascii_hexdigit word)
 
--- each word stands for its group
-abbrev pub AreGroups : List (List ℕ) → List ℕ → Type 0
-AreGroups [] groups = groups ≡ []
-AreGroups (word ∷ words) [] = ⊥
-AreGroups (word ∷ words) (group ∷ groups) = (is_group word ≡ true) × (hex_value word ≡ group) × AreGroups words groups
+abbrev pub IsGroup : List ℕ → ℕ → Type 0
+IsGroup word group = (is_group word ≡ true) × (hex_value word ≡ group)
 
 -- a word stands for two groups, as an IPv4 address
 abbrev pub IsTail : List ℕ → List ℕ → Type 0
 IsTail word groups = (number : ℕ) × (number < 2 ^ 32) × (word ≡ dotted_text number) × (groups ≡ (number / 2 ^ 16) ∷ (number % 2 ^ 16) ∷ [])
 
--- the same, where the last word may stand for two groups
-abbrev pub AreLastGroups : List (List ℕ) → List ℕ → Type 0
-AreLastGroups [] groups = groups ≡ []
-AreLastGroups (word ∷ words) groups =
-    ((words ≡ []) × IsTail word groups) ⊎ ((group : ℕ) × (rest : List ℕ) × (groups ≡ group ∷ rest) × (is_group word ≡ true) × (hex_value word ≡ group) × AreLastGroups words rest)
+-- words stand for groups, each for one, but the last, if it may be dotted, may stand for two
+abbrev pub AreGroups : Bool → List (List ℕ) → List ℕ → Type 0
+AreGroups dotted [] groups = groups ≡ []
+AreGroups dotted (word ∷ words) groups =
+    ((dotted ≡ true) × (words ≡ []) × IsTail word groups)
+    ⊎ ((group : ℕ) × (rest : List ℕ) × (groups ≡ group ∷ rest) × IsGroup word group × AreGroups dotted words rest)
 
 -- eight groups with single colons: 58 is the colon
 abbrev pub IsWhole : List ℕ → ℕ → Type 0
 IsWhole text number =
-    (words : List (List ℕ)) × (groups : List ℕ) × (text ≡ join_with_byte 58 words) × AreLastGroups words groups × (length groups ≡ 8) × (number ≡ number_of groups)
+    (words : List (List ℕ)) × (groups : List ℕ) × (text ≡ join_with_byte 58 words) × AreGroups true words groups × (length groups ≡ 8) × (number ≡ number_of groups)
 
 -- two colons for one zero group or more
 abbrev pub IsShort : List ℕ → ℕ → Type 0
 IsShort text number =
-    (front : List (List ℕ)) × (back : List (List ℕ)) × (before : List ℕ) × (after : List ℕ) × (text ≡ join_with_byte 58 front ++ 58 ∷ 58 ∷ join_with_byte 58 back) × AreGroups front before × AreLastGroups back after
+    (front : List (List ℕ)) × (back : List (List ℕ)) × (before : List ℕ) × (after : List ℕ) × (text ≡ join_with_byte 58 front ++ 58 ∷ 58 ∷ join_with_byte 58 back) × AreGroups false front before × AreGroups true back after
     × (length before + length after < 8) × (number ≡ number_of (before ++ replicate (8 - (length before + length after)) 0 ++ after))
 
 -- the text stands for the address of the number

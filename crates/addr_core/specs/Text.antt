@@ -21,6 +21,11 @@ abbrev pub text_of : Addr → List ℕ
 text_of (V4 number) = dotted_text number
 text_of (V6 number) = groups_text (groups_of number)
 
+-- the most bytes that the text of an address of the family has
+abbrev pub text_limit : Addr → ℕ
+text_limit (V4 number) = 15
+text_limit (V6 number) = 39
+
 -- an address before a port: of IPv6 in brackets
 abbrev pub host_text : Addr → List ℕ
 host_text (V4 number) = text_of (V4 number)
@@ -33,7 +38,7 @@ endpoint_text endpoint = host_text endpoint.addr ++ codes ":" ++ decimal endpoin
 -- the number is one of the family
 abbrev pub IsAddr : Addr → Type 0
 IsAddr (V4 number) = number < 2 ^ 32
-IsAddr (V6 number) = ⊥
+IsAddr (V6 number) = number < 2 ^ 128
 
 abbrev pub IsEndpoint : Endpoint → Type 0
 IsEndpoint endpoint = IsAddr endpoint.addr × (endpoint.port < 2 ^ 16)

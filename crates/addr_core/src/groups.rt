@@ -1,5 +1,5 @@
 //! Writing the groups of an IPv6 address.
-ghost use Rattle.std.specs.Prelude.{◌≡◌, ◌+◌, ◌*◌, ◌^◌, ◌<◌, ◌≤◌, ◌∷◌, ◌++◌, [], length};
+ghost use Rattle.std.specs.Prelude.{◌≡◌, ◌+◌, ◌-◌, ◌*◌, ◌^◌, ◌<◌, ◌≤◌, ◌∷◌, ◌++◌, [], length};
 ghost use Rattle.std.specs.Char.{digit_char};
 ghost use Rattle.std.specs.List.{flat_map};
 ghost use Rattle.addr_core.specs.Groups.{colon_text, groups_of, groups_text, hexadecimal, longest, without_run, zeros};
@@ -87,7 +87,7 @@ fn push_more(text: &mut ArrayString<39>, groups: &[u16])
 fn push_groups(text: &mut ArrayString<39>, groups: &[u16])
     requires { length text.old.bytes + 5 * length groups.now ≤ 40 }
     ensures bytes { text.new.bytes ≡ text.old.bytes ++ colon_text groups.now }
-    ensures room { length text.new.bytes ≤ length text.old.bytes + 5 * length groups.now }
+    ensures room { length text.new.bytes ≤ length text.old.bytes + (5 * length groups.now - 1) }
 {
     let [first, rest @ ..] = groups else {
         return;
@@ -138,7 +138,8 @@ fn longest(groups: &[u16]) -> Run
 /// ones (RFC 5952, section 4.2).
 pub(crate) fn write_groups(groups: &[u16]) -> ArrayString<39>
     requires { length groups.now ≤ 8 }
-    ensures { result.bytes ≡ groups_text groups.now }
+    ensures text { result.bytes ≡ groups_text groups.now }
+    ensures length { length result.bytes ≤ 39 }
 {
     let run = longest(groups);
     let mut text = ArrayString::new();

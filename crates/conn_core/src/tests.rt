@@ -221,7 +221,7 @@ fn refuses_words_by_the_first_that_cannot_stand(rt: HostRuntime) -> Result<(), F
         ("bind :0", "line 2: BadAddress"),
         ("bind :080", "line 2: BadAddress"),
         ("bind 1.2.3.4", "line 2: BadAddress"),
-        ("bind [::1]:80", "line 2: BadAddress"),
+        ("bind [::1]", "line 2: BadAddress"),
         ("bind :80 ssl", "line 2: Unsupported"),
         ("bind :80 accept-proxy", "line 2: Unsupported"),
         ("bind :80\nbind :80", "line 3: Duplicate"),

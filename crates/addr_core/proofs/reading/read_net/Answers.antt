@@ -4,6 +4,6 @@ use Rattle.addr_core.proofs.reading.read_net.Goals as goal
 
 pub returns-clause-stands : goal.returns-clause-stands
 returns-clause-stands c = λ net fits. (
-  λ is. net_text-net_of c.args.text.now net fits.0 (sym c.net_in.ensures ∙ is),
+  λ is. net_text-net_of c.args.text.now net (sym c.net_in.ensures ∙ is),
   λ is. c.net_in.ensures ∙ net_of_text c.args.text.now net fits is,
 )

@@ -12,8 +12,7 @@ push_word-requires c =
 pub loop-word-preserved : goal.loop-word-preserved
 loop-word-preserved c =
     let step = room_step _ (slice_split is_colon c.loop-word.rest.now) c.in-Some.word.now c.in-Some.more.now c.in-Some.ensures.some c.loop-word.invariant.0 in
-    let long = read_length c.loop-word.groups.items c.in-Some.word.now c.push_word.new.groups.items step.0 c.in_ok-push_word.ensures.ok in
-    (
+    let long = read_length c.loop-word.groups.items c.in-Some.word.now c.push_word.new.groups.items step.0 c.in_ok-push_word.ensures.ok in (
       (step.1.0, step.1.1, step.1.2, omega (arith, step.1.3, long)),
       c.loop-word.invariant.1 ∙ read_step (slice_split is_colon c.loop-word.rest.now) c.in-Some.word.now c.in-Some.more.now c.loop-word.groups.items c.push_word.new.groups.items c.in-Some.ensures.some c.in_ok-push_word.ensures.ok,
     )

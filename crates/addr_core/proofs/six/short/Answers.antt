@@ -13,8 +13,7 @@ push_zeros-requires c =
 pub push_text-requires-2 : goal.push_text-requires-2
 push_text-requires-2 c =
     let is = gap_is (words_of c.args.front.now) (words_of c.args.back.now) c.in-Some.gap (sym c.gap.ensures ∙ c.in-Some.is) in
-    let first = reads_from c.new-groups.result.items [] (groups_in (words_of c.args.front.now)) c.push_text.new.groups.items c.new-groups.ensures c.in_ok-push_text.ensures.ok in
-    (
+    let first = reads_from c.new-groups.result.items [] (groups_in (words_of c.args.front.now)) c.push_text.new.groups.items c.new-groups.ensures c.in_ok-push_text.ensures.ok in (
       true,
       is.after,
       is.back_count,
