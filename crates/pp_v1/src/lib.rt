@@ -3,6 +3,8 @@
 
 pub use meaning::Meaning;
 pub use reading::{V1Fault, read_line};
+pub use writing::write_v1;
 
 mod meaning;
 mod reading;
+mod writing;
