@@ -89,9 +89,6 @@ before_end-end text =
     let size : length (text ++ 13 ∷ 10 ∷ []) - 2 ≡ length text = omega (arith, length-append text (13 ∷ 10 ∷ [])) in
     rw (size, drop_front text (13 ∷ 10 ∷ []), take_front text (13 ∷ 10 ∷ [])) refl
 
-after_name-name : (text : List ℕ) → after_name (codes "PROXY " ++ text) ≡ Some text
-after_name-name text = refl
-
 between_line : (text : List ℕ) → line_meaning (codes "PROXY " ++ (text ++ 13 ∷ 10 ∷ [])) ≡ text_meaning text
 between_line text = rw (before_end-end text) refl
 
