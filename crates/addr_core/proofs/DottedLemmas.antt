@@ -11,7 +11,7 @@ use Rattle.list_core.specs.Each.{◌>>=◌}
 use Rattle.addr_core.specs.Decimal.{decimal, value_of, has_leading_zero}
 use Rattle.addr_core.specs.Dotted.{dotted_of, dotted_text, four_of, is_dot, is_empty, octet_of}
 use Rattle.addr_core.specs.declared.reading.AddrFault.{AddrFault}
-use Rattle.addr_core.proofs.DecimalLemmas.{length-decimal-le, are_digits_decimal, has_leading_zero-decimal, decimal-value_of}
+use Rattle.addr_core.proofs.DecimalLemmas.{are_digits_decimal, has_leading_zero-decimal, decimal-value_of}
 
 -- ---- each byte
 
@@ -165,17 +165,3 @@ has_dot_text n = list_any-append is_dot (decimal (n / 2 ^ 24)) (46 ∷ (decimal 
     by : (t : Bool) → (t || true) ≡ true
     by true = refl
     by false = refl
-
--- it has at most 15 bytes
-pub length-dotted_text : (n : ℕ) → n < 2 ^ 32 → length (dotted_text n) ≤ 15
-length-dotted_text n small =
-    omega (
-      arith,
-      length-decimal-le 3 (n / 2 ^ 24) (omega arith) (omega arith),
-      length-decimal-le 3 (n / 2 ^ 16 % 2 ^ 8) (omega arith) (omega arith),
-      length-decimal-le 3 (n / 2 ^ 8 % 2 ^ 8) (omega arith) (omega arith),
-      length-decimal-le 3 (n % 2 ^ 8) (omega arith) (omega arith),
-      length-append (decimal (n / 2 ^ 24)) (46 ∷ (decimal (n / 2 ^ 16 % 2 ^ 8) ++ 46 ∷ (decimal (n / 2 ^ 8 % 2 ^ 8) ++ 46 ∷ decimal (n % 2 ^ 8)))),
-      length-append (decimal (n / 2 ^ 16 % 2 ^ 8)) (46 ∷ (decimal (n / 2 ^ 8 % 2 ^ 8) ++ 46 ∷ decimal (n % 2 ^ 8))),
-      length-append (decimal (n / 2 ^ 8 % 2 ^ 8)) (46 ∷ decimal (n % 2 ^ 8)),
-    )

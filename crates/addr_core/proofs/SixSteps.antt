@@ -1,15 +1,14 @@
 -- The steps of reading an IPv6 address.
-use Rattle.std.proofs.Common.{lit≤, replicate, append-nil, ◌≡◌, ◌≢◌, ◌-◌, ℕ, zero, suc, ◌+◌, ◌/◌, ◌%◌, ◌^◌, ◌<◌, ◌≤◌, Bool, true, false, List, [], ◌∷◌, ◌++◌, length, Some, None, Option, refl, ◌∙◌, sym, ap, arith, append_assoc, length-append}
-use Rattle.std.specs.Prelude.{◌||◌, ◌==◌, nat_lt, if◌then◌else◌, Result, Ok, Err}
+use Rattle.std.proofs.Common.{lit≤, replicate, append-nil, ◌≡◌, ◌-◌, ℕ, zero, suc, ◌+◌, ◌/◌, ◌%◌, ◌^◌, ◌<◌, ◌≤◌, Bool, true, false, List, [], ◌∷◌, ◌++◌, length, Some, None, Option, refl, ◌∙◌, sym, ap, arith, append_assoc, length-append}
+use Rattle.std.specs.Prelude.{◌||◌, nat_lt, Result, Ok, Err}
 use Rattle.std.specs.List.{list_all, slice_split}
 use Rattle.std.specs.Option.{option_map, unwrap_or}
 use Rattle.std.proofs.lemmas.Bool.Decides.{nat_tests}
 use Rattle.std.proofs.lemmas.List.{length-replicate}
 use Rattle.list_core.specs.Each.{◌>>=◌}
 use Rattle.addr_core.specs.Dotted.{cut, dotted_of, is_colon, is_dot, is_empty}
-use Rattle.addr_core.specs.Six.{gap_of, group_count, groups_in, has_dot, is_six_byte, number_of, parts_of, short_with, six_of, words_of, whole_of, word_groups, HasRoom, ReadsOnto}
+use Rattle.addr_core.specs.Six.{gap_of, group_count, groups_in, has_dot, is_six_byte, parts_of, six_of, words_of, word_groups, HasRoom, ReadsOnto}
 use Rattle.addr_core.specs.declared.reading.AddrFault.{AddrFault}
-use Rattle.addr_core.specs.declared.reading.AddrFault.TheVariants.{BadGroups}
 use Rattle.addr_core.proofs.DottedLemmas.{bind_is}
 use Rattle.addr_core.proofs.TextLemmas.{split_first}
 
@@ -75,18 +74,6 @@ room_step used whole word more is room = by (is_empty word || has_dot word) refl
         let number : count + 1 ≡ room.1 = cc in
         (both.1, (room.0, count, rest, omega (arith, number, room.3)))
 
-pub room_last : (used : ℕ) (whole : List (List ℕ)) (word : List ℕ) → whole ≡ word ∷ [] → HasRoom used whole → used + (if has_dot word then 2 else 1) ≤ 8
-room_last used whole word is room = by (is_empty word) refl (has_dot word) refl room.0 refl
-  where
-    count : group_count room.0 (word ∷ []) ≡ Some room.1
-    count = ap (group_count room.0) (sym is) ∙ room.2
-
-    by : (empty : Bool) → is_empty word ≡ empty → (dot : Bool) → has_dot word ≡ dot → (dotted : Bool) → room.0 ≡ dotted → used + (if has_dot word then 2 else 1) ≤ 8
-    by true a dot b dotted c = let wrong = rw a at count in absurd cc
-    by false a false b dotted c = let same = rw (a, b) at count in let number : 1 ≡ room.1 = cc in rw b (omega (arith, number, room.3))
-    by false a true b false c = let wrong = rw (a, b, c) at count in absurd cc
-    by false a true b true c = let same = rw (a, b, c) at count in let number : 2 ≡ room.1 = cc in rw b (omega (arith, number, room.3))
-
 -- ---- collecting
 
 pub groups_are : (a b : List ℕ) → ◌≡◌ {A = Result (List ℕ) AddrFault} (Ok a) (Ok b) → a ≡ b
@@ -121,22 +108,6 @@ read_step whole word more old new is read =
     ∙ rw read.1 (onto old read.0 (groups_in (slice_split is_colon more)))
     ∙ ap (λ front. groups_in (slice_split is_colon more) >>= λ groups. Ok (front ++ groups)) (sym read.2)
 
-pub read_fault : (whole rest : List (List ℕ)) (word : List ℕ) (fault : AddrFault) → whole ≡ word ∷ rest → word_groups word ≡ Err fault → groups_in whole ≡ Err fault
-read_fault whole rest word fault is wrong = ap groups_in is ∙ rw wrong refl
-
-pub fault_is : (old : List ℕ) (r : Result (List ℕ) AddrFault) (fault : AddrFault) → (r >>= λ groups. Ok (old ++ groups)) ≡ Err fault → r ≡ Err fault
-fault_is old (Ok groups) fault is = absurd cc
-fault_is old (Err other) fault is = let same : other ≡ fault = cc in ap (λ f. Err f) same
-
-pub reads_onto : (old : List ℕ) (r : Result (List ℕ) AddrFault) (new : List ℕ) → (r >>= λ groups. Ok (old ++ groups)) ≡ Ok new → ReadsOnto old r new
-reads_onto old (Ok groups) new is = let same : old ++ groups ≡ new = cc in (groups, refl, sym same)
-reads_onto old (Err fault) new is = absurd cc
-
--- the last word
-pub read_last : (whole : List (List ℕ)) (word old new : List ℕ) → whole ≡ word ∷ [] → ReadsOnto old (word_groups word) new → (groups_in whole >>= λ groups. Ok (old ++ groups)) ≡ Ok new
-read_last whole word old new is read =
-    ap (λ ws. groups_in ws >>= λ groups. Ok (old ++ groups)) is ∙ rw read.1 (ap (λ all. Ok (old ++ all)) (append-nil read.0)) ∙ ap (λ all. Ok all) (sym read.2)
-
 -- words that were counted stand for so many groups
 pub counted : (dotted : Bool) (words : List (List ℕ)) (count : ℕ) (groups : List ℕ) → group_count dotted words ≡ Some count → groups_in words ≡ Ok groups → length groups ≡ count
 counted dotted [] count groups some is = let number : 0 ≡ count = cc in ap length (sym (groups_are [] groups is)) ∙ number
@@ -168,8 +139,6 @@ counted dotted (word ∷ next ∷ words) count groups some is =
 pub reads_from : (old none : List ℕ) (r : Result (List ℕ) AddrFault) (new : List ℕ) → old ≡ none → ReadsOnto old r new → ReadsOnto none r new
 reads_from old none r new same read = (read.0, read.1, read.2 ∙ ap (λ front. front ++ read.0) same)
 
--- ---- the whole
-
 eight : (o : Option ℕ) → unwrap_or o 0 ≡ 8 → o ≡ Some 8
 eight None is = absurd (omega arith)
 eight (Some n) is = ap (λ m. Some m) is
@@ -177,22 +146,6 @@ eight (Some n) is = ap (λ m. Some m) is
 -- all words are counted, and read
 pub whole_length : (words : List (List ℕ)) (count : ℕ) (groups : List ℕ) → count ≡ unwrap_or (group_count true words) 0 → count ≡ 8 → ReadsOnto [] (groups_in words) groups → length groups ≡ 8
 whole_length words count groups is all read = ap length read.2 ∙ counted true words 8 read.0 (eight (group_count true words) (sym is ∙ all)) read.1
-
-pub whole_read : (words : List (List ℕ)) (count : ℕ) (groups : List ℕ) → count ≡ unwrap_or (group_count true words) 0 → count ≡ 8 → ReadsOnto [] (groups_in words) groups → whole_of words ≡ Ok (number_of groups)
-whole_read words count groups is all read = rw (eight (group_count true words) (sym is ∙ all), read.1, read.2) refl
-
-pub whole_fault : (words : List (List ℕ)) (count : ℕ) (fault : AddrFault) → count ≡ unwrap_or (group_count true words) 0 → count ≡ 8 → groups_in words ≡ Err fault → whole_of words ≡ Err fault
-whole_fault words count fault is all wrong = rw (eight (group_count true words) (sym is ∙ all), wrong) refl
-
-pub whole_bad : (words : List (List ℕ)) (count : ℕ) → count ≡ unwrap_or (group_count true words) 0 → count ≢ 8 → whole_of words ≡ Err BadGroups
-whole_bad words count is not_all = by (group_count true words) refl
-  where
-    by : (o : Option ℕ) → group_count true words ≡ o → whole_of words ≡ Err BadGroups
-    by None found = rw found refl
-    by (Some n) found = let same : count ≡ n = is ∙ ap (λ o. unwrap_or o 0) found in let test : (n == 8) ≡ false = grind (arith, nat_tests) in rw (found, test) refl
-
-pub whole_room : (words : List (List ℕ)) (count : ℕ) → count ≡ unwrap_or (group_count true words) 0 → count ≡ 8 → HasRoom 0 words
-whole_room words count is all = (true, 8, eight (group_count true words) (sym is ∙ all), omega arith)
 
 -- ---- a gap
 
@@ -219,12 +172,6 @@ gap_is front back gap is = by (group_count false front) refl (group_count true b
             let number : 8 - (m + n) ≡ gap = cc in
             let small : m + n < 8 = grind (arith, nat_tests) in
             record { before = m; after = n; front_count = a; back_count = b; all = omega (arith, number, small); some = small }
-
--- what a front, zeros and a back are read as
-pub short_read : (front back : List (List ℕ)) (gap : ℕ) (first second third : List ℕ) → ReadsOnto [] (groups_in front) first → second ≡ first ++ replicate gap 0 → ReadsOnto second (groups_in back) third
-    → short_with front back (Some gap) ≡ Ok (number_of third)
-short_read front back gap first second third before zeros after =
-    rw (before.1, after.1) (ap (λ groups. Ok (number_of (groups ++ after.0))) (ap (λ groups. groups ++ replicate gap 0) (sym before.2) ∙ sym zeros) ∙ ap (λ groups. Ok (number_of groups)) (sym after.2))
 
 pub short_length : (front back : List (List ℕ)) (gap : ℕ) (first second third : List ℕ) → IsGap front back gap → ReadsOnto [] (groups_in front) first → second ≡ first ++ replicate gap 0 → ReadsOnto second (groups_in back) third → length third ≡ 8
 short_length front back gap first second third is before zeros after =

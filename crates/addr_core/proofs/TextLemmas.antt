@@ -1,5 +1,5 @@
 -- Texts in parts.
-use Rattle.std.proofs.Common.{◌≡◌, ◌≢◌, ℕ, zero, suc, ◌+◌, ◌-◌, ◌<◌, Bool, true, false, List, [], ◌∷◌, ◌++◌, length, take, drop, get_or, Some, None, Option, refl, ◌∙◌, sym, ap, arith, nat_eq, Bor, drop-drop}
+use Rattle.std.proofs.Common.{◌≡◌, ℕ, zero, suc, ◌+◌, ◌-◌, ◌<◌, Bool, true, false, List, [], ◌∷◌, ◌++◌, length, take, drop, Some, None, Option, refl, ◌∙◌, sym, ap, arith, nat_eq, Bor, drop-drop}
 use Rattle.std.specs.Prelude.{◌==◌, ◌&&◌, cond, if◌then◌else◌, Err, IfSome, IfNone}
 use Rattle.std.specs.List.{All, AllByRecursion, join_with_byte, list_any, onto_first, slice_split, starts_with}
 use Rattle.std.proofs.lemmas.Bool.Decides.{nat_tests}
@@ -25,12 +25,6 @@ cut_none mark (x ∷ text) before =
     let differs : starts_with nat_eq (x ∷ text) mark ≡ false = before 0 (omega arith) in
     let rest : cut mark text ≡ None = cut_none mark text (λ k low. before (suc k) (omega arith)) in
     rw (differs, rest) refl
-
--- a text that begins with another byte does not begin with the mark
-pub starts_with-other : (mark text : List ℕ) → 0 < length mark → 0 < length text → get_or text 0 0 ≢ get_or mark 0 0 → starts_with nat_eq text mark ≡ false
-starts_with-other [] text a b differ = absurd (omega arith)
-starts_with-other (m ∷ mark) [] a b differ = absurd (omega arith)
-starts_with-other (m ∷ mark) (x ∷ text) a b differ = let test : nat_eq m x ≡ false = grind (arith, nat_tests) in rw test refl
 
 -- a mark of one byte
 starts_with-byte : (m x : ℕ) (text : List ℕ) → starts_with nat_eq (x ∷ text) (m ∷ []) ≡ (x == m)

@@ -2,7 +2,7 @@
 ghost use Rattle.std.specs.Prelude.{◌≡◌, ◌+◌, ◌-◌, ◌*◌, ◌^◌, ◌<◌, ◌≤◌, ◌∷◌, ◌++◌, [], length};
 ghost use Rattle.std.specs.Char.{digit_char};
 ghost use Rattle.std.specs.List.{flat_map};
-ghost use Rattle.addr_core.specs.Groups.{colon_text, groups_of, groups_text, hexadecimal, longest, without_run, zeros};
+ghost use Rattle.addr_core.specs.Groups.{colon_text, groups_of, groups_text, hexadecimal, longest, without_run, zeros, IsLongest};
 
 use arrayvec::ArrayString;
 
@@ -104,6 +104,9 @@ fn zeros(groups: &[u16]) -> usize
     groups.iter().take_while(|group| **group == 0).count()
 }
 
+/// A run of one zero group is written out.
+const SHORTEST_RUN: usize = 2;
+
 /// A run of zero groups: where it begins, and how many there are.
 #[derive(Clone, Copy)]
 struct Run {
@@ -116,12 +119,21 @@ fn longest(groups: &[u16]) -> Run
     ensures place { result.place ≡ (longest groups.now).place }
     ensures count { result.count ≡ (longest groups.now).count }
     ensures bound { result.place + result.count ≤ length groups.now }
+    ensures longest { IsLongest result.place result.count groups.now }
+{
+    longest_run(groups)
+}
+
+fn longest_run(groups: &[u16]) -> Run
+    ensures place { result.place ≡ (longest groups.now).place }
+    ensures count { result.count ≡ (longest groups.now).count }
+    ensures bound { result.place + result.count ≤ length groups.now }
 {
     let [_, rest @ ..] = groups else {
         return Run { place: 0, count: 0 };
     };
     let here = zeros(groups);
-    let later = longest(rest);
+    let later = longest_run(rest);
     if here >= later.count {
         return Run {
             place: 0,
@@ -143,7 +155,7 @@ pub(crate) fn write_groups(groups: &[u16]) -> ArrayString<39>
 {
     let run = longest(groups);
     let mut text = ArrayString::new();
-    if run.count < 2 {
+    if run.count < SHORTEST_RUN {
         push_groups(&mut text, groups);
         return text;
     }

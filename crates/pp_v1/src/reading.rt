@@ -73,7 +73,13 @@ fn declared(protocol: Protocol, a: &[u8], b: &[u8], c: &[u8], d: &[u8]) -> Resul
     }
 }
 
-fn four_fields(protocol: Protocol, a: &[u8], b: &[u8], c: &[u8], d: &[u8]) -> Result<Meaning, V1Fault>
+fn four_fields(
+    protocol: Protocol,
+    a: &[u8],
+    b: &[u8],
+    c: &[u8],
+    d: &[u8],
+) -> Result<Meaning, V1Fault>
     ensures { result ≡ fields_of protocol (a.now ∷ b.now ∷ c.now ∷ d.now ∷ []) }
 {
     if a.is_empty() || b.is_empty() || c.is_empty() || d.is_empty() {

@@ -21,12 +21,14 @@ fn lines_of_the_standard(rt: HostRuntime) -> Result<(), Fail> {
         b"[ffff:ffff:ffff:ffff:ffff:ffff:ffff:ffff]:65535",
         b"[ffff:ffff:ffff:ffff:ffff:ffff:ffff:ffff]:65535",
     )?;
-    let line = b"PROXY TCP6 ffff:ffff:ffff:ffff:ffff:ffff:ffff:ffff ffff:ffff:ffff:ffff:ffff:ffff:ffff:ffff 65535 65535\r\n";
+    let line =
+        b"PROXY TCP6 ffff:ffff:ffff:ffff:ffff:ffff:ffff:ffff ffff:ffff:ffff:ffff:ffff:ffff:ffff:ffff 65535 65535\r\n";
     assert_eq!(rt; line.len(), 104);
     assert_eq!(rt; read_line(line), Ok(Meaning::Declared(six)));
     assert!(rt; write_v1(&six).as_slice() == line.as_slice());
     assert_eq!(rt; read_line(b"PROXY UNKNOWN\r\n"), Ok(Meaning::Real));
-    let longest = b"PROXY UNKNOWN ffff:ffff:ffff:ffff:ffff:ffff:ffff:ffff ffff:ffff:ffff:ffff:ffff:ffff:ffff:ffff 65535 65535\r\n";
+    let longest =
+        b"PROXY UNKNOWN ffff:ffff:ffff:ffff:ffff:ffff:ffff:ffff ffff:ffff:ffff:ffff:ffff:ffff:ffff:ffff 65535 65535\r\n";
     assert_eq!(rt; longest.len(), 107);
     assert_eq!(rt; read_line(longest), Ok(Meaning::Real));
     let shown = pair_of(b"192.168.0.1:56324", b"192.168.0.11:443")?;
@@ -63,7 +65,10 @@ fn texts_of_ipv6(rt: HostRuntime) -> Result<(), Fail> {
     assert_eq!(rt; read, Ok(Meaning::Declared(pair)));
     let written = b"PROXY TCP6 2001:db8::1 ::ffff:102:304 1 0\r\n";
     assert!(rt; write_v1(&pair).as_slice() == written.as_slice());
-    assert_eq!(rt; pair.source().addr, Addr::V6(0x2001_0DB8_0000_0000_0000_0000_0000_0001));
+    assert_eq!(rt;
+        pair.source().addr,
+        Addr::V6(0x2001_0DB8_0000_0000_0000_0000_0000_0001)
+    );
     Ok(())
 }
 
@@ -85,16 +90,31 @@ fn lines_that_say_nothing(rt: HostRuntime) {
 fn lines_that_are_refused(rt: HostRuntime) {
     let cases = [
         ("PROXY TCP4 1.2.3.4 5.6.7.8 04000 443\r\n", V1Fault::BadPort),
-        ("PROXY TCP4 1.2.3.4 5.6.7.8 4000 65536\r\n", V1Fault::BadPort),
+        (
+            "PROXY TCP4 1.2.3.4 5.6.7.8 4000 65536\r\n",
+            V1Fault::BadPort,
+        ),
         ("PROXY TCP4 1.2.3.4 5.6.7.8 4000 +443\r\n", V1Fault::BadPort),
-        ("PROXY TCP4 1.2.3.256 5.6.7.8 4000 443\r\n", V1Fault::BadAddress),
-        ("PROXY TCP4 1.2.3.4 5.6.7.08 04000 443\r\n", V1Fault::BadAddress),
+        (
+            "PROXY TCP4 1.2.3.256 5.6.7.8 4000 443\r\n",
+            V1Fault::BadAddress,
+        ),
+        (
+            "PROXY TCP4 1.2.3.4 5.6.7.08 04000 443\r\n",
+            V1Fault::BadAddress,
+        ),
         ("PROXY TCP4 ::1 ::2 4000 443\r\n", V1Fault::BadAddress),
-        ("PROXY TCP6 1.2.3.4 5.6.7.8 4000 443\r\n", V1Fault::BadAddress),
+        (
+            "PROXY TCP6 1.2.3.4 5.6.7.8 4000 443\r\n",
+            V1Fault::BadAddress,
+        ),
         ("PROXY TCP6 ::1 5.6.7.8 4000 443\r\n", V1Fault::BadAddress),
         ("PROXY TCP4  1.2.3.4 5.6.7.8 4000 443\r\n", V1Fault::BadLine),
         ("PROXY TCP4 1.2.3.4 5.6.7.8 4000 443 \r\n", V1Fault::BadLine),
-        ("PROXY TCP4 1.2.3.4 5.6.7.8 4000 443 1\r\n", V1Fault::BadLine),
+        (
+            "PROXY TCP4 1.2.3.4 5.6.7.8 4000 443 1\r\n",
+            V1Fault::BadLine,
+        ),
         ("PROXY TCP4 1.2.3.4 5.6.7.8 4000\r\n", V1Fault::BadLine),
         ("PROXY TCP4\t1.2.3.4 5.6.7.8 4000 443\r\n", V1Fault::BadLine),
         ("PROXY TCP4\r\n", V1Fault::BadLine),
