@@ -1,12 +1,12 @@
 -- Groups with colons.
-use Rattle.std.proofs.Common.{Bool, zero, suc, ◌/◌, ◌%◌, ◌≡◌, ℕ, ◌+◌, ◌-◌, ◌<◌, ◌≤◌, true, false, List, [], ◌∷◌, ◌++◌, length, get_or, take, drop, refl, ◌∙◌, ap, sym, arith, append_assoc, append-nil}
-use Rattle.std.specs.Prelude.{nat_lt}
+use Rattle.std.proofs.Common.{Bool, true, false, zero, suc, ◌/◌, ◌%◌, ◌≡◌, ℕ, ◌+◌, ◌-◌, ◌<◌, ◌≤◌, true, false, List, [], ◌∷◌, ◌++◌, length, get_or, take, drop, refl, ◌∙◌, ap, sym, arith, append_assoc, append-nil}
+use Rattle.std.specs.Prelude.{nat_le, nat_lt}
 use Rattle.std.specs.List.{flat_map}
 use Rattle.std.proofs.lemmas.Bool.Decides.{nat_tests}
 use Rattle.std.specs.Char.{digit_char}
 use Rattle.std.specs.List.{All}
 use Rattle.std.proofs.lemmas.List.Elements.{All-nil, All-cons, All-append}
-use Rattle.addr_core.specs.Groups.{colon_text, groups_text, hex_in, hexadecimal, longest, without_run}
+use Rattle.addr_core.specs.Groups.{colon_text, groups_text, hex_in, hexadecimal, longest, without_run, zeros, IsLongest}
 use Rattle.addr_core.proofs.TextLemmas.{range_to_end}
 
 -- the first group, and each other behind a colon
@@ -71,3 +71,37 @@ groups_text_all P each colon groups = by (nat_lt (longest groups).count 2) refl
         (All-cons P 58 (58 ∷ colon_text (drop ((longest groups).place + (longest groups).count) groups)) colon
         (All-cons P 58 (colon_text (drop ((longest groups).place + (longest groups).count) groups)) colon
         (colon_text_all P each colon (drop ((longest groups).place + (longest groups).count) groups)))))
+
+-- ---- the longest run
+
+none_later : (at : ℕ) → zeros (drop at []) ≤ 0
+none_later zero = omega arith
+none_later (suc at) = omega arith
+
+longest_is : (groups : List ℕ) → IsLongest (longest groups).place (longest groups).count groups
+longest_is [] = record { stands = refl; longest = none_later; first = λ at low. absurd (omega arith) }
+longest_is (group ∷ groups) = by (nat_le (longest groups).count (zeros (group ∷ groups))) refl (longest_is groups)
+  where
+    by : (t : Bool) → nat_le (longest groups).count (zeros (group ∷ groups)) ≡ t → IsLongest (longest groups).place (longest groups).count groups → IsLongest (longest (group ∷ groups)).place (longest (group ∷ groups)).count (group ∷ groups)
+    by true is later =
+        let above : (longest groups).count ≤ zeros (group ∷ groups) = grind (arith, nat_tests) in
+        rw is (record { stands = refl; longest = here above; first = λ at low. absurd (omega arith) })
+      where
+        here : (longest groups).count ≤ zeros (group ∷ groups) → (at : ℕ) → zeros (drop at (group ∷ groups)) ≤ zeros (group ∷ groups)
+        here above zero = omega arith
+        here above (suc at) = let less : zeros (drop at groups) ≤ (longest groups).count = later.longest at in omega arith
+    by false is later =
+        let below : zeros (group ∷ groups) < (longest groups).count = grind (arith, nat_tests) in
+        let next : (longest groups).place + 1 ≡ suc (longest groups).place = omega arith in
+        rw is (record { stands = rw next later.stands; longest = anywhere below; first = before below })
+      where
+        anywhere : zeros (group ∷ groups) < (longest groups).count → (at : ℕ) → zeros (drop at (group ∷ groups)) ≤ (longest groups).count
+        anywhere below zero = omega arith
+        anywhere below (suc at) = later.longest at
+
+        before : zeros (group ∷ groups) < (longest groups).count → (at : ℕ) → at < (longest groups).place + 1 → zeros (drop at (group ∷ groups)) < (longest groups).count
+        before below zero low = below
+        before below (suc at) low = later.first at (omega arith)
+
+pub is_longest : (groups : List ℕ) (place count : ℕ) → place ≡ (longest groups).place → count ≡ (longest groups).count → IsLongest place count groups
+is_longest groups place count same_place same_count = rw (same_place, same_count) (longest_is groups)

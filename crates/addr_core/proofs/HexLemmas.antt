@@ -1,12 +1,13 @@
 -- Groups in hexadecimal.
 use Rattle.std.proofs.Common.{◌≡◌, ℕ, zero, suc, ◌+◌, ◌*◌, ◌/◌, ◌%◌, ◌^◌, ◌<◌, ◌≤◌, Bool, true, false, List, [], ◌∷◌, ◌++◌, length, refl, ◌∙◌, arith, length-append}
 use Rattle.std.specs.Prelude.{nat_lt}
-use Rattle.std.specs.List.{fold, list_all}
-use Rattle.std.specs.Char.{digit_char, digit_value, is_ascii_hexdigit}
+use Rattle.std.specs.List.{list_all}
+use Rattle.std.specs.Char.{digit_char, is_ascii_hexdigit}
 use Rattle.std.proofs.lemmas.Bool.Decides.{nat_tests}
 use Rattle.std.proofs.lemmas.List.Sums.{fold-append}
 use Rattle.std.proofs.lemmas.List.Folds.{list_all-append}
 use Rattle.addr_core.specs.Groups.{hex_in, hexadecimal}
+use Rattle.addr_core.specs.Six.{hex_value, nibble}
 
 -- the digits do not depend on how many more there may be
 hex_in_more : (k n : ℕ) → n < 16 ^ suc k → hex_in (suc k) n ≡ hex_in k n
@@ -32,14 +33,14 @@ hexadecimal_step n large small =
 
 -- what is true of the digits of a group
 pub record AreHexDigits (n : ℕ) (text : List ℕ) : Type 0 where
-  pub value : fold (λ value byte. value * 16 + digit_value byte) 0 text ≡ n
+  pub value : hex_value text ≡ n
   pub digits : list_all is_ascii_hexdigit text ≡ true
   pub some : 0 < length text
 
 digit_is_hex : (d : ℕ) → d < 16 → is_ascii_hexdigit (digit_char d) ≡ true
 digit_is_hex d small = grind (arith, nat_tests)
 
-value_of_digit : (d : ℕ) → d < 16 → digit_value (digit_char d) ≡ d
+value_of_digit : (d : ℕ) → d < 16 → nibble (digit_char d) ≡ d
 value_of_digit d small = grind (arith, nat_tests)
 
 one_digit : (n : ℕ) → n < 16 → AreHexDigits n (digit_char n ∷ [])
@@ -51,7 +52,7 @@ one_digit n small = record {
 
 one_more : (n : ℕ) (digits : List ℕ) → AreHexDigits (n / 16) digits → AreHexDigits n (digits ++ digit_char (n % 16) ∷ [])
 one_more n digits was = record {
-  value = fold-append (λ value byte. value * 16 + digit_value byte) 0 digits (digit_char (n % 16) ∷ []) ∙ rw (was.value, value_of_digit (n % 16) (omega arith)) (omega arith);
+  value = fold-append (λ value byte. value * 16 + nibble byte) 0 digits (digit_char (n % 16) ∷ []) ∙ rw (was.value, value_of_digit (n % 16) (omega arith)) (omega arith);
   digits = list_all-append is_ascii_hexdigit digits (digit_char (n % 16) ∷ []) ∙ rw (was.digits, digit_is_hex (n % 16) (omega arith)) refl;
   some = omega (arith, length-append digits (digit_char (n % 16) ∷ []));
 }

@@ -1,5 +1,10 @@
 pub mod AddrLemmas
 pub mod DecimalLemmas
+pub mod DottedLemmas
 pub mod GroupLemmas
 pub mod HexLemmas
+pub mod SixLemmas
+pub mod SixReading
+pub mod SixSteps
+pub mod SixWritten
 pub mod TextLemmas

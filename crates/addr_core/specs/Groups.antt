@@ -1,5 +1,5 @@
 -- The groups of an IPv6 address, and how they are written.
-use Rattle.std.specs.Prelude.{ℕ, zero, suc, ◌+◌, ◌/◌, ◌%◌, ◌^◌, ◌==◌, nat_le, nat_lt, List, [], ◌∷◌, ◌++◌, drop, map, take, if◌then◌else◌}
+use Rattle.std.specs.Prelude.{◌≡◌, ◌<◌, ◌≤◌, ℕ, zero, suc, ◌+◌, ◌/◌, ◌%◌, ◌^◌, ◌==◌, nat_le, nat_lt, List, [], ◌∷◌, ◌++◌, drop, map, take, if◌then◌else◌}
 use Rattle.std.specs.List.{join_with_byte, prefix_len}
 use Rattle.std.specs.Char.{digit_char}
 
@@ -37,6 +37,12 @@ longer here later =
 abbrev pub longest : List ℕ → Run
 longest [] = record { place = 0; count = 0 }
 longest (group ∷ groups) = longer (zeros (group ∷ groups)) (longest groups)
+
+-- what that says: the run stands there, none is longer, and each before it is shorter
+pub record IsLongest (place count : ℕ) (groups : List ℕ) : Type 0 where
+  pub stands : zeros (drop place groups) ≡ count
+  pub longest : (at : ℕ) → zeros (drop at groups) ≤ count
+  pub first : (at : ℕ) → at < place → zeros (drop at groups) < count
 
 -- groups with single colons: 58 is the colon
 abbrev pub colon_text : List ℕ → List ℕ

@@ -1,8 +1,8 @@
 //! Writing the groups of an IPv6 address.
-ghost use Rattle.std.specs.Prelude.{◌≡◌, ◌+◌, ◌*◌, ◌^◌, ◌<◌, ◌≤◌, ◌∷◌, ◌++◌, [], length};
+ghost use Rattle.std.specs.Prelude.{◌≡◌, ◌+◌, ◌-◌, ◌*◌, ◌^◌, ◌<◌, ◌≤◌, ◌∷◌, ◌++◌, [], length};
 ghost use Rattle.std.specs.Char.{digit_char};
 ghost use Rattle.std.specs.List.{flat_map};
-ghost use Rattle.addr_core.specs.Groups.{colon_text, groups_of, groups_text, hexadecimal, longest, without_run, zeros};
+ghost use Rattle.addr_core.specs.Groups.{colon_text, groups_of, groups_text, hexadecimal, longest, without_run, zeros, IsLongest};
 
 use arrayvec::ArrayString;
 
@@ -87,7 +87,7 @@ fn push_more(text: &mut ArrayString<39>, groups: &[u16])
 fn push_groups(text: &mut ArrayString<39>, groups: &[u16])
     requires { length text.old.bytes + 5 * length groups.now ≤ 40 }
     ensures bytes { text.new.bytes ≡ text.old.bytes ++ colon_text groups.now }
-    ensures room { length text.new.bytes ≤ length text.old.bytes + 5 * length groups.now }
+    ensures room { length text.new.bytes ≤ length text.old.bytes + (5 * length groups.now - 1) }
 {
     let [first, rest @ ..] = groups else {
         return;
@@ -104,6 +104,9 @@ fn zeros(groups: &[u16]) -> usize
     groups.iter().take_while(|group| **group == 0).count()
 }
 
+/// A run of one zero group is written out.
+const SHORTEST_RUN: usize = 2;
+
 /// A run of zero groups: where it begins, and how many there are.
 #[derive(Clone, Copy)]
 struct Run {
@@ -116,12 +119,21 @@ fn longest(groups: &[u16]) -> Run
     ensures place { result.place ≡ (longest groups.now).place }
     ensures count { result.count ≡ (longest groups.now).count }
     ensures bound { result.place + result.count ≤ length groups.now }
+    ensures longest { IsLongest result.place result.count groups.now }
+{
+    longest_run(groups)
+}
+
+fn longest_run(groups: &[u16]) -> Run
+    ensures place { result.place ≡ (longest groups.now).place }
+    ensures count { result.count ≡ (longest groups.now).count }
+    ensures bound { result.place + result.count ≤ length groups.now }
 {
     let [_, rest @ ..] = groups else {
         return Run { place: 0, count: 0 };
     };
     let here = zeros(groups);
-    let later = longest(rest);
+    let later = longest_run(rest);
     if here >= later.count {
         return Run {
             place: 0,
@@ -138,11 +150,12 @@ fn longest(groups: &[u16]) -> Run
 /// ones (RFC 5952, section 4.2).
 pub(crate) fn write_groups(groups: &[u16]) -> ArrayString<39>
     requires { length groups.now ≤ 8 }
-    ensures { result.bytes ≡ groups_text groups.now }
+    ensures text { result.bytes ≡ groups_text groups.now }
+    ensures length { length result.bytes ≤ 39 }
 {
     let run = longest(groups);
     let mut text = ArrayString::new();
-    if run.count < 2 {
+    if run.count < SHORTEST_RUN {
         push_groups(&mut text, groups);
         return text;
     }

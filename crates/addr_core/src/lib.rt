@@ -12,7 +12,9 @@ pub mod decimal;
 mod groups;
 mod net;
 mod pair;
+pub mod parts;
 mod reading;
+mod six;
 #[cfg(test)]
 mod tests;
 mod writing;

@@ -1,59 +1,33 @@
 //! Reading addresses, endpoints and networks.
-ghost use Rattle.std.specs.Prelude.{◌≡◌, ◌==◌, ◌+◌, ◌*◌, ◌<◌, ◌↔◌, ◌∷◌, [], length, nat_eq, slice_index, Ok, IfSome, IfNone};
-ghost use Rattle.std.specs.List.{list_any, slice_split, starts_with};
-ghost use Rattle.std.specs.Option.{option_map};
-ghost use Rattle.addr_core.specs.Text.{addr_of, bare_of, bracketed_of, cut, dotted_of, endpoint_of, four_of, in_brackets, is_colon, is_dot, net_in, net_of, octet_of, text_of, with_bits, with_port, endpoint_text, IsAddr, IsEndpoint, IsNet, IsNetText};
+ghost use Rattle.std.specs.Prelude.{◌≡◌, ◌+◌, ◌*◌, ◌<◌, ◌↔◌, ◌∷◌, [], Ok};
+ghost use Rattle.std.specs.List.{list_any, slice_split};
+ghost use Rattle.addr_core.specs.Dotted.{cut, dotted_of, four_of, is_colon, is_dot, octet_of};
+ghost use Rattle.addr_core.specs.Text.{addr_of, bare_of, bracketed_of, endpoint_of, in_brackets, net_in, net_of, with_bits, with_port, IsAddr, IsEndpoint, IsEndpointText, IsNet, IsNetText, IsText};
 
 use crate::addr::{Addr, Endpoint};
 use crate::decimal::{are_digits, has_leading_zero, number_up_to, read_decimal};
 use crate::net::Net;
+use crate::parts::{cut, cut_at};
+use crate::six::six;
 
 /// Why a text stands for no address, endpoint or network.
 #[derive(Clone, Copy, Debug, PartialEq, Eq, PartialOrd, Ord, Hash)]
 pub enum AddrFault {
     /// There is no character where an address should stand.
     Empty,
-    /// A part of an IPv4 address has a character that is no decimal digit.
+    /// A part of an IPv4 address has a character that is no decimal digit, or an IPv6 address one that
+    /// is no hexadecimal digit, colon or dot.
     BadDigit,
     /// A part of an IPv4 address has a 0 before another digit.
     LeadingZero,
-    /// A part of an IPv4 address is above 255.
+    /// A part of an IPv4 address is above 255, or a group of an IPv6 address has more than four digits.
     OutOfRange,
-    /// The address has not the parts of its family.
+    /// The address has not the parts or groups of its family.
     BadGroups,
     /// The bits of a network are no decimal number up to the width of its family.
     BadPrefix,
     /// The port is no decimal number from 0 to 65535, or there is none.
     BadPort,
-}
-
-fn begins_with(text: &[u8], mark: &[u8]) -> bool
-    requires text { 0 < length text.now }
-    requires mark { 0 < length mark.now }
-    ensures { result ≡ starts_with nat_eq text.now mark.now }
-{
-    text[0] == mark[0] && text.starts_with(mark)
-}
-
-/// What stands before the first mark, and what stands after it.
-fn cut<'a>(text: &'a [u8], mark: &[u8]) -> Option<(&'a [u8], &'a [u8])>
-    requires { 0 < length mark.now }
-    ensures { option_map (λ parts. (parts.0.now, parts.1.now)) result ≡ cut mark.now text.now }
-{
-    for at in 0..text.len() {
-        if begins_with(&text[at..], mark) {
-            return Some((&text[..at], &text[at + mark.len()..]));
-        }
-    }
-    None
-}
-
-/// What stands before the first dot, and what stands after it.
-fn cut_part(text: &[u8]) -> Option<(&[u8], &[u8])>
-    ensures some { IfSome result (λ parts. slice_split is_dot text.now ≡ parts.0.now ∷ slice_split is_dot parts.1.now) }
-    ensures none { IfNone result (slice_split is_dot text.now ≡ text.now ∷ []) }
-{
-    cut(text, b".")
 }
 
 fn has_colon(text: &[u8]) -> bool
@@ -78,17 +52,17 @@ fn octet(part: &[u8]) -> Result<u8, AddrFault>
     }
 }
 
-fn four(a: &[u8], b: &[u8], c: &[u8], d: &[u8]) -> Result<Addr, AddrFault>
+fn four(a: &[u8], b: &[u8], c: &[u8], d: &[u8]) -> Result<u32, AddrFault>
     ensures { result ≡ four_of a.now b.now c.now d.now }
 {
     let a = u32::from(octet(a)?);
     let b = u32::from(octet(b)?);
     let c = u32::from(octet(c)?);
     let d = u32::from(octet(d)?);
-    Ok(Addr::V4(((a * 256 + b) * 256 + c) * 256 + d))
+    Ok(((a * 256 + b) * 256 + c) * 256 + d)
 }
 
-fn four_parts(a: &[u8], b: &[u8], c: &[u8], d: &[u8]) -> Result<Addr, AddrFault>
+fn four_parts(a: &[u8], b: &[u8], c: &[u8], d: &[u8]) -> Result<u32, AddrFault>
     ensures { result ≡ dotted_of (a.now ∷ b.now ∷ c.now ∷ d.now ∷ []) }
 {
     if a.is_empty() || b.is_empty() || c.is_empty() || d.is_empty() {
@@ -97,19 +71,20 @@ fn four_parts(a: &[u8], b: &[u8], c: &[u8], d: &[u8]) -> Result<Addr, AddrFault>
     four(a, b, c, d)
 }
 
-fn dotted(text: &[u8]) -> Result<Addr, AddrFault>
+/// The number of an IPv4 address in dotted decimal.
+pub(crate) fn dotted(text: &[u8]) -> Result<u32, AddrFault>
     ensures { result ≡ dotted_of (slice_split is_dot text.now) }
 {
-    let Some((a, rest)) = cut_part(text) else {
+    let Some((a, rest)) = cut_at(text, b'.') else {
         return Err(AddrFault::BadGroups);
     };
-    let Some((b, rest)) = cut_part(rest) else {
+    let Some((b, rest)) = cut_at(rest, b'.') else {
         return Err(AddrFault::BadGroups);
     };
-    let Some((c, d)) = cut_part(rest) else {
+    let Some((c, d)) = cut_at(rest, b'.') else {
         return Err(AddrFault::BadGroups);
     };
-    match cut_part(d) {
+    match cut_at(d, b'.') {
         Some(_) => Err(AddrFault::BadGroups),
         None => four_parts(a, b, c, d),
     }
@@ -122,9 +97,11 @@ fn addr_in(text: &[u8]) -> Result<Addr, AddrFault>
         return Err(AddrFault::Empty);
     }
     if has_colon(text) {
-        return Err(AddrFault::BadGroups);
+        let number = six(text)?;
+        return Ok(Addr::V6(number));
     }
-    dotted(text)
+    let number = dotted(text)?;
+    Ok(Addr::V4(number))
 }
 
 fn with_port(text: &[u8], addr: Addr) -> Result<Endpoint, AddrFault>
@@ -199,13 +176,14 @@ fn net_in(text: &[u8]) -> Result<Net, AddrFault>
     }
 }
 
-/// The address of a text in dotted decimal, as `127.0.0.1`: the rule `IPv4address` of RFC 3986, section
-/// 3.2.2. No part has a 0 before another digit, which some readers take for octal.
+/// The address of a text. Of IPv4 it is in dotted decimal, as `127.0.0.1`: the rule `IPv4address` of RFC
+/// 3986, section 3.2.2. No part has a 0 before another digit, which some readers take for octal. Of
+/// IPv6 it has a form of RFC 4291, section 2.2, as `2001:db8::1` or `::ffff:192.0.2.1`.
 pub fn read_addr(text: &[u8]) -> Result<Addr, AddrFault>
     ensures exact { result ≡ addr_of text.now }
 
-    // An address is what is read of its own text, and of no other.
-    ensures stands { (addr : Addr) → IsAddr addr → (result ≡ Ok addr) ↔ (text.now ≡ text_of addr) }
+    // An address is what is read of the texts that stand for it, and of no other.
+    ensures stands { (addr : Addr) → IsAddr addr → (result ≡ Ok addr) ↔ IsText text.now addr }
 {
     addr_in(text)
 }
@@ -215,19 +193,19 @@ pub fn read_addr(text: &[u8]) -> Result<Addr, AddrFault>
 pub fn read_endpoint(text: &[u8]) -> Result<Endpoint, AddrFault>
     ensures exact { result ≡ endpoint_of text.now }
 
-    // An endpoint is what is read of its own text, and of no other.
+    // An endpoint is what is read of the texts that stand for it, and of no other.
     ensures stands { (endpoint : Endpoint) → IsEndpoint endpoint →
-        (result ≡ Ok endpoint) ↔ (text.now ≡ endpoint_text endpoint) }
+        (result ≡ Ok endpoint) ↔ IsEndpointText text.now endpoint }
 {
     endpoint_in(text)
 }
 
-/// The network of a text as `10.0.0.0/8` (RFC 4632, section 3.1; RFC 4291, section 2.3), or of one
+/// The network of a text as `10.0.0.0/8` or `2001:db8::/32` (RFC 4632, section 3.1; RFC 4291, section 2.3), or of one
 /// address, as a value of HAProxy's `src`.
 pub fn read_net(text: &[u8]) -> Result<Net, AddrFault>
     ensures exact { result ≡ net_of text.now }
 
-    // A network is what is read of its own text, with or without the bits of one address.
+    // A network is what is read of the texts that stand for it, and of no other.
     ensures stands { (net : Net) → IsNet net → (result ≡ Ok net) ↔ IsNetText text.now net }
 {
     net_in(text)

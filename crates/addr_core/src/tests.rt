@@ -36,12 +36,244 @@ fn addresses_that_do_not(rt: HostRuntime) {
         ("1.2.3.0x", AddrFault::BadDigit),
         ("300.01.x.4", AddrFault::OutOfRange),
         (" 1.2.3.4", AddrFault::BadDigit),
-        ("::1", AddrFault::BadGroups),
-        ("::ffff:1.2.3.4", AddrFault::BadGroups),
     ];
     for (text, fault) in cases {
         assert_eq!(rt; read_addr(text.as_bytes()), Err(fault), "{text}");
     }
+}
+
+/// The examples of RFC 4291, section 2.2, with the addresses that it says they stand for.
+#[test]
+fn texts_of_the_standard(rt: HostRuntime) {
+    let cases = [
+        (
+            "ABCD:EF01:2345:6789:ABCD:EF01:2345:6789",
+            0xABCD_EF01_2345_6789_ABCD_EF01_2345_6789,
+        ),
+        (
+            "2001:DB8:0:0:8:800:200C:417A",
+            0x2001_0DB8_0000_0000_0008_0800_200C_417A,
+        ),
+        (
+            "2001:DB8::8:800:200C:417A",
+            0x2001_0DB8_0000_0000_0008_0800_200C_417A,
+        ),
+        (
+            "FF01:0:0:0:0:0:0:101",
+            0xFF01_0000_0000_0000_0000_0000_0000_0101,
+        ),
+        ("FF01::101", 0xFF01_0000_0000_0000_0000_0000_0000_0101),
+        ("0:0:0:0:0:0:0:1", 1),
+        ("::1", 1),
+        ("0:0:0:0:0:0:0:0", 0),
+        ("::", 0),
+        ("0:0:0:0:0:0:13.1.68.3", 0x0D01_4403),
+        ("::13.1.68.3", 0x0D01_4403),
+        ("0:0:0:0:0:FFFF:129.144.52.38", 0xFFFF_8190_3426),
+        ("::FFFF:129.144.52.38", 0xFFFF_8190_3426),
+    ];
+    for (text, number) in cases {
+        assert_eq!(rt; read_addr(text.as_bytes()), Ok(Addr::V6(number)), "{text}");
+    }
+}
+
+/// The examples of RFC 5952: on the left forms of its section 2, on the right how section 4 has each
+/// written.
+#[test]
+fn the_form_of_the_standard(rt: HostRuntime) {
+    let cases = [
+        ("2001:db8:0:0:1:0:0:1", "2001:db8::1:0:0:1"),
+        ("2001:0db8:0:0:1:0:0:1", "2001:db8::1:0:0:1"),
+        ("2001:db8::1:0:0:1", "2001:db8::1:0:0:1"),
+        ("2001:db8::0:1:0:0:1", "2001:db8::1:0:0:1"),
+        ("2001:0db8::1:0:0:1", "2001:db8::1:0:0:1"),
+        ("2001:db8:0:0:1::1", "2001:db8::1:0:0:1"),
+        ("2001:DB8:0:0:1::1", "2001:db8::1:0:0:1"),
+        (
+            "2001:db8:aaaa:bbbb:cccc:dddd:eeee:0001",
+            "2001:db8:aaaa:bbbb:cccc:dddd:eeee:1",
+        ),
+        ("2001:0db8::0001", "2001:db8::1"),
+        ("2001:db8:0:0:0:0:2:1", "2001:db8::2:1"),
+        ("2001:db8::0:1", "2001:db8::1"),
+        ("2001:db8:0:1:1:1:1:1", "2001:db8:0:1:1:1:1:1"),
+        ("2001:db8::1:1:1:1:1", "2001:db8:0:1:1:1:1:1"),
+        ("2001:0:0:1:0:0:0:1", "2001:0:0:1::1"),
+        (
+            "2001:db8:aaaa:bbbb:cccc:dddd:eeee:AAAA",
+            "2001:db8:aaaa:bbbb:cccc:dddd:eeee:aaaa",
+        ),
+    ];
+    for (text, written) in cases {
+        assert_eq!(rt;
+            read_addr(text.as_bytes()).map(|addr| write_addr(&addr).as_str() == written),
+            Ok(true),
+            "{text}"
+        );
+    }
+}
+
+#[test]
+fn runs_of_zeros(rt: HostRuntime) {
+    let cases = [
+        ("1:0:0:2:0:0:0:3", "1:0:0:2::3"),
+        ("1:0:0:2:0:0:3:4", "1::2:0:0:3:4"),
+        ("::ffff:1.2.3.4", "::ffff:102:304"),
+        ("1:2:3:4:5:6:7::", "1:2:3:4:5:6:7:0"),
+        ("::2:3:4:5:6:7:8", "0:2:3:4:5:6:7:8"),
+        ("1:2:3:4:5:6::", "1:2:3:4:5:6::"),
+        ("0:0:0:0:0:0:0:0", "::"),
+        ("0:1:2:3:4:5:6:7", "0:1:2:3:4:5:6:7"),
+        ("1:2:3:4:5:6:1.2.3.4", "1:2:3:4:5:6:102:304"),
+        ("00aB:0::", "ab::"),
+    ];
+    for (text, written) in cases {
+        assert_eq!(rt;
+            read_addr(text.as_bytes()).map(|addr| write_addr(&addr).as_str() == written),
+            Ok(true),
+            "{text}"
+        );
+    }
+}
+
+#[test]
+fn texts_of_no_address(rt: HostRuntime) {
+    let cases = [
+        (":", AddrFault::BadGroups),
+        (":::", AddrFault::BadGroups),
+        ("::::", AddrFault::BadGroups),
+        ("1:::2", AddrFault::BadGroups),
+        ("1::2::3", AddrFault::BadGroups),
+        (":1::2", AddrFault::BadGroups),
+        ("1::2:", AddrFault::BadGroups),
+        (":1:2:3:4:5:6:7:8", AddrFault::BadGroups),
+        ("1:2:3:4:5:6:7:8:", AddrFault::BadGroups),
+        ("1:2:3:4:5:6:7", AddrFault::BadGroups),
+        ("1:2:3:4:5:6:7:8:9", AddrFault::BadGroups),
+        ("1:2:3:4::5:6:7:8", AddrFault::BadGroups),
+        ("1.2.3.4::", AddrFault::BadGroups),
+        ("1.2.3.4:1:2:3:4:5:6", AddrFault::BadGroups),
+        ("::1.2.3.4:5", AddrFault::BadGroups),
+        ("::1.2.3", AddrFault::BadGroups),
+        ("::1.2..4", AddrFault::BadGroups),
+        ("1:2:3:4:5:6:7:1.2.3.4", AddrFault::BadGroups),
+        ("12345", AddrFault::BadGroups),
+        ("12345:1", AddrFault::BadGroups),
+        ("::12345", AddrFault::OutOfRange),
+        ("::00001", AddrFault::OutOfRange),
+        ("12345::1.2.3", AddrFault::OutOfRange),
+        ("::1.2.3.256", AddrFault::OutOfRange),
+        ("::1.2.03.4", AddrFault::LeadingZero),
+        ("::1.2.3.a", AddrFault::BadDigit),
+        ("::g", AddrFault::BadDigit),
+        (":::g", AddrFault::BadDigit),
+        ("12345::1%eth0", AddrFault::BadDigit),
+        ("::1/64", AddrFault::BadDigit),
+        ("[::1]", AddrFault::BadDigit),
+        (" ::1", AddrFault::BadDigit),
+    ];
+    for (text, fault) in cases {
+        assert_eq!(rt; read_addr(text.as_bytes()), Err(fault), "{text}");
+    }
+}
+
+#[test]
+fn endpoints_in_brackets(rt: HostRuntime) {
+    let cases = [
+        ("[::1]:80", 1, 80, "[::1]:80"),
+        ("[::]:0", 0, 0, "[::]:0"),
+        (
+            "[2001:DB8::1]:65535",
+            0x2001_0DB8_0000_0000_0000_0000_0000_0001,
+            65535,
+            "[2001:db8::1]:65535",
+        ),
+        (
+            "[::ffff:1.2.3.4]:1",
+            0xFFFF_0102_0304,
+            1,
+            "[::ffff:102:304]:1",
+        ),
+    ];
+    for (text, number, port, written) in cases {
+        let endpoint = Endpoint {
+            addr: Addr::V6(number),
+            port,
+        };
+        assert_eq!(rt; read_endpoint(text.as_bytes()), Ok(endpoint), "{text}");
+        assert_eq!(rt; write_endpoint(&endpoint).as_str(), written);
+    }
+    let longest = Endpoint {
+        addr: Addr::V6(u128::MAX),
+        port: 65535,
+    };
+    assert_eq!(rt;
+        write_endpoint(&longest).as_str(),
+        "[ffff:ffff:ffff:ffff:ffff:ffff:ffff:ffff]:65535"
+    );
+    let refused = [
+        ("[::1]", AddrFault::BadPort),
+        ("[::1]80", AddrFault::BadPort),
+        ("[::1", AddrFault::BadPort),
+        ("[::1]:", AddrFault::BadPort),
+        ("[::1]:080", AddrFault::BadPort),
+        ("[::1]:65536", AddrFault::BadPort),
+        ("[]:80", AddrFault::Empty),
+        ("[1.2.3.4]:80", AddrFault::BadGroups),
+        ("[1.2.3.4]:x", AddrFault::BadGroups),
+        ("[::g]:x", AddrFault::BadDigit),
+        ("::1:80", AddrFault::Empty),
+        ("2001:db8::1", AddrFault::BadGroups),
+    ];
+    for (text, fault) in refused {
+        assert_eq!(rt; read_endpoint(text.as_bytes()), Err(fault), "{text}");
+    }
+}
+
+#[test]
+fn networks_of_ipv6(rt: HostRuntime) {
+    let inside = 0x2001_0DB8_0000_0000_0000_0000_0000_0001;
+    let cases = [
+        ("2001:db8::/32", Addr::V6(inside), true),
+        ("2001:db8:ffff::1/32", Addr::V6(inside), true),
+        ("2001:db9::/32", Addr::V6(inside), false),
+        ("2001:db8::/127", Addr::V6(inside), true),
+        ("2001:db8::/128", Addr::V6(inside), false),
+        ("2001:db8::1", Addr::V6(inside), true),
+        ("::/0", Addr::V6(u128::MAX), true),
+        ("::/0", Addr::V4(0), false),
+        ("0.0.0.0/0", Addr::V6(0), false),
+        ("1.2.3.4", Addr::V6(0xFFFF_0102_0304), false),
+        ("::ffff:0:0/96", Addr::V6(0xFFFF_0102_0304), true),
+        ("::ffff:0:0/96", Addr::V4(0x0102_0304), false),
+    ];
+    for (text, addr, is_in) in cases {
+        let answer = read_net(text.as_bytes()).map(|net| net.contains(&addr));
+        assert_eq!(rt; answer, Ok(is_in), "{text}");
+    }
+    let refused = [
+        ("::/129", AddrFault::BadPrefix),
+        ("::/", AddrFault::BadPrefix),
+        ("::/064", AddrFault::BadPrefix),
+        (":/129", AddrFault::BadGroups),
+        ("/64", AddrFault::Empty),
+    ];
+    for (text, fault) in refused {
+        assert_eq!(rt; read_net(text.as_bytes()), Err(fault), "{text}");
+    }
+}
+
+#[test]
+fn pairs_of_two_families(rt: HostRuntime) {
+    let old = Endpoint::default();
+    let new = Endpoint {
+        addr: Addr::V6(1),
+        port: 1,
+    };
+    assert!(rt; Pair::of(old, new).is_none());
+    assert!(rt; Pair::of(new, old).is_none());
+    assert!(rt; Pair::of(new, new).is_some());
+    assert_eq!(rt; new.addr.width(), 128);
 }
 
 #[test]

@@ -1,8 +1,9 @@
 //! Writing addresses and endpoints.
-ghost use Rattle.std.specs.Prelude.{◌≡◌, ◌+◌, ◌^◌, ◌<◌, ◌≤◌, ◌∷◌, ◌++◌, [], length, map, Ok};
-ghost use Rattle.std.specs.List.{join_with_byte};
+ghost use Rattle.std.specs.Prelude.{◌≡◌, ◌+◌, ◌^◌, ◌<◌, ◌≤◌, ◌∷◌, ◌++◌, [], length, Ok};
 ghost use Rattle.addr_core.specs.Decimal.{decimal};
-ghost use Rattle.addr_core.specs.Text.{addr_of, endpoint_of, endpoint_text, host_text, octets_of, text_of, IsAddr, IsEndpoint};
+ghost use Rattle.addr_core.specs.Dotted.{dotted_text};
+ghost use Rattle.addr_core.specs.Groups.{groups_of, groups_text};
+ghost use Rattle.addr_core.specs.Text.{addr_of, endpoint_of, endpoint_text, host_text, text_limit, text_of, IsAddr, IsEndpoint};
 
 use crate::addr::{Addr, Endpoint};
 use crate::decimal::push_decimal;
@@ -26,8 +27,9 @@ fn push_dot(text: &mut ArrayString<39>)
 }
 
 fn dotted(number: u32) -> ArrayString<39>
-    ensures text { result.bytes ≡ join_with_byte 46 (map decimal (octets_of number)) }
+    ensures text { result.bytes ≡ dotted_text number }
     ensures number { number < 2 ^ 32 }
+    ensures length { length result.bytes ≤ 15 }
 {
     let mut text = ArrayString::new();
     push_octet(&mut text, (number >> 24) as u8);
@@ -40,12 +42,23 @@ fn dotted(number: u32) -> ArrayString<39>
     text
 }
 
+/// The text of an IPv6 address.
+fn six(number: u128) -> ArrayString<39>
+    ensures text { result.bytes ≡ groups_text (groups_of number) }
+    ensures number { number < 2 ^ 128 }
+    ensures length { length result.bytes ≤ 39 }
+{
+    write_groups(&groups_of(number))
+}
+
 fn addr_text(addr: &Addr) -> ArrayString<39>
-    ensures { result.bytes ≡ text_of addr.now }
+    ensures text { result.bytes ≡ text_of addr.now }
+    ensures in_range { IsAddr addr.now }
+    ensures length { length result.bytes ≤ text_limit addr.now }
 {
     match *addr {
         Addr::V4(number) => dotted(number),
-        Addr::V6(number) => write_groups(&groups_of(number)),
+        Addr::V6(number) => six(number),
     }
 }
 
@@ -53,9 +66,11 @@ fn addr_text(addr: &Addr) -> ArrayString<39>
 /// 5952, section 4, as `2001:db8::1`.
 pub fn write_addr(addr: &Addr) -> ArrayString<39>
     ensures text { result.bytes ≡ text_of addr.now }
+    ensures length { length result.bytes ≤ text_limit addr.now }
 
     // What is written is read again.
-    ensures read_again { IsAddr addr.now → addr_of result.bytes ≡ Ok addr.now }
+    ensures read_again { addr_of result.bytes ≡ Ok addr.now }
+    ensures in_range { IsAddr addr.now }
 {
     addr_text(addr)
 }
@@ -72,6 +87,7 @@ fn push_port(text: &mut ArrayString<47>, port: u16)
 fn host_text(addr: &Addr) -> ArrayString<47>
     ensures text { result.bytes ≡ host_text addr.now }
     ensures room { length result.bytes ≤ 41 }
+    ensures in_range { IsAddr addr.now }
 {
     let bare = addr_text(addr);
     let mut text = ArrayString::new();
@@ -90,7 +106,8 @@ fn host_text(addr: &Addr) -> ArrayString<47>
 }
 
 fn endpoint_text(endpoint: &Endpoint) -> ArrayString<47>
-    ensures { result.bytes ≡ endpoint_text endpoint.now }
+    ensures text { result.bytes ≡ endpoint_text endpoint.now }
+    ensures in_range { IsEndpoint endpoint.now }
 {
     let mut text = host_text(&endpoint.addr);
     push_port(&mut text, endpoint.port);
@@ -103,7 +120,7 @@ pub fn write_endpoint(endpoint: &Endpoint) -> ArrayString<47>
     ensures text { result.bytes ≡ endpoint_text endpoint.now }
 
     // What is written is read again.
-    ensures read_again { IsEndpoint endpoint.now → endpoint_of result.bytes ≡ Ok endpoint.now }
+    ensures read_again { endpoint_of result.bytes ≡ Ok endpoint.now }
 {
     endpoint_text(endpoint)
 }

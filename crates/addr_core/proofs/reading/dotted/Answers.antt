@@ -2,7 +2,7 @@ use Rattle.std.proofs.Common.{sym}
 use Rattle.addr_core.proofs.TextLemmas.{dotted_of-more}
 use Rattle.addr_core.proofs.reading.dotted.Goals as goal
 
-pub returns-in-Some-cut_part-3 : goal.returns-in-Some-cut_part-3
-returns-in-Some-cut_part-3 c =
-    rw (c.in-Some.ensures.some, c.in-Some-cut_part.ensures.some, c.in-Some-cut_part-2.ensures.some)
-    (sym (dotted_of-more c.in-Some.a.now c.in-Some-cut_part.b.now c.in-Some-cut_part-2.c.now c.in-Some-cut_part-2.d.now c.in-Some-cut_part-3.field-0.0.now c.in-Some-cut_part-3.field-0.1.now c.in-Some-cut_part-3.ensures.some))
+pub returns-in-Some-cut_at-3 : goal.returns-in-Some-cut_at-3
+returns-in-Some-cut_at-3 c =
+    rw (c.in-Some.ensures.some, c.in-Some-cut_at.ensures.some, c.in-Some-cut_at-2.ensures.some)
+    (sym (dotted_of-more c.in-Some.a.now c.in-Some-cut_at.b.now c.in-Some-cut_at-2.c.now c.in-Some-cut_at-2.d.now c.in-Some-cut_at-3.field-0.0.now c.in-Some-cut_at-3.field-0.1.now c.in-Some-cut_at-3.ensures.some))

@@ -1,9 +1,9 @@
 use Rattle.std.proofs.Common.{◌∙◌, sym}
-use Rattle.addr_core.proofs.AddrLemmas.{net_text-net_of, net_of_written}
+use Rattle.addr_core.proofs.AddrLemmas.{net_of_text, net_text-net_of}
 use Rattle.addr_core.proofs.reading.read_net.Goals as goal
 
 pub returns-clause-stands : goal.returns-clause-stands
 returns-clause-stands c = λ net fits. (
   λ is. net_text-net_of c.args.text.now net (sym c.net_in.ensures ∙ is),
-  λ is. c.net_in.ensures ∙ net_of_written c.args.text.now net fits is,
+  λ is. c.net_in.ensures ∙ net_of_text c.args.text.now net fits is,
 )

@@ -1,0 +1,12 @@
+//! Version 1 of the PROXY header: one line of text (proxy-protocol.txt, section 2.1).
+#![tactic(auto)]
+
+pub use meaning::Meaning;
+pub use reading::{V1Fault, read_line};
+pub use writing::write_v1;
+
+mod meaning;
+mod reading;
+#[cfg(test)]
+mod tests;
+mod writing;
