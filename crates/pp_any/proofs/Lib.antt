@@ -1,0 +1,9 @@
+pub mod Steps
+pub mod Feeding
+pub mod Blocks
+pub mod Rests
+pub mod Heads
+pub mod Bytes
+pub mod Least
+pub mod Wholes
+pub mod Pieces
