@@ -7,3 +7,5 @@ pub mod Bytes
 pub mod Least
 pub mod Wholes
 pub mod Pieces
+pub mod Lines
+pub mod WrittenLines

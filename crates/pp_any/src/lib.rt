@@ -5,7 +5,7 @@ pub use fault::HeaderFault;
 pub use fed::Fed;
 pub use parser::Parser;
 pub use rest::Rest;
-pub use writing::write_v2;
+pub use writing::{write_v1, write_v2};
 
 mod block;
 mod fault;

@@ -1,5 +1,5 @@
 //! Tests with outside values.
-use crate::{Fed, HeaderFault, Parser, Rest, write_v2};
+use crate::{Fed, HeaderFault, Parser, Rest, write_v1, write_v2};
 use addr_core::{Addr, Endpoint, Pair};
 use pp_v1::Meaning;
 use pp_v2::Family;
@@ -93,6 +93,10 @@ fn every_cut(rt: HostRuntime) -> Result<(), Fail> {
     Ok(())
 }
 
+/// The longest line that declares a pair.
+const WIDEST: &[u8] =
+    b"PROXY TCP6 ffff:ffff:ffff:ffff:ffff:ffff:ffff:ffff ffff:ffff:ffff:ffff:ffff:ffff:ffff:ffff 65535 65535\r\n";
+
 /// The lines of proxy-protocol.txt, section 2.1, of which it says 56, 104, 15 and 107 characters, and the one of
 /// its example with the request behind it.
 #[test]
@@ -113,11 +117,7 @@ fn lines_of_the_standard(rt: HostRuntime) -> Result<(), Fail> {
             widest4,
             56,
         ),
-        (
-            b"PROXY TCP6 ffff:ffff:ffff:ffff:ffff:ffff:ffff:ffff ffff:ffff:ffff:ffff:ffff:ffff:ffff:ffff 65535 65535\r\n",
-            widest6,
-            104,
-        ),
+        (WIDEST, widest6, 104),
         (b"PROXY UNKNOWN\r\n", Meaning::Real, 15),
         (
             b"PROXY UNKNOWN ffff:ffff:ffff:ffff:ffff:ffff:ffff:ffff ffff:ffff:ffff:ffff:ffff:ffff:ffff:ffff 65535 65535\r\n",
@@ -135,6 +135,8 @@ fn lines_of_the_standard(rt: HostRuntime) -> Result<(), Fail> {
         assert_eq!(rt; outcome(Parser::new().feed(bytes)), whole);
         assert_eq!(rt; in_pieces(bytes, 1), whole);
     }
+    let written = pair(most6, 65_535, most6, 65_535)?;
+    assert_eq!(rt; write_v1(&written).as_slice(), WIDEST);
     Ok(())
 }
 
@@ -335,13 +337,22 @@ fn rests(rt: HostRuntime) -> Result<(), Fail> {
 fn headers_that_are_written(rt: HostRuntime) -> Result<(), Fail> {
     let prefix = 0x2001_0DB8 << 96;
     let pair = pair(Addr::V6(prefix + 1), 4000, Addr::V6(prefix + 2), 443)?;
+    let line = write_v1(&pair);
+    assert_eq!(rt;
+        line.as_slice(),
+        b"PROXY TCP6 2001:db8::1 2001:db8::2 4000 443\r\n".as_slice()
+    );
+    assert_eq!(rt; line.len(), 45);
     let header = write_v2(&pair);
     assert_eq!(rt; header.len(), 52);
     assert_eq!(rt; header.as_slice()[12..16], [0x21, 0x21, 0x00, 0x24][..]);
-    assert_eq!(rt;
-        in_pieces(header.as_slice(), 1),
-        Told::Whole(Meaning::Declared(pair), 52)
-    );
+    for bytes in [line.as_slice(), header.as_slice()] {
+        assert_eq!(rt;
+            in_pieces(bytes, 1),
+            Told::Whole(Meaning::Declared(pair), bytes.len())
+        );
+    }
+    assert_eq!(rt; write_v1(&sample()?).as_slice(), LINE);
     assert_eq!(rt; write_v2(&sample()?).as_slice(), BLOCK);
     Ok(())
 }
