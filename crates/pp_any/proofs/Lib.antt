@@ -1,0 +1,11 @@
+pub mod Steps
+pub mod Feeding
+pub mod Blocks
+pub mod Rests
+pub mod Heads
+pub mod Bytes
+pub mod Least
+pub mod Wholes
+pub mod Pieces
+pub mod Lines
+pub mod WrittenLines

@@ -1,0 +1,10 @@
+use Rattle.std.proofs.Common.{◌≡◌, ℕ, List, ◌++◌, length, take}
+use Rattle.pp_any.specs.Rest.{IsRest}
+use Rattle.pp_any.specs.Fed.{joined}
+use Rattle.pp_any.proofs.parser.Parser.feed_all.Given as goal
+
+abbrev pub invariant-loop-piece : goal.invariant-loop-piece
+invariant-loop-piece l = record {
+  read : l.read ≡ length (joined (take l.piece-index l.pieces));
+  stands : (b : List ℕ) → IsRest b l.initial.parser → IsRest (b ++ joined (take l.piece-index l.pieces)) l.parser;
+}

@@ -1,0 +1,5 @@
+pub mod Faults
+pub mod Fed
+pub mod Header
+pub mod Rest
+pub mod Status

@@ -1,0 +1,44 @@
+//! What a feed gives.
+ghost use Rattle.std.specs.Prelude.{◌≡◌, ◌+◌, ◌<◌, ◌^◌};
+ghost use Rattle.pp_any.specs.Fed.{later, told_by, used_in};
+
+use crate::fault::HeaderFault;
+use crate::parser::Parser;
+use pp_v1::Meaning;
+
+/// What a parser answers to a piece of bytes.
+#[derive(Drop)]
+pub enum Fed {
+    /// Nothing is decided yet. The parser took the whole piece.
+    More(Parser),
+    /// A header ends in the piece. So many bytes of the piece belong to it, and those after them are the
+    /// connection's own.
+    Whole(Meaning, usize),
+    /// A fault stands in the piece. So many bytes of the piece were judged, the last of them being the one that
+    /// makes it certain.
+    Bad(HeaderFault, usize),
+}
+
+impl Fed {
+    /// What is said at the last of so many bytes.
+    pub(crate) fn of(said: Result<Meaning, HeaderFault>, used: usize) -> Fed
+        ensures { result ≡ told_by said used }
+    {
+        match said {
+            Ok(meaning) => Fed::Whole(meaning, used),
+            Err(fault) => Fed::Bad(fault, used),
+        }
+    }
+
+    /// The same of a piece that has so many bytes more in front.
+    pub(crate) fn later(self, before: usize) -> Fed
+        requires { used_in self + before < 2 ^ 64 }
+        ensures { result ≡ later before self }
+    {
+        match self {
+            Fed::More(parser) => Fed::More(parser),
+            Fed::Whole(meaning, used) => Fed::Whole(meaning, used + before),
+            Fed::Bad(fault, used) => Fed::Bad(fault, used + before),
+        }
+    }
+}

@@ -1,0 +1,78 @@
+//! A line of version 1.
+ghost use Rattle.std.specs.Prelude.{◌≡◌, ◌<◌, ◌≤◌, [], ◌∷◌, length, IsNone};
+ghost use Rattle.pp_any.specs.Status.{line_said, meaning_of_line};
+ghost use Rattle.pp_any.specs.Rest.{IsInLine};
+ghost use Rattle.pp_any.specs.Fed.{Answers, used_in};
+
+use crate::fault::HeaderFault;
+use crate::fed::Fed;
+use crate::parser::Parser;
+use crate::state::State;
+use arrayvec::ArrayVec;
+use pp_v1::{Meaning, read_line};
+
+const BEGINNING: [u8; 6] = *b"PROXY ";
+
+const MOST_BYTES: usize = 107;
+
+/// The bytes of a line that has not ended.
+#[derive(Drop)]
+pub struct Line {
+    pub bytes: ArrayVec<u8, 107>,
+}
+
+#[tactic(auto, unfolding(crate::specs::Status::meaning_of_line))]
+fn meaning_of(line: &[u8]) -> Result<Meaning, HeaderFault>
+    ensures { result ≡ meaning_of_line line.now }
+{
+    let meaning = read_line(line)?;
+    Ok(meaning)
+}
+
+/// What is said at the last of these bytes.
+fn said_at_last(bytes: &[u8]) -> Option<Result<Meaning, HeaderFault>>
+    requires { 0 < length bytes.now }
+    ensures said { result ≡ line_said bytes.now }
+    ensures room { IsNone result → length bytes.now < 107 }
+{
+    let len = bytes.len();
+    if len <= BEGINNING.len() {
+        if bytes[len - 1] != BEGINNING[len - 1] {
+            return Some(Err(HeaderFault::NotProxy));
+        }
+        return None;
+    }
+    if bytes[len - 2] == b'\r' && bytes[len - 1] == b'\n' {
+        return Some(meaning_of(bytes));
+    }
+    if len >= MOST_BYTES {
+        return Some(Err(HeaderFault::TooLong));
+    }
+    None
+}
+
+impl Line {
+    /// A line of which the first byte was read.
+    pub fn begun() -> Line
+        ensures { result.bytes.items ≡ 80 ∷ [] }
+    {
+        let mut bytes = ArrayVec::new();
+        bytes.push(b'P');
+        Line { bytes }
+    }
+
+    pub fn feed(self, piece: &[u8]) -> Fed
+        requires { IsInLine self.bytes.items }
+        ensures answers { Answers self.bytes.items piece.now result }
+        ensures used { used_in result ≤ length piece.now }
+    {
+        let Line { mut bytes } = self;
+        for (at, byte) in piece.iter().enumerate() {
+            bytes.push(*byte);
+            if let Some(said) = said_at_last(bytes.as_slice()) {
+                return Fed::of(said, at + 1);
+            }
+        }
+        Fed::More(Parser::at(State::Line(Line { bytes })))
+    }
+}

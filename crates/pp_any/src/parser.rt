@@ -1,0 +1,136 @@
+//! The parser.
+ghost use Rattle.std.specs.Prelude.{◌≡◌, ◌^◌, ◌<◌, ◌≤◌, ℕ, List, [], length};
+ghost use Rattle.pp_any.specs.Rest.{IsRest, Stands, rest_in};
+ghost use Rattle.pp_any.specs.Fed.{Answers, joined, used_in};
+
+use crate::block::Block;
+use crate::fault::HeaderFault;
+use crate::fed::Fed;
+use crate::head::Head;
+use crate::line::Line;
+use crate::rest::Rest;
+use crate::skip::Skip;
+use crate::state::State;
+use arrayvec::ArrayVec;
+use std::marker::Model;
+
+/// A parser that waits for more bytes of a header. A feed spends it. It holds at most 107 bytes, and takes no
+/// memory.
+#[derive(Drop)]
+pub struct Parser {
+    state: State,
+}
+
+impl Model for Parser {
+    ghost use Rattle.pp_any.specs.declared.rest.Rest.{Rest};
+
+    ghost Value = { Rest };
+
+    ghost use Rattle.pp_any.specs.Rest.{Stands, rest_in};
+
+    ghost view = { λ p. rest_in p.state };
+
+    ghost invariant = { λ p. Stands p.state };
+}
+
+impl Default for Parser {
+    fn default() -> Self {
+        Parser::new()
+    }
+}
+
+fn copied<const CAP: usize>(bytes: &[u8]) -> ArrayVec<u8, CAP>
+    requires { length bytes.now ≤ CAP }
+    ensures { result.items ≡ bytes.now }
+{
+    let mut copy = ArrayVec::new();
+    let Ok(()) = copy.try_extend_from_slice(bytes) else {
+        unreachable!()
+    };
+    copy
+}
+
+fn start(piece: &[u8]) -> Fed
+    ensures answers { Answers [] piece.now result }
+    ensures used { used_in result ≤ length piece.now }
+{
+    let Some(first) = piece.first() else {
+        return Fed::More(Parser::new());
+    };
+    match *first {
+        b'P' => Line::begun().feed(&piece[1..]).later(1),
+        b'\r' => Head::begun().feed(&piece[1..]).later(1),
+        _ => Fed::Bad(HeaderFault::NotProxy, 1),
+    }
+}
+
+impl Parser {
+    /// A parser that was fed nothing.
+    pub fn new() -> Parser
+        ensures { IsRest [] result }
+    {
+        Parser {
+            state: State::Start,
+        }
+    }
+
+    pub(crate) fn at(state: State) -> Parser
+        requires { Stands state }
+        ensures { result ≡ rest_in state }
+    {
+        Parser { state }
+    }
+
+    /// Feeds a piece.
+    pub fn feed(self, piece: &[u8]) -> Fed
+        // A parser that stands for some bytes answers the status of those bytes and the piece together.
+        ensures answers { (b : List ℕ) → IsRest b self → Answers b piece.now result }
+
+        // What is told as used is of this piece.
+        ensures used { used_in result ≤ length piece.now }
+    {
+        match self.state {
+            State::Start => start(piece),
+            State::Line(line) => line.feed(piece),
+            State::Head(head) => head.feed(piece),
+            State::Block(block) => block.feed(piece),
+            State::Skip(skip) => skip.feed(piece),
+        }
+    }
+
+    /// Feeds the pieces of a list in turn, until one of them decides. What is told as used counts the bytes of
+    /// all of them together.
+    pub fn feed_all(self, pieces: &[&[u8]]) -> Fed
+        requires { length (joined pieces.now) < 2 ^ 64 }
+
+        // However the bytes are cut into pieces, the answer is the status of all of them.
+        ensures answers { (b : List ℕ) → IsRest b self → Answers b (joined pieces.now) result }
+    {
+        let mut parser = self;
+        let mut read = 0;
+        for piece in pieces {
+            match parser.feed(piece) {
+                Fed::More(next) => parser = next,
+                Fed::Whole(meaning, used) => return Fed::Whole(meaning, read + used),
+                Fed::Bad(fault, used) => return Fed::Bad(fault, read + used),
+            }
+            read += piece.len();
+        }
+        Fed::More(parser)
+    }
+
+    /// What is held of the bytes that were fed.
+    pub fn rest(&self) -> Rest
+        ensures { result ≡ self.now }
+    {
+        match &self.state {
+            State::Start => Rest::Read(ArrayVec::new()),
+            State::Line(line) => Rest::Read(copied(line.bytes.as_slice())),
+            State::Head(head) => Rest::Read(copied(head.bytes.as_slice())),
+            State::Block(block) => {
+                Rest::Block(block.family, copied(block.bytes.as_slice()), block.missing)
+            }
+            State::Skip(skip) => Rest::Skip(skip.missing),
+        }
+    }
+}

@@ -1,0 +1,20 @@
+//! The states of a parser.
+use crate::block::Block;
+use crate::head::Head;
+use crate::line::Line;
+use crate::skip::Skip;
+
+/// Where a parser stands.
+#[derive(Drop)]
+pub enum State {
+    /// No byte was read.
+    Start,
+    /// In a line of version 1.
+    Line(Line),
+    /// In the first 16 bytes of version 2.
+    Head(Head),
+    /// In a block of version 2 that begins with a pair.
+    Block(Block),
+    /// In a block of version 2 that is skipped.
+    Skip(Skip),
+}
