@@ -1,2 +1,3 @@
 pub mod RangeLemmas
 pub mod RankLemmas
+pub mod LeastLemmas

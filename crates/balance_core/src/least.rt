@@ -1,15 +1,17 @@
 //! Least connections.
-ghost use Rattle.std.specs.Prelude.{◌≡◌, ◌-◌, ◌≤◌, ◌++◌, ℕ, List, Some, filter, if◌then◌else◌};
+ghost use Rattle.std.specs.Prelude.{◌≡◌, ◌-◌, ◌≤◌, ◌++◌, ℕ, false, List, Some, None, IfSome, filter, if◌then◌else◌};
 ghost use Rattle.std.specs.List.{range_with_len};
 ghost use Rattle.balance_core.specs.Loads.{first_after, is_ready_at};
-ghost use Rattle.balance_core.specs.Least.{is_lighter, lesser, least, lightest};
+ghost use Rattle.balance_core.specs.Least.{is_lighter, lesser, least, lightest, IsLightest};
 
 use crate::load::{Load, connections_of, is_ready, weight_of};
 
 /// The usable server with room that has the fewest connections for its weight. Of several it is the
 /// first after the server last offered, going round in written order.
 pub fn pick_least<L: Load>(last: Option<u16>, load: &L) -> Option<u16>
-    ensures { result ≡ lightest (L.servers load.now) last }
+    ensures pick { result ≡ lightest (L.servers load.now) last }
+    ensures lightest { IfSome result (IsLightest (L.servers load.now)) }
+    ensures none { result ≡ None → (server : ℕ) → is_ready_at (L.servers load.now) server ≡ false }
 {
     let count = load.count();
     let begin = begin_after(last, count);

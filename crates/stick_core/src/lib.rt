@@ -8,6 +8,7 @@ pub use table::{Stores, Table, Tracked};
 
 mod entries;
 mod key;
+pub mod laws;
 mod table;
 #[cfg(test)]
 mod tests;

@@ -1,7 +1,9 @@
 //! A table of tracked sources.
-ghost use Rattle.std.specs.Prelude.{◌≡◌, ◌+◌, ◌<◌, ◌≤◌, ◌^◌, ◌-◌, [], length, map, nat_lt, is_some, IfOk, OnOk, OnErr, IsOk};
+ghost use Rattle.std.specs.Prelude.{◌≡◌, ◌+◌, ◌<◌, ◌≤◌, ◌^◌, ◌-◌, [], length, map, false, nat_lt, is_some, IfOk, OnOk, OnErr, IsOk};
+ghost use Rattle.addr_core.specs.declared.addr.Addr.{Addr};
+ghost use Rattle.stick_core.specs.Key.{same_key};
 ghost use Rattle.stick_core.specs.Entries.{cur_of, released, key_and_count};
-ghost use Rattle.stick_core.specs.Listing.{key_taken, entries_after, cur_at, cnt_at};
+ghost use Rattle.stick_core.specs.Listing.{IsSound, key_taken, entries_after, cur_at, cnt_at};
 
 use crate::entries::{Entry, cnt_in, cur_in, entry_of, has_free, listed, purge, put_last};
 use crate::key::{Kind, key_of};
@@ -50,11 +52,13 @@ pub struct Table {
 
 impl Model for Table {
     ghost use Rattle.std.specs.Prelude.{◌-◌, vec_len, vec_capacity};
-    ghost use Rattle.stick_core.specs.Listing.{Listing};
+    ghost use Rattle.stick_core.specs.Listing.{Listing, IsSound};
 
     ghost Value = { Listing };
 
     ghost view = { λ t. record { kind = t.kind; size = t.size; stores = t.stores; entries = t.entries.items; spare = vec_capacity t.entries - vec_len t.entries } };
+
+    ghost invariant = { λ t. IsSound t.size t.entries.items };
 }
 
 impl Table {
@@ -134,7 +138,8 @@ impl Table {
 
     /// The keys in the order of their last touch, each with how often it was tracked.
     pub fn entries(&self, alloc: Global) -> Result<Seq<(Addr, u64)>, AllocError>
-        ensures { IfOk result (λ list. list ≡ map key_and_count self.now.entries) }
+        ensures list { IfOk result (λ list. list ≡ map key_and_count self.now.entries) }
+        ensures sound { IsSound self.now.size self.now.entries }
     {
         listed(alloc, self.entries.as_slice())
     }
@@ -187,6 +192,8 @@ impl Table {
     pub fn release(&mut self, tracked: Tracked)
         requires { 0 < cur_of tracked self.old.entries }
         ensures entries { self.new.entries ≡ released tracked self.old.entries }
+        ensures own { cur_of tracked self.new.entries + 1 ≡ cur_of tracked self.old.entries }
+        ensures others { (key : Addr) → same_key key tracked ≡ false → cur_of key self.new.entries ≡ cur_of key self.old.entries }
         ensures same { self.new ≡ record self.old { entries = self.new.entries; spare = self.new.spare } }
         ensures spare { self.old.spare ≤ self.new.spare }
     {

@@ -150,3 +150,46 @@ fn a_table_keeps_what_it_was_made_with(rt: HostRuntime) -> Result<(), Fail> {
     assert_eq!(rt; table.stores(), only_cnt);
     assert_entries(&rt, rt.alloc(), &table, &[])
 }
+
+/// Counts under an address, and under the key that it stands for.
+fn assert_same_key(rt: &impl Abort, alloc: Global, addr: Addr, key: Addr) -> Result<(), Fail> {
+    let mut table = Table::new(alloc, Kind::Ipv6, 2, BOTH);
+    assert!(rt; table.cur(&addr) < u64::MAX);
+    let tracked = table.track(&addr).expect(rt, "memory");
+    assert_eq!(rt; table.cur(&addr), 1);
+    assert_eq!(rt; table.cnt(&key), 1);
+    let entries = table.entries(alloc).expect(rt, "memory");
+    assert_eq!(rt; entries.as_slice(), [(key, 1)].as_slice());
+    let tracked = tracked.expect(rt, "a tracking");
+    assert_eq!(rt; tracked.key(), key);
+    release(rt, &mut table, Some(tracked));
+    assert_eq!(rt; table.cur(&key), 0);
+    Ok(())
+}
+
+#[test]
+fn an_address_of_ipv4_is_mapped_among_those_of_ipv6(rt: HostRuntime) -> Result<(), Fail> {
+    // 203.0.113.7 is ::ffff:cb00:7107 (RFC 4291, section 2.5.5.2).
+    let mapped = Addr::V6(0xffff_cb00_7107);
+    assert_same_key(&rt, rt.alloc(), source(7), mapped)?;
+    assert_same_key(&rt, rt.alloc(), mapped, mapped)?;
+    let six = Addr::V6(0x2001_0db8_0000_0000_0000_0000_0000_0001);
+    assert_same_key(&rt, rt.alloc(), six, six)
+}
+
+#[test]
+fn an_address_of_ipv6_is_no_key_among_those_of_ipv4(rt: HostRuntime) -> Result<(), Fail> {
+    let mut table = Table::new(rt.alloc(), Kind::Ip, 2, BOTH);
+    let mapped = Addr::V6(0xffff_cb00_7107);
+    assert!(rt; !table.takes(&mapped));
+    let seven = track(&rt, &mut table, 7);
+    assert_eq!(rt; table.cur(&mapped), 0);
+    assert_eq!(rt; table.cnt(&mapped), 0);
+    let none = table.track(&mapped).expect(&rt, "memory");
+    assert!(rt; none.is_none());
+    if let Some(tracked) = none {
+        release(&rt, &mut table, Some(tracked));
+    }
+    release(&rt, &mut table, seven);
+    assert_entries(&rt, rt.alloc(), &table, &[(7, 1)])
+}
