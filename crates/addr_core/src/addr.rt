@@ -1,6 +1,7 @@
 //! Addresses and endpoints.
 ghost use Rattle.std.specs.Prelude.{◌≡◌};
 ghost use Rattle.addr_core.specs.Family.{same_family};
+ghost use Rattle.addr_core.specs.Same.{same_addr, same_endpoint};
 ghost use Rattle.addr_core.specs.Prefix.{width_of};
 
 /// An internet address. The number of an IPv4 address is that of its four octets in network byte
@@ -35,6 +36,18 @@ impl Addr {
             (Addr::V6(_), Addr::V4(_)) => false,
         }
     }
+
+    /// Whether both are one address of one family.
+    pub fn is_same(&self, other: &Addr) -> bool
+        ensures { result ≡ same_addr self.now other.now }
+    {
+        match (*self, *other) {
+            (Addr::V4(a), Addr::V4(b)) => a == b,
+            (Addr::V6(a), Addr::V6(b)) => a == b,
+            (Addr::V4(_), Addr::V6(_)) => false,
+            (Addr::V6(_), Addr::V4(_)) => false,
+        }
+    }
 }
 
 /// The default is 0.0.0.0, the unspecified address.
@@ -54,4 +67,13 @@ impl Default for Addr {
 pub struct Endpoint {
     pub addr: Addr,
     pub port: u16,
+}
+
+impl Endpoint {
+    /// Whether both are one port of one address.
+    pub fn is_same(&self, other: &Endpoint) -> bool
+        ensures { result ≡ same_endpoint self.now other.now }
+    {
+        self.addr.is_same(&other.addr) && self.port == other.port
+    }
 }

@@ -1,10 +1,9 @@
 -- A configuration as the list of what its lines say, each with the section that it stands in.
-use Rattle.std.specs.Prelude.{◌≡◌, ℕ, Bool, true, false, ◌&&◌, ◌==◌, ◌⊎◌, nat_le, nat_lt, List, [], length, filter, Option, Some, None, Result, Ok, Err, if◌then◌else◌}
+use Rattle.std.specs.Prelude.{◌≡◌, ℕ, Bool, true, false, ◌⊎◌, nat_le, nat_lt, List, [], length, filter, Option, Some, None, Result, Ok, Err, if◌then◌else◌}
 use Rattle.std.specs.List.{list_any}
 use Rattle.std.specs.Str.{bytes_eq}
 use Rattle.list_core.specs.Each.{◌>>=◌, each, IsRead, IsFirstFault}
-use Rattle.addr_core.specs.declared.addr.Addr.{Addr}
-use Rattle.addr_core.specs.declared.addr.Addr.TheVariants.{V4, V6}
+use Rattle.addr_core.specs.Same.{same_endpoint}
 use Rattle.addr_core.specs.declared.addr.Endpoint.{Endpoint}
 use Rattle.conf_text.specs.declared.line.Line.{Line}
 use Rattle.conf_text.specs.declared.line.LineFault.{LineFault}
@@ -33,15 +32,6 @@ abbrev pub section_of : SectionKind → Says → SectionKind
 section_of kind (says.Frontend name) = sections.Frontend
 section_of kind (says.Backend name) = sections.Backend
 section_of kind other = kind
-
-abbrev pub same_addr : Addr → Addr → Bool
-same_addr (V4 a) (V4 b) = a == b
-same_addr (V6 a) (V6 b) = a == b
-same_addr (V4 a) (V6 b) = false
-same_addr (V6 a) (V4 b) = false
-
-abbrev pub same_endpoint : Endpoint → Endpoint → Bool
-same_endpoint a b = same_addr a.addr b.addr && (a.port == b.port)
 
 -- Which line is of a kind, and says the same.
 

@@ -2,16 +2,17 @@
 ghost use Rattle.std.specs.Prelude.{◌≡◌, ◌⊎◌, [], length, filter, IfOk, IfErr, true, List, Result, Ok, Err};
 ghost use Rattle.std.specs.List.{list_any};
 ghost use Rattle.list_core.specs.Each.{Fails, Gives, each};
+ghost use Rattle.addr_core.specs.Same.{same_endpoint};
 ghost use Rattle.conf_text.specs.Lines.{lines_of};
 ghost use Rattle.std.specs.Str.{bytes_eq};
 ghost use Rattle.conf_tree.specs.declared.fault.ConfFault.{ConfFault};
 ghost use Rattle.conf_tree.specs.declared.item.Item.{Item};
-ghost use Rattle.conf_tree.specs.Config.{section_after, section_of, same_endpoint, is_frontend, is_backend, is_server, is_bind, is_rule, once, allowed, judged, next_item, text_fault, items_of, AreItems, IsConfFault};
+ghost use Rattle.conf_tree.specs.Config.{section_after, section_of, is_frontend, is_backend, is_server, is_bind, is_rule, once, allowed, judged, next_item, text_fault, items_of, AreItems, IsConfFault};
 
 use crate::fault::{ConfFault, ConfKind};
 use crate::item::{Item, Says, SectionKind, Tree};
 use crate::statement::line_says;
-use addr_core::{Addr, Endpoint};
+use addr_core::Endpoint;
 use conf_text::{Line, LineKind, Lines};
 use list_core::{Seq, Stop, newest};
 use std::alloc::Global;
@@ -34,17 +35,6 @@ fn section_of(kind: SectionKind, says: &Says) -> SectionKind
         Says::Frontend(_) => SectionKind::Frontend,
         Says::Backend(_) => SectionKind::Backend,
         _ => kind,
-    }
-}
-
-fn is_same_endpoint(a: Endpoint, b: Endpoint) -> bool
-    ensures { result ≡ same_endpoint a b }
-{
-    match (a.addr, b.addr) {
-        (Addr::V4(x), Addr::V4(y)) => x == y && a.port == b.port,
-        (Addr::V6(x), Addr::V6(y)) => x == y && a.port == b.port,
-        (Addr::V4(_), Addr::V6(_)) => false,
-        (Addr::V6(_), Addr::V4(_)) => false,
     }
 }
 
@@ -97,7 +87,7 @@ fn is_bind_at(says: &Says, at: Endpoint) -> bool
     ensures { result ≡ is_bind (λ other. same_endpoint other at) says.now }
 {
     match says {
-        Says::Bind(other) => is_same_endpoint(*other, at),
+        Says::Bind(other) => other.is_same(&at),
         _ => false,
     }
 }

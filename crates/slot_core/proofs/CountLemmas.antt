@@ -10,7 +10,8 @@ use Rattle.std.proofs.lemmas.Slice.Eq.{bytes_eq-Decides}
 use Rattle.addr_core.specs.declared.addr.Addr.{Addr}
 use Rattle.addr_core.specs.declared.addr.Addr.TheVariants.{V4, V6}
 use Rattle.slot_core.specs.declared.identity.Identity.{Identity}
-use Rattle.slot_core.specs.Identity.{same_addr, same_identity}
+use Rattle.addr_core.specs.Same.{same_addr}
+use Rattle.slot_core.specs.Identity.{same_identity}
 
 same_number : (n : ℕ) → (n == n) ≡ true
 same_number n = grind (arith, nat_tests)
