@@ -5,10 +5,11 @@ use Rattle.addr_core.specs.declared.addr.Addr.{Addr}
 use Rattle.addr_core.specs.declared.addr.Addr.TheVariants as addresses
 use Rattle.addr_core.specs.Ends.{Ends}
 use Rattle.addr_core.specs.Family.{same_family}
-use Rattle.pp_v2.specs.Block.{family_in, header_of, pair_in, HasBits, IsInRange}
+use Rattle.addr_core.specs.Text.{IsAddr, IsEndpoint}
+use Rattle.pp_v2.specs.Block.{family_in, header_of, pair_in}
 use Rattle.pp_v2.proofs.Bytes.{from_be_bytes-to_be_bytes_16}
 
-read_again : (from to : Addr) (p q : ℕ) → HasBits from → HasBits to → p < 2 ^ 16 → q < 2 ^ 16 → same_family from to ≡ true
+read_again : (from to : Addr) (p q : ℕ) → IsAddr from → IsAddr to → p < 2 ^ 16 → q < 2 ^ 16 → same_family from to ≡ true
     → pair_in (family_in from) (drop 16 (header_of (record { source = record { addr = from; port = p }; destination = record { addr = to; port = q } })))
     ≡ record { source = record { addr = from; port = p }; destination = record { addr = to; port = q } }
 read_again (addresses.V4 a) (addresses.V4 b) p q x y z w same =
@@ -18,7 +19,7 @@ read_again (addresses.V6 a) (addresses.V6 b) p q x y z w same =
 read_again (addresses.V4 a) (addresses.V6 b) p q x y z w same = absurd cc
 read_again (addresses.V6 a) (addresses.V4 b) p q x y z w same = absurd cc
 
-pub pair_in-header_of : (pair : Ends) (bytes : List ℕ) → bytes ≡ header_of pair → IsInRange pair.source → IsInRange pair.destination
+pub pair_in-header_of : (pair : Ends) (bytes : List ℕ) → bytes ≡ header_of pair → IsEndpoint pair.source → IsEndpoint pair.destination
     → same_family pair.source.addr pair.destination.addr ≡ true → pair_in (family_in pair.source.addr) (drop 16 bytes) ≡ pair
 pair_in-header_of pair bytes is source destination same =
     ap (λ b. pair_in (family_in pair.source.addr) (drop 16 b)) is

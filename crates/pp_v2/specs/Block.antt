@@ -1,9 +1,8 @@
 -- The pair that a block begins with, and the header of a pair (proxy-protocol.txt, section 2.2).
-use Rattle.std.specs.Prelude.{ℕ, ◌+◌, ◌-◌, ◌^◌, ◌<◌, slice_index, List, [], ◌∷◌, ◌++◌, Some}
+use Rattle.std.specs.Prelude.{ℕ, ◌+◌, ◌-◌, slice_index, List, [], ◌∷◌, ◌++◌, Some}
 use Rattle.std.specs.Int.{byte_worth, sum_through, to_be_bytes, w16, w32, w128}
 use Rattle.addr_core.specs.declared.addr.Addr.{Addr}
 use Rattle.addr_core.specs.declared.addr.Addr.TheVariants as addresses
-use Rattle.addr_core.specs.declared.addr.Endpoint.{Endpoint}
 use Rattle.addr_core.specs.Ends.{Ends}
 use Rattle.pp_v2.specs.declared.head.Family.{Family}
 use Rattle.pp_v2.specs.declared.head.Head.{Head}
@@ -35,14 +34,6 @@ pair_in V6 block = record {
 }
 
 -- ---- what is written
-
--- the numbers of an endpoint have 32 or 128 bits and 16
-abbrev pub HasBits : Addr → Type 0
-HasBits (addresses.V4 number) = number < 2 ^ 32
-HasBits (addresses.V6 number) = number < 2 ^ 128
-
-abbrev pub IsInRange : Endpoint → Type 0
-IsInRange endpoint = HasBits endpoint.addr × (endpoint.port < 2 ^ 16)
 
 -- the addresses of both ends, which are of one family
 abbrev pub addresses_of : Addr → Addr → List ℕ

@@ -1,10 +1,11 @@
 //! Writing a header.
 ghost use Rattle.std.specs.Prelude.{◌≡◌, ◌+◌, ◌≤◌, ◌++◌, length, take, drop, true, Ok};
 ghost use Rattle.pp_v2.specs.Head.{head_of, pair_length};
-ghost use Rattle.pp_v2.specs.Block.{family_in, head_for, header_of, pair_in, IsInRange};
+ghost use Rattle.pp_v2.specs.Block.{family_in, head_for, header_of, pair_in};
 ghost use Rattle.addr_core.specs.Family.{same_family};
+ghost use Rattle.addr_core.specs.Text.{IsEndpoint};
 
-use addr_core::{Addr, Endpoint, Pair};
+use addr_core::{Addr, Pair};
 use arrayvec::ArrayVec;
 
 const IPV4_HEAD: [u8; 16] = *b"\r\n\r\n\0\r\nQUIT\n\x21\x11\x00\x0c";
@@ -20,30 +21,14 @@ fn append(header: &mut ArrayVec<u8, 52>, bytes: &[u8])
     };
 }
 
-fn endpoint(endpoint: Endpoint) -> Endpoint
-    ensures same { result ≡ endpoint }
-    ensures range { IsInRange endpoint }
-{
-    match endpoint.addr {
-        Addr::V4(number) => Endpoint {
-            addr: Addr::V4(number),
-            port: endpoint.port,
-        },
-        Addr::V6(number) => Endpoint {
-            addr: Addr::V6(number),
-            port: endpoint.port,
-        },
-    }
-}
-
 fn header_of(pair: &Pair) -> ArrayVec<u8, 52>
     ensures header { result.items ≡ header_of pair.now }
-    ensures source { IsInRange pair.now.source }
-    ensures destination { IsInRange pair.now.destination }
+    ensures source { IsEndpoint pair.now.source }
+    ensures destination { IsEndpoint pair.now.destination }
     ensures family { same_family pair.now.source.addr pair.now.destination.addr ≡ true }
 {
-    let source = endpoint(pair.source());
-    let destination = endpoint(pair.destination());
+    let source = pair.source();
+    let destination = pair.destination();
     let mut header = ArrayVec::new();
     match (source.addr, destination.addr) {
         (Addr::V4(from), Addr::V4(to)) => {
