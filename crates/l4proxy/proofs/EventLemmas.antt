@@ -55,7 +55,6 @@ text_lacks (V4 n) =
     both_lack 0x20 _ _ (decimal_lacks 0x20 _ (omega arith)) (and_lacks 0x20 46 _ refl
     (both_lack 0x20 _ _ (decimal_lacks 0x20 _ (omega arith)) (and_lacks 0x20 46 _ refl
     (both_lack 0x20 _ _ (decimal_lacks 0x20 _ (omega arith)) (and_lacks 0x20 46 _ refl (decimal_lacks 0x20 _ (omega arith)))))))
-
 text_lacks (V6 n) = groups_text_all (λ b. is_mark 0x20 b ≡ false) (λ d. grind (arith, nat_tests)) refl (groups_of n)
 
 host_lacks : (addr : Addr) → Lacks 0x20 (host_text addr)
