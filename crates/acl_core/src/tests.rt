@@ -1,6 +1,7 @@
 //! Tests with outside values.
 use crate::{
-    AclFault, Cond, Criterion, Operator, Pattern, Term, Test, Value, View, When, read_cond, read_test,
+    AclFault, Cond, Criterion, Operator, Pattern, Term, Test, Value, View, When, read_cond,
+    read_test,
 };
 use addr_core::{Addr, Net};
 use list_core::{Duplicate, Seq};

@@ -44,8 +44,7 @@ impl Addr {
         match (*self, *other) {
             (Addr::V4(a), Addr::V4(b)) => a == b,
             (Addr::V6(a), Addr::V6(b)) => a == b,
-            (Addr::V4(_), Addr::V6(_)) => false,
-            (Addr::V6(_), Addr::V4(_)) => false,
+            (Addr::V4(_), Addr::V6(_)) | (Addr::V6(_), Addr::V4(_)) => false,
         }
     }
 }

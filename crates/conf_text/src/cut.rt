@@ -2,10 +2,10 @@
 ghost use Rattle.std.specs.Prelude.{◌≡◌, ◌<◌, ◌∷◌, length, IfOk};
 ghost use Rattle.conf_text.specs.Parts.{parts, before, is_line_feed, is_hash, is_blank, without_return, words_in};
 
-use word_core::Word;
 use list_core::Seq;
 use memchr::{memchr, memchr2};
 use std::alloc::{AllocError, Global};
+use word_core::Word;
 
 /// The first line, and what stands after it.
 pub fn cut_line(text: &[u8]) -> (&[u8], &[u8])

@@ -1,8 +1,8 @@
 //! A line, and what may be wrong with one.
-use word_core::Word;
 use list_core::Seq;
 use std::error::Error;
 use std::fmt;
+use word_core::Word;
 
 /// A line by its number, the first being 1, and its words. A line may have no word.
 #[derive(Debug, Drop)]

@@ -10,10 +10,10 @@ use crate::fault::ConfKind;
 use crate::item::{Action, Says, SectionKind};
 use crate::keyword::{Keyword, keyword_of, stands};
 use crate::words::{bind_at, end_at, name_at, plain_end_at, served_at, word_at};
-use word_core::Word;
 use addr_core::decimal::read_number;
 use list_core::Stop;
 use std::alloc::Global;
+use word_core::Word;
 
 fn frontend<'a>(words: &[Word<'a>]) -> Result<Says<'a>, ConfKind>
     ensures { result ≡ frontend_of words.now }

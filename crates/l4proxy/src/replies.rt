@@ -234,11 +234,7 @@ pub fn write_reply(out: &mut Vec<u8>, reply: &Reply) -> Result<(), AllocError>
 
 /// Appends the line of counts that were asked for, or of no such thing. Where memory runs out, the front
 /// of that line may stand there.
-pub fn write_counts(
-    out: &mut Vec<u8>,
-    ask: &Ask,
-    counts: Option<Counts>,
-) -> Result<(), AllocError>
+pub fn write_counts(out: &mut Vec<u8>, ask: &Ask, counts: Option<Counts>) -> Result<(), AllocError>
     ensures { OnOk result (out.new.items ≡ out.old.items ++ count_line ask.now counts) }
 {
     let Some(counts) = counts else {

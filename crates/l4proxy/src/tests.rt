@@ -100,9 +100,12 @@ const LIMITED: &str =
 fn limits_and_counts_are_told(rt: HostRuntime) -> Result<(), Fail> {
     let limit =
         "frontend f\nbind 127.0.0.1:9000\nmaxconn 2\ntcp-request connection reject if { fe_conn gt 2 }\ndefault_backend b\nbackend b\nserver s 10.0.0.20:80\n";
-    let script = b"0 accept 0 192.0.2.5:4000 127.0.0.1:9000\n1 accept 0 192.0.2.5:4001 127.0.0.1:9000\nask frontend 0\n2 accept 0 192.0.2.5:4002 127.0.0.1:9000\n3 close 0.1 done\nask frontend 0\n4 accept 0 192.0.2.5:4003 127.0.0.1:9000\nask frontend 1\nask frontend 0".as_slice();
-    let by_rule = b"offer 0.1 used 0 line 7 to 10.0.0.20:80 src 192.0.2.5:4000 dst 127.0.0.1:9000 send -\nrefuse 0.2 used 0 line 4\ncount 1\nrefuse 0.3 used 0 line 4\nclosed 0.1 done\ncount 0\noffer 0.4 used 0 line 7 to 10.0.0.20:80 src 192.0.2.5:4003 dst 127.0.0.1:9000 send -\ncount none\ncount 1\n".as_slice();
-    let by_limit = b"offer 0.1 used 0 line 7 to 10.0.0.20:80 src 192.0.2.5:4000 dst 127.0.0.1:9000 send -\noffer 0.2 used 0 line 7 to 10.0.0.20:80 src 192.0.2.5:4001 dst 127.0.0.1:9000 send -\ncount 2\nrefuse 0.3 used 0 line 3\nclosed 0.1 done\ncount 1\noffer 0.4 used 0 line 7 to 10.0.0.20:80 src 192.0.2.5:4003 dst 127.0.0.1:9000 send -\ncount none\ncount 2\n".as_slice();
+    let script =
+        b"0 accept 0 192.0.2.5:4000 127.0.0.1:9000\n1 accept 0 192.0.2.5:4001 127.0.0.1:9000\nask frontend 0\n2 accept 0 192.0.2.5:4002 127.0.0.1:9000\n3 close 0.1 done\nask frontend 0\n4 accept 0 192.0.2.5:4003 127.0.0.1:9000\nask frontend 1\nask frontend 0".as_slice();
+    let by_rule =
+        b"offer 0.1 used 0 line 7 to 10.0.0.20:80 src 192.0.2.5:4000 dst 127.0.0.1:9000 send -\nrefuse 0.2 used 0 line 4\ncount 1\nrefuse 0.3 used 0 line 4\nclosed 0.1 done\ncount 0\noffer 0.4 used 0 line 7 to 10.0.0.20:80 src 192.0.2.5:4003 dst 127.0.0.1:9000 send -\ncount none\ncount 1\n".as_slice();
+    let by_limit =
+        b"offer 0.1 used 0 line 7 to 10.0.0.20:80 src 192.0.2.5:4000 dst 127.0.0.1:9000 send -\noffer 0.2 used 0 line 7 to 10.0.0.20:80 src 192.0.2.5:4001 dst 127.0.0.1:9000 send -\ncount 2\nrefuse 0.3 used 0 line 3\nclosed 0.1 done\ncount 1\noffer 0.4 used 0 line 7 to 10.0.0.20:80 src 192.0.2.5:4003 dst 127.0.0.1:9000 send -\ncount none\ncount 2\n".as_slice();
     for (config, want) in [(LIMITED, by_rule), (limit, by_limit)] {
         let done = run_plain(rt.alloc(), config, script)?;
         assert_eq!(rt; done.ended, Ok(9));
