@@ -17,6 +17,10 @@ abbrev pub planned : Result (List Item) ConfFault → Result Plan OpenFault
 planned (Err fault) = Err (opens.Config fault)
 planned (Ok items) = opened (plan_of items)
 
+-- the plan of a text, or the fault that stands against it
+abbrev pub compiled : List ℕ → Result Plan OpenFault
+compiled text = planned (items_of text)
+
 -- what a text means
 abbrev pub meaning : List ℕ → Result Plan OpenFault
-meaning text = planned (items_of text)
+meaning text = compiled text
