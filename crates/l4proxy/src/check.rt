@@ -15,7 +15,7 @@ use std::alloc::Global;
 
 /// The fault of a configuration whose lines are right, if it has one.
 fn fault_of_plan(alloc: Global, tree: &Tree<'_>) -> Result<Option<OpenFault>, PrintFault>
-    ensures found { IfOk result (λ found. found ≡ fault_in (opened (plan_of tree.now.items))) }
+    ensures found { IfOk result (λ found. found ≡ fault_in (opened (plan_of tree.now))) }
     ensures no_memory { IfErr result (λ f. f ≡ PrintFault.NoMemory) }
 {
     match compile(alloc, tree) {
