@@ -1,7 +1,12 @@
 use crate::advice::{line_of, sentence};
 use crate::check::{fault_of, run_check};
 use crate::fault::PrintFault;
+use acl_core::AclFault;
+use conf_text::LineKind;
+use conf_tree::{ConfFault, ConfKind};
+use conn_core::OpenFault;
 use device_core::{Calls, MemoryOutput, Schedule};
+use plan_core::{PlanFault, PlanKind};
 use std::alloc::Global;
 use std::test::Fail;
 
@@ -41,6 +46,26 @@ fn one_line_is_written(rt: HostRuntime) -> Result<(), Fail> {
             "frontend f\nbind :80\nmaxconn 5 5",
             false,
             "line 3: ExtraWord\n",
+        ),
+        (
+            "frontend f\nbind :80 accept-proxy x",
+            false,
+            "line 2: ExtraWord\n",
+        ),
+        (
+            "backend b\nserver s 10.0.0.1:80 weight",
+            false,
+            "line 2: MissingWord\n",
+        ),
+        (
+            "backend b\nserver s 10.0.0.1:80 weight 257",
+            false,
+            "line 2: BadNumber\n",
+        ),
+        (
+            "frontend f\nbind :80 accept-proxy\nbackend b\nserver s 10.0.0.1:80 weight 2 send-proxy",
+            true,
+            "ok\n",
         ),
         ("frontend f\nfrontend f", false, "line 2: Duplicate\n"),
         ("frontend f\ndefault_backend b", false, "line 1: NoBind\n"),
@@ -140,6 +165,11 @@ fn faults_are_told_in_words(rt: HostRuntime) -> Result<(), Fail> {
         ),
         ("frontend f\n", 1, "the frontend listens nowhere;"),
         (
+            "frontend f\nbind :80\ntcp-request session track-sc0 src",
+            3,
+            "a table is needed that is not there;",
+        ),
+        (
             "frontend f\nbind :80\ndefault_backend b",
             3,
             "no backend has this name;",
@@ -177,6 +207,54 @@ fn faults_of_conditions_are_told_in_words(rt: HostRuntime) -> Result<(), Fail> {
             None => false,
         };
         assert!(rt; is_so, "{condition}");
+    }
+    Ok(())
+}
+
+fn of_words(kind: ConfKind) -> OpenFault {
+    OpenFault::Config(ConfFault { line: 2, kind })
+}
+
+fn of_plan(kind: PlanKind) -> OpenFault {
+    OpenFault::Plan(PlanFault { line: 2, kind })
+}
+
+/// Each kind of fault has a sentence of its own.
+#[test]
+fn sentences_differ(rt: HostRuntime) -> Result<(), Fail> {
+    let faults = [
+        of_words(ConfKind::Text(LineKind::TooLong)),
+        of_words(ConfKind::Text(LineKind::TooManyWords)),
+        of_words(ConfKind::Text(LineKind::TooManyLines)),
+        of_words(ConfKind::Text(LineKind::Quoting)),
+        of_words(ConfKind::Text(LineKind::NotAscii)),
+        of_words(ConfKind::NoSection),
+        of_words(ConfKind::UnknownKeyword),
+        of_words(ConfKind::Unsupported),
+        of_words(ConfKind::MissingWord),
+        of_words(ConfKind::ExtraWord),
+        of_words(ConfKind::BadNumber),
+        of_words(ConfKind::BadAddress),
+        of_words(ConfKind::Duplicate),
+        of_words(ConfKind::Acl(AclFault::UnknownCriterion)),
+        of_words(ConfKind::Acl(AclFault::BadPattern)),
+        of_words(ConfKind::Acl(AclFault::NoPattern)),
+        of_words(ConfKind::Acl(AclFault::UnknownName)),
+        of_words(ConfKind::Acl(AclFault::BadBraces)),
+        of_words(ConfKind::Acl(AclFault::EmptyGroup)),
+        of_words(ConfKind::Acl(AclFault::BadName)),
+        of_words(ConfKind::Limit),
+        of_plan(PlanKind::NoTable),
+        of_plan(PlanKind::NoBackend),
+        of_plan(PlanKind::NotStored),
+        of_plan(PlanKind::NoBind),
+        of_plan(PlanKind::NoFrontend),
+        OpenFault::NoMemory,
+    ];
+    for (n, fault) in faults.iter().enumerate() {
+        for other in &faults[..n] {
+            assert!(rt; sentence(fault) != sentence(other), "{fault}, {other}");
+        }
     }
     Ok(())
 }
