@@ -15,8 +15,11 @@ pub record Bound : Type 0 where
   pub port : ℕ
   pub accept_proxy : Bool
 
+abbrev pub bound_of : List ℕ → Bind → Bound
+bound_of name bind = record { frontend = name; addr = bind.at.addr; port = bind.at.port; accept_proxy = bind.accept_proxy }
+
 abbrev pub bound_in : Frontend → List Bound
-bound_in frontend = map (λ bind. record { frontend = frontend.name; addr = bind.at.addr; port = bind.at.port; accept_proxy = bind.accept_proxy }) frontend.binds
+bound_in frontend = map (bound_of frontend.name) frontend.binds
 
 -- all binds of a plan
 abbrev pub binds_of : Plan → List Bound

@@ -1,5 +1,5 @@
 -- The frontends and backends of a configuration, each with its lines.
-use Rattle.std.specs.Prelude.{ℕ, Bool, true, false, List, [], ◌∷◌, ◌++◌, filter, Option, Some, None}
+use Rattle.std.specs.Prelude.{ℕ, Bool, true, false, List, [], ◌∷◌, ◌++◌, filter, option_map, option_to_list, Option, Some, None}
 use Rattle.std.specs.List.{before_first}
 use Rattle.conf_tree.specs.declared.item.Item.{Item}
 use Rattle.conf_tree.specs.declared.item.Says.{Says}
@@ -32,16 +32,19 @@ abbrev pub base_after : List Item → List Item → Says → List Item
 base_after base own says.Defaults = own
 base_after base own other = base
 
-abbrev pub headed : List Item → List Item → Option Head → List Proxy
-headed base own None = []
-headed base own (Some head) = record { head = head; own = own; base = base } ∷ []
+abbrev pub proxy_with : List Item → List Item → Head → Proxy
+proxy_with base own head = record { head = head; own = own; base = base }
+
+-- the frontend or backend that an item opens, with its own lines
+abbrev pub proxy_said : List Item → List Item → Item → Option Proxy
+proxy_said base own item = option_map (proxy_with base own) (head_said item.line item.says)
 
 -- the frontends and backends that those lines open, in their order, where the lines of the `defaults`
 -- before them are given
 abbrev pub proxies : List Item → List Item → List Proxy
 proxies base [] = []
 proxies base (item ∷ rest) =
-    headed base (own_lines rest) (head_said item.line item.says) ++ proxies (base_after base (own_lines rest) item.says) rest
+    option_to_list (proxy_said base (own_lines rest) item) ++ proxies (base_after base (own_lines rest) item.says) rest
 
 abbrev pub is_frontend_section : Section → Bool
 is_frontend_section sections.Frontend = true

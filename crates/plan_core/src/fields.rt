@@ -161,7 +161,7 @@ pub fn limit_in(proxy: &Proxy) -> Limit
 }
 
 /// The `default_backend` of a frontend.
-pub fn default_in<'a>(proxy: &Proxy<'_, 'a>) -> Option<Named<'a>>
+pub fn default_in<'a>(proxy: &Proxy<'a>) -> Option<Named<'a>>
     ensures { result ≡ said_in default_said proxy.now }
 {
     last_default(proxy.own.items()).or(last_default(proxy.base.items()))

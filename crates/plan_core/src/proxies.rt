@@ -1,6 +1,6 @@
 //! The frontends and backends of a configuration, each with its lines.
 ghost use Rattle.std.specs.Prelude.{◌≡◌, ◌<◌, [], length, position, IfOk, IfSome};
-ghost use Rattle.plan_core.specs.Proxies.{head_said, opens, own_lines, base_after, proxies, is_frontend, is_backend};
+ghost use Rattle.plan_core.specs.Proxies.{head_said, opens, own_lines, base_after, proxy_said, proxies, is_frontend, is_backend};
 
 use crate::plan::Section;
 use conf_tree::{Item, Says};
@@ -11,11 +11,11 @@ use word_core::Word;
 
 /// Lines of a configuration, which borrow it. Contracts see their list.
 #[derive(Drop)]
-pub struct Lines<'t, 'a> {
-    items: &'t [Item<'a>],
+pub struct Lines<'a> {
+    items: &'a [Item<'a>],
 }
 
-impl<'t, 'a> Model for Lines<'t, 'a> {
+impl<'a> Model for Lines<'a> {
     ghost use Rattle.std.specs.Prelude.{List};
     ghost use Rattle.conf_tree.specs.declared.item.Item.{Item};
 
@@ -24,16 +24,16 @@ impl<'t, 'a> Model for Lines<'t, 'a> {
     ghost view = { λ l. l.items.now };
 }
 
-impl<'t, 'a> Lines<'t, 'a> {
+impl<'a> Lines<'a> {
     ghost use Rattle.std.specs.Prelude.{◌≡◌};
 
-    pub fn of(items: &'t [Item<'a>]) -> Self
+    pub fn of(items: &'a [Item<'a>]) -> Self
         ensures { result ≡ items.now }
     {
         Lines { items }
     }
 
-    pub fn items(&self) -> &'t [Item<'a>]
+    pub fn items(&self) -> &'a [Item<'a>]
         ensures { result.now ≡ self.now }
     {
         self.items
@@ -50,12 +50,12 @@ pub struct Head<'a> {
 
 /// A frontend or a backend.
 #[derive(Drop)]
-pub struct Proxy<'t, 'a> {
+pub struct Proxy<'a> {
     pub head: Head<'a>,
     /// The lines of the section.
-    pub own: Lines<'t, 'a>,
+    pub own: Lines<'a>,
     /// The lines of the `defaults` in force, which count where the section itself says nothing.
-    pub base: Lines<'t, 'a>,
+    pub base: Lines<'a>,
 }
 
 fn head_said<'a>(item: &Item<'a>) -> Option<Head<'a>>
@@ -91,7 +91,7 @@ fn next_section(items: &[Item]) -> Option<usize>
 }
 
 /// The lines up to the next section.
-fn own_lines<'t, 'a>(items: &'t [Item<'a>]) -> &'t [Item<'a>]
+fn own_lines<'a>(items: &'a [Item<'a>]) -> &'a [Item<'a>]
     ensures { result.now ≡ own_lines items.now }
 {
     match next_section(items) {
@@ -101,11 +101,11 @@ fn own_lines<'t, 'a>(items: &'t [Item<'a>]) -> &'t [Item<'a>]
 }
 
 /// The lines of the `defaults` in force behind an item.
-fn base_after<'t, 'a>(
-    base: &'t [Item<'a>],
+fn base_after<'a>(
+    base: &'a [Item<'a>],
     says: &Says,
-    after: &'t [Item<'a>],
-) -> &'t [Item<'a>]
+    after: &'a [Item<'a>],
+) -> &'a [Item<'a>]
     ensures { result.now ≡ base_after base.now (own_lines after.now) says.now }
 {
     match says {
@@ -114,23 +114,37 @@ fn base_after<'t, 'a>(
     }
 }
 
+/// The frontend or backend that an item opens, with the items after it.
+fn proxy_said<'a>(
+    base: &'a [Item<'a>],
+    after: &'a [Item<'a>],
+    item: &Item<'a>,
+) -> Option<Proxy<'a>>
+    ensures { result ≡ proxy_said base.now (own_lines after.now) item.now }
+{
+    match head_said(item) {
+        Some(head) => Some(Proxy {
+            head,
+            own: Lines::of(own_lines(after)),
+            base: Lines::of(base),
+        }),
+        None => None,
+    }
+}
+
 /// The frontends and backends of a configuration, in their order.
-pub fn proxies_in<'t, 'a>(
+pub fn proxies_in<'a>(
     alloc: Global,
-    items: &'t [Item<'a>],
-) -> Result<Seq<Proxy<'t, 'a>>, AllocError>
+    items: &'a [Item<'a>],
+) -> Result<Seq<Proxy<'a>>, AllocError>
     ensures { IfOk result (λ all. all ≡ proxies [] items.now) }
 {
-    let mut base: &'t [Item<'a>] = &[];
-    let mut all = Seq::new(alloc);
-    let mut rest = items;
+    let mut base: &'a [Item<'a>] = &[];
+    let mut all: Seq<Proxy<'a>> = Seq::new(alloc);
+    let mut rest: &'a [Item<'a>] = items;
     while let [item, after @ ..] = rest {
-        if let Some(head) = head_said(item) {
-            all.push(Proxy {
-                head,
-                own: Lines::of(own_lines(after)),
-                base: Lines::of(base),
-            })?;
+        if let Some(proxy) = proxy_said(base, after, item) {
+            all.push(proxy)?;
         }
         base = base_after(base, &item.says, after);
         rest = after;
