@@ -1,11 +1,15 @@
 -- The least of some faults.
-use Rattle.std.proofs.Common.{◌≡◌, ℕ, zero, suc, ◌+◌, ◌<◌, ◌||◌, ◌&&◌, Bool, true, false, nat_eq, nat_lt, List, [], ◌∷◌, ◌++◌, drop, length, slice_index_or, Option, Some, None, refl, sym, ap, ◌∙◌, if◌then◌else◌}
+use Rattle.std.proofs.Common.{◌≡◌, ℕ, zero, suc, ◌<◌, ◌||◌, ◌&&◌, Bool, true, false, nat_lt, List, [], ◌∷◌, ◌++◌, length, slice_index_or, Option, Some, None, refl, sym, ap, ◌∙◌}
 use native.Mathlib.Omega.{arith}
-use Rattle.std.specs.Prelude.{◌==◌, option_to_list, flat_map, Contains, All}
-use Rattle.std.specs.List.{filter_map, cons_option}
+use Rattle.std.specs.Prelude.{◌==◌, flat_map, IfSome}
+use Rattle.std.specs.List.{filter_map, cons_option, list_any}
 use Rattle.std.proofs.lemmas.Bool.Decides.{nat_tests}
 use Rattle.plan_core.specs.declared.fault.PlanFault.{PlanFault}
-use Rattle.plan_core.specs.Faults.{kind_number, is_before, earlier, earliest, least, IsLeast}
+use Rattle.plan_core.specs.declared.plan.Backend.{Backend}
+use Rattle.plan_core.specs.declared.plan.Table.{Table}
+use Rattle.plan_core.specs.declared.proxies.Proxy.{Proxy}
+use Rattle.plan_core.specs.Proxies.{is_frontend}
+use Rattle.plan_core.specs.Faults.{kind_number, is_before, earlier, earliest, least, IsLeast, faults_in, faults_of}
 
 -- Lines and kinds as numbers.
 
@@ -134,3 +138,10 @@ least_is (first ∷ rest) fault is = by (least rest) refl (λ other there. least
         let same : first ≡ fault = cc in
         alone (sym same) (none_left rest there)
     by (Some other) there more = chosen other (is_before other first) refl there (more other there)
+
+pub some_least : (faults : List PlanFault) (told : Option PlanFault) → told ≡ least faults → IfSome told (λ fault. IsLeast faults fault)
+some_least faults None is = tt
+some_least faults (Some fault) is = least_is faults fault (sym is)
+
+pub faults_where : (tables : List Table) (backends : List Backend) (all : List Proxy) → list_any is_frontend all ≡ true → faults_of tables backends all ≡ flat_map (faults_in tables backends) all
+faults_where tables backends all is = rw is refl

@@ -1,5 +1,5 @@
 -- The frontends and backends of a configuration stand one after the other.
-use Rattle.std.proofs.Common.{◌≡◌, ℕ, zero, suc, ◌+◌, ◌<◌, ◌≤◌, Bool, true, false, not, eqb, List, [], ◌∷◌, ◌++◌, length, take, map, filter, Option, Some, None, refl, sym, ap, subst, ◌∙◌, if◌then◌else◌}
+use Rattle.std.proofs.Common.{◌≡◌, ℕ, zero, suc, ◌+◌, ◌<◌, ◌≤◌, Bool, true, false, not, eqb, List, [], ◌∷◌, ◌++◌, length, take, filter, Some, refl, sym, ap, subst, ◌∙◌, if◌then◌else◌}
 use native.Mathlib.Omega.{arith}
 use Rattle.std.specs.Prelude.{slice_get, ◌==◌, option_map, option_to_list}
 use Rattle.std.specs.List.{AllByRecursion, cons_option, list_any, prefix_len}
@@ -21,7 +21,7 @@ use Rattle.plan_core.specs.declared.proxies.Proxy.{Proxy}
 use Rattle.plan_core.specs.Compiled.{backend_of, backends_in}
 use Rattle.plan_core.specs.Fields.{server_said, all_said}
 use Rattle.plan_core.specs.Lines.{has_line, LinesDiffer}
-use Rattle.plan_core.specs.Proxies.{head_said, opens, own_lines, base_after, proxy_with, proxy_said, proxies, is_frontend, is_backend, is_frontend_section, is_backend_section, frontends, backends}
+use Rattle.plan_core.specs.Proxies.{head_said, opens, own_lines, base_after, proxy_with, proxies, is_frontend, is_backend, frontends, backends}
 
 -- How many there are.
 

@@ -1,5 +1,5 @@
 -- The binds of two plans compared.
-use Rattle.std.specs.Prelude.{◌≡◌, ◌↔◌, ℕ, Bool, ◌&&◌, ◌==◌, true, false, List, map, flat_map, Contains}
+use Rattle.std.specs.Prelude.{◌↔◌, ℕ, Bool, ◌&&◌, true, false, List, map, flat_map, Contains}
 use Rattle.std.specs.List.{list_any, list_all}
 use Rattle.std.specs.Str.{bytes_eq}
 use Rattle.addr_core.specs.declared.addr.Addr.{Addr}

@@ -1,7 +1,6 @@
 -- What may stand against the plan of a configuration, and which fault is told.
-use Rattle.std.specs.Prelude.{◌≡◌, ℕ, Bool, false, ◌&&◌, ◌||◌, ◌==◌, nat_lt, List, [], ◌∷◌, ◌++◌, is_some, flat_map, option_to_list, Option, Some, None, if◌then◌else◌, All, Contains}
-use Rattle.std.specs.List.{filter_map, list_any}
-use Rattle.std.specs.Option.{option_or}
+use Rattle.std.specs.Prelude.{◌≡◌, ℕ, Bool, false, ◌&&◌, ◌||◌, ◌==◌, nat_lt, List, [], ◌∷◌, ◌++◌, is_some, flat_map, Option, Some, None, if◌then◌else◌, All, Contains}
+use Rattle.std.specs.List.{list_any}
 use Rattle.conf_tree.specs.declared.item.Says.{Says}
 use Rattle.conf_tree.specs.declared.item.Says.TheVariants as says
 use Rattle.plan_core.specs.declared.fault.PlanFault.{PlanFault}

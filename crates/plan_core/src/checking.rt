@@ -4,7 +4,7 @@ ghost use Rattle.std.specs.List.{list_any};
 ghost use Rattle.std.specs.Str.{bytes_eq};
 ghost use Rattle.plan_core.specs.Proxies.{is_frontend};
 ghost use Rattle.plan_core.specs.Fields.{all_said, backend_number};
-ghost use Rattle.plan_core.specs.Faults.{kind_number, is_before, earlier, earliest, least, bind_faults, default_faults, track_fault, frontend_faults, faults_in, no_frontend, faults_of};
+ghost use Rattle.plan_core.specs.Faults.{kind_number, is_before, earlier, earliest, least, IsLeast, bind_faults, default_faults, track_fault, frontend_faults, faults_in, no_frontend, faults_of};
 
 use crate::fault::{PlanFault, PlanKind};
 use crate::fields::{Named, default_in, last_bind};
@@ -176,7 +176,8 @@ fn has_frontend(all: &[Proxy]) -> bool
 pub fn fault_of(tables: &[Table], backends: &[Backend], all: &[Proxy]) -> Option<PlanFault>
     requires tables { length tables.now ≤ 65535 }
     requires backends { length backends.now ≤ 65535 }
-    ensures { result ≡ least (faults_of tables.now backends.now all.now) }
+    ensures value { result ≡ least (faults_of tables.now backends.now all.now) }
+    ensures least { IfSome result (λ fault. IsLeast (faults_of tables.now backends.now all.now) fault) }
 {
     if has_frontend(all) {
         return fault_in_all(tables, backends, all);

@@ -1,6 +1,7 @@
 //! The frontends and backends of a configuration, each with its lines.
-ghost use Rattle.std.specs.Prelude.{◌≡◌, ◌<◌, [], length, position, IfOk, IfSome};
-ghost use Rattle.plan_core.specs.Proxies.{head_said, opens, own_lines, base_after, proxy_said, proxies, is_frontend, is_backend};
+ghost use Rattle.std.specs.Prelude.{◌≡◌, ◌<◌, ◌≤◌, [], length, position, IfOk, IfSome};
+ghost use Rattle.conf_tree.specs.Few.{FewSections};
+ghost use Rattle.plan_core.specs.Proxies.{head_said, opens, own_lines, base_after, proxy_said, proxies, is_frontend, is_backend, frontends, backends};
 
 use crate::plan::Section;
 use conf_tree::{Item, Says};
@@ -132,11 +133,7 @@ fn proxy_said<'a>(
     }
 }
 
-/// The frontends and backends of a configuration, in their order.
-pub fn proxies_in<'a>(
-    alloc: Global,
-    items: &'a [Item<'a>],
-) -> Result<Seq<Proxy<'a>>, AllocError>
+fn all_proxies<'a>(alloc: Global, items: &'a [Item<'a>]) -> Result<Seq<Proxy<'a>>, AllocError>
     ensures { IfOk result (λ all. all ≡ proxies [] items.now) }
 {
     let mut base: &'a [Item<'a>] = &[];
@@ -149,6 +146,21 @@ pub fn proxies_in<'a>(
         base = base_after(base, &item.says, after);
         rest = after;
     }
+    Ok(all)
+}
+
+/// The frontends and backends of a configuration, in their order.
+pub fn proxies_in<'a>(
+    alloc: Global,
+    items: &'a [Item<'a>],
+) -> Result<Seq<Proxy<'a>>, AllocError>
+    requires { FewSections items.now }
+    ensures value { IfOk result (λ all. all ≡ proxies [] items.now) }
+    ensures frontends { IfOk result (λ all. length (frontends all) ≤ 64) }
+    ensures backends { IfOk result (λ all. length (backends all) ≤ 64) }
+    ensures both { IfOk result (λ all. length all ≤ 128) }
+{
+    let all = all_proxies(alloc, items)?;
     Ok(all)
 }
 
