@@ -41,7 +41,7 @@ enum Told {
     Fault(StepFault),
 }
 
-fn told(core: &mut Core, event: &Event) -> Told {
+fn answer_to(core: &mut Core, event: &Event) -> Told {
     match core.step(0, event) {
         Ok(reply) => match &reply.said {
             Said::Offer { id, line, .. } => Told::Offer(id.frontend, id.serial, *line),
@@ -70,7 +70,7 @@ fn judges_by_the_frontend_of_the_listener(rt: HostRuntime) -> Result<(), Fail> {
         (Event::Accept(2, from(NEAR, 9002)?), Told::Offer(1, 3, 11)),
         (Event::Accept(1, from(NEAR, 9001)?), Told::Offer(0, 4, 13)),
     ] {
-        assert_eq!(rt; told(&mut core, &event), want);
+        assert_eq!(rt; answer_to(&mut core, &event), want);
     }
     let plain = core.plain()?;
     assert_eq!(rt; plain.listeners.len(), 3);
@@ -104,7 +104,7 @@ fn inherits_limits_and_default_backends(rt: HostRuntime) -> Result<(), Fail> {
         (2, Told::Refuse(2, 1, Cause::NoBackend(10))),
     ] {
         let event = Event::Accept(listener, from(NEAR, 80)?);
-        assert_eq!(rt; told(&mut core, &event), want);
+        assert_eq!(rt; answer_to(&mut core, &event), want);
     }
     Ok(())
 }
