@@ -1,1 +1,3 @@
 pub mod FoundLemmas
+pub mod RisingLemmas
+pub mod FewLemmas

@@ -2,15 +2,22 @@
 #![tactic(auto)]
 
 pub use fault::{ConfFault, ConfKind};
-pub use item::{Action, Item, Says, SectionKind, Tree};
+pub use item::{
+    Action, Item, KeyType, Method, Place, Ruleset, Says, SectionKind, ServerWords, TableWords,
+    TrackWords, Tree,
+};
 pub use reading::read_config;
 
-mod condition;
+mod claim;
 mod fault;
 mod item;
 mod keyword;
 mod reading;
+mod rule;
+mod said;
+mod server;
 mod statement;
+mod table;
 #[cfg(test)]
 mod tests;
 mod words;

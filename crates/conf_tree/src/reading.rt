@@ -1,219 +1,246 @@
 //! Reading the lines of a configuration.
-ghost use Rattle.std.specs.Prelude.{◌≡◌, ◌⊎◌, [], length, filter, IfOk, IfErr, true, List, Result, Ok, Err};
+ghost use Rattle.std.specs.Prelude.{◌≡◌, ◌⊎◌, ◌++◌, ◌∷◌, [], length, filter, IfOk, IfErr, OnOk, List, Result, Ok, Err};
 ghost use Rattle.std.specs.List.{list_any};
 ghost use Rattle.list_core.specs.Each.{Fails, Gives, each};
-ghost use Rattle.addr_core.specs.Same.{same_endpoint};
-ghost use Rattle.conf_text.specs.Lines.{lines_of};
-ghost use Rattle.std.specs.Str.{bytes_eq};
+ghost use Rattle.conf_text.specs.Lines.{lines_of, AreLines};
 ghost use Rattle.conf_tree.specs.declared.fault.ConfFault.{ConfFault};
 ghost use Rattle.conf_tree.specs.declared.item.Item.{Item};
-ghost use Rattle.conf_tree.specs.Config.{section_after, section_of, is_frontend, is_backend, is_server, is_bind, is_rule, once, allowed, judged, next_item, text_fault, items_of, AreItems, IsConfFault};
+ghost use Rattle.conf_tree.specs.Config.{outside, place_after, place_of, own, claim_of, claimed, is_server_named, has_server, is_taken, is_bind, is_rule, is_server, is_full, allowed, judged, next_item, text_fault, items_of, AreItems, IsConfFault};
 
+use crate::claim::{Claim, backend_count, claim_of, frontend_count, is_claimed};
 use crate::fault::{ConfFault, ConfKind};
-use crate::item::{Item, Says, SectionKind, Tree};
+use crate::item::{Item, Place, Says, SectionKind, Tree};
+use crate::said::Said;
 use crate::statement::line_says;
-use addr_core::Endpoint;
 use conf_text::{Line, LineKind, Lines};
 use list_core::{Seq, Stop, newest};
-use std::alloc::Global;
+use std::alloc::{AllocError, Global};
 use word_core::Word;
 
+/// Before any section.
+fn outside<'a>() -> Place<'a>
+    ensures { result ≡ outside }
+{
+    Place {
+        kind: SectionKind::Outside,
+        name: Word::of(&[]),
+        first: 0,
+    }
+}
+
+fn again<'a>(place: &Place<'a>) -> Place<'a>
+    ensures { result ≡ place.now }
+{
+    Place {
+        kind: place.kind,
+        name: place.name.again(),
+        first: place.first,
+    }
+}
+
 /// The section in which the line after those stands, if it opens none.
-fn section_after(items: &[Item]) -> SectionKind
-    ensures { result ≡ section_after items.now }
+fn place_after<'a>(items: &[Item<'a>]) -> Place<'a>
+    ensures { result ≡ place_after items.now }
 {
     match newest(items) {
-        Some(item) => item.section,
-        None => SectionKind::Outside,
+        Some(item) => again(&item.place),
+        None => outside(),
     }
 }
 
-fn section_of(kind: SectionKind, says: &Says) -> SectionKind
-    ensures { result ≡ section_of kind says.now }
+/// The section of a line that says this, as the item of that number.
+fn place_of<'a>(place: Place<'a>, number: usize, says: &Says<'a>) -> Place<'a>
+    ensures { result ≡ place_of place.entry number says.now }
 {
     match says {
-        Says::Frontend(_) => SectionKind::Frontend,
-        Says::Backend(_) => SectionKind::Backend,
-        _ => kind,
+        Says::Global => Place {
+            kind: SectionKind::Global,
+            name: Word::of(&[]),
+            first: number,
+        },
+        Says::Defaults => Place {
+            kind: SectionKind::Defaults,
+            name: Word::of(&[]),
+            first: number,
+        },
+        Says::Frontend(name) => Place {
+            kind: SectionKind::Frontend,
+            name: name.again(),
+            first: number,
+        },
+        Says::Backend(name) => Place {
+            kind: SectionKind::Backend,
+            name: name.again(),
+            first: number,
+        },
+        _ => place,
     }
 }
 
-fn is_frontend_named(says: &Says, name: &Word) -> bool
-    ensures { result ≡ is_frontend (λ other. bytes_eq other name.now) says.now }
+/// The lines of a section, of all those before.
+fn own<'t, 'a>(place: &Place, items: &'t [Item<'a>]) -> &'t [Item<'a>]
+    ensures { result.now ≡ own place.now items.now }
+{
+    if place.first < items.len() {
+        return &items[place.first..];
+    }
+    &[]
+}
+
+fn is_server_named(name: &Word, says: &Says) -> bool
+    ensures { result ≡ is_server_named name.now says.now }
 {
     match says {
-        Says::Frontend(other) => other.is(name.bytes()),
+        Says::Server(server) => server.name.is(name.bytes()),
         _ => false,
     }
 }
 
-fn is_any_frontend(says: &Says) -> bool
-    ensures { result ≡ is_frontend (λ other. true) says.now }
+fn is_any_server_named(lines: &[Item], name: &Word) -> bool
+    ensures { result ≡ list_any (λ item. is_server_named name.now item.says) lines.now }
 {
-    matches!(says, Says::Frontend(_))
+    lines.iter().any(|item| is_server_named(name, &item.says))
 }
 
-fn is_backend_named(says: &Says, name: &Word) -> bool
-    ensures { result ≡ is_backend (λ other. bytes_eq other name.now) says.now }
+fn has_server(lines: &[Item], says: &Says) -> bool
+    ensures { result ≡ has_server lines.now says.now }
 {
     match says {
-        Says::Backend(other) => other.is(name.bytes()),
+        Says::Server(server) => is_any_server_named(lines, &server.name),
         _ => false,
     }
 }
 
-fn is_any_backend(says: &Says) -> bool
-    ensures { result ≡ is_backend (λ other. true) says.now }
+fn is_bind(says: &Says) -> bool
+    ensures { result ≡ is_bind says.now }
 {
-    matches!(says, Says::Backend(_))
-}
-
-fn is_server_named(says: &Says, name: &Word) -> bool
-    ensures { result ≡ is_server (λ other. bytes_eq other name.now) says.now }
-{
-    match says {
-        Says::Server(other, _) => other.is(name.bytes()),
-        _ => false,
-    }
-}
-
-fn is_any_server(says: &Says) -> bool
-    ensures { result ≡ is_server (λ other. true) says.now }
-{
-    matches!(says, Says::Server(_, _))
-}
-
-fn is_bind_at(says: &Says, at: Endpoint) -> bool
-    ensures { result ≡ is_bind (λ other. same_endpoint other at) says.now }
-{
-    match says {
-        Says::Bind(other) => other.is_same(&at),
-        _ => false,
-    }
-}
-
-fn is_any_bind(says: &Says) -> bool
-    ensures { result ≡ is_bind (λ other. true) says.now }
-{
-    matches!(says, Says::Bind(_))
+    matches!(says, Says::Bind(_, _))
 }
 
 fn is_rule(says: &Says) -> bool
     ensures { result ≡ is_rule says.now }
 {
-    matches!(says, Says::Rule(_, _))
+    matches!(says, Says::Rule(_, _, _))
 }
 
-fn once(same: bool, some: bool) -> Result<(), ConfKind>
-    ensures { result ≡ once same some }
+fn is_server(says: &Says) -> bool
+    ensures { result ≡ is_server says.now }
 {
-    if same {
+    matches!(says, Says::Server(_))
+}
+
+fn bind_count(lines: &[Item]) -> usize
+    ensures { result ≡ length (filter (λ item. is_bind item.says) lines.now) }
+{
+    lines.iter().filter(|item| is_bind(&item.says)).count()
+}
+
+fn rule_count(lines: &[Item]) -> usize
+    ensures { result ≡ length (filter (λ item. is_rule item.says) lines.now) }
+{
+    lines.iter().filter(|item| is_rule(&item.says)).count()
+}
+
+fn server_count(lines: &[Item]) -> usize
+    ensures { result ≡ length (filter (λ item. is_server item.says) lines.now) }
+{
+    lines.iter().filter(|item| is_server(&item.says)).count()
+}
+
+/// Whether an earlier line has what may stand once.
+fn is_taken(items: &[Item], taken: &[Claim], place: &Place, says: &Says) -> bool
+    requires { taken.now ≡ claimed items.now }
+    ensures { result ≡ is_taken items.now place.now says.now }
+{
+    let claim = claim_of(place, says);
+    is_claimed(taken, &claim) || has_server(own(place, items), says)
+}
+
+/// Whether one line more of the kind is too many.
+fn is_full(items: &[Item], taken: &[Claim], place: &Place, says: &Says) -> bool
+    requires { taken.now ≡ claimed items.now }
+    ensures { result ≡ is_full items.now place.now says.now }
+{
+    match says {
+        Says::Frontend(_) => frontend_count(taken) >= 64,
+        Says::Backend(_) => backend_count(taken) >= 64,
+        Says::Bind(_, _) => bind_count(own(place, items)) >= 64,
+        Says::Rule(_, _, _) => rule_count(own(place, items)) >= 256,
+        Says::Server(_) => server_count(own(place, items)) >= 64,
+        _ => false,
+    }
+}
+
+/// Whether a line that says this may stand behind those.
+fn allowed(items: &[Item], taken: &[Claim], place: &Place, said: &Said) -> Result<(), ConfKind>
+    requires { taken.now ≡ claimed items.now }
+    ensures { result ≡ allowed items.now place.now said.now }
+{
+    if said.twice || is_taken(items, taken, place, &said.says) {
         return Err(ConfKind::Duplicate);
     }
-    if some {
-        return Err(ConfKind::Unsupported);
+    if said.beyond || is_full(items, taken, place, &said.says) {
+        return Err(ConfKind::Limit);
     }
     Ok(())
 }
 
-fn has_frontend_named(items: &[Item], name: &Word) -> bool
-    ensures { result ≡ list_any (λ i. is_frontend (λ other. bytes_eq other name.now) i.says) items.now }
-{
-    items.iter().any(|i| is_frontend_named(&i.says, name))
-}
-
-fn has_frontend(items: &[Item]) -> bool
-    ensures { result ≡ list_any (λ i. is_frontend (λ other. true) i.says) items.now }
-{
-    items.iter().any(|i| is_any_frontend(&i.says))
-}
-
-fn has_backend_named(items: &[Item], name: &Word) -> bool
-    ensures { result ≡ list_any (λ i. is_backend (λ other. bytes_eq other name.now) i.says) items.now }
-{
-    items.iter().any(|i| is_backend_named(&i.says, name))
-}
-
-fn has_backend(items: &[Item]) -> bool
-    ensures { result ≡ list_any (λ i. is_backend (λ other. true) i.says) items.now }
-{
-    items.iter().any(|i| is_any_backend(&i.says))
-}
-
-fn has_server_named(items: &[Item], name: &Word) -> bool
-    ensures { result ≡ list_any (λ i. is_server (λ other. bytes_eq other name.now) i.says) items.now }
-{
-    items.iter().any(|i| is_server_named(&i.says, name))
-}
-
-fn has_server(items: &[Item]) -> bool
-    ensures { result ≡ list_any (λ i. is_server (λ other. true) i.says) items.now }
-{
-    items.iter().any(|i| is_any_server(&i.says))
-}
-
-fn has_bind_at(items: &[Item], at: Endpoint) -> bool
-    ensures { result ≡ list_any (λ i. is_bind (λ other. same_endpoint other at) i.says) items.now }
-{
-    items.iter().any(|i| is_bind_at(&i.says, at))
-}
-
-fn has_bind(items: &[Item]) -> bool
-    ensures { result ≡ list_any (λ i. is_bind (λ other. true) i.says) items.now }
-{
-    items.iter().any(|i| is_any_bind(&i.says))
-}
-
-fn rule_count(items: &[Item]) -> usize
-    ensures { result ≡ length (filter (λ i. is_rule i.says) items.now) }
-{
-    items.iter().filter(|i| is_rule(&i.says)).count()
-}
-
-/// Whether a line that says this may stand behind those.
-fn allowed(items: &[Item], says: &Says) -> Result<(), ConfKind>
-    ensures { result ≡ allowed items.now says.now }
-{
-    match says {
-        Says::Frontend(name) => once(has_frontend_named(items, name), has_frontend(items)),
-        Says::Backend(name) => once(has_backend_named(items, name), has_backend(items)),
-        Says::Server(name, _) => once(has_server_named(items, name), has_server(items)),
-        Says::Bind(at) => once(has_bind_at(items, *at), has_bind(items)),
-        Says::Rule(_, _) => {
-            if rule_count(items) >= 256 {
-                return Err(ConfKind::Limit);
-            }
-            Ok(())
-        }
-        Says::MaxConn(limit) => {
-            if *limit > 1_048_576 {
-                return Err(ConfKind::Limit);
-            }
-            Ok(())
-        }
-        Says::DefaultBackend(_) => Ok(()),
-        Says::Nothing => Ok(()),
-    }
-}
-
 /// What the line after those says.
-fn judge<'a>(alloc: Global, items: &[Item<'a>], line: &Line<'a>) -> Result<Item<'a>, Stop<ConfKind>>
+fn judge<'a>(
+    alloc: Global,
+    items: &[Item<'a>],
+    taken: &[Claim<'a>],
+    line: &Line<'a>,
+) -> Result<Item<'a>, Stop<ConfKind>>
+    requires { taken.now ≡ claimed items.now }
     ensures { Gives result (judged items.now line.now) }
 {
-    let section = section_after(items);
-    let says = line_says(alloc, section, line.words.as_slice())?;
-    match allowed(items, &says) {
+    let before = place_after(items);
+    let said = line_says(alloc, before.kind, line.words.as_slice())?;
+    let place = place_of(before, items.len(), &said.says);
+    match allowed(items, taken, &place, &said) {
         Ok(()) => Ok(Item {
             line: line.number,
-            section: section_of(section, &says),
-            says,
+            place,
+            says: said.says,
         }),
         Err(kind) => Err(Stop::Fault(kind)),
     }
 }
 
+/// The item of the line after those.
+fn next_item<'a>(
+    alloc: Global,
+    items: &[Item<'a>],
+    taken: &[Claim<'a>],
+    line: &Line<'a>,
+) -> Result<Item<'a>, Stop<ConfFault>>
+    requires { taken.now ≡ claimed items.now }
+    ensures { Gives result (next_item items.now line.now) }
+{
+    match judge(alloc, items, taken, line) {
+        Ok(item) => Ok(item),
+        Err(Stop::Memory) => Err(Stop::Memory),
+        Err(Stop::Fault(kind)) => Err(Stop::Fault(ConfFault {
+            line: line.number,
+            kind,
+        })),
+    }
+}
+
+/// Adds what an item claims.
+fn keep_claim<'a>(taken: &mut Seq<Claim<'a>>, item: &Item<'a>) -> Result<(), AllocError>
+    ensures { OnOk result (taken.new ≡ taken.old ++ claimed (item.now ∷ [])) }
+{
+    if let Some(claim) = claim_of(&item.place, &item.says) {
+        taken.push(claim)?;
+    }
+    Ok(())
+}
+
 fn lines(alloc: Global, text: &str) -> Result<Lines, Stop<ConfFault>>
-    ensures { Gives result (text_fault (lines_of text.now)) }
+    ensures gives { Gives result (text_fault (lines_of text.now)) }
+    ensures lines { IfOk result (λ lines. AreLines text.now lines) }
 {
     match Lines::of(alloc, text) {
         Ok(lines) => Ok(lines),
@@ -233,26 +260,21 @@ fn items<'a>(alloc: Global, lines: &[Line<'a>]) -> Result<Seq<Item<'a>>, Stop<Co
     ensures { Gives result (each next_item [] lines.now) }
 {
     let mut items = Seq::new(alloc);
+    let mut taken = Seq::new(alloc);
     for line in lines {
-        match judge(alloc, items.as_slice(), line) {
-            Ok(item) => items.push(item)?,
-            Err(Stop::Memory) => return Err(Stop::Memory),
-            Err(Stop::Fault(kind)) => {
-                return Err(Stop::Fault(ConfFault {
-                    line: line.number,
-                    kind,
-                }));
-            }
-        }
+        let item = next_item(alloc, items.as_slice(), taken.as_slice(), line)?;
+        keep_claim(&mut taken, &item)?;
+        items.push(item)?;
     }
     Ok(items)
 }
 
-fn items_in(alloc: Global, text: &str) -> Result<Seq<Item>, Stop<ConfFault>>
+fn tree_in(alloc: Global, text: &str) -> Result<Tree, Stop<ConfFault>>
     ensures { Gives result (items_of text.now) }
 {
     let lines = lines(alloc, text)?;
-    items(alloc, lines.as_slice())
+    let items = items(alloc, lines.as_slice())?;
+    Ok(Tree::of(items))
 }
 
 /// What is told of a stop; want of memory on line 0.
@@ -271,16 +293,16 @@ fn fault_of(stop: Stop<ConfFault>) -> ConfFault
 /// What the lines of a text say, or the fault of the least faulty line. Want of memory is told on
 /// line 0.
 pub fn read_config(alloc: Global, text: &str) -> Result<Tree, ConfFault>
-    ensures ok { IfOk result (λ tree. items_of text.now ≡ Ok tree.items) }
+    ensures ok { IfOk result (λ tree. items_of text.now ≡ Ok tree) }
     ensures fault { IfErr result (λ f. (f.kind ≡ ConfKind.NoMemory) ⊎ (items_of text.now ≡ Err f)) }
 
     // So each line says what it says in the light of those before it, and the fault is that of the
     // text, or else of the first line that has one.
-    ensures found { IfOk result (λ tree. AreItems text.now tree.items) }
+    ensures found { IfOk result (λ tree. AreItems text.now tree) }
     ensures fault_found { IfErr result (λ f. (f.kind ≡ ConfKind.NoMemory) ⊎ IsConfFault text.now f) }
 {
-    match items_in(alloc, text) {
-        Ok(items) => Ok(Tree { items }),
+    match tree_in(alloc, text) {
+        Ok(tree) => Ok(tree),
         Err(stop) => Err(fault_of(stop)),
     }
 }

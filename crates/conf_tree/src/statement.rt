@@ -1,19 +1,39 @@
 //! What a line says by its words alone.
-ghost use Rattle.std.specs.Prelude.{◌≡◌, Result};
+ghost use Rattle.std.specs.Prelude.{◌≡◌, Result, Ok};
 ghost use Rattle.list_core.specs.Each.{Gives};
-ghost use Rattle.addr_core.specs.Decimal.{number_of};
 ghost use Rattle.conf_tree.specs.Keywords.{keyword_of, stands};
-ghost use Rattle.conf_tree.specs.Statements.{frontend_of, backend_of, default_backend_of, bind_of, server_of, counted, max_conn_of, action_of, action_at, Sees, tcp_request_of, says_of, line_says};
+ghost use Rattle.conf_tree.specs.Statements.{global_of, defaults_of, frontend_of, backend_of, mode_of, default_backend_of, method_of, balance_of, accepts_proxy, bind_of, max_conn_of, ignored_if, is_global, is_option, is_timeout, log_of, alone, says_of, line_says};
+ghost use Rattle.conf_tree.specs.Rules.{rule_of};
 
-use crate::condition::when;
 use crate::fault::ConfKind;
-use crate::item::{Action, Says, SectionKind};
+use crate::item::{Method, Says, SectionKind};
 use crate::keyword::{Keyword, keyword_of, stands};
-use crate::words::{bind_at, end_at, name_at, plain_end_at, served_at, word_at};
-use addr_core::decimal::read_number;
+use crate::rule::rule;
+use crate::said::Said;
+use crate::server::server;
+use crate::table::table;
+use crate::words::{bind_at, end_at, name_at, number_at, word_at};
 use list_core::Stop;
 use std::alloc::Global;
 use word_core::Word;
+
+fn global<'a>(words: &[Word<'a>]) -> Result<Says<'a>, ConfKind>
+    ensures { result ≡ global_of words.now }
+{
+    end_at(words)?;
+    Ok(Says::Global)
+}
+
+fn defaults<'a>(words: &[Word<'a>]) -> Result<Says<'a>, ConfKind>
+    ensures { result ≡ defaults_of words.now }
+{
+    if words.is_empty() {
+        return Ok(Says::Defaults);
+    }
+    let (_name, rest) = name_at(words)?;
+    end_at(rest)?;
+    Ok(Says::Defaults)
+}
 
 fn frontend<'a>(words: &[Word<'a>]) -> Result<Says<'a>, ConfKind>
     ensures { result ≡ frontend_of words.now }
@@ -31,6 +51,17 @@ fn backend<'a>(words: &[Word<'a>]) -> Result<Says<'a>, ConfKind>
     Ok(Says::Backend(name))
 }
 
+fn mode<'a>(words: &[Word<'a>]) -> Result<Says<'a>, ConfKind>
+    ensures { result ≡ mode_of words.now }
+{
+    let (word, rest) = word_at(words)?;
+    if !word.is(b"tcp") {
+        return Err(ConfKind::Unsupported);
+    }
+    end_at(rest)?;
+    Ok(Says::Nothing)
+}
+
 fn default_backend<'a>(words: &[Word<'a>]) -> Result<Says<'a>, ConfKind>
     ensures { result ≡ default_backend_of words.now }
 {
@@ -39,100 +70,185 @@ fn default_backend<'a>(words: &[Word<'a>]) -> Result<Says<'a>, ConfKind>
     Ok(Says::DefaultBackend(name))
 }
 
-fn bind<'a>(words: &[Word<'a>]) -> Result<Says<'a>, ConfKind>
-    ensures { result ≡ bind_of words.now }
+fn method_of<'a>(word: &Word<'a>) -> Result<Says<'a>, ConfKind>
+    ensures { result ≡ method_of word.now }
 {
-    let (word, rest) = word_at(words)?;
-    let at = bind_at(word)?;
-    plain_end_at(rest)?;
-    Ok(Says::Bind(at))
-}
-
-fn server<'a>(words: &[Word<'a>]) -> Result<Says<'a>, ConfKind>
-    ensures { result ≡ server_of words.now }
-{
-    let (name, rest) = name_at(words)?;
-    let (word, rest) = word_at(rest)?;
-    let to = served_at(word)?;
-    plain_end_at(rest)?;
-    Ok(Says::Server(name, to))
-}
-
-fn number(word: &Word) -> Result<u64, ConfKind>
-    ensures { result ≡ counted (number_of word.now 0xFFFF_FFFF_FFFF_FFFF) }
-{
-    match read_number(word.bytes(), u64::MAX) {
-        None | Some(0) => Err(ConfKind::BadNumber),
-        Some(number) => Ok(number),
-    }
-}
-
-fn max_conn<'a>(words: &[Word<'a>]) -> Result<Says<'a>, ConfKind>
-    ensures { result ≡ max_conn_of words.now }
-{
-    let (word, rest) = word_at(words)?;
-    let limit = number(word)?;
-    end_at(rest)?;
-    Ok(Says::MaxConn(limit))
-}
-
-fn action(word: &Word) -> Result<Action, ConfKind>
-    ensures { result ≡ action_of word.now }
-{
-    if word.is(b"accept") {
-        Ok(Action::Accept)
-    } else if word.is(b"reject") {
-        Ok(Action::Reject)
+    if word.is(b"roundrobin") {
+        Ok(Says::Balance(Method::RoundRobin))
+    } else if word.is(b"leastconn") {
+        Ok(Says::Balance(Method::LeastConn))
+    } else if word.is(b"source") {
+        Ok(Says::Balance(Method::Source))
     } else {
         Err(ConfKind::Unsupported)
     }
 }
 
-/// The action of a rule on connections, and the words behind it.
-fn action_at<'a, 'w>(words: &'w [Word<'a>]) -> Result<(Action, &'w [Word<'a>]), ConfKind>
-    ensures { Sees (λ x. (x.0, x.1.now)) result (action_at words.now) }
+fn balance<'a>(words: &[Word<'a>]) -> Result<Says<'a>, ConfKind>
+    ensures { result ≡ balance_of words.now }
 {
-    let (list, rest) = word_at(words)?;
-    if !list.is(b"connection") {
-        return Err(ConfKind::Unsupported);
-    }
-    let (word, rest) = word_at(rest)?;
-    let action = action(word)?;
-    Ok((action, rest))
+    let (word, rest) = word_at(words)?;
+    let method = method_of(word)?;
+    end_at(rest)?;
+    Ok(method)
 }
 
-fn tcp_request<'a>(alloc: Global, words: &[Word<'a>]) -> Result<Says<'a>, Stop<ConfKind>>
-    ensures { Gives result (tcp_request_of words.now) }
+/// Whether connections begin with a PROXY header, by the words behind an endpoint.
+fn accepts_proxy(words: &[Word]) -> Result<bool, ConfKind>
+    ensures { result ≡ accepts_proxy words.now }
 {
-    match action_at(words) {
-        Ok((action, rest)) => Ok(Says::Rule(action, when(alloc, rest)?)),
+    match words {
+        [] => Ok(false),
+        [word, rest @ ..] => {
+            if !word.is(b"accept-proxy") {
+                return Err(ConfKind::Unsupported);
+            }
+            end_at(rest)?;
+            Ok(true)
+        }
+    }
+}
+
+fn bind<'a>(words: &[Word<'a>]) -> Result<Says<'a>, ConfKind>
+    ensures { result ≡ bind_of words.now }
+{
+    let (word, rest) = word_at(words)?;
+    let at = bind_at(word)?;
+    let proxy = accepts_proxy(rest)?;
+    Ok(Says::Bind(at, proxy))
+}
+
+fn max_conn<'a>(words: &[Word<'a>]) -> Result<Said<'a>, ConfKind>
+    ensures { result ≡ max_conn_of words.now }
+{
+    let (word, rest) = word_at(words)?;
+    let limit = number_at(word.bytes())?;
+    if limit == 0 {
+        return Err(ConfKind::BadNumber);
+    }
+    end_at(rest)?;
+    Ok(Said {
+        says: Says::MaxConn(limit),
+        twice: false,
+        beyond: limit > 1_048_576,
+    })
+}
+
+/// `log global`.
+fn global_log<'a>(words: &[Word<'a>]) -> Result<Says<'a>, ConfKind>
+    ensures { result ≡ ignored_if is_global words.now }
+{
+    let (word, _rest) = word_at(words)?;
+    if word.is(b"global") {
+        return Ok(Says::Nothing);
+    }
+    Err(ConfKind::Unsupported)
+}
+
+/// An option without effect.
+fn option<'a>(words: &[Word<'a>]) -> Result<Says<'a>, ConfKind>
+    ensures { result ≡ ignored_if is_option words.now }
+{
+    let (word, _rest) = word_at(words)?;
+    if word.is(b"tcplog") || word.is(b"dontlognull") {
+        return Ok(Says::Nothing);
+    }
+    Err(ConfKind::Unsupported)
+}
+
+/// A time without effect.
+fn timeout<'a>(words: &[Word<'a>]) -> Result<Says<'a>, ConfKind>
+    ensures { result ≡ ignored_if is_timeout words.now }
+{
+    let (word, _rest) = word_at(words)?;
+    if word.is(b"connect") || word.is(b"client") || word.is(b"server") {
+        return Ok(Says::Nothing);
+    }
+    Err(ConfKind::Unsupported)
+}
+
+fn log<'a>(kind: SectionKind, words: &[Word<'a>]) -> Result<Says<'a>, ConfKind>
+    ensures { result ≡ log_of kind words.now }
+{
+    match kind {
+        SectionKind::Global => Ok(Says::Nothing),
+        SectionKind::Outside
+        | SectionKind::Defaults
+        | SectionKind::Frontend
+        | SectionKind::Backend => global_log(words),
+    }
+}
+
+/// A line in which nothing stands twice, and no number is beyond its limit.
+fn alone<'a>(says: Result<Says<'a>, ConfKind>) -> Result<Said<'a>, Stop<ConfKind>>
+    ensures { Gives result (alone says.entry) }
+{
+    match says {
+        Ok(says) => Ok(Said {
+            says,
+            twice: false,
+            beyond: false,
+        }),
         Err(kind) => Err(Stop::Fault(kind)),
     }
+}
+
+/// A rule's line.
+fn ruled<'a>(alloc: Global, words: &[Word<'a>]) -> Result<Said<'a>, Stop<ConfKind>>
+    ensures { Gives result (alone (rule_of words.now)) }
+{
+    let says = rule(alloc, words)?;
+    Ok(Said {
+        says,
+        twice: false,
+        beyond: false,
+    })
 }
 
 /// A line that took no memory to read.
-fn given<'a>(says: Result<Says<'a>, ConfKind>) -> Result<Says<'a>, Stop<ConfKind>>
-    ensures { Gives result says.entry }
+fn given<'a>(said: Result<Said<'a>, ConfKind>) -> Result<Said<'a>, Stop<ConfKind>>
+    ensures { Gives result said.entry }
 {
-    match says {
-        Ok(says) => Ok(says),
+    match said {
+        Ok(said) => Ok(said),
         Err(kind) => Err(Stop::Fault(kind)),
     }
 }
 
-/// What a line says behind its keyword. The language's other lines are not taken.
-fn says<'a>(alloc: Global, keyword: Keyword, words: &[Word<'a>]) -> Result<Says<'a>, Stop<ConfKind>>
-    ensures { Gives result (says_of keyword words.now) }
+/// What a line says behind its keyword.
+fn says_of<'a>(
+    alloc: Global,
+    kind: SectionKind,
+    keyword: Keyword,
+    words: &[Word<'a>],
+) -> Result<Said<'a>, Stop<ConfKind>>
+    ensures { Gives result (says_of kind keyword words.now) }
 {
     match keyword {
-        Keyword::Frontend => given(frontend(words)),
-        Keyword::Backend => given(backend(words)),
-        Keyword::Bind => given(bind(words)),
+        Keyword::Global => alone(global(words)),
+        Keyword::Defaults => alone(defaults(words)),
+        Keyword::Frontend => alone(frontend(words)),
+        Keyword::Backend => alone(backend(words)),
+        Keyword::Mode => alone(mode(words)),
         Keyword::MaxConn => given(max_conn(words)),
-        Keyword::TcpRequest => tcp_request(alloc, words),
-        Keyword::DefaultBackend => given(default_backend(words)),
+        Keyword::DefaultBackend => alone(default_backend(words)),
+        Keyword::Balance => alone(balance(words)),
+        Keyword::Bind => alone(bind(words)),
+        Keyword::TcpRequest => ruled(alloc, words),
+        Keyword::StickTable => given(table(words)),
         Keyword::Server => given(server(words)),
-        _ => Err(Stop::Fault(ConfKind::Unsupported)),
+        Keyword::Log => alone(log(kind, words)),
+        Keyword::Option => alone(option(words)),
+        Keyword::Timeout => alone(timeout(words)),
+        Keyword::Daemon
+        | Keyword::User
+        | Keyword::Group
+        | Keyword::Chroot
+        | Keyword::Pidfile
+        | Keyword::Nbthread => alone(Ok(Says::Nothing)),
+        Keyword::Acl | Keyword::UseBackend | Keyword::Listen | Keyword::Unknown => {
+            Err(Stop::Fault(ConfKind::Unsupported))
+        }
     }
 }
 
@@ -141,15 +257,15 @@ pub fn line_says<'a>(
     alloc: Global,
     kind: SectionKind,
     words: &[Word<'a>],
-) -> Result<Says<'a>, Stop<ConfKind>>
+) -> Result<Said<'a>, Stop<ConfKind>>
     ensures { Gives result (line_says kind words.now) }
 {
     match words {
-        [] => Ok(Says::Nothing),
+        [] => alone(Ok(Says::Nothing)),
         [word, rest @ ..] => {
             let keyword = keyword_of(word);
             match stands(kind, keyword) {
-                Ok(()) => says(alloc, keyword, rest),
+                Ok(()) => says_of(alloc, kind, keyword, rest),
                 Err(kind) => Err(Stop::Fault(kind)),
             }
         }

@@ -1,12 +1,12 @@
 //! The words of a line, read from the left.
-ghost use Rattle.std.specs.Prelude.{◌≡◌, true};
+ghost use Rattle.std.specs.Prelude.{◌≡◌};
 ghost use Rattle.std.specs.List.{list_all};
-ghost use Rattle.conf_tree.specs.Statements.{Sees, word_at, end_at, plain_end_at, is_name_byte, name_at, served_at, any_address, star_at, bind_at};
+ghost use Rattle.conf_tree.specs.Words.{Sees, word_at, end_at, is_name_byte, name_at, number_at, served_at, any_address, star_at, bind_at};
 ghost use Rattle.addr_core.specs.Text.{endpoint_of};
 ghost use Rattle.addr_core.specs.Decimal.{decimal_of};
 
 use crate::fault::ConfKind;
-use addr_core::decimal::read_decimal;
+use addr_core::decimal::{read_decimal, read_number};
 use addr_core::{Addr, Endpoint, read_endpoint};
 use word_core::Word;
 
@@ -27,16 +27,6 @@ pub fn end_at(words: &[Word]) -> Result<(), ConfKind>
     match words {
         [] => Ok(()),
         [_, ..] => Err(ConfKind::ExtraWord),
-    }
-}
-
-/// No word of those that the language offers here is left.
-pub fn plain_end_at(words: &[Word]) -> Result<(), ConfKind>
-    ensures { result ≡ plain_end_at words.now }
-{
-    match words {
-        [] => Ok(()),
-        [_, ..] => Err(ConfKind::Unsupported),
     }
 }
 
@@ -62,6 +52,16 @@ pub fn name_at<'a, 'w>(words: &'w [Word<'a>]) -> Result<(Word<'a>, &'w [Word<'a>
         return Err(ConfKind::Unsupported);
     }
     Ok((word.again(), rest))
+}
+
+/// A number of 64 bits.
+pub fn number_at(word: &[u8]) -> Result<u64, ConfKind>
+    ensures { result ≡ number_at word.now }
+{
+    match read_number(word, u64::MAX) {
+        None => Err(ConfKind::BadNumber),
+        Some(number) => Ok(number),
+    }
 }
 
 /// An endpoint with a port from 1 on.

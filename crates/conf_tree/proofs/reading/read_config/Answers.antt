@@ -4,7 +4,7 @@ use Rattle.conf_tree.proofs.FoundLemmas.{found, fault_found}
 use Rattle.conf_tree.proofs.reading.read_config.Goals as goal
 
 pub returns-in-Ok-clause-found : goal.returns-in-Ok-clause-found
-returns-in-Ok-clause-found c = found c.args.text.now c.in-Ok.items c.in-Ok.ensures
+returns-in-Ok-clause-found c = found c.args.text.now c.in-Ok.tree c.in-Ok.ensures
 
 pub returns-in-Err-clause-fault : goal.returns-in-Err-clause-fault
 returns-in-Err-clause-fault c = c.fault_of.ensures (items_of c.args.text.now) c.in-Err.ensures
