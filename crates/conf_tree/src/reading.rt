@@ -5,7 +5,7 @@ ghost use Rattle.list_core.specs.Each.{Fails, Gives, each};
 ghost use Rattle.conf_text.specs.Lines.{lines_of, AreLines};
 ghost use Rattle.conf_tree.specs.declared.fault.ConfFault.{ConfFault};
 ghost use Rattle.conf_tree.specs.declared.item.Item.{Item};
-ghost use Rattle.conf_tree.specs.Config.{outside, place_after, place_of, own, claim_of, claimed, is_server_named, has_server, is_taken, is_bind, is_rule, is_server, is_full, allowed, judged, next_item, text_fault, items_of, AreItems, IsConfFault};
+ghost use Rattle.conf_tree.specs.Config.{outside, place_after, place_of, own, claim_of, claimed, is_server_named, has_server, is_taken, is_bind, is_rule, is_server, are_own, is_full, allowed, judged, next_item, text_fault, items_of, AreItems, IsConfFault};
 
 use crate::claim::{Claims, claim_of};
 use crate::fault::{ConfFault, ConfKind};
@@ -141,6 +141,16 @@ fn rule_count(lines: &[Item]) -> usize
     lines.iter().filter(|item| is_rule(&item.says)).count()
 }
 
+/// Whether there are as many rules as may stand. Short sections need no look at their lines.
+fn are_rules(lines: &[Item]) -> bool
+    ensures { result ≡ are_own 256 is_rule lines.now }
+{
+    if lines.len() < 256 {
+        return false;
+    }
+    rule_count(lines) >= 256
+}
+
 fn server_count(lines: &[Item]) -> usize
     ensures { result ≡ length (filter (λ item. is_server item.says) lines.now) }
 {
@@ -165,7 +175,7 @@ fn is_full(items: &[Item], taken: &Claims, place: &Place, says: &Says) -> bool
         Says::Frontend(_) => taken.frontends() >= 64,
         Says::Backend(_) => taken.backends() >= 64,
         Says::Bind(_, _) => bind_count(own(place, items)) >= 64,
-        Says::Rule(_, _, _) => rule_count(own(place, items)) >= 256,
+        Says::Rule(_, _, _) => are_rules(own(place, items)),
         Says::Server(_) => server_count(own(place, items)) >= 64,
         _ => false,
     }
