@@ -1,2 +1,7 @@
+pub mod Binds
 pub mod Compiled
+pub mod Faults
+pub mod Fields
+pub mod Lines
 pub mod Names
+pub mod Proxies

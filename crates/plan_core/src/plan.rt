@@ -1,6 +1,7 @@
 //! Frontends with their rules, backends with their servers, and stick tables.
 use acl_core::When;
 use addr_core::Endpoint;
+use conf_tree::{KeyType, Method};
 use list_core::Seq;
 
 /// What a rule does once its condition holds (HAProxy manual, `tcp-request connection`).
@@ -8,6 +9,8 @@ use list_core::Seq;
 pub enum Action {
     Accept,
     Reject,
+    /// The counter, 0 to 2, tracks the source address in the table of that number (`track-sc0`).
+    Track(u8, u16),
 }
 
 /// A rule, with its line.
@@ -59,31 +62,16 @@ pub enum Section {
     Backend,
 }
 
-/// The type of a table's keys.
-#[derive(Clone, Copy, Debug, PartialEq, Eq)]
-pub enum Kind {
-    Ip,
-    Ipv6,
-}
-
 /// A `stick-table` line.
 #[derive(Debug, Drop)]
 pub struct Table {
     pub section: Section,
     pub name: Seq<u8>,
-    pub kind: Kind,
+    pub kind: KeyType,
     /// How many entries there may be.
     pub size: u64,
     pub stores_cur: bool,
     pub stores_cnt: bool,
-}
-
-/// How a backend chooses among its servers (HAProxy manual, `balance`).
-#[derive(Clone, Copy, Debug, PartialEq, Eq)]
-pub enum Method {
-    RoundRobin,
-    LeastConn,
-    Source,
 }
 
 /// A `server` line.

@@ -1,331 +1,131 @@
 //! The plan of a configuration.
-ghost use Rattle.std.specs.Prelude.{◌≡◌, ◌⊎◌, ◌≤◌, length, IfOk, IfErr, Ok, Err};
-ghost use Rattle.std.specs.Str.{bytes_eq};
-ghost use Rattle.plan_core.specs.Compiled.{frontend_said, backend_said, default_said, bind_said, limit_said, limit_or, action_of, rule_said, server_said, all_said, first_said, last_said, backend_with, backends_in, frontend_with, plan_with, backend_number, numbered, defaulted, bound, framed, plan_of};
+ghost use Rattle.std.specs.Prelude.{◌≡◌, ◌⊎◌, ◌≤◌, length, map, IfOk, IfErr, Ok, Err};
+ghost use Rattle.conf_tree.specs.Few.{FewSections};
+ghost use Rattle.plan_core.specs.Compiled.{backend_of, backends_in, default_number, frontend_of, plan_faults, plan_of};
+ghost use Rattle.plan_core.specs.declared.fault.PlanKind.TheVariants.{NoMemory};
+ghost use Rattle.plan_core.specs.Faults.{IsLeast};
+ghost use Rattle.plan_core.specs.Fields.{tables_in};
+ghost use Rattle.plan_core.specs.Lines.{LinesDiffer};
+ghost use Rattle.plan_core.specs.Proxies.{frontends, backends};
 
-use crate::fault::{PlanFault, PlanKind};
-use crate::plan::{Action, Backend, Bind, Frontend, Method, Plan, Rule, Server};
-use conf_tree::{Item, Says, Tree};
-use list_core::{Duplicate, Seq};
+use crate::checking::{backend_number, fault_of};
+use crate::fault::PlanFault;
+use crate::fields::{Named, binds_in, default_in, limit_in, method_in, servers_in};
+use crate::plan::{Backend, Frontend, Plan, Table};
+use crate::proxies::{Proxy, is_backend, is_frontend, proxies_in};
+use crate::tables::{rules_in, tables_in};
+use conf_tree::{Ruleset, Tree};
+use list_core::Seq;
 use std::alloc::{AllocError, Global};
-use word_core::Word;
 
-/// A name, and the line that has it.
-#[derive(Drop)]
-struct Named<'a> {
-    name: Word<'a>,
-    line: u32,
-}
-
-/// How many connections may be open, and the line that says so.
-#[derive(Clone, Copy)]
-struct Limit {
-    limit: u64,
-    line: u32,
-}
-
-fn frontend_said<'a>(item: &Item<'a>) -> Option<Named<'a>>
-    ensures { result ≡ frontend_said item.now.line item.now.says }
+/// A backend with its servers.
+fn backend_of(alloc: Global, proxy: &Proxy) -> Result<Backend, AllocError>
+    ensures { IfOk result (λ backend. backend ≡ backend_of proxy.now) }
 {
-    match &item.says {
-        Says::Frontend(name) => Some(Named {
-            name: name.again(),
-            line: item.line,
-        }),
-        _ => None,
-    }
+    Ok(Backend {
+        name: Seq::duplicate_of(alloc, proxy.head.name.bytes())?,
+        line: proxy.head.line,
+        method: method_in(proxy),
+        servers: servers_in(alloc, proxy.own.items())?,
+    })
 }
 
-fn backend_said<'a>(item: &Item<'a>) -> Option<Named<'a>>
-    ensures { result ≡ backend_said item.now.line item.now.says }
+fn backends_in(alloc: Global, all: &[Proxy]) -> Result<Seq<Backend>, AllocError>
+    ensures value { IfOk result (λ list. list ≡ backends_in all.now) }
+    ensures number { IfOk result (λ list. length list ≡ length (backends all.now)) }
 {
-    match &item.says {
-        Says::Backend(name) => Some(Named {
-            name: name.again(),
-            line: item.line,
-        }),
-        _ => None,
-    }
-}
-
-fn default_said<'a>(item: &Item<'a>) -> Option<Named<'a>>
-    ensures { result ≡ default_said item.now.line item.now.says }
-{
-    match &item.says {
-        Says::DefaultBackend(name) => Some(Named {
-            name: name.again(),
-            line: item.line,
-        }),
-        _ => None,
-    }
-}
-
-fn bind_said(item: &Item) -> Option<Bind>
-    ensures { result ≡ bind_said item.now.line item.now.says }
-{
-    match &item.says {
-        Says::Bind(at) => Some(Bind {
-            at: *at,
-            accept_proxy: false,
-        }),
-        _ => None,
-    }
-}
-
-fn limit_said(item: &Item) -> Option<Limit>
-    ensures { result ≡ limit_said item.now.line item.now.says }
-{
-    match &item.says {
-        Says::MaxConn(limit) => Some(Limit {
-            limit: *limit,
-            line: item.line,
-        }),
-        _ => None,
-    }
-}
-
-fn action_of(action: conf_tree::Action) -> Action
-    ensures { result ≡ action_of action }
-{
-    match action {
-        conf_tree::Action::Accept => Action::Accept,
-        conf_tree::Action::Reject => Action::Reject,
-    }
-}
-
-fn rule_said(alloc: Global, item: &Item) -> Result<Option<Rule>, AllocError>
-    ensures { IfOk result (λ rule. rule ≡ rule_said item.now.line item.now.says) }
-{
-    match &item.says {
-        Says::Rule(action, when) => Ok(Some(Rule {
-            line: item.line,
-            action: action_of(*action),
-            when: when.duplicate(alloc)?,
-        })),
-        _ => Ok(None),
-    }
-}
-
-fn server_said(alloc: Global, item: &Item) -> Result<Option<Server>, AllocError>
-    ensures { IfOk result (λ server. server ≡ server_said item.now.line item.now.says) }
-{
-    match &item.says {
-        Says::Server(name, to) => Ok(Some(Server {
-            name: Seq::duplicate_of(alloc, name.bytes())?,
-            line: item.line,
-            to: *to,
-            weight: 1,
-            limit: 0,
-            disabled: false,
-            send_proxy: false,
-            send_proxy_v2: false,
-        })),
-        _ => Ok(None),
-    }
-}
-
-fn frontend_in<'a>(items: &[Item<'a>]) -> Option<Named<'a>>
-    ensures { result ≡ first_said frontend_said items.now }
-{
-    for item in items {
-        if let Some(named) = frontend_said(item) {
-            return Some(named);
+    let mut list = Seq::new(alloc);
+    for proxy in all {
+        if is_backend(proxy) {
+            list.push(backend_of(alloc, proxy)?)?;
         }
     }
-    None
+    Ok(list)
 }
 
-fn backend_in<'a>(items: &[Item<'a>]) -> Option<Named<'a>>
-    ensures { result ≡ first_said backend_said items.now }
-{
-    for item in items {
-        if let Some(named) = backend_said(item) {
-            return Some(named);
-        }
-    }
-    None
-}
-
-fn bind_in(items: &[Item]) -> Option<Bind>
-    ensures { result ≡ first_said bind_said items.now }
-{
-    for item in items {
-        if let Some(bind) = bind_said(item) {
-            return Some(bind);
-        }
-    }
-    None
-}
-
-fn default_in<'a>(items: &[Item<'a>]) -> Option<Named<'a>>
-    ensures { result ≡ last_said default_said items.now }
-{
-    let mut last = None;
-    for item in items {
-        last = default_said(item).or(last);
-    }
-    last
-}
-
-fn limit_in(items: &[Item]) -> Option<Limit>
-    ensures { result ≡ last_said limit_said items.now }
-{
-    let mut last = None;
-    for item in items {
-        last = limit_said(item).or(last);
-    }
-    last
-}
-
-/// The limit that is said, or that of a frontend that says none.
-fn limit_or(named: &Named, said: Option<Limit>) -> Limit
-    ensures { result ≡ limit_or named.now said }
+/// The number of the backend that is named.
+fn default_number(backends: &[Backend], said: &Option<Named>) -> Option<u16>
+    requires { length backends.now ≤ 65535 }
+    ensures { result ≡ default_number backends.now said.now }
 {
     match said {
-        Some(limit) => limit,
-        None => Limit {
-            limit: 2000,
-            line: named.line,
-        },
+        Some(named) => backend_number(backends, &named.name),
+        None => None,
     }
-}
-
-fn binds_in(alloc: Global, items: &[Item]) -> Result<Seq<Bind>, AllocError>
-    ensures { IfOk result (λ binds. binds ≡ all_said bind_said items.now) }
-{
-    let mut binds = Seq::new(alloc);
-    for item in items {
-        if let Some(bind) = bind_said(item) {
-            binds.push(bind)?;
-        }
-    }
-    Ok(binds)
-}
-
-fn rules_in(alloc: Global, items: &[Item]) -> Result<Seq<Rule>, AllocError>
-    ensures { IfOk result (λ rules. rules ≡ all_said rule_said items.now) }
-{
-    let mut rules = Seq::new(alloc);
-    for item in items {
-        if let Some(rule) = rule_said(alloc, item)? {
-            rules.push(rule)?;
-        }
-    }
-    Ok(rules)
-}
-
-fn servers_in(alloc: Global, items: &[Item]) -> Result<Seq<Server>, AllocError>
-    ensures { IfOk result (λ servers. servers ≡ all_said server_said items.now) }
-{
-    let mut servers = Seq::new(alloc);
-    for item in items {
-        if let Some(server) = server_said(alloc, item)? {
-            servers.push(server)?;
-        }
-    }
-    Ok(servers)
-}
-
-fn backends_in(alloc: Global, items: &[Item]) -> Result<Seq<Backend>, AllocError>
-    ensures value { IfOk result (λ backends. backends ≡ backends_in items.now) }
-    ensures one { IfOk result (λ backends. length backends ≤ 1) }
-{
-    let mut backends = Seq::new(alloc);
-    if let Some(named) = backend_in(items) {
-        backends.push(Backend {
-            name: Seq::duplicate_of(alloc, named.name.bytes())?,
-            line: named.line,
-            method: Method::RoundRobin,
-            servers: servers_in(alloc, items)?,
-        })?;
-    }
-    Ok(backends)
-}
-
-fn is_named(backend: &Backend, named: &Named) -> bool
-    ensures { result ≡ bytes_eq backend.now.name named.now.name }
-{
-    backend.name.as_slice() == named.name.bytes()
-}
-
-/// The number of the backend of that name.
-fn backend_number(backends: &[Backend], named: &Named) -> Option<usize>
-    ensures { result ≡ backend_number backends.now named.now }
-{
-    backends.iter().position(|backend| is_named(backend, named))
 }
 
 /// A frontend with its lines.
-fn frontend_with(
+fn frontend_of(
     alloc: Global,
-    items: &[Item],
-    named: &Named,
-    default: Option<u16>,
+    tables: &[Table],
+    backends: &[Backend],
+    proxy: &Proxy,
 ) -> Result<Frontend, AllocError>
-    ensures { IfOk result (λ frontend. frontend ≡ frontend_with (all_said bind_said items.now) (limit_or named.now (last_said limit_said items.now)) (all_said rule_said items.now) default named.now) }
+    requires tables { length tables.now ≤ 65535 }
+    requires backends { length backends.now ≤ 65535 }
+    ensures { IfOk result (λ frontend. frontend ≡ frontend_of tables.now backends.now proxy.now) }
 {
-    let limit = limit_or(named, limit_in(items));
+    let own = proxy.own.items();
+    let name = &proxy.head.name;
+    let limit = limit_in(proxy);
     Ok(Frontend {
-        name: Seq::duplicate_of(alloc, named.name.bytes())?,
-        line: named.line,
-        binds: binds_in(alloc, items)?,
+        name: Seq::duplicate_of(alloc, name.bytes())?,
+        line: proxy.head.line,
+        binds: binds_in(alloc, own)?,
         limit: limit.limit,
         limit_line: limit.line,
-        connection_rules: rules_in(alloc, items)?,
-        session_rules: Seq::new(alloc),
+        connection_rules: rules_in(alloc, Ruleset::Connection, tables, name, own)?,
+        session_rules: rules_in(alloc, Ruleset::Session, tables, name, own)?,
         choices: Seq::new(alloc),
-        default,
+        default: default_number(backends, &default_in(proxy)),
     })
 }
 
-fn plan_with(
+fn frontends_in(
     alloc: Global,
-    items: &[Item],
-    named: &Named,
-    backends: Seq<Backend>,
-    default: Option<u16>,
-) -> Result<Plan, AllocError>
-    requires { backends ≡ backends_in items.now }
-    ensures value { IfOk result (λ plan. plan ≡ plan_with items.now named.now default) }
-    ensures one { IfOk result (λ plan. length plan.frontends ≡ 1) }
+    tables: &[Table],
+    backends: &[Backend],
+    all: &[Proxy],
+) -> Result<Seq<Frontend>, AllocError>
+    requires tables { length tables.now ≤ 65535 }
+    requires backends { length backends.now ≤ 65535 }
+    ensures value { IfOk result (λ list. list ≡ map (frontend_of tables.now backends.now) (frontends all.now)) }
+    ensures number { IfOk result (λ list. length list ≡ length (frontends all.now)) }
 {
-    let mut frontends = Seq::new(alloc);
-    frontends.push(frontend_with(alloc, items, named, default)?)?;
+    let mut list = Seq::new(alloc);
+    for proxy in all {
+        if is_frontend(proxy) {
+            list.push(frontend_of(alloc, tables, backends, proxy)?)?;
+        }
+    }
+    Ok(list)
+}
+
+/// The plan of a configuration whose lines are right. Otherwise the least of its faults: that of the least
+/// line, and on one line the first kind in the order of `PlanKind`. Without any frontend it is
+/// `NoFrontend` on line 0. Want of memory is told on line 0.
+pub fn compile(alloc: Global, tree: &Tree) -> Result<Plan, PlanFault>
+    ensures ok { IfOk result (λ plan. plan_of tree.now ≡ Ok plan) }
+    ensures fault { IfErr result (λ f. (f.kind ≡ NoMemory) ⊎ (plan_of tree.now ≡ Err f)) }
+    // A fault is one of all that stand against the plan, and none comes before it.
+    ensures least { IfErr result (λ f. (f.kind ≡ NoMemory) ⊎ IsLeast (plan_faults tree.now) f) }
+    // No two backends have servers of one line.
+    ensures lines { IfOk result LinesDiffer }
+    ensures frontends { IfOk result (λ plan. length plan.frontends ≤ 64) }
+    ensures backends { IfOk result (λ plan. length plan.backends ≤ 64) }
+    ensures tables { IfOk result (λ plan. length plan.tables ≤ 128) }
+{
+    let proxies = proxies_in(alloc, tree.items())?;
+    let all = proxies.as_slice();
+    let tables = tables_in(alloc, all)?;
+    let backends = backends_in(alloc, all)?;
+    if let Some(fault) = fault_of(tables.as_slice(), backends.as_slice(), all) {
+        return Err(fault);
+    }
+    let frontends = frontends_in(alloc, tables.as_slice(), backends.as_slice(), all)?;
     Ok(Plan {
         frontends,
         backends,
-        tables: Seq::new(alloc),
+        tables,
     })
-}
-
-fn refused<X>(line: u32, kind: PlanKind) -> Result<X, PlanFault>
-    ensures { result ≡ Err (record { line = line; kind = kind }) }
-{
-    Err(PlanFault { line, kind })
-}
-
-/// The plan of a configuration whose lines are right, or the fault of the least line. Want of memory is
-/// told on line 0.
-pub fn compile(alloc: Global, tree: &Tree) -> Result<Plan, PlanFault>
-    ensures ok { IfOk result (λ plan. plan_of tree.now.items ≡ Ok plan) }
-    ensures fault { IfErr result (λ f. (f.kind ≡ PlanKind.NoMemory) ⊎ (plan_of tree.now.items ≡ Err f)) }
-    ensures one { IfOk result (λ plan. length plan.frontends ≡ 1) }
-    ensures few { IfOk result (λ plan. length plan.backends ≤ 1) }
-{
-    let items = tree.items.as_slice();
-    let Some(named) = frontend_in(items) else {
-        return refused(0, PlanKind::NoFrontend);
-    };
-    if bind_in(items).is_none() {
-        return refused(named.line, PlanKind::NoBind);
-    }
-    let backends = backends_in(alloc, items)?;
-    let default = match default_in(items) {
-        None => None,
-        Some(default) => match backend_number(backends.as_slice(), &default) {
-            None => return refused(default.line, PlanKind::NoBackend),
-            Some(number) => Some(number as u16),
-        },
-    };
-    Ok(plan_with(alloc, items, &named, backends, default)?)
 }

@@ -1,7 +1,7 @@
 use Rattle.std.proofs.Common.{◌≡◌, drop}
 use Rattle.std.specs.Option.{option_or}
-use Rattle.plan_core.specs.Compiled.{default_said, last_said}
-use Rattle.plan_core.proofs.planning.default_in.Given as goal
+use Rattle.plan_core.specs.Fields.{default_said, last_said}
+use Rattle.plan_core.proofs.fields.last_default.Given as goal
 
 abbrev pub invariant-loop-item : goal.invariant-loop-item
 invariant-loop-item l = option_or (last_said default_said (drop l.item-index l.items)) l.last ≡ last_said default_said l.items

@@ -1,0 +1,3 @@
+pub mod BindLemmas
+pub mod FaultLemmas
+pub mod LineLemmas

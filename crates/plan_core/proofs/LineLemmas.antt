@@ -1,0 +1,266 @@
+-- The frontends and backends of a configuration stand one after the other.
+use Rattle.std.proofs.Common.{◌≡◌, ℕ, zero, suc, ◌+◌, ◌<◌, ◌≤◌, Bool, true, false, not, eqb, List, [], ◌∷◌, ◌++◌, length, take, filter, Some, refl, sym, ap, subst, ◌∙◌, if◌then◌else◌}
+use native.Mathlib.Omega.{arith}
+use Rattle.std.specs.Prelude.{slice_get, ◌==◌, option_map, option_to_list}
+use Rattle.std.specs.List.{AllByRecursion, cons_option, list_any, prefix_len}
+use Rattle.std.proofs.lemmas.Bool.Decides.{nat_tests}
+use Rattle.conf_tree.specs.declared.claim.Claim.{Claim}
+use Rattle.conf_tree.specs.declared.item.Item.{Item}
+use Rattle.conf_tree.specs.declared.item.Place.{Place}
+use Rattle.conf_tree.specs.declared.item.Says.{Says}
+use Rattle.conf_tree.specs.declared.item.Says.TheVariants as says
+use Rattle.conf_tree.specs.Config as config
+use Rattle.conf_tree.specs.Few.{FewSections}
+use Rattle.conf_tree.specs.Rising.{AreAbove, Rises}
+use Rattle.plan_core.specs.declared.plan.Backend.{Backend}
+use Rattle.plan_core.specs.declared.plan.Plan.{Plan}
+use Rattle.plan_core.specs.declared.plan.Section.{Section}
+use Rattle.plan_core.specs.declared.plan.Section.TheVariants as sections
+use Rattle.plan_core.specs.declared.plan.Server.{Server}
+use Rattle.plan_core.specs.declared.proxies.Proxy.{Proxy}
+use Rattle.plan_core.specs.Compiled.{backend_of, backends_in}
+use Rattle.plan_core.specs.Fields.{server_said, all_said}
+use Rattle.plan_core.specs.Lines.{has_line, LinesDiffer}
+use Rattle.plan_core.specs.Proxies.{head_said, opens, own_lines, base_after, proxy_with, proxies, is_frontend, is_backend, frontends, backends}
+
+-- How many there are.
+
+one_frontend : (said : Says) (line : ℕ) (place : Place) (base own : List Item) (rest : List Proxy) (claims : List Claim) → length (filter is_frontend rest) ≡ length (filter config.is_frontend claims) →
+    length (filter is_frontend (option_to_list (option_map (proxy_with base own) (head_said line said)) ++ rest)) ≡ length (filter config.is_frontend (cons_option (config.claim_of place said) claims))
+one_frontend says.Nothing line place base own rest claims same = same
+one_frontend says.Global line place base own rest claims same = same
+one_frontend says.Defaults line place base own rest claims same = same
+one_frontend (says.Frontend name) line place base own rest claims same = ap (λ n. suc n) same
+one_frontend (says.Backend name) line place base own rest claims same = same
+one_frontend (says.MaxConn limit) line place base own rest claims same = same
+one_frontend (says.DefaultBackend name) line place base own rest claims same = same
+one_frontend (says.Balance method) line place base own rest claims same = same
+one_frontend (says.Bind endpoint flag) line place base own rest claims same = same
+one_frontend (says.Rule list action when) line place base own rest claims same = same
+one_frontend (says.StickTable table) line place base own rest claims same = same
+one_frontend (says.Server server) line place base own rest claims same = same
+
+one_backend : (said : Says) (line : ℕ) (place : Place) (base own : List Item) (rest : List Proxy) (claims : List Claim) → length (filter is_backend rest) ≡ length (filter config.is_backend claims) →
+    length (filter is_backend (option_to_list (option_map (proxy_with base own) (head_said line said)) ++ rest)) ≡ length (filter config.is_backend (cons_option (config.claim_of place said) claims))
+one_backend says.Nothing line place base own rest claims same = same
+one_backend says.Global line place base own rest claims same = same
+one_backend says.Defaults line place base own rest claims same = same
+one_backend (says.Frontend name) line place base own rest claims same = same
+one_backend (says.Backend name) line place base own rest claims same = ap (λ n. suc n) same
+one_backend (says.MaxConn limit) line place base own rest claims same = same
+one_backend (says.DefaultBackend name) line place base own rest claims same = same
+one_backend (says.Balance method) line place base own rest claims same = same
+one_backend (says.Bind endpoint flag) line place base own rest claims same = same
+one_backend (says.Rule list action when) line place base own rest claims same = same
+one_backend (says.StickTable table) line place base own rest claims same = same
+one_backend (says.Server server) line place base own rest claims same = same
+
+frontends_claimed : (base items : List Item) → length (frontends (proxies base items)) ≡ length (filter config.is_frontend (config.claimed items))
+frontends_claimed base [] = refl
+frontends_claimed base (item ∷ rest) =
+    one_frontend item.says item.line item.place base (own_lines rest) (proxies (base_after base (own_lines rest) item.says) rest) (config.claimed rest)
+      (frontends_claimed (base_after base (own_lines rest) item.says) rest)
+
+backends_claimed : (base items : List Item) → length (backends (proxies base items)) ≡ length (filter config.is_backend (config.claimed items))
+backends_claimed base [] = refl
+backends_claimed base (item ∷ rest) =
+    one_backend item.says item.line item.place base (own_lines rest) (proxies (base_after base (own_lines rest) item.says) rest) (config.claimed rest)
+      (backends_claimed (base_after base (own_lines rest) item.says) rest)
+
+pub few_frontends : (items : List Item) → FewSections items → length (frontends (proxies [] items)) ≤ 64
+few_frontends items few = rw (frontends_claimed [] items) few.0
+
+pub few_backends : (items : List Item) → FewSections items → length (backends (proxies [] items)) ≤ 64
+few_backends items few = rw (backends_claimed [] items) few.1
+
+both : (all : List Proxy) → length all ≡ length (frontends all) + length (backends all)
+both [] = refl
+both (proxy ∷ rest) = by proxy.head.section refl (both rest)
+  where
+    by : (section : Section) → proxy.head.section ≡ section → length rest ≡ length (frontends rest) + length (backends rest) →
+        length (proxy ∷ rest) ≡ length (frontends (proxy ∷ rest)) + length (backends (proxy ∷ rest))
+    by sections.Frontend is sum = rw is omega arith
+    by sections.Backend is sum = rw is omega arith
+
+pub few_proxies : (items : List Item) → FewSections items → length (proxies [] items) ≤ 128
+few_proxies items few =
+    let front : length (frontends (proxies [] items)) ≤ 64 = few_frontends items few in
+    let back : length (backends (proxies [] items)) ≤ 64 = few_backends items few in
+    let sum = both (proxies [] items) in
+    omega arith
+
+-- Their lines.
+
+abbrev AreBehind : ℕ → List Proxy → Type 0
+AreBehind line all = AllByRecursion (λ proxy. line < proxy.head.line) all
+
+-- each section's lines are behind its own head, and before the heads of those after it
+abbrev Parted : List Proxy → Type 0
+Parted [] = Unit {0}
+Parted (proxy ∷ rest) =
+    AllByRecursion (λ item. proxy.head.line < item.line) proxy.own × AllByRecursion (λ item. AreBehind item.line rest) proxy.own × Parted rest
+
+one_behind : (said : Says) (n line : ℕ) (base own : List Item) (rest : List Proxy) → n < line → AreBehind n rest →
+    AreBehind n (option_to_list (option_map (proxy_with base own) (head_said line said)) ++ rest)
+one_behind says.Nothing n line base own rest less behind = behind
+one_behind says.Global n line base own rest less behind = behind
+one_behind says.Defaults n line base own rest less behind = behind
+one_behind (says.Frontend name) n line base own rest less behind = (less, behind)
+one_behind (says.Backend name) n line base own rest less behind = (less, behind)
+one_behind (says.MaxConn limit) n line base own rest less behind = behind
+one_behind (says.DefaultBackend name) n line base own rest less behind = behind
+one_behind (says.Balance method) n line base own rest less behind = behind
+one_behind (says.Bind endpoint flag) n line base own rest less behind = behind
+one_behind (says.Rule list action when) n line base own rest less behind = behind
+one_behind (says.StickTable table) n line base own rest less behind = behind
+one_behind (says.Server server) n line base own rest less behind = behind
+
+heads_behind : (n : ℕ) (base items : List Item) → AreAbove n items → AreBehind n (proxies base items)
+heads_behind n base [] above = tt
+heads_behind n base (item ∷ rest) above =
+    one_behind item.says n item.line base (own_lines rest) (proxies (base_after base (own_lines rest) item.says) rest) above.0
+      (heads_behind n (base_after base (own_lines rest) item.says) rest above.1)
+
+own_more : (item : Item) (rest : List Item) → own_lines (item ∷ rest) ≡ (if opens item.says then [] else item ∷ own_lines rest)
+own_more item rest = by (opens item.says) refl
+  where
+    by : (b : Bool) → opens item.says ≡ b → own_lines (item ∷ rest) ≡ (if opens item.says then [] else item ∷ own_lines rest)
+    by true is = rw is refl
+    by false is =
+        let n = prefix_len (λ (x : Item). not (opens x.says)) rest in
+        let next : 1 + n ≡ suc n = omega arith in
+        rw is (ap (λ m. take m (item ∷ rest)) next)
+
+no_head : (said : Says) (line : ℕ) (base own : List Item) → opens said ≡ false → option_to_list (option_map (proxy_with base own) (head_said line said)) ≡ []
+no_head says.Nothing line base own is = refl
+no_head says.Global line base own is = absurd cc
+no_head says.Defaults line base own is = absurd cc
+no_head (says.Frontend name) line base own is = absurd cc
+no_head (says.Backend name) line base own is = absurd cc
+no_head (says.MaxConn limit) line base own is = refl
+no_head (says.DefaultBackend name) line base own is = refl
+no_head (says.Balance method) line base own is = refl
+no_head (says.Bind endpoint flag) line base own is = refl
+no_head (says.Rule list action when) line base own is = refl
+no_head (says.StickTable table) line base own is = refl
+no_head (says.Server server) line base own is = refl
+
+own_above : (n : ℕ) (items : List Item) → AreAbove n items → AllByRecursion (λ item. n < item.line) (own_lines items)
+own_above n [] above = tt
+own_above n (item ∷ rest) above = rw (own_more item rest) (by (opens item.says) (own_above n rest above.1))
+  where
+    by : (b : Bool) → AllByRecursion (λ item. n < item.line) (own_lines rest) → AllByRecursion (λ item. n < item.line) (if b then [] else item ∷ own_lines rest)
+    by true later = tt
+    by false later = (above.0, later)
+
+own_before : (base items : List Item) → Rises items → AllByRecursion (λ item. AreBehind item.line (proxies base items)) (own_lines items)
+own_before base [] rises = tt
+own_before base (item ∷ rest) rises = rw (own_more item rest) (by (opens item.says) refl (own_before (base_after base (own_lines rest) item.says) rest rises.1))
+  where
+    by : (b : Bool) → opens item.says ≡ b → AllByRecursion (λ x. AreBehind x.line (proxies (base_after base (own_lines rest) item.says) rest)) (own_lines rest) →
+        AllByRecursion (λ x. AreBehind x.line (proxies base (item ∷ rest))) (if b then [] else item ∷ own_lines rest)
+    by true is later = tt
+    by false is later =
+        let more = proxies (base_after base (own_lines rest) item.says) rest in
+        let same : proxies base (item ∷ rest) ≡ more = ap (λ head. head ++ more) (no_head item.says item.line base (own_lines rest) is) in
+        subst (λ all. AreBehind item.line all × AllByRecursion (λ x. AreBehind x.line all) (own_lines rest)) (sym same)
+          (heads_behind item.line (base_after base (own_lines rest) item.says) rest rises.0, later)
+
+one_parted : (said : Says) (line : ℕ) (base own : List Item) (rest : List Proxy) → AllByRecursion (λ item. line < item.line) own → AllByRecursion (λ item. AreBehind item.line rest) own → Parted rest →
+    Parted (option_to_list (option_map (proxy_with base own) (head_said line said)) ++ rest)
+one_parted says.Nothing line base own rest above before parted = parted
+one_parted says.Global line base own rest above before parted = parted
+one_parted says.Defaults line base own rest above before parted = parted
+one_parted (says.Frontend name) line base own rest above before parted = (above, before, parted)
+one_parted (says.Backend name) line base own rest above before parted = (above, before, parted)
+one_parted (says.MaxConn limit) line base own rest above before parted = parted
+one_parted (says.DefaultBackend name) line base own rest above before parted = parted
+one_parted (says.Balance method) line base own rest above before parted = parted
+one_parted (says.Bind endpoint flag) line base own rest above before parted = parted
+one_parted (says.Rule list action when) line base own rest above before parted = parted
+one_parted (says.StickTable table) line base own rest above before parted = parted
+one_parted (says.Server server) line base own rest above before parted = parted
+
+parted : (base items : List Item) → Rises items → Parted (proxies base items)
+parted base [] rises = tt
+parted base (item ∷ rest) rises =
+    one_parted item.says item.line base (own_lines rest) (proxies (base_after base (own_lines rest) item.says) rest)
+      (own_above item.line rest rises.0) (own_before (base_after base (own_lines rest) item.says) rest rises.1)
+      (parted (base_after base (own_lines rest) item.says) rest rises.1)
+
+-- A server's line is one of its backend's.
+
+eqb_same : (a b : ℕ) → eqb a b ≡ true → a ≡ b
+eqb_same a b is = grind (arith, nat_tests)
+
+one_line : (Q : ℕ → Type 0) (said : Says) (at line : ℕ) (rest : List Server) → list_any (λ server. server.line == line) (cons_option (server_said at said) rest) ≡ true → Q at →
+    (list_any (λ server. server.line == line) rest ≡ true → Q line) → Q line
+one_line Q says.Nothing at line rest has here later = later has
+one_line Q says.Global at line rest has here later = later has
+one_line Q says.Defaults at line rest has here later = later has
+one_line Q (says.Frontend name) at line rest has here later = later has
+one_line Q (says.Backend name) at line rest has here later = later has
+one_line Q (says.MaxConn limit) at line rest has here later = later has
+one_line Q (says.DefaultBackend name) at line rest has here later = later has
+one_line Q (says.Balance method) at line rest has here later = later has
+one_line Q (says.Bind endpoint flag) at line rest has here later = later has
+one_line Q (says.Rule list action when) at line rest has here later = later has
+one_line Q (says.StickTable table) at line rest has here later = later has
+one_line Q (says.Server server) at line rest has here later = by (at == line) refl has
+  where
+    by : (b : Bool) → (at == line) ≡ b → list_any (λ server. server.line == line) (cons_option (server_said at (says.Server server)) rest) ≡ true → Q line
+    by true is has = subst Q (eqb_same at line is) here
+    by false is has = later (rw is at has)
+
+line_in : (Q : ℕ → Type 0) (line : ℕ) (own : List Item) → list_any (λ server. server.line == line) (all_said server_said own) ≡ true → AllByRecursion (λ item. Q item.line) own → Q line
+line_in Q line [] has all = absurd cc
+line_in Q line (item ∷ rest) has all =
+    one_line Q item.says item.line line (all_said server_said rest) has all.0 (λ later. line_in Q line rest later all.1)
+
+-- So no two backends have servers of one line.
+
+behind_all : (all : List Proxy) (n line j : ℕ) (b : Backend) → Parted all → AreBehind n all → slice_get (backends_in all) j ≡ Some b → has_line line b ≡ true → n < line
+behind_all [] n line j b parts behind there has = absurd cc
+behind_all (proxy ∷ rest) n line j b parts behind there has = by (is_backend proxy) refl j there (λ i more. behind_all rest n line i b parts.2 behind.1 more has)
+  where
+    here : backend_of proxy ≡ b → n < line
+    here same =
+        let own : has_line line (backend_of proxy) ≡ true = ap (has_line line) same ∙ has in
+        let after : proxy.head.line < line = line_in (λ l. proxy.head.line < l) line proxy.own own parts.0 in
+        let less : n < proxy.head.line = behind.0 in
+        omega arith
+
+    by : (back : Bool) → is_backend proxy ≡ back → (j : ℕ) → slice_get (backends_in (proxy ∷ rest)) j ≡ Some b → ((i : ℕ) → slice_get (backends_in rest) i ≡ Some b → n < line) → n < line
+    by true is zero there more = here (let found : slice_get (backend_of proxy ∷ backends_in rest) 0 ≡ Some b = rw is at there in cc)
+    by true is (suc i) there more = more i (rw is at there)
+    by false is i there more = more i (rw is at there)
+
+differ : (all : List Proxy) → Parted all → (line i j : ℕ) (a b : Backend) → slice_get (backends_in all) i ≡ Some a → slice_get (backends_in all) j ≡ Some b → has_line line a ≡ true → has_line line b ≡ true → a ≡ b
+differ [] parts line i j a b first second in_a in_b = absurd cc
+differ (proxy ∷ rest) parts line i j a b first second in_a in_b =
+    by (is_backend proxy) refl i j first second (λ m n there also. differ rest parts.2 line m n a b there also in_a in_b)
+  where
+    apart : (x y : Backend) (n : ℕ) → backend_of proxy ≡ x → slice_get (backends_in rest) n ≡ Some y → has_line line x ≡ true → has_line line y ≡ true → ⊥
+    apart x y n same there in_x in_y =
+        let own : has_line line (backend_of proxy) ≡ true = ap (has_line line) same ∙ in_x in
+        let behind : AreBehind line rest = line_in (λ l. AreBehind l rest) line proxy.own own parts.1 in
+        let less : line < line = behind_all rest line line n y parts.2 behind there in_y in
+        omega arith
+
+    by : (back : Bool) → is_backend proxy ≡ back → (i j : ℕ) → slice_get (backends_in (proxy ∷ rest)) i ≡ Some a → slice_get (backends_in (proxy ∷ rest)) j ≡ Some b →
+        ((m n : ℕ) → slice_get (backends_in rest) m ≡ Some a → slice_get (backends_in rest) n ≡ Some b → a ≡ b) → a ≡ b
+    by true is zero zero first second more =
+        let one : slice_get (backend_of proxy ∷ backends_in rest) 0 ≡ Some a = rw is at first in
+        let two : slice_get (backend_of proxy ∷ backends_in rest) 0 ≡ Some b = rw is at second in
+        cc
+    by true is zero (suc n) first second more =
+        let one : slice_get (backend_of proxy ∷ backends_in rest) 0 ≡ Some a = rw is at first in
+        absurd (apart a b n (cc) (rw is at second) in_a in_b)
+    by true is (suc m) zero first second more =
+        let two : slice_get (backend_of proxy ∷ backends_in rest) 0 ≡ Some b = rw is at second in
+        absurd (apart b a m (cc) (rw is at first) in_b in_a)
+    by true is (suc m) (suc n) first second more = more m n (rw is at first) (rw is at second)
+    by false is m n first second more = more m n (rw is at first) (rw is at second)
+
+pub lines_differ : (items : List Item) (plan : Plan) → Rises items → plan.backends ≡ backends_in (proxies [] items) → LinesDiffer plan
+lines_differ items plan rises is = rw is (differ (proxies [] items) (parted [] items rises))

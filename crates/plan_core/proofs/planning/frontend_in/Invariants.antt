@@ -1,6 +1,0 @@
-use Rattle.std.proofs.Common.{◌≡◌, drop}
-use Rattle.plan_core.specs.Compiled.{frontend_said, first_said}
-use Rattle.plan_core.proofs.planning.frontend_in.Given as goal
-
-abbrev pub invariant-loop-item : goal.invariant-loop-item
-invariant-loop-item l = first_said frontend_said (drop l.item-index l.items) ≡ first_said frontend_said l.items

@@ -1,0 +1,53 @@
+-- The binds of two plans compared.
+use Rattle.std.specs.Prelude.{◌↔◌, ℕ, Bool, ◌&&◌, true, false, List, map, flat_map, Contains}
+use Rattle.std.specs.List.{list_any, list_all}
+use Rattle.std.specs.Str.{bytes_eq}
+use Rattle.addr_core.specs.declared.addr.Addr.{Addr}
+use Rattle.addr_core.specs.Same.{same_endpoint}
+use Rattle.plan_core.specs.declared.plan.Bind.{Bind}
+use Rattle.plan_core.specs.declared.plan.Frontend.{Frontend}
+use Rattle.plan_core.specs.declared.plan.Plan.{Plan}
+
+-- a bind: the name of its frontend, its address and port, and whether connections begin with a header
+pub record Bound : Type 0 where
+  pub frontend : List ℕ
+  pub addr : Addr
+  pub port : ℕ
+  pub accept_proxy : Bool
+
+abbrev pub bound_of : List ℕ → Bind → Bound
+bound_of name bind = record { frontend = name; addr = bind.at.addr; port = bind.at.port; accept_proxy = bind.accept_proxy }
+
+abbrev pub bound_in : Frontend → List Bound
+bound_in frontend = map (bound_of frontend.name) frontend.binds
+
+-- all binds of a plan
+abbrev pub binds_of : Plan → List Bound
+binds_of plan = flat_map bound_in plan.frontends
+
+-- each bind of either is a bind of the other
+abbrev pub SameBinds : Plan → Plan → Type 0
+SameBinds a b = (bind : Bound) → Contains (binds_of a) bind ↔ Contains (binds_of b) bind
+
+-- The same as tests, frontend by frontend.
+
+abbrev pub same_flag : Bool → Bool → Bool
+same_flag true b = b
+same_flag false true = false
+same_flag false false = true
+
+abbrev pub same_bind : Bind → Bind → Bool
+same_bind a b = same_endpoint a.at b.at && same_flag a.accept_proxy b.accept_proxy
+
+-- the frontend has that name and that bind
+abbrev pub has_bind : List ℕ → Bind → Frontend → Bool
+has_bind name bind frontend = bytes_eq frontend.name name && list_any (same_bind bind) frontend.binds
+
+abbrev pub is_bound : Plan → List ℕ → Bind → Bool
+is_bound plan name bind = list_any (has_bind name bind) plan.frontends
+
+abbrev pub are_bound : Plan → Frontend → Bool
+are_bound plan frontend = list_all (is_bound plan frontend.name) frontend.binds
+
+abbrev pub all_bound : Plan → Plan → Bool
+all_bound plan other = list_all (are_bound plan) other.frontends

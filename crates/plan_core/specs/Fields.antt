@@ -1,0 +1,148 @@
+-- What the lines of a frontend or backend say of each matter.
+use Rattle.std.specs.Prelude.{ℕ, Bool, true, false, ◌&&◌, List, [], ◌∷◌, position, unwrap_or, Option, Some, None, if◌then◌else◌}
+use Rattle.std.specs.List.{filter_map}
+use Rattle.std.specs.Option.{option_or, option_map}
+use Rattle.std.specs.Str.{bytes_eq}
+use Rattle.acl_core.specs.declared.condition.When.{When}
+use Rattle.conf_tree.specs.declared.item.Action as tree
+use Rattle.conf_tree.specs.declared.item.Action.TheVariants as words
+use Rattle.conf_tree.specs.declared.item.Item.{Item}
+use Rattle.conf_tree.specs.declared.item.Method.{Method}
+use Rattle.conf_tree.specs.declared.item.Method.TheVariants.{RoundRobin}
+use Rattle.conf_tree.specs.declared.item.Ruleset.{Ruleset}
+use Rattle.conf_tree.specs.declared.item.Ruleset.TheVariants.{Connection, Session}
+use Rattle.conf_tree.specs.declared.item.Says.{Says}
+use Rattle.conf_tree.specs.declared.item.Says.TheVariants as says
+use Rattle.conf_tree.specs.declared.item.TableWords.{TableWords}
+use Rattle.plan_core.specs.declared.plan.Action.{Action}
+use Rattle.plan_core.specs.declared.plan.Action.TheVariants as actions
+use Rattle.plan_core.specs.declared.plan.Backend.{Backend}
+use Rattle.plan_core.specs.declared.plan.Bind.{Bind}
+use Rattle.plan_core.specs.declared.plan.Rule.{Rule}
+use Rattle.plan_core.specs.declared.plan.Server.{Server}
+use Rattle.plan_core.specs.declared.plan.Table.{Table}
+use Rattle.plan_core.specs.declared.proxies.Head.{Head}
+use Rattle.plan_core.specs.declared.proxies.Proxy.{Proxy}
+use Rattle.plan_core.specs.declared.fields.Limit.{Limit}
+use Rattle.plan_core.specs.declared.fields.Named.{Named}
+use Rattle.plan_core.specs.Proxies.{is_frontend_section}
+
+-- What one line says of a matter, if anything.
+
+abbrev pub bind_said : ℕ → Says → Option Bind
+bind_said line (says.Bind at proxy) = Some (record { at = at; accept_proxy = proxy })
+bind_said line other = None
+
+abbrev pub limit_said : ℕ → Says → Option Limit
+limit_said line (says.MaxConn limit) = Some (record { limit = limit; line = line })
+limit_said line other = None
+
+abbrev pub default_said : ℕ → Says → Option Named
+default_said line (says.DefaultBackend name) = Some (record { name = name; line = line })
+default_said line other = None
+
+abbrev pub method_said : ℕ → Says → Option Method
+method_said line (says.Balance method) = Some method
+method_said line other = None
+
+abbrev pub table_said : ℕ → Says → Option TableWords
+table_said line (says.StickTable table) = Some table
+table_said line other = None
+
+-- weight 1 where none is said, and any number of connections
+abbrev pub server_said : ℕ → Says → Option Server
+server_said line (says.Server server) =
+    Some (record {
+      name = server.name;
+      line = line;
+      to = server.to;
+      weight = unwrap_or server.weight 1;
+      limit = unwrap_or server.limit 0;
+      disabled = server.disabled;
+      send_proxy = server.send_proxy;
+      send_proxy_v2 = server.send_proxy_v2;
+    })
+server_said line other = None
+
+-- What some lines say of it: all in their order, or the last.
+
+abbrev pub all_said : {X : Type 0} → (ℕ → Says → Option X) → List Item → List X
+all_said said items = filter_map (λ item. said item.line item.says) items
+
+abbrev pub last_said : {X : Type 0} → (ℕ → Says → Option X) → List Item → Option X
+last_said said [] = None
+last_said said (item ∷ rest) = option_or (last_said said rest) (said item.line item.says)
+
+-- the last in the section itself, or else in the `defaults` in force
+abbrev pub said_in : {X : Type 0} → (ℕ → Says → Option X) → Proxy → Option X
+said_in said proxy = option_or (last_said said proxy.own) (last_said said proxy.base)
+
+-- 2,000 connections where no limit is said, in the name of the section's own line
+abbrev pub limit_in : Proxy → Limit
+limit_in proxy = unwrap_or (said_in limit_said proxy) (record { limit = 2000; line = proxy.head.line })
+
+-- round robin where nothing is said
+abbrev pub method_in : Proxy → Method
+method_in proxy = unwrap_or (said_in method_said proxy) RoundRobin
+
+-- Tables.
+
+abbrev pub table_with : Head → TableWords → Table
+table_with head words = record {
+  section = head.section;
+  name = head.name;
+  kind = words.keys;
+  size = words.size;
+  stores_cur = words.stores_cur;
+  stores_cnt = words.stores_cnt;
+}
+
+-- the table of a section
+abbrev pub table_in : Proxy → Option Table
+table_in proxy = option_map (table_with proxy.head) (last_said table_said proxy.own)
+
+-- all tables, those of frontends and backends mixed, in the order of the text
+abbrev pub tables_in : List Proxy → List Table
+tables_in all = filter_map table_in all
+
+-- it is the table of the frontend of that name
+abbrev pub is_table_of : List ℕ → Table → Bool
+is_table_of name table = is_frontend_section table.section && bytes_eq table.name name
+
+-- the number of the table that a rule means in the frontend of that name: the frontend's own where none is
+-- named, and else that of the section that is named
+abbrev pub table_number : List Table → List ℕ → Option (List ℕ) → Option ℕ
+table_number tables name None = position (is_table_of name) tables
+table_number tables name (Some other) = position (λ table. bytes_eq table.name other) tables
+
+-- Rules.
+
+abbrev pub track_with : ℕ → ℕ → Action
+track_with counter table = actions.Track counter table
+
+-- what a rule does, if the table that it means is there
+abbrev pub action_of : List Table → List ℕ → tree.Action → Option Action
+action_of tables name words.Accept = Some actions.Accept
+action_of tables name words.Reject = Some actions.Reject
+action_of tables name (words.Track track) = option_map (track_with track.counter) (table_number tables name track.table)
+
+abbrev pub is_in : Ruleset → Ruleset → Bool
+is_in Connection Connection = true
+is_in Connection Session = false
+is_in Session Connection = false
+is_in Session Session = true
+
+abbrev pub rule_with : ℕ → When → Action → Rule
+rule_with line when action = record { line = line; action = action; when = when }
+
+-- the rule that a line puts on that list
+abbrev pub rule_said : Ruleset → List Table → List ℕ → ℕ → Says → Option Rule
+rule_said list tables name line (says.Rule said action when) =
+    if is_in list said then option_map (rule_with line when) (action_of tables name action) else None
+rule_said list tables name line other = None
+
+-- Backends.
+
+-- the number of the backend of that name
+abbrev pub backend_number : List Backend → List ℕ → Option ℕ
+backend_number backends name = position (λ backend. bytes_eq backend.name name) backends

@@ -1,0 +1,189 @@
+//! What stands against a plan.
+ghost use Rattle.std.specs.Prelude.{◌≡◌, ◌≤◌, ◌<◌, length, flat_map, is_some, IfSome};
+ghost use Rattle.std.specs.List.{list_any};
+ghost use Rattle.std.specs.Str.{bytes_eq};
+ghost use Rattle.plan_core.specs.Proxies.{is_frontend};
+ghost use Rattle.plan_core.specs.Fields.{all_said, backend_number};
+ghost use Rattle.plan_core.specs.Faults.{kind_number, is_before, earlier, earliest, least, IsLeast, bind_faults, default_faults, track_fault, frontend_faults, faults_in, no_frontend, faults_of};
+
+use crate::fault::{PlanFault, PlanKind};
+use crate::fields::{Named, default_in, last_bind};
+use crate::plan::{Backend, Table};
+use crate::proxies::{Proxy, is_frontend};
+use crate::tables::{action_of, number_of};
+use conf_tree::{Item, Says};
+use word_core::Word;
+
+fn kind_number(kind: PlanKind) -> u8
+    ensures { result ≡ kind_number kind }
+{
+    match kind {
+        PlanKind::NoTable => 0,
+        PlanKind::NoBackend => 1,
+        PlanKind::NotStored => 2,
+        PlanKind::NoBind => 3,
+        PlanKind::NoFrontend => 4,
+        PlanKind::NoMemory => 5,
+    }
+}
+
+fn is_before(a: PlanFault, b: PlanFault) -> bool
+    ensures { result ≡ is_before a b }
+{
+    a.line < b.line || (a.line == b.line && kind_number(a.kind) < kind_number(b.kind))
+}
+
+fn earlier(a: PlanFault, b: PlanFault) -> PlanFault
+    ensures { result ≡ earlier a b }
+{
+    if is_before(b, a) { b } else { a }
+}
+
+fn earliest(a: Option<PlanFault>, b: Option<PlanFault>) -> Option<PlanFault>
+    ensures { result ≡ earliest a b }
+{
+    match (a, b) {
+        (None, other) => other,
+        (Some(a), None) => Some(a),
+        (Some(a), Some(b)) => Some(earlier(a, b)),
+    }
+}
+
+fn bind_fault(proxy: &Proxy) -> Option<PlanFault>
+    ensures { result ≡ least (bind_faults proxy.now) }
+{
+    if last_bind(proxy.own.items()).is_some() {
+        return None;
+    }
+    Some(PlanFault {
+        line: proxy.head.line,
+        kind: PlanKind::NoBind,
+    })
+}
+
+fn is_named(backend: &Backend, name: &Word) -> bool
+    ensures { result ≡ bytes_eq backend.now.name name.now }
+{
+    backend.name.as_slice() == name.bytes()
+}
+
+/// The place of the backend of that name.
+fn backend_place(backends: &[Backend], name: &Word) -> Option<usize>
+    ensures value { result ≡ backend_number backends.now name.now }
+    ensures within { IfSome result (λ n. n < length backends.now) }
+{
+    backends.iter().position(|backend| is_named(backend, name))
+}
+
+/// The number of the backend of that name.
+pub fn backend_number(backends: &[Backend], name: &Word) -> Option<u16>
+    requires { length backends.now ≤ 65535 }
+    ensures { result ≡ backend_number backends.now name.now }
+{
+    number_of(backend_place(backends, name))
+}
+
+fn default_fault(backends: &[Backend], said: &Option<Named>) -> Option<PlanFault>
+    requires { length backends.now ≤ 65535 }
+    ensures { result ≡ least (default_faults backends.now said.now) }
+{
+    let Some(named) = said else {
+        return None;
+    };
+    if backend_number(backends, &named.name).is_some() {
+        return None;
+    }
+    Some(PlanFault {
+        line: named.line,
+        kind: PlanKind::NoBackend,
+    })
+}
+
+fn track_fault(tables: &[Table], name: &Word, item: &Item) -> Option<PlanFault>
+    requires { length tables.now ≤ 65535 }
+    ensures { result ≡ track_fault tables.now name.now item.now.line item.now.says }
+{
+    match &item.says {
+        Says::Rule(_, action, _) => {
+            if action_of(tables, name, action).is_some() {
+                return None;
+            }
+            Some(PlanFault {
+                line: item.line,
+                kind: PlanKind::NoTable,
+            })
+        }
+        _ => None,
+    }
+}
+
+/// The least fault of the rules in some lines.
+fn track_fault_in(tables: &[Table], name: &Word, items: &[Item]) -> Option<PlanFault>
+    requires { length tables.now ≤ 65535 }
+    ensures { result ≡ least (all_said (track_fault tables.now name.now) items.now) }
+{
+    let mut found = None;
+    for item in items {
+        found = earliest(found, track_fault(tables, name, item));
+    }
+    found
+}
+
+/// The least fault of a frontend.
+fn frontend_fault(tables: &[Table], backends: &[Backend], proxy: &Proxy) -> Option<PlanFault>
+    requires tables { length tables.now ≤ 65535 }
+    requires backends { length backends.now ≤ 65535 }
+    ensures { result ≡ least (frontend_faults tables.now backends.now proxy.now) }
+{
+    let of_default = default_fault(backends, &default_in(proxy));
+    let of_rules = track_fault_in(tables, &proxy.head.name, proxy.own.items());
+    earliest(bind_fault(proxy), earliest(of_default, of_rules))
+}
+
+/// The least fault of a section.
+fn fault_in(tables: &[Table], backends: &[Backend], proxy: &Proxy) -> Option<PlanFault>
+    requires tables { length tables.now ≤ 65535 }
+    requires backends { length backends.now ≤ 65535 }
+    ensures { result ≡ least (faults_in tables.now backends.now proxy.now) }
+{
+    if is_frontend(proxy) {
+        frontend_fault(tables, backends, proxy)
+    } else {
+        None
+    }
+}
+
+/// The least fault of all sections.
+fn fault_in_all(tables: &[Table], backends: &[Backend], all: &[Proxy]) -> Option<PlanFault>
+    requires tables { length tables.now ≤ 65535 }
+    requires backends { length backends.now ≤ 65535 }
+    ensures { result ≡ least (flat_map (faults_in tables.now backends.now) all.now) }
+{
+    let mut found = None;
+    for proxy in all {
+        found = earliest(found, fault_in(tables, backends, proxy));
+    }
+    found
+}
+
+fn has_frontend(all: &[Proxy]) -> bool
+    ensures { result ≡ list_any is_frontend all.now }
+{
+    all.iter().any(is_frontend)
+}
+
+/// The least fault of a configuration.
+pub fn fault_of(tables: &[Table], backends: &[Backend], all: &[Proxy]) -> Option<PlanFault>
+    requires tables { length tables.now ≤ 65535 }
+    requires backends { length backends.now ≤ 65535 }
+    ensures value { result ≡ least (faults_of tables.now backends.now all.now) }
+    ensures least { IfSome result (λ fault. IsLeast (faults_of tables.now backends.now all.now) fault) }
+{
+    if has_frontend(all) {
+        return fault_in_all(tables, backends, all);
+    }
+    Some(PlanFault {
+        line: 0,
+        kind: PlanKind::NoFrontend,
+    })
+}
