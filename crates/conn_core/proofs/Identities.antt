@@ -10,7 +10,8 @@ use Rattle.plan_core.specs.declared.plan.Plan.{Plan}
 use Rattle.addr_core.specs.Ends.{Ends}
 use Rattle.conn_model.specs.declared.plain.Phase.TheVariants.{Offered}
 use Rattle.conn_model.specs.Answer.{saying}
-use Rattle.conn_model.specs.History.{LinesDiffer, has_line, identity_of, identity_at, nobody, kept}
+use Rattle.conn_model.specs.History.{identity_of, identity_at, nobody, kept}
+use Rattle.plan_core.specs.Lines.{LinesDiffer, has_line}
 use Rattle.conn_core.specs.declared.judging.Seat.{Seat}
 use Rattle.conn_core.specs.declared.judging.Verdict.{Verdict}
 use Rattle.conn_core.specs.declared.judging.Verdict.TheVariants.{Served, Refused}

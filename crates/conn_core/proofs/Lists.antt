@@ -3,7 +3,7 @@ use Rattle.std.proofs.Common.{◌≡◌, ℕ, suc, ◌+◌, ◌-◌, List, [], �
 use Rattle.std.specs.Prelude.{slice_get}
 use Rattle.conn_model.specs.declared.plain.Row.{Row}
 use Rattle.conn_model.specs.declared.plain.Version.{Version}
-use Rattle.conn_model.specs.History.{LinesDiffer}
+use Rattle.plan_core.specs.Lines.{LinesDiffer}
 use Rattle.conn_core.specs.Machine.{HaveLines}
 use Rattle.conn_model.specs.Words.{newest, AreGiven}
 use Rattle.conn_model.proofs.Facts.{given_more, given_append}

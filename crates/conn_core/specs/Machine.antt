@@ -16,7 +16,8 @@ use Rattle.conn_model.specs.declared.plain.Version.{Version}
 use Rattle.conn_model.specs.declared.plain.Plain.{Plain}
 use Rattle.conn_model.specs.Words.{newest, AreGiven}
 use Rattle.conn_model.specs.Answer.{saying}
-use Rattle.conn_model.specs.History.{id_of, kept_by, opening, LinesDiffer}
+use Rattle.conn_model.specs.History.{id_of, kept_by, opening}
+use Rattle.plan_core.specs.Lines.{LinesDiffer}
 use Rattle.plan_core.specs.declared.plan.Plan.{Plan}
 use Rattle.conn_core.specs.Meaning.{meaning}
 

@@ -1,11 +1,13 @@
 -- What a configuration means: its plan, or the fault that stands against it.
-use Rattle.std.specs.Prelude.{ℕ, List, Result, Ok, Err}
+use Rattle.std.specs.Prelude.{ℕ, List, Option, Some, None, Result, Ok, Err}
 use Rattle.conf_tree.specs.declared.fault.ConfFault.{ConfFault}
+use Rattle.conf_tree.specs.declared.fault.ConfKind.TheVariants.{Unsupported}
 use Rattle.conf_tree.specs.declared.item.Item.{Item}
 use Rattle.conf_tree.specs.Config.{items_of}
 use Rattle.plan_core.specs.declared.fault.PlanFault.{PlanFault}
 use Rattle.plan_core.specs.declared.plan.Plan.{Plan}
 use Rattle.plan_core.specs.Compiled.{plan_of}
+use Rattle.conn_core.specs.Served.{unserved}
 use Rattle.conn_core.specs.declared.fault.OpenFault.{OpenFault}
 use Rattle.conn_core.specs.declared.fault.OpenFault.TheVariants as opens
 
@@ -17,6 +19,24 @@ abbrev pub planned : Result (List Item) ConfFault → Result Plan OpenFault
 planned (Err fault) = Err (opens.Config fault)
 planned (Ok items) = opened (plan_of items)
 
+-- the plan of a text, or the fault that stands against it
+abbrev pub compiled : List ℕ → Result Plan OpenFault
+compiled text = planned (items_of text)
+
+-- a plan, unless a line is not served
+abbrev pub unless_refused : Option Item → Result Plan OpenFault → Result Plan OpenFault
+unless_refused refused (Err fault) = Err fault
+unless_refused None (Ok plan) = Ok plan
+unless_refused (Some item) (Ok plan) = Err (opens.Config (record { line = item.line; kind = Unsupported }))
+
+-- the plan of what the lines say; a line that is not served is told where nothing else is wrong
+abbrev pub served : List Item → Result Plan OpenFault
+served items = unless_refused (unserved items) (opened (plan_of items))
+
+abbrev pub meant : Result (List Item) ConfFault → Result Plan OpenFault
+meant (Err fault) = Err (opens.Config fault)
+meant (Ok items) = served items
+
 -- what a text means
 abbrev pub meaning : List ℕ → Result Plan OpenFault
-meaning text = planned (items_of text)
+meaning text = meant (items_of text)

@@ -102,6 +102,7 @@ fn ends_list(rule: &Rule, scene: &Scene<'_, '_>) -> bool
     match rule.action {
         Action::Accept => applies(&rule.when, scene),
         Action::Reject => applies(&rule.when, scene),
+        Action::Track(_, _) => false,
     }
 }
 
@@ -118,7 +119,7 @@ fn rejecting_line(rules: &[Rule], scene: &Scene<'_, '_>) -> Option<u32>
 {
     let rule = decide(rules, scene)?;
     match rule.action {
-        Action::Accept => None,
+        Action::Accept | Action::Track(_, _) => None,
         Action::Reject => Some(rule.line),
     }
 }

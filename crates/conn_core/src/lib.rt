@@ -8,7 +8,10 @@ mod fault;
 mod judging;
 mod lanes;
 mod machine;
+#[cfg(test)]
+mod many_tests;
 mod opening;
 mod planning;
+mod serving;
 #[cfg(test)]
 mod tests;

@@ -3,7 +3,8 @@ ghost use Rattle.std.specs.Prelude.{◌≡◌, ◌≢◌, ◌⊎◌, ◌+◌, �
 ghost use Rattle.std.specs.Option.{option_copied, option_map};
 ghost use Rattle.conn_model.specs.Words.{newest, AreGiven};
 ghost use Rattle.conn_model.specs.Answer.{answer_in, accepted_at, closed, row_at, saying, admitted};
-ghost use Rattle.conn_model.specs.History.{after, answer, counts, happening, opening, entry, id_of, kept_by, kept, identity_of, identity_at, NeedsNoMemory, IsLegal, IsWell, LinesDiffer, Entry};
+ghost use Rattle.conn_model.specs.History.{after, answer, counts, happening, opening, entry, id_of, kept_by, kept, identity_of, identity_at, NeedsNoMemory, IsLegal, IsWell, Entry};
+ghost use Rattle.plan_core.specs.Lines.{LinesDiffer};
 ghost use Rattle.conn_model.specs.Counts.{counts_in, open_of};
 ghost use Rattle.conn_model.specs.Rules.{view};
 ghost use Rattle.conn_model.specs.Runs.{AreAnswers, told};

@@ -1,24 +1,29 @@
 //! The plan of a text.
-ghost use Rattle.std.specs.Prelude.{◌≡◌, ◌⊎◌, length, IfOk, IfErr, Ok, Err};
-ghost use Rattle.conf_tree.specs.declared.item.Item.{Item};
-ghost use Rattle.plan_core.specs.Compiled.{plan_of};
-ghost use Rattle.conn_model.specs.History.{LinesDiffer};
-ghost use Rattle.conn_core.specs.Meaning.{opened, meaning};
+ghost use Rattle.std.specs.Prelude.{◌≡◌, ◌⊎◌, ◌≤◌, length, IfOk, IfErr, Ok, Err};
+ghost use Rattle.plan_core.specs.Lines.{LinesDiffer};
+ghost use Rattle.conn_core.specs.Meaning.{served, meaning};
 
 use crate::fault::OpenFault;
-use conf_tree::{ConfKind, Tree, read_config};
+use crate::serving::unserved_line;
+use conf_tree::{ConfFault, ConfKind, Tree, read_config};
 use plan_core::{Plan, PlanKind, compile};
 use std::alloc::Global;
 
-/// The plan of a configuration whose lines are right.
-fn plan(alloc: Global, tree: &Tree) -> Result<Plan, OpenFault>
-    ensures ok { IfOk result (λ plan. plan_of tree.now.items ≡ Ok plan) }
-    ensures fault { IfErr result (λ f. (f ≡ OpenFault.NoMemory) ⊎ (opened (plan_of tree.now.items) ≡ Err f)) }
-    ensures one { IfOk result (λ plan. length plan.frontends ≡ 1) }
+/// The plan of a configuration whose lines are right and served.
+fn plan(alloc: Global, tree: &Tree<'_>) -> Result<Plan, OpenFault>
+    ensures ok { IfOk result (λ plan. served tree.now ≡ Ok plan) }
+    ensures fault { IfErr result (λ f. (f ≡ OpenFault.NoMemory) ⊎ (served tree.now ≡ Err f)) }
+    ensures frontends { IfOk result (λ plan. length plan.frontends ≤ 64) }
     ensures lines { IfOk result (λ plan. LinesDiffer plan) }
 {
     match compile(alloc, tree) {
-        Ok(plan) => Ok(plan),
+        Ok(plan) => match unserved_line(tree.items()) {
+            None => Ok(plan),
+            Some(line) => Err(OpenFault::Config(ConfFault {
+                line,
+                kind: ConfKind::Unsupported,
+            })),
+        },
         Err(fault) => {
             if matches!(fault.kind, PlanKind::NoMemory) {
                 return Err(OpenFault::NoMemory);
@@ -32,7 +37,7 @@ fn plan(alloc: Global, tree: &Tree) -> Result<Plan, OpenFault>
 pub fn read_plan(alloc: Global, text: &str) -> Result<Plan, OpenFault>
     ensures ok { IfOk result (λ plan. meaning text.now ≡ Ok plan) }
     ensures fault { IfErr result (λ f. (f ≡ OpenFault.NoMemory) ⊎ (meaning text.now ≡ Err f)) }
-    ensures one { IfOk result (λ plan. length plan.frontends ≡ 1) }
+    ensures frontends { IfOk result (λ plan. length plan.frontends ≤ 64) }
     ensures lines { IfOk result (λ plan. LinesDiffer plan) }
 {
     match read_config(alloc, text) {

@@ -7,6 +7,7 @@ use Rattle.addr_core.specs.Ends.{Ends}
 use Rattle.plan_core.specs.declared.plan.Frontend.{Frontend}
 use Rattle.plan_core.specs.declared.plan.Backend.{Backend}
 use Rattle.plan_core.specs.declared.plan.Plan.{Plan}
+use Rattle.plan_core.specs.Lines.{has_line}
 use Rattle.conn_model.specs.declared.event.ConnId.{ConnId}
 use Rattle.conn_model.specs.declared.event.Event.{Event}
 use Rattle.conn_model.specs.declared.event.Event.TheVariants as events
@@ -56,10 +57,6 @@ abbrev pub speaks : ℕ → ℕ → Said → Bool
 speaks number serial said = option_map_or (is_conn number serial) (id_of said) false
 
 -- Who serves a connection.
-
--- the backend that has the server of a line
-abbrev pub has_line : ℕ → Backend → Bool
-has_line line backend = list_any (λ server. server.line == line) backend.servers
 
 abbrev pub identity_at : ℕ → Endpoint → Backend → Identity
 identity_at n to backend = record { backend = backend.name; name = option_map_or (λ server. server.name) (slice_get backend.servers n) []; to = to }
@@ -157,12 +154,6 @@ counts p h ask = counts_in (after p h) ask
 abbrev pub IsLegal : Plain → List Entry → Type 0
 IsLegal p [] = Unit {0}
 IsLegal p (e ∷ h) = IsLegal p h × (answer p h e.moment e.event ≡ Ok e.reply)
-
--- no two backends have servers of one line
-abbrev pub LinesDiffer : Plan → Type 0
-LinesDiffer plan =
-    (line i j : ℕ) (a b : Backend) → slice_get plan.backends i ≡ Some a → slice_get plan.backends j ≡ Some b →
-    has_line line a ≡ true → has_line line b ≡ true → a ≡ b
 
 -- a state that an opening or a legal history can leave
 pub record IsWell (p : Plain) : Type 0 where

@@ -1,5 +1,5 @@
 -- How a list of rules decides.
-use Rattle.std.specs.Prelude.{ℕ, Bool, true, List, find, Option, Some, None, option_and_then, ◌+◌, ◌&&◌}
+use Rattle.std.specs.Prelude.{ℕ, Bool, true, false, List, find, Option, Some, None, option_and_then, ◌+◌, ◌&&◌}
 use Rattle.addr_core.specs.declared.addr.Addr.{Addr}
 use Rattle.acl_core.specs.declared.criterion.Criterion.{Criterion}
 use Rattle.acl_core.specs.declared.criterion.Criterion.TheVariants as criteria
@@ -8,7 +8,7 @@ use Rattle.acl_core.specs.declared.criterion.Value.TheVariants as values
 use Rattle.acl_core.specs.declared.condition.When.{When}
 use Rattle.acl_core.specs.Truth.{applies}
 use Rattle.plan_core.specs.declared.plan.Action.{Action}
-use Rattle.plan_core.specs.declared.plan.Action.TheVariants.{Accept, Reject}
+use Rattle.plan_core.specs.declared.plan.Action.TheVariants.{Accept, Reject, Track}
 use Rattle.plan_core.specs.declared.plan.Rule.{Rule}
 use Rattle.plan_core.specs.declared.plan.Frontend.{Frontend}
 use Rattle.conn_model.specs.declared.event.ConnId.{ConnId}
@@ -48,6 +48,7 @@ applies_in v when = applies (worth v) when
 abbrev pub is_final : Action → Bool
 is_final Accept = true
 is_final Reject = true
+is_final (Track counter table) = false
 
 -- the rule ends the list in the view
 abbrev pub decides : View → Rule → Bool
@@ -60,6 +61,7 @@ deciding v rules = find (decides v) rules
 abbrev pub reject_line : Action → ℕ → Option ℕ
 reject_line Accept line = None
 reject_line Reject line = Some line
+reject_line (Track counter table) line = None
 
 -- the line that rejects the connection, if the list does
 abbrev pub rejected : View → List Rule → Option ℕ

@@ -10,7 +10,7 @@ use Rattle.acl_core.specs.declared.criterion.Pattern.TheVariants.{Compared, Netw
 use Rattle.acl_core.specs.declared.condition.When.{When}
 use Rattle.acl_core.specs.declared.condition.When.TheVariants.{If}
 use Rattle.plan_core.specs.declared.plan.Action.TheVariants.{Reject}
-use Rattle.plan_core.specs.declared.plan.Method.TheVariants.{RoundRobin}
+use Rattle.conf_tree.specs.declared.item.Method.TheVariants.{RoundRobin}
 use Rattle.plan_core.specs.declared.plan.Server.{Server}
 use Rattle.plan_core.specs.declared.plan.Plan.{Plan}
 use Rattle.conn_model.specs.declared.event.ConnId.{ConnId}

@@ -7,7 +7,7 @@ use crate::reply::{Cause, Reply, Said};
 use addr_core::{Addr, Endpoint, Pair};
 use arrayvec::ArrayVec;
 use list_core::{Duplicate, Seq};
-use plan_core::{Kind, Plan, Section, Table, TableId, Track};
+use plan_core::{KeyType, Plan, Section, Table, TableId, Track};
 use std::alloc::Global;
 use std::fmt::Debug;
 use std::test::Fail;
@@ -89,7 +89,7 @@ fn sample_kept(alloc: Global) -> Result<Kept, Fail> {
     let table = Table {
         section: Section::Backend,
         name: name(alloc, "b")?,
-        kind: Kind::Ip,
+        kind: KeyType::Ip,
         size: 8,
         stores_cur: true,
         stores_cnt: false,

@@ -1,5 +1,5 @@
 -- Fronts of what is written.
-use Rattle.std.proofs.Common.{◌≡◌, ℕ, ◌<◌, List, ◌++◌, length, take, drop, Option, Some, None, refl, ap, subst, sym, ◌∙◌, append_assoc}
+use Rattle.std.proofs.Common.{◌≡◌, ℕ, ◌<◌, List, [], ◌++◌, length, take, drop, Option, Some, None, refl, ap, subst, sym, ◌∙◌, append_assoc, append-nil}
 use Rattle.std.proofs.lemmas.List.{take-append-drop}
 use Rattle.std.specs.Io.KnownBytes.{Appends}
 use Rattle.l4proxy.specs.Replay.{IsFront}
@@ -23,3 +23,9 @@ front_written (Some held) new unsent part sent rest is =
     let same : held ≡ sent = cc in
     let added : Appends (Some sent) new (take part.0 unsent) = subst (λ xs. Appends (Some xs) new (take part.0 unsent)) same part.2 in
     appended sent new unsent rest part.0 added
+
+-- where a part of a line was written, what is held is the front of the line
+pub front_line : (old new : Option (List ℕ)) (line : List ℕ) → ((n : ℕ) × (n < length line) × Appends old new (take n line)) → (sent : List ℕ) → old ≡ Some sent
+    → IsFront new (sent ++ line)
+front_line old new line part sent is =
+    let front = front_written old new line part sent [] is in (front.0, front.1, front.2, sym (append-nil (sent ++ line)) ∙ front.3)

@@ -5,3 +5,4 @@ pub mod Replay
 pub mod Turns
 pub mod Standing
 pub mod Reading
+pub mod Check

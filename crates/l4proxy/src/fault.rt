@@ -1,4 +1,4 @@
-//! Why a replay ends early.
+//! Why a command ends early.
 ghost use Rattle.std.specs.Prelude.{◌≡◌};
 ghost use Rattle.l4proxy.specs.Status.{status_of};
 
@@ -33,6 +33,28 @@ impl ReplayFault {
         match self {
             ReplayFault::Config(_) | ReplayFault::Format(_) | ReplayFault::TooLong(_) => 1,
             ReplayFault::Read | ReplayFault::Write | ReplayFault::NoMemory => 3,
+        }
+    }
+}
+
+/// Why a command that prints what it finds ends early.
+#[derive(Clone, Copy, Debug, PartialEq, Eq, Error)]
+pub enum PrintFault {
+    #[error("cannot be read")]
+    Read,
+    #[error("cannot be written")]
+    Write,
+    #[error("no memory")]
+    NoMemory,
+}
+
+impl PrintFault {
+    /// The exit status of a program that it ends.
+    pub fn status(&self) -> u8
+        ensures { result ≡ 3 }
+    {
+        match self {
+            PrintFault::Read | PrintFault::Write | PrintFault::NoMemory => 3,
         }
     }
 }

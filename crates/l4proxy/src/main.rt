@@ -1,20 +1,28 @@
 //! A layer 4 load balancer.
 //!
+//! `l4proxy check FILE` says on standard output whether the configuration FILE is right, in one line.
 //! `l4proxy replay FILE SCRIPT` opens the configuration FILE and answers the events of SCRIPT, one
 //! line each, on standard output. The exit status is 0 when that is done, 1 where the configuration
 //! is refused or a line of the script hands in no event, 2 for words that are no command, and 3
 //! where something cannot be read or written, or memory ran out.
 #![tactic(auto)]
 
+use crate::advice::{line_of, sentence};
+use crate::check::{fault_of, run_check};
 use crate::command::commands;
-use crate::fault::ReplayFault;
+use crate::fault::{PrintFault, ReplayFault};
 use crate::replay::run_replay;
+use clap::ArgMatches;
 use clap::error::ErrorKind;
 use device_core::{FromRead, ToWrite};
 use std::process::ExitCode;
 use std::rt::Files;
 use std::{env, fs, io};
 
+mod advice;
+mod check;
+#[cfg(test)]
+mod check_tests;
 mod command;
 mod fault;
 mod reading;
@@ -27,6 +35,9 @@ mod tests;
 
 /// All was done.
 const DONE: u8 = 0;
+
+/// What was handed in is refused.
+const REFUSED: u8 = 1;
 
 /// The words are no command.
 const USAGE: u8 = 2;
@@ -80,18 +91,63 @@ fn replay_files<R: Files + AllocGlobal + Print + Eprint>(rt: &R, file: &str, scr
     }
 }
 
+/// Says what is wrong on the faulty line of a configuration, and what would be right there.
+fn advise(rt: &(impl AllocGlobal + Eprint), file: &str, config: &str) {
+    if let Ok(Some(fault)) = fault_of(rt.alloc(), config) {
+        let line = line_of(&fault);
+        let _told = eprintln!(rt; "l4proxy: {file}: line {line}: {}", sentence(&fault));
+    }
+}
+
+/// Which device or file a fault speaks of.
+fn printed_place<'a>(fault: &PrintFault, file: &'a str) -> &'a str {
+    match fault {
+        PrintFault::Read | PrintFault::NoMemory => file,
+        PrintFault::Write => "standard output",
+    }
+}
+
+/// Says whether a configuration is right.
+fn check_file<R: Files + AllocGlobal + Print + Eprint>(rt: &R, file: &str) -> u8 {
+    let Ok(text) = fs::read_to_string(rt, file) else {
+        return unreadable(rt, file);
+    };
+    let mut writer = ToWrite::of(io::writer(rt));
+    match run_check(rt.alloc(), text.as_str(), &mut writer) {
+        Ok(true) => DONE,
+        Ok(false) => {
+            advise(rt, file, text.as_str());
+            REFUSED
+        }
+        Err(fault) => {
+            let what = printed_place(&fault, file);
+            let _told = eprintln!(rt; "l4proxy: {what}: {fault}");
+            fault.status()
+        }
+    }
+}
+
 /// Does what the words ask for.
 fn run<R: Files + AllocGlobal + Print + Eprint>(
     rt: &R,
     words: &[String],
 ) -> Result<u8, clap::Error> {
     let matches = commands(rt.alloc())?.try_get_matches_from(words)?;
-    let Some(given) = matches.subcommand_matches("replay") else {
-        return Ok(USAGE);
-    };
-    match (given.get_str("FILE"), given.get_str("SCRIPT")) {
-        (Some(file), Some(script)) => Ok(replay_files(rt, file, script)),
-        _ => Ok(USAGE),
+    match matches.subcommand() {
+        Some((name, given)) => Ok(run_command(rt, name, given)),
+        None => Ok(USAGE),
+    }
+}
+
+fn run_command<R: Files + AllocGlobal + Print + Eprint>(
+    rt: &R,
+    name: &str,
+    given: &ArgMatches<'_>,
+) -> u8 {
+    match (name, given.get_str("FILE"), given.get_str("SCRIPT")) {
+        ("check", Some(file), _) => check_file(rt, file),
+        ("replay", Some(file), Some(script)) => replay_files(rt, file, script),
+        _ => USAGE,
     }
 }
 
