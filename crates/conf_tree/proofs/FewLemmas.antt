@@ -1,5 +1,5 @@
 -- A configuration has at most 64 frontends and 64 backends.
-use Rattle.std.proofs.Common.{◌≡◌, ℕ, suc, ◌+◌, ◌≤◌, ◌||◌, Bool, true, false, nat_le, List, [], ◌∷◌, ◌++◌, length, filter, Result, Ok, Err, refl, sym, ap, subst, ◌∙◌, if◌then◌else◌}
+use Rattle.std.proofs.Common.{◌≡◌, ℕ, suc, ◌+◌, ◌≤◌, ◌<◌, ◌||◌, Bool, true, false, nat_le, List, [], ◌∷◌, ◌++◌, length, filter, Result, Ok, Err, refl, sym, ap, subst, ◌∙◌, if◌then◌else◌}
 use native.Mathlib.Omega.{arith}
 use Rattle.std.proofs.lemmas.List.Elements.{filter_map-append}
 use Rattle.list_core.specs.Each.{◌>>=◌, each}
@@ -55,6 +55,20 @@ left_room items line item is = by (judged items line) refl
         let same : at_line line.number (Ok x) ≡ Ok item = rw r at is in
         let eq : x ≡ item = cc in
         judged_left_room items line item (r ∙ ap (λ y. Ok y) eq)
+
+-- Some of a list are not more than all.
+pub filtered : {X : Type 0} (test : X → Bool) (xs : List X) → length (filter test xs) ≤ length xs
+filtered test [] = (omega arith)
+filtered {X} test (x ∷ xs) = by (filtered test xs) (test x)
+  where
+    by : length (filter test xs) ≤ length xs → (b : Bool) → length (if b then x ∷ filter test xs else filter test xs) ≤ suc (length xs)
+    by few true = (omega (arith, few))
+    by few false = (omega (arith, few))
+
+pub too_few : (most : ℕ) (test : Item → Bool) (items : List Item) → length items < most → nat_le most (length (filter test items)) ≡ false
+too_few most test items less =
+    let few : length (filter test items) ≤ length items = filtered test items in
+    grind (arith, few, less)
 
 -- One more.
 

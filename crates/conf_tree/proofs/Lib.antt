@@ -1,3 +1,4 @@
 pub mod FoundLemmas
 pub mod RisingLemmas
 pub mod FewLemmas
+pub mod MarkLemmas

@@ -8,3 +8,4 @@ pub mod Statements
 pub mod Config
 pub mod Rising
 pub mod Few
+pub mod Marks

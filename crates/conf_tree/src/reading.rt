@@ -1,13 +1,13 @@
 //! Reading the lines of a configuration.
-ghost use Rattle.std.specs.Prelude.{◌≡◌, ◌⊎◌, ◌++◌, ◌∷◌, [], length, filter, IfOk, IfErr, OnOk, List, Result, Ok, Err};
+ghost use Rattle.std.specs.Prelude.{◌≡◌, ◌⊎◌, ◌++◌, ◌∷◌, [], length, filter, IfOk, IfErr, List, Result, Ok, Err};
 ghost use Rattle.std.specs.List.{list_any};
 ghost use Rattle.list_core.specs.Each.{Fails, Gives, each};
 ghost use Rattle.conf_text.specs.Lines.{lines_of, AreLines};
 ghost use Rattle.conf_tree.specs.declared.fault.ConfFault.{ConfFault};
 ghost use Rattle.conf_tree.specs.declared.item.Item.{Item};
-ghost use Rattle.conf_tree.specs.Config.{outside, place_after, place_of, own, claim_of, claimed, is_server_named, has_server, is_taken, is_bind, is_rule, is_server, is_full, allowed, judged, next_item, text_fault, items_of, AreItems, IsConfFault};
+ghost use Rattle.conf_tree.specs.Config.{outside, place_after, place_of, own, claim_of, claimed, is_server_named, has_server, is_taken, is_bind, is_rule, is_server, are_own, is_full, allowed, judged, next_item, text_fault, items_of, AreItems, IsConfFault};
 
-use crate::claim::{Claim, backend_count, claim_of, frontend_count, is_claimed};
+use crate::claim::{Claims, claim_of};
 use crate::fault::{ConfFault, ConfKind};
 use crate::item::{Item, Place, Says, SectionKind, Tree};
 use crate::said::Said;
@@ -141,6 +141,16 @@ fn rule_count(lines: &[Item]) -> usize
     lines.iter().filter(|item| is_rule(&item.says)).count()
 }
 
+/// Whether there are as many rules as may stand. Short sections need no look at their lines.
+fn are_rules(lines: &[Item]) -> bool
+    ensures { result ≡ are_own 256 is_rule lines.now }
+{
+    if lines.len() < 256 {
+        return false;
+    }
+    rule_count(lines) >= 256
+}
+
 fn server_count(lines: &[Item]) -> usize
     ensures { result ≡ length (filter (λ item. is_server item.says) lines.now) }
 {
@@ -148,31 +158,31 @@ fn server_count(lines: &[Item]) -> usize
 }
 
 /// Whether an earlier line has what may stand once.
-fn is_taken(items: &[Item], taken: &[Claim], place: &Place, says: &Says) -> bool
+fn is_taken(items: &[Item], taken: &Claims, place: &Place, says: &Says) -> bool
     requires { taken.now ≡ claimed items.now }
     ensures { result ≡ is_taken items.now place.now says.now }
 {
     let claim = claim_of(place, says);
-    is_claimed(taken, &claim) || has_server(own(place, items), says)
+    taken.has(&claim) || has_server(own(place, items), says)
 }
 
 /// Whether one line more of the kind is too many.
-fn is_full(items: &[Item], taken: &[Claim], place: &Place, says: &Says) -> bool
+fn is_full(items: &[Item], taken: &Claims, place: &Place, says: &Says) -> bool
     requires { taken.now ≡ claimed items.now }
     ensures { result ≡ is_full items.now place.now says.now }
 {
     match says {
-        Says::Frontend(_) => frontend_count(taken) >= 64,
-        Says::Backend(_) => backend_count(taken) >= 64,
+        Says::Frontend(_) => taken.frontends() >= 64,
+        Says::Backend(_) => taken.backends() >= 64,
         Says::Bind(_, _) => bind_count(own(place, items)) >= 64,
-        Says::Rule(_, _, _) => rule_count(own(place, items)) >= 256,
+        Says::Rule(_, _, _) => are_rules(own(place, items)),
         Says::Server(_) => server_count(own(place, items)) >= 64,
         _ => false,
     }
 }
 
 /// Whether a line that says this may stand behind those.
-fn allowed(items: &[Item], taken: &[Claim], place: &Place, said: &Said) -> Result<(), ConfKind>
+fn allowed(items: &[Item], taken: &Claims, place: &Place, said: &Said) -> Result<(), ConfKind>
     requires { taken.now ≡ claimed items.now }
     ensures { result ≡ allowed items.now place.now said.now }
 {
@@ -189,7 +199,7 @@ fn allowed(items: &[Item], taken: &[Claim], place: &Place, said: &Said) -> Resul
 fn judge<'a>(
     alloc: Global,
     items: &[Item<'a>],
-    taken: &[Claim<'a>],
+    taken: &Claims,
     line: &Line<'a>,
 ) -> Result<Item<'a>, Stop<ConfKind>>
     requires { taken.now ≡ claimed items.now }
@@ -212,7 +222,7 @@ fn judge<'a>(
 fn next_item<'a>(
     alloc: Global,
     items: &[Item<'a>],
-    taken: &[Claim<'a>],
+    taken: &Claims,
     line: &Line<'a>,
 ) -> Result<Item<'a>, Stop<ConfFault>>
     requires { taken.now ≡ claimed items.now }
@@ -228,14 +238,12 @@ fn next_item<'a>(
     }
 }
 
-/// Adds what an item claims.
-fn keep_claim<'a>(taken: &mut Seq<Claim<'a>>, item: &Item<'a>) -> Result<(), AllocError>
-    ensures { OnOk result (taken.new ≡ taken.old ++ claimed (item.now ∷ [])) }
+/// What is claimed with one item more.
+fn claims_with<'a>(taken: Claims<'a>, item: &Item<'a>) -> Result<Claims<'a>, AllocError>
+    ensures { IfOk result (λ claims. claims ≡ taken.entry ++ claimed (item.now ∷ [])) }
 {
-    if let Some(claim) = claim_of(&item.place, &item.says) {
-        taken.push(claim)?;
-    }
-    Ok(())
+    let claim = claim_of(&item.place, &item.says);
+    taken.with(claim)
 }
 
 fn lines(alloc: Global, text: &str) -> Result<Lines, Stop<ConfFault>>
@@ -259,11 +267,11 @@ fn lines(alloc: Global, text: &str) -> Result<Lines, Stop<ConfFault>>
 fn items<'a>(alloc: Global, lines: &[Line<'a>]) -> Result<Seq<Item<'a>>, Stop<ConfFault>>
     ensures { Gives result (each next_item [] lines.now) }
 {
-    let mut items = Seq::new(alloc);
-    let mut taken = Seq::new(alloc);
+    let mut items = Seq::of(Vec::with_capacity(alloc, lines.len())?);
+    let mut taken = Claims::new(alloc);
     for line in lines {
-        let item = next_item(alloc, items.as_slice(), taken.as_slice(), line)?;
-        keep_claim(&mut taken, &item)?;
+        let item = next_item(alloc, items.as_slice(), &taken, line)?;
+        taken = claims_with(taken, &item)?;
         items.push(item)?;
     }
     Ok(items)

@@ -59,13 +59,13 @@ frontends_claimed : (base items : List Item) → length (frontends (proxies base
 frontends_claimed base [] = refl
 frontends_claimed base (item ∷ rest) =
     one_frontend item.says item.line item.place base (own_lines rest) (proxies (base_after base (own_lines rest) item.says) rest) (config.claimed rest)
-      (frontends_claimed (base_after base (own_lines rest) item.says) rest)
+    (frontends_claimed (base_after base (own_lines rest) item.says) rest)
 
 backends_claimed : (base items : List Item) → length (backends (proxies base items)) ≡ length (filter config.is_backend (config.claimed items))
 backends_claimed base [] = refl
 backends_claimed base (item ∷ rest) =
     one_backend item.says item.line item.place base (own_lines rest) (proxies (base_after base (own_lines rest) item.says) rest) (config.claimed rest)
-      (backends_claimed (base_after base (own_lines rest) item.says) rest)
+    (backends_claimed (base_after base (own_lines rest) item.says) rest)
 
 pub few_frontends : (items : List Item) → FewSections items → length (frontends (proxies [] items)) ≤ 64
 few_frontends items few = rw (frontends_claimed [] items) few.0
@@ -119,7 +119,7 @@ heads_behind : (n : ℕ) (base items : List Item) → AreAbove n items → AreBe
 heads_behind n base [] above = tt
 heads_behind n base (item ∷ rest) above =
     one_behind item.says n item.line base (own_lines rest) (proxies (base_after base (own_lines rest) item.says) rest) above.0
-      (heads_behind n (base_after base (own_lines rest) item.says) rest above.1)
+    (heads_behind n (base_after base (own_lines rest) item.says) rest above.1)
 
 own_more : (item : Item) (rest : List Item) → own_lines (item ∷ rest) ≡ (if opens item.says then [] else item ∷ own_lines rest)
 own_more item rest = by (opens item.says) refl
@@ -164,7 +164,7 @@ own_before base (item ∷ rest) rises = rw (own_more item rest) (by (opens item.
         let more = proxies (base_after base (own_lines rest) item.says) rest in
         let same : proxies base (item ∷ rest) ≡ more = ap (λ head. head ++ more) (no_head item.says item.line base (own_lines rest) is) in
         subst (λ all. AreBehind item.line all × AllByRecursion (λ x. AreBehind x.line all) (own_lines rest)) (sym same)
-          (heads_behind item.line (base_after base (own_lines rest) item.says) rest rises.0, later)
+        (heads_behind item.line (base_after base (own_lines rest) item.says) rest rises.0, later)
 
 one_parted : (said : Says) (line : ℕ) (base own : List Item) (rest : List Proxy) → AllByRecursion (λ item. line < item.line) own → AllByRecursion (λ item. AreBehind item.line rest) own → Parted rest →
     Parted (option_to_list (option_map (proxy_with base own) (head_said line said)) ++ rest)
@@ -185,8 +185,8 @@ parted : (base items : List Item) → Rises items → Parted (proxies base items
 parted base [] rises = tt
 parted base (item ∷ rest) rises =
     one_parted item.says item.line base (own_lines rest) (proxies (base_after base (own_lines rest) item.says) rest)
-      (own_above item.line rest rises.0) (own_before (base_after base (own_lines rest) item.says) rest rises.1)
-      (parted (base_after base (own_lines rest) item.says) rest rises.1)
+    (own_above item.line rest rises.0) (own_before (base_after base (own_lines rest) item.says) rest rises.1)
+    (parted (base_after base (own_lines rest) item.says) rest rises.1)
 
 -- A server's line is one of its backend's.
 

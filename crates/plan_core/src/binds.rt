@@ -22,7 +22,11 @@ fn same_bind(a: &Bind, b: &Bind) -> bool
 fn has_bind(frontend: &Frontend, bind: &Bind) -> bool
     ensures { result ≡ list_any (same_bind bind.now) frontend.now.binds }
 {
-    frontend.binds.as_slice().iter().any(|other| same_bind(bind, other))
+    frontend
+        .binds
+        .as_slice()
+        .iter()
+        .any(|other| same_bind(bind, other))
 }
 
 fn is_named(frontend: &Frontend, name: &[u8]) -> bool

@@ -4,14 +4,14 @@
 pub use binds::same_binds;
 pub use conf_tree::{KeyType, Method};
 pub use fault::{PlanFault, PlanKind};
-pub use plan::{
-    Action, Backend, Bind, Choice, Frontend, Plan, Rule, Section, Server, Table,
-};
+pub use plan::{Action, Backend, Bind, Choice, Frontend, Plan, Rule, Section, Server, Table};
 pub use planning::compile;
 pub use track::{TableId, Track};
 
 mod binds;
 mod checking;
+#[cfg(test)]
+mod compile_tests;
 mod copies;
 mod fault;
 mod fields;

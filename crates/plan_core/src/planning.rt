@@ -85,15 +85,15 @@ fn frontends_in(
     alloc: Global,
     tables: &[Table],
     backends: &[Backend],
-    all: &[Proxy],
+    proxies: &[Proxy],
 ) -> Result<Seq<Frontend>, AllocError>
     requires tables { length tables.now ≤ 65535 }
     requires backends { length backends.now ≤ 65535 }
-    ensures value { IfOk result (λ list. list ≡ map (frontend_of tables.now backends.now) (frontends all.now)) }
-    ensures number { IfOk result (λ list. length list ≡ length (frontends all.now)) }
+    ensures value { IfOk result (λ list. list ≡ map (frontend_of tables.now backends.now) (frontends proxies.now)) }
+    ensures number { IfOk result (λ list. length list ≡ length (frontends proxies.now)) }
 {
     let mut list = Seq::new(alloc);
-    for proxy in all {
+    for proxy in proxies {
         if is_frontend(proxy) {
             list.push(frontend_of(alloc, tables, backends, proxy)?)?;
         }

@@ -80,7 +80,10 @@ fn head_said<'a>(item: &Item<'a>) -> Option<Head<'a>>
 fn opens(says: &Says) -> bool
     ensures { result ≡ opens says.now }
 {
-    matches!(says, Says::Global | Says::Defaults | Says::Frontend(_) | Says::Backend(_))
+    matches!(
+        says,
+        Says::Global | Says::Defaults | Says::Frontend(_) | Says::Backend(_)
+    )
 }
 
 /// The place of the first item that opens a section.
@@ -102,11 +105,7 @@ fn own_lines<'a>(items: &'a [Item<'a>]) -> &'a [Item<'a>]
 }
 
 /// The lines of the `defaults` in force behind an item.
-fn base_after<'a>(
-    base: &'a [Item<'a>],
-    says: &Says,
-    after: &'a [Item<'a>],
-) -> &'a [Item<'a>]
+fn base_after<'a>(base: &'a [Item<'a>], says: &Says, after: &'a [Item<'a>]) -> &'a [Item<'a>]
     ensures { result.now ≡ base_after base.now (own_lines after.now) says.now }
 {
     match says {
@@ -116,11 +115,7 @@ fn base_after<'a>(
 }
 
 /// The frontend or backend that an item opens, with the items after it.
-fn proxy_said<'a>(
-    base: &'a [Item<'a>],
-    after: &'a [Item<'a>],
-    item: &Item<'a>,
-) -> Option<Proxy<'a>>
+fn proxy_said<'a>(base: &'a [Item<'a>], after: &'a [Item<'a>], item: &Item<'a>) -> Option<Proxy<'a>>
     ensures { result ≡ proxy_said base.now (own_lines after.now) item.now }
 {
     match head_said(item) {
@@ -150,10 +145,7 @@ fn all_proxies<'a>(alloc: Global, items: &'a [Item<'a>]) -> Result<Seq<Proxy<'a>
 }
 
 /// The frontends and backends of a configuration, in their order.
-pub fn proxies_in<'a>(
-    alloc: Global,
-    items: &'a [Item<'a>],
-) -> Result<Seq<Proxy<'a>>, AllocError>
+pub fn proxies_in<'a>(alloc: Global, items: &'a [Item<'a>]) -> Result<Seq<Proxy<'a>>, AllocError>
     requires { FewSections items.now }
     ensures value { IfOk result (λ all. all ≡ proxies [] items.now) }
     ensures frontends { IfOk result (λ all. length (frontends all) ≤ 64) }

@@ -1,6 +1,6 @@
 //! A plan and its copy, field by field.
 use crate::{
-    Action, Backend, Bind, Choice, Frontend, Kind, Method, Plan, Rule, Section, Server, Table,
+    Action, Backend, Bind, Choice, Frontend, KeyType, Method, Plan, Rule, Section, Server, Table,
     TableId, Track,
 };
 use acl_core::{Cond, When};
@@ -32,9 +32,9 @@ fn sample_frontend(alloc: Global) -> Result<Frontend, Fail> {
             groups: Seq::new(alloc),
         }),
     };
-    let accepting = Rule {
+    let tracking = Rule {
         line: 4,
-        action: Action::Accept,
+        action: Action::Track(2, 7),
         when: When::Always,
     };
     let choice = Choice {
@@ -57,7 +57,7 @@ fn sample_frontend(alloc: Global) -> Result<Frontend, Fail> {
         limit: 2000,
         limit_line: 2,
         connection_rules: one(alloc, rejecting)?,
-        session_rules: one(alloc, accepting)?,
+        session_rules: one(alloc, tracking)?,
         choices: one(alloc, choice)?,
         default: Some(0),
     })
@@ -90,7 +90,7 @@ fn sample_plan(alloc: Global) -> Result<Plan, Fail> {
     let table = Table {
         section: Section::Backend,
         name: name(alloc, "app")?,
-        kind: Kind::Ipv6,
+        kind: KeyType::Ipv6,
         size: 100_000,
         stores_cur: false,
         stores_cnt: true,
@@ -128,7 +128,7 @@ fn a_copy_has_the_rules(rt: HostRuntime) -> Result<(), Fail> {
     assert!(rt; matches!(&rule.when, When::If(_)));
     assert_eq!(rt; frontend.session_rules.len(), 1);
     let rule = &frontend.session_rules.as_slice()[0];
-    assert_eq!(rt; (rule.line, rule.action), (4, Action::Accept));
+    assert_eq!(rt; (rule.line, rule.action), (4, Action::Track(2, 7)));
     assert!(rt; matches!(&rule.when, When::Always));
     assert_eq!(rt; frontend.choices.len(), 1);
     let choice = &frontend.choices.as_slice()[0];
@@ -158,7 +158,10 @@ fn a_copy_has_the_backend_and_the_table(rt: HostRuntime) -> Result<(), Fail> {
     assert_eq!(rt; plan.tables.len(), 1);
     let table = &plan.tables.as_slice()[0];
     assert_eq!(rt; table.name.as_slice(), b"app".as_slice());
-    assert_eq!(rt; (table.section, table.kind), (Section::Backend, Kind::Ipv6));
+    assert_eq!(rt;
+        (table.section, table.kind),
+        (Section::Backend, KeyType::Ipv6)
+    );
     assert_eq!(rt;
         (table.size, table.stores_cur, table.stores_cnt),
         (100_000, false, true)
