@@ -13,6 +13,7 @@ const TWO: &str =
     "frontend a\nbind 127.0.0.1:9000\nbind 127.0.0.1:9001\ntcp-request connection reject if { src 198.51.100.0/24 }\ndefault_backend p\nfrontend b\nbind 127.0.0.1:9002\nmaxconn 1\ndefault_backend q\nbackend q\nserver q1 10.0.0.22:80\nbackend p\nserver p1 10.0.0.21:80\n";
 
 const NEAR: u32 = 0xc000_0205;
+
 const FAR: u32 = 0xc633_6409;
 
 /// From that source to a port of 127.0.0.1.
@@ -61,11 +62,26 @@ fn judges_by_the_frontend_of_the_listener(rt: HostRuntime) -> Result<(), Fail> {
         (Event::Accept(0, from(NEAR, 9000)?), Told::Offer(0, 1, 13)),
         (Event::Accept(1, from(NEAR, 9001)?), Told::Offer(0, 2, 13)),
         (Event::Accept(2, from(FAR, 9002)?), Told::Offer(1, 1, 11)),
-        (Event::Accept(0, from(FAR, 9000)?), Told::Refuse(0, 3, Cause::Line(4))),
-        (Event::Accept(2, from(NEAR, 9002)?), Told::Refuse(1, 2, Cause::Line(8))),
-        (Event::Accept(3, from(NEAR, 9003)?), Told::Fault(StepFault::NoListener)),
-        (Event::Close(id(1, 2), Why::Done), Told::Fault(StepFault::NoSuch)),
-        (Event::Close(id(2, 1), Why::Done), Told::Fault(StepFault::NoSuch)),
+        (
+            Event::Accept(0, from(FAR, 9000)?),
+            Told::Refuse(0, 3, Cause::Line(4)),
+        ),
+        (
+            Event::Accept(2, from(NEAR, 9002)?),
+            Told::Refuse(1, 2, Cause::Line(8)),
+        ),
+        (
+            Event::Accept(3, from(NEAR, 9003)?),
+            Told::Fault(StepFault::NoListener),
+        ),
+        (
+            Event::Close(id(1, 2), Why::Done),
+            Told::Fault(StepFault::NoSuch),
+        ),
+        (
+            Event::Close(id(2, 1), Why::Done),
+            Told::Fault(StepFault::NoSuch),
+        ),
         (Event::Close(id(1, 1), Why::Done), Told::Closed(1, 1)),
         (Event::Accept(2, from(NEAR, 9002)?), Told::Offer(1, 3, 11)),
         (Event::Accept(1, from(NEAR, 9001)?), Told::Offer(0, 4, 13)),
@@ -84,8 +100,14 @@ fn counts_each_frontend_by_itself(rt: HostRuntime) -> Result<(), Fail> {
     for listener in [0, 1, 2, 0, 2] {
         let _told = core.step(0, &Event::Accept(listener, from(NEAR, 9000)?));
     }
-    assert_eq!(rt; core.counts(&Ask::Frontend(0)), Some(Counts { cur: 3, cnt: 0 }));
-    assert_eq!(rt; core.counts(&Ask::Frontend(1)), Some(Counts { cur: 1, cnt: 0 }));
+    assert_eq!(rt;
+        core.counts(&Ask::Frontend(0)),
+        Some(Counts { cur: 3, cnt: 0 })
+    );
+    assert_eq!(rt;
+        core.counts(&Ask::Frontend(1)),
+        Some(Counts { cur: 1, cnt: 0 })
+    );
     assert_eq!(rt; core.counts(&Ask::Frontend(2)), None);
     Ok(())
 }
@@ -136,11 +158,26 @@ fn refuses_what_is_not_served(rt: HostRuntime) -> Result<(), Fail> {
         ),
         ("defaults\nbalance source", "line 4: Unsupported"),
         ("backend b\nbalance roundrobin", "line 4: Unsupported"),
-        ("backend b\nserver s 1.2.3.4:80 weight 1", "line 4: Unsupported"),
-        ("backend b\nserver s 1.2.3.4:80 maxconn 0", "line 4: Unsupported"),
-        ("backend b\nserver s 1.2.3.4:80 disabled", "line 4: Unsupported"),
-        ("backend b\nserver s 1.2.3.4:80 send-proxy", "line 4: Unsupported"),
-        ("backend b\nserver s 1.2.3.4:80 send-proxy-v2", "line 4: Unsupported"),
+        (
+            "backend b\nserver s 1.2.3.4:80 weight 1",
+            "line 4: Unsupported",
+        ),
+        (
+            "backend b\nserver s 1.2.3.4:80 maxconn 0",
+            "line 4: Unsupported",
+        ),
+        (
+            "backend b\nserver s 1.2.3.4:80 disabled",
+            "line 4: Unsupported",
+        ),
+        (
+            "backend b\nserver s 1.2.3.4:80 send-proxy",
+            "line 4: Unsupported",
+        ),
+        (
+            "backend b\nserver s 1.2.3.4:80 send-proxy-v2",
+            "line 4: Unsupported",
+        ),
         (
             "backend b\nserver s 1.2.3.4:80\nserver t 1.2.3.4:80",
             "line 5: Unsupported",
@@ -150,7 +187,10 @@ fn refuses_what_is_not_served(rt: HostRuntime) -> Result<(), Fail> {
             "ok",
         ),
         ("bind :81 accept-proxy\nmaxconn 0", "line 4: BadNumber"),
-        ("bind :81 accept-proxy\ndefault_backend c", "line 4: NoBackend"),
+        (
+            "bind :81 accept-proxy\ndefault_backend c",
+            "line 4: NoBackend",
+        ),
         (
             "backend b\nserver s 1.2.3.4:80\nserver t 1.2.3.4:80\nbalance source",
             "line 5: Unsupported",

@@ -8,5 +8,5 @@ pub returns-then-not-contains : goal.returns-then-not-contains
 returns-then-not-contains c =
     let none : list_any (λ mark. mark == mark_of c.args.claim.now) (map mark_of c.args.taken.now) ≡ false =
     ap (λ marks. list_any (λ mark. mark == mark_of c.args.claim.now) marks) (sym c.requires)
-      ∙ ap (λ m. list_any (λ mark. mark == m) c.args.marks.now) (sym c.mark_of.ensures) ∙ sym c.contains.ensures.value ∙ c.if-not-contains.true in
+    ∙ ap (λ m. list_any (λ mark. mark == m) c.args.marks.now) (sym c.mark_of.ensures) ∙ sym c.contains.ensures.value ∙ c.if-not-contains.true in
     sym (no_mark c.args.claim.now c.args.taken.now none)
