@@ -220,11 +220,13 @@ fn servers_have_their_words(rt: HostRuntime) -> Result<(), Fail> {
     Ok(())
 }
 
+/// Tables of frontends and backends, of which two share a name, and rules that mean them.
+const TABLES: &str =
+    "backend b\nstick-table type ip size 1k store conn_cur\nfrontend f\nbind :80\ntcp-request connection reject\ntcp-request session accept\ntcp-request connection track-sc0 src\ntcp-request session track-sc1 src table c\ntcp-request connection track-sc2 src table b\nstick-table type ipv6 size 7 store conn_cnt\nbackend c\nstick-table type ip size 2\nfrontend c\nbind :81\ntcp-request connection track-sc0 src table f\n";
+
 #[test]
 fn tables_are_numbered_in_the_order_of_the_text(rt: HostRuntime) -> Result<(), Fail> {
-    let text =
-        "backend b\nstick-table type ip size 1k store conn_cur\nfrontend f\nbind :80\ntcp-request connection reject\ntcp-request session accept\ntcp-request connection track-sc0 src\ntcp-request session track-sc1 src table c\ntcp-request connection track-sc2 src table b\nstick-table type ipv6 size 7 store conn_cnt\nbackend c\nstick-table type ip size 2\nfrontend c\nbind :81\ntcp-request connection track-sc0 src table f\n";
-    let plan = plan(rt.alloc(), text)?;
+    let plan = plan(rt.alloc(), TABLES)?;
     let tables = plan.tables.as_slice();
     assert_eq!(rt; tables.len(), 3);
     assert_eq!(rt; tables[0].name.as_slice(), b"b".as_slice());
@@ -241,17 +243,25 @@ fn tables_are_numbered_in_the_order_of_the_text(rt: HostRuntime) -> Result<(), F
     assert_eq!(rt; (tables[1].stores_cur, tables[1].stores_cnt), (false, true));
     assert_eq!(rt; tables[2].name.as_slice(), b"c".as_slice());
     assert_eq!(rt; (tables[2].section, tables[2].size), (Section::Backend, 2));
-    let frontend = &plan.frontends.as_slice()[0];
-    let rules = frontend.connection_rules.as_slice();
+    Ok(())
+}
+
+#[test]
+fn rules_track_in_the_tables_that_they_mean(rt: HostRuntime) -> Result<(), Fail> {
+    let plan = plan(rt.alloc(), TABLES)?;
+    let frontends = plan.frontends.as_slice();
+    assert_eq!(rt; frontends.len(), 2);
+    let rules = frontends[0].connection_rules.as_slice();
     assert_eq!(rt; rules.len(), 3);
     assert_eq!(rt; (rules[0].line, rules[0].action), (5, Action::Reject));
     assert_eq!(rt; (rules[1].line, rules[1].action), (7, Action::Track(0, 1)));
     assert_eq!(rt; (rules[2].line, rules[2].action), (9, Action::Track(2, 0)));
-    let rules = frontend.session_rules.as_slice();
+    let rules = frontends[0].session_rules.as_slice();
     assert_eq!(rt; rules.len(), 2);
     assert_eq!(rt; (rules[0].line, rules[0].action), (6, Action::Accept));
     assert_eq!(rt; (rules[1].line, rules[1].action), (8, Action::Track(1, 2)));
-    let rules = plan.frontends.as_slice()[1].connection_rules.as_slice();
+    let rules = frontends[1].connection_rules.as_slice();
+    assert_eq!(rt; rules.len(), 1);
     assert_eq!(rt; (rules[0].line, rules[0].action), (15, Action::Track(0, 1)));
     Ok(())
 }
