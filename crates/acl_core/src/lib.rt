@@ -10,5 +10,3 @@ mod condition;
 mod criterion;
 mod fault;
 mod reading;
-#[cfg(test)]
-mod tests;

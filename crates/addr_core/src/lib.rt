@@ -15,6 +15,4 @@ mod pair;
 pub mod parts;
 mod reading;
 mod six;
-#[cfg(test)]
-mod tests;
 mod writing;

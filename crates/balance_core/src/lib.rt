@@ -12,5 +12,3 @@ mod least;
 mod load;
 mod round;
 mod source;
-#[cfg(test)]
-mod tests;

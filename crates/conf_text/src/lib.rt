@@ -11,5 +11,3 @@ mod cut;
 mod line;
 mod lines;
 mod reading;
-#[cfg(test)]
-mod tests;

@@ -18,6 +18,4 @@ mod said;
 mod server;
 mod statement;
 mod table;
-#[cfg(test)]
-mod tests;
 mod words;

@@ -8,10 +8,6 @@ mod fault;
 mod judging;
 mod lanes;
 mod machine;
-#[cfg(test)]
-mod many_tests;
 mod opening;
 mod planning;
 mod serving;
-#[cfg(test)]
-mod tests;

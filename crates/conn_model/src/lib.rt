@@ -10,5 +10,3 @@ pub mod event;
 pub mod laws;
 pub mod plain;
 pub mod reply;
-#[cfg(test)]
-mod tests;

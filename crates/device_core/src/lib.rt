@@ -15,5 +15,3 @@ mod memory;
 mod patience;
 mod schedule;
 mod tally;
-#[cfg(test)]
-mod tests;

@@ -10,8 +10,6 @@ pub use track::{TableId, Track};
 
 mod binds;
 mod checking;
-#[cfg(test)]
-mod compile_tests;
 mod copies;
 mod fault;
 mod fields;
@@ -19,6 +17,4 @@ mod plan;
 mod planning;
 mod proxies;
 mod tables;
-#[cfg(test)]
-mod tests;
 mod track;

@@ -17,6 +17,4 @@ mod parser;
 mod rest;
 mod skip;
 mod state;
-#[cfg(test)]
-mod tests;
 mod writing;

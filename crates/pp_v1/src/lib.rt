@@ -7,6 +7,4 @@ pub use writing::write_v1;
 
 mod meaning;
 mod reading;
-#[cfg(test)]
-mod tests;
 mod writing;

@@ -9,6 +9,4 @@ pub use writing::write_v2;
 mod block;
 mod fault;
 mod head;
-#[cfg(test)]
-mod tests;
 mod writing;

@@ -11,5 +11,3 @@ mod law;
 mod once;
 mod pass;
 mod relay;
-#[cfg(test)]
-mod tests;

@@ -6,5 +6,3 @@ pub use slots::{Count, Slot, SlotIx, Slots};
 
 mod identity;
 mod slots;
-#[cfg(test)]
-mod tests;

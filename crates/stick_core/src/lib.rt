@@ -10,5 +10,3 @@ mod entries;
 mod key;
 pub mod laws;
 mod table;
-#[cfg(test)]
-mod tests;

@@ -3,6 +3,4 @@
 
 pub use word::Word;
 
-#[cfg(test)]
-mod tests;
 mod word;

@@ -1,4 +1,4 @@
-use crate::{LineFault, LineKind, Lines};
+use conf_text::{LineFault, LineKind, Lines};
 use std::alloc::Global;
 use std::test::Fail;
 

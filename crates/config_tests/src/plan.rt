@@ -1,11 +1,11 @@
 //! A plan and its copy, field by field.
-use crate::{
-    Action, Backend, Bind, Choice, Frontend, KeyType, Method, Plan, Rule, Section, Server, Table,
-    TableId, Track,
-};
 use acl_core::{Cond, When};
 use addr_core::{Addr, Endpoint};
 use list_core::{Duplicate, Seq};
+use plan_core::{
+    Action, Backend, Bind, Choice, Frontend, KeyType, Method, Plan, Rule, Section, Server, Table,
+    TableId, Track,
+};
 use std::alloc::Global;
 use std::fmt::Debug;
 use std::test::Fail;

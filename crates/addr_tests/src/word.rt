@@ -1,6 +1,6 @@
 //! Tests with outside values.
-use crate::Word;
 use std::test::Fail;
+use word_core::Word;
 
 #[test]
 fn words_by_their_bytes(rt: HostRuntime) -> Result<(), Fail> {

@@ -1,4 +1,4 @@
-use crate::{
+use device_core::{
     Calls, Failed, FromRead, Got, Input, MOST_READS, MOST_STALLS, MemoryInput, MemoryOutput, Moved,
     Output, Put, Schedule, ToWrite, read_on, write_all,
 };

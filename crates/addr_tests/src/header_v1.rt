@@ -1,6 +1,6 @@
 //! Tests with outside values.
-use crate::{Meaning, V1Fault, read_line, write_v1};
 use addr_core::{Addr, Pair, read_endpoint};
+use pp_v1::{Meaning, V1Fault, read_line, write_v1};
 use std::test::Fail;
 
 fn pair_of(source: &[u8], destination: &[u8]) -> Result<Pair, Fail> {

@@ -1,6 +1,7 @@
 //! Tests with outside values.
-use crate::{Fed, HeaderFault, Parser, Rest, write_v1, write_v2};
-use addr_core::{Addr, Endpoint, Pair};
+use crate::pairs::pair;
+use addr_core::{Addr, Pair};
+use pp_any::{Fed, HeaderFault, Parser, Rest, write_v1, write_v2};
 use pp_v1::Meaning;
 use pp_v2::Family;
 use std::test::Fail;
@@ -34,18 +35,6 @@ fn in_pieces(bytes: &[u8], size: usize) -> Told {
         read = read.saturating_add(piece.len());
     }
     Told::Waits
-}
-
-fn pair(source: Addr, from: u16, destination: Addr, to: u16) -> Result<Pair, Fail> {
-    let source = Endpoint {
-        addr: source,
-        port: from,
-    };
-    let destination = Endpoint {
-        addr: destination,
-        port: to,
-    };
-    Ok(Pair::of(source, destination).ok_or("two families")?)
 }
 
 /// 203.0.113.7, port 4000, to 198.51.100.1, port 443.

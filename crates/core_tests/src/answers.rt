@@ -1,6 +1,7 @@
 //! What a configuration and a list of events are answered, by worked examples.
-use crate::Core;
+use crate::refusals::check;
 use addr_core::{Addr, Endpoint, Pair};
+use conn_core::Core;
 use conn_model::ask::{Ask, Counts};
 use conn_model::event::{ConnId, Event, Why};
 use conn_model::plain::Phase;
@@ -239,14 +240,6 @@ fn keeps_to_a_limit_that_is_not_said(rt: HostRuntime) -> Result<(), Fail> {
     assert!(rt; is_refusal(&core.step(0, &accept), 2001, Cause::Line(1)));
     assert_eq!(rt; core.counts(&FRONTEND), open(2000));
     Ok(())
-}
-
-/// What a text is refused with, as it is printed, or `ok`.
-fn check(alloc: Global, text: &str) -> Result<String, Fail> {
-    match Core::open(alloc, text) {
-        Ok(_core) => Ok(String::from_str(alloc, "ok")?),
-        Err(fault) => Ok(format!(in alloc; "{fault}")?),
-    }
 }
 
 #[test]

@@ -1,8 +1,8 @@
-use crate::{Entry, Kind, Stores, Table, Tracked};
 use addr_core::Addr;
 use std::alloc::Global;
 use std::process::Abort;
 use std::test::Fail;
+use stick_core::{Entry, Kind, Stores, Table, Tracked};
 
 const BOTH: Stores = Stores {
     cur: true,

@@ -1,5 +1,5 @@
-use crate::{Drained, Filled, Flow, FlowFault, Moved, Relay, run_carries};
 use device_core::{Calls, Input, MemoryInput, MemoryOutput, Output, Schedule};
+use relay_core::{Drained, Filled, Flow, FlowFault, Moved, Relay, run_carries};
 use std::test::Fail;
 
 const NONE: [Calls; 0] = [];

@@ -1,6 +1,7 @@
 //! Tests with outside values.
-use crate::{Family, Head, V2Fault, command_fault, family_fault, read_block, read_head, write_v2};
-use addr_core::{Addr, Endpoint, Pair};
+use crate::pairs::pair;
+use addr_core::Addr;
+use pp_v2::{Family, Head, V2Fault, command_fault, family_fault, read_block, read_head, write_v2};
 use std::test::Fail;
 
 /// The signature as proxy-protocol.txt, section 2.2, gives it, and then these four bytes.
@@ -9,18 +10,6 @@ fn head(command: u8, family: u8, high: u8, low: u8) -> [u8; 16] {
         0x0D, 0x0A, 0x0D, 0x0A, 0x00, 0x0D, 0x0A, 0x51, 0x55, 0x49, 0x54, 0x0A, command, family,
         high, low,
     ]
-}
-
-fn pair(source: Addr, from: u16, destination: Addr, to: u16) -> Result<Pair, Fail> {
-    let source = Endpoint {
-        addr: source,
-        port: from,
-    };
-    let destination = Endpoint {
-        addr: destination,
-        port: to,
-    };
-    Ok(Pair::of(source, destination).ok_or("two families")?)
 }
 
 #[test]

@@ -1,5 +1,5 @@
 //! Tests with outside values.
-use crate::{
+use acl_core::{
     AclFault, Cond, Criterion, Operator, Pattern, Term, Test, Value, View, When, read_cond,
     read_test,
 };

@@ -1,7 +1,7 @@
 //! What texts mean, and what stands against them, by worked examples.
-use crate::{Action, KeyType, Method, Plan, Section, compile, same_binds};
 use addr_core::Addr;
 use conf_tree::read_config;
+use plan_core::{Action, KeyType, Method, Plan, Section, compile, same_binds};
 use std::alloc::Global;
 use std::test::Fail;
 

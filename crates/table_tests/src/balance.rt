@@ -1,5 +1,5 @@
-use crate::{Cycle, Load, Place, ServerLoad, pick_least, pick_round, pick_source};
 use addr_core::Addr;
+use balance_core::{Cycle, Load, Place, ServerLoad, pick_least, pick_round, pick_source};
 use std::alloc::Global;
 use std::process::Abort;
 use std::test::Fail;

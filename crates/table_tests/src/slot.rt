@@ -1,6 +1,6 @@
-use crate::{Identity, Slot, SlotIx, Slots};
 use addr_core::{Addr, Endpoint};
 use list_core::Seq;
+use slot_core::{Identity, Slot, SlotIx, Slots};
 use std::alloc::{AllocError, Global};
 use std::process::Abort;
 use std::test::Fail;

@@ -1,6 +1,7 @@
 //! Several frontends and backends, by worked examples.
-use crate::Core;
+use crate::refusals::check;
 use addr_core::{Addr, Endpoint, Pair};
+use conn_core::Core;
 use conn_model::ask::{Ask, Counts};
 use conn_model::event::{ConnId, Event, Why};
 use conn_model::reply::{Cause, Said, StepFault};
@@ -129,14 +130,6 @@ fn inherits_limits_and_default_backends(rt: HostRuntime) -> Result<(), Fail> {
         assert_eq!(rt; answer_to(&mut core, &event), want);
     }
     Ok(())
-}
-
-/// What a text is refused with, as it is printed, or `ok`.
-fn check(alloc: Global, text: &str) -> Result<String, Fail> {
-    match Core::open(alloc, text) {
-        Ok(_core) => Ok(String::from_str(alloc, "ok")?),
-        Err(fault) => Ok(format!(in alloc; "{fault}")?),
-    }
 }
 
 /// What is right and not served is refused on its least line, behind every other fault.

@@ -1,11 +1,11 @@
 //! A plain state and its copy, field by field.
-use crate::event::{ConnId, Why};
-use crate::plain::{
-    Identity, Item, Kept, Lane, Listener, Phase, Place, Plain, Row, Served, Version,
-};
-use crate::reply::{Cause, Reply, Said};
 use addr_core::{Addr, Endpoint, Pair};
 use arrayvec::ArrayVec;
+use conn_model::event::{ConnId, Why};
+use conn_model::plain::{
+    Identity, Item, Kept, Lane, Listener, Phase, Place, Plain, Row, Served, Version,
+};
+use conn_model::reply::{Cause, Reply, Said};
 use list_core::{Duplicate, Seq};
 use plan_core::{KeyType, Plan, Section, Table, TableId, Track};
 use std::alloc::Global;

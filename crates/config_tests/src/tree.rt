@@ -1,6 +1,6 @@
 //! What texts say, and what they are refused with, by worked examples.
-use crate::{Action, KeyType, Method, Ruleset, Says, SectionKind, TableWords, read_config};
 use addr_core::{Addr, Endpoint};
+use conf_tree::{Action, KeyType, Method, Ruleset, Says, SectionKind, TableWords, read_config};
 use std::alloc::Global;
 use std::test::Fail;
 

@@ -1,0 +1,7 @@
+//! Tests of `device_core` and `relay_core`, with devices in memory that are short, blocked or failing by schedule.
+#![tactic(auto)]
+
+#[cfg(test)]
+mod device;
+#[cfg(test)]
+mod relay;
