@@ -4,11 +4,14 @@ use native.Mathlib.Omega.{arith}
 use Rattle.std.specs.Prelude.{◌==◌, flat_map, IfSome}
 use Rattle.std.specs.List.{filter_map, cons_option, list_any}
 use Rattle.std.proofs.lemmas.Bool.Decides.{nat_tests}
+use Rattle.conf_tree.specs.declared.item.Item.{Item}
 use Rattle.plan_core.specs.declared.fault.PlanFault.{PlanFault}
 use Rattle.plan_core.specs.declared.plan.Backend.{Backend}
 use Rattle.plan_core.specs.declared.plan.Table.{Table}
 use Rattle.plan_core.specs.declared.proxies.Proxy.{Proxy}
-use Rattle.plan_core.specs.Proxies.{is_frontend}
+use Rattle.plan_core.specs.Compiled.{backends_in, plan_faults}
+use Rattle.plan_core.specs.Fields.{tables_in}
+use Rattle.plan_core.specs.Proxies.{is_frontend, proxies}
 use Rattle.plan_core.specs.Faults.{kind_number, is_before, earlier, earliest, least, IsLeast, faults_in, faults_of}
 
 -- Lines and kinds as numbers.
@@ -85,15 +88,23 @@ pub some_more : {X : Type 0} (faults : X → List PlanFault) (found : Option Pla
 some_more faults found x rest =
     earliest_assoc found (least (faults x)) (least (flat_map faults rest)) ∙ ap (λ o. earliest found o) (sym (least_append (faults x) (flat_map faults rest)))
 
--- The least is one of all, and none comes before it.
+-- Where none is the least, there is none at all.
 
-none_left : (faults : List PlanFault) → least faults ≡ None → faults ≡ []
+pub none_left : (faults : List PlanFault) → least faults ≡ None → faults ≡ []
 none_left [] is = refl
 none_left (fault ∷ rest) is = absurd (by (least rest) is)
   where
     by : (o : Option PlanFault) → earliest (Some fault) o ≡ None → ⊥
     by None e = cc
     by (Some other) e = cc
+
+pub none_stands : (tables : List Table) (backends : List Backend) (all : List Proxy) (items : List Item) → None ≡ least (faults_of tables backends all) →
+    all ≡ proxies [] items → tables ≡ tables_in all → backends ≡ backends_in all → plan_faults items ≡ []
+none_stands tables backends all items none of_items of_tables of_backends =
+    none_left (plan_faults items)
+    (let same : faults_of tables backends all ≡ plan_faults items = rw (of_tables, of_backends, of_items) refl in ap least (sym same) ∙ sym none)
+
+-- The least is one of all, and none comes before it.
 
 pub least_is : (faults : List PlanFault) (fault : PlanFault) → least faults ≡ Some fault → IsLeast faults fault
 least_is [] fault is = absurd cc

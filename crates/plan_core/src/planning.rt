@@ -1,5 +1,5 @@
 //! The plan of a configuration.
-ghost use Rattle.std.specs.Prelude.{◌≡◌, ◌⊎◌, ◌≤◌, length, map, IfOk, IfErr, Ok, Err};
+ghost use Rattle.std.specs.Prelude.{◌≡◌, ◌⊎◌, ◌≤◌, [], length, map, IfOk, IfErr, Ok, Err};
 ghost use Rattle.conf_tree.specs.Few.{FewSections};
 ghost use Rattle.plan_core.specs.Compiled.{backend_of, backends_in, default_number, frontend_of, plan_faults, plan_of};
 ghost use Rattle.plan_core.specs.declared.fault.PlanKind.TheVariants.{NoMemory};
@@ -109,6 +109,8 @@ pub fn compile(alloc: Global, tree: &Tree) -> Result<Plan, PlanFault>
     ensures fault { IfErr result (λ f. (f.kind ≡ NoMemory) ⊎ (plan_of tree.now ≡ Err f)) }
     // A fault is one of all that stand against the plan, and none comes before it.
     ensures least { IfErr result (λ f. (f.kind ≡ NoMemory) ⊎ IsLeast (plan_faults tree.now) f) }
+    // No fault at all stands against a plan that is made.
+    ensures whole { IfOk result (λ _. plan_faults tree.now ≡ []) }
     // No two backends have servers of one line.
     ensures lines { IfOk result LinesDiffer }
     ensures frontends { IfOk result (λ plan. length plan.frontends ≤ 64) }
