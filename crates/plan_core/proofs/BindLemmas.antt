@@ -177,10 +177,8 @@ all_within plan (first ∷ rest) all =
 pub decides_bound : (plan other : Plan) → (all_bound plan other ≡ true) ↔ ((bound : Bound) → Contains (binds_of other) bound → Contains (binds_of plan) bound)
 decides_bound plan other = (λ all bound is. within plan other.frontends bound all is, λ all. all_within plan other.frontends all)
 
-pub both_ways : (a b : Plan) (r : Bool) → all_bound a b ≡ true → r ≡ all_bound b a → (r ≡ true) ↔ SameBinds a b
-both_ways a b r first second =
-    (λ is bound. ((decides_bound b a).0 (sym second ∙ is) bound, (decides_bound a b).0 first bound), λ same. second ∙ (decides_bound b a).1 (λ bound is. (same bound).0 is))
-
-pub one_way : (a b : Plan) (r : Bool) → all_bound a b ≡ r → r ≡ false → (r ≡ true) ↔ SameBinds a b
-one_way a b r first never =
-    (λ is. absurd (let wrong : false ≡ true = sym never ∙ is in cc), λ same. sym first ∙ (decides_bound a b).1 (λ bound is. (same bound).1 is))
+pub both_ways : (a b : Plan) (r : Bool) → r ≡ (all_bound a b && all_bound b a) → (r ≡ true) ↔ SameBinds a b
+both_ways a b r both = (
+  λ is bound. (let parts = both_true (all_bound a b) (all_bound b a) (sym both ∙ is) in ((decides_bound b a).0 parts.1 bound, (decides_bound a b).0 parts.0 bound)),
+  λ same. both ∙ rw ((decides_bound a b).1 (λ bound is. (same bound).1 is), (decides_bound b a).1 (λ bound is. (same bound).0 is)) refl,
+)

@@ -74,10 +74,17 @@ fn all_bound(plan: &Plan, other: &Plan) -> bool
         .all(|frontend| are_bound(plan, frontend))
 }
 
+/// Whether each of two plans has all binds of the other.
+fn bound_both_ways(a: &Plan, b: &Plan) -> bool
+    ensures { result ≡ (all_bound a.now b.now && all_bound b.now a.now) }
+{
+    all_bound(a, b) && all_bound(b, a)
+}
+
 /// Whether two plans have the same binds: the same set of frontend's name, address, port and
 /// `accept-proxy`, in whatever order. It takes no memory.
 pub fn same_binds(a: &Plan, b: &Plan) -> bool
     ensures { IsTrue result ↔ SameBinds a.now b.now }
 {
-    all_bound(a, b) && all_bound(b, a)
+    bound_both_ways(a, b)
 }
