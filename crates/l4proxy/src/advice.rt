@@ -1,11 +1,17 @@
 //! What a fault of a configuration means, for whoever wrote it.
+use crate::check::fault_of;
+use crate::fault::PrintFault;
 use acl_core::AclFault;
 use conf_text::LineKind;
 use conf_tree::ConfKind;
 use conn_core::OpenFault;
 use plan_core::PlanKind;
+use std::alloc::Global;
 
 const NO_MEMORY: &str = "memory ran out, which says nothing of the text";
+
+const NOT_SERVED: &str =
+    "the file is right, and check says ok of it, but this line has something which this version does not serve yet";
 
 /// The line on which a fault stands. 0 is no line.
 pub fn line_of(fault: &OpenFault) -> u32 {
@@ -22,6 +28,15 @@ pub fn sentence(fault: &OpenFault) -> &'static str {
         OpenFault::Config(fault) => of_words(&fault.kind),
         OpenFault::Plan(fault) => of_plan(&fault.kind),
         OpenFault::NoMemory => NO_MEMORY,
+    }
+}
+
+/// Why a configuration that is refused does not open: what `check` finds wrong on its line, and where it
+/// finds nothing wrong, that the line is not served yet.
+pub fn refusal(alloc: Global, config: &str) -> Result<&'static str, PrintFault> {
+    match fault_of(alloc, config)? {
+        Some(fault) => Ok(sentence(&fault)),
+        None => Ok(NOT_SERVED),
     }
 }
 

@@ -1,10 +1,10 @@
-use crate::advice::{line_of, sentence};
+use crate::advice::{line_of, refusal, sentence};
 use crate::check::{fault_of, run_check};
 use crate::fault::PrintFault;
 use acl_core::AclFault;
 use conf_text::LineKind;
 use conf_tree::{ConfFault, ConfKind};
-use conn_core::OpenFault;
+use conn_core::{Core, OpenFault};
 use device_core::{Calls, MemoryOutput, Schedule};
 use plan_core::{PlanFault, PlanKind};
 use std::alloc::Global;
@@ -208,6 +208,65 @@ fn faults_of_conditions_are_told_in_words(rt: HostRuntime) -> Result<(), Fail> {
         };
         assert!(rt; is_so, "{condition}");
     }
+    Ok(())
+}
+
+/// What a replay says of a configuration that it refuses: the fault and its line, and the sentence.
+fn refusal_of(alloc: Global, config: &str) -> Result<Option<(String, u32, &'static str)>, Fail> {
+    match Core::open(alloc, config) {
+        Ok(_core) => Ok(None),
+        Err(fault) => match refusal(alloc, config) {
+            Ok(words) => Ok(Some((format!(in alloc; "{fault}")?, line_of(&fault), words))),
+            Err(fault) => Err(Fail::from(format!(in alloc; "{fault}")?)),
+        },
+    }
+}
+
+/// Of what is wrong the sentence is that of `check`; of what is right it says that it is not served yet.
+#[test]
+fn refusals_are_told_in_words(rt: HostRuntime) -> Result<(), Fail> {
+    for (config, told, line, begins) in [
+        ("", "line 0: NoFrontend", 0, "there is no such frontend;"),
+        (
+            "frontend f\nbind :80 ssl",
+            "line 2: Unsupported",
+            2,
+            "a word or a name that is not taken here;",
+        ),
+        (
+            "frontend f\nbind :80 accept-proxy",
+            "line 2: Unsupported",
+            2,
+            "the file is right, and check says ok of it,",
+        ),
+        (
+            "frontend f\nbind :80\ntcp-request session accept",
+            "line 3: Unsupported",
+            3,
+            "the file is right, and check says ok of it,",
+        ),
+        (
+            "frontend f\nbind :80 accept-proxy\nmaxconn 0",
+            "line 3: BadNumber",
+            3,
+            "a number is needed here;",
+        ),
+        (
+            "frontend f\nbind :80 accept-proxy\ndefault_backend b",
+            "line 3: NoBackend",
+            3,
+            "no backend has this name;",
+        ),
+    ] {
+        let is_so = match refusal_of(rt.alloc(), config)? {
+            Some((fault, at, words)) => fault.as_str() == told
+                && at == line
+                && words.starts_with(begins),
+            None => false,
+        };
+        assert!(rt; is_so, "{config}");
+    }
+    assert!(rt; refusal_of(rt.alloc(), RIGHT)?.is_none());
     Ok(())
 }
 

@@ -7,13 +7,14 @@
 //! where something cannot be read or written, or memory ran out.
 #![tactic(auto)]
 
-use crate::advice::{line_of, sentence};
+use crate::advice::{line_of, refusal, sentence};
 use crate::check::{fault_of, run_check};
 use crate::command::commands;
 use crate::fault::{PrintFault, ReplayFault};
 use crate::replay::run_replay;
 use clap::ArgMatches;
 use clap::error::ErrorKind;
+use conn_core::OpenFault;
 use device_core::{FromRead, ToWrite};
 use std::process::ExitCode;
 use std::rt::Files;
@@ -49,6 +50,11 @@ const DEVICE: u8 = 3;
 fn refuse(rt: &impl Eprint, what: &str, fault: &ReplayFault) -> u8 {
     let _told = eprintln!(rt; "l4proxy: {what}: {fault}");
     fault.status()
+}
+
+/// Says something of a line of a file.
+fn tell_line(rt: &impl Eprint, file: &str, line: u32, words: &str) {
+    let _told = eprintln!(rt; "l4proxy: {file}: line {line}: {words}");
 }
 
 /// Says what cannot be read.
@@ -87,15 +93,33 @@ fn replay_files<R: Files + AllocGlobal + Print + Eprint>(rt: &R, file: &str, scr
     let mut writer = ToWrite::of(io::writer(rt));
     match run_replay(rt.alloc(), text.as_str(), &mut reader, &mut writer) {
         Ok(_done) => DONE,
-        Err(fault) => refuse(rt, place(&fault, file, script), &fault),
+        Err(fault) => {
+            let status = refuse(rt, place(&fault, file, script), &fault);
+            if let ReplayFault::Config(refused) = fault {
+                explain_refusal(rt, file, text.as_str(), &refused);
+            }
+            status
+        }
+    }
+}
+
+/// Says on the line of a configuration that does not open what is wrong there, or that it is not
+/// served yet.
+fn explain_refusal(
+    rt: &(impl AllocGlobal + Eprint),
+    file: &str,
+    config: &str,
+    refused: &OpenFault,
+) {
+    if let Ok(words) = refusal(rt.alloc(), config) {
+        tell_line(rt, file, line_of(refused), words);
     }
 }
 
 /// Says what is wrong on the faulty line of a configuration, and what would be right there.
 fn advise(rt: &(impl AllocGlobal + Eprint), file: &str, config: &str) {
     if let Ok(Some(fault)) = fault_of(rt.alloc(), config) {
-        let line = line_of(&fault);
-        let _told = eprintln!(rt; "l4proxy: {file}: line {line}: {}", sentence(&fault));
+        tell_line(rt, file, line_of(&fault), sentence(&fault));
     }
 }
 
