@@ -1,7 +1,8 @@
 -- A configuration has at most 64 frontends and 64 backends.
 use Rattle.std.proofs.Common.{◌≡◌, ℕ, suc, ◌+◌, ◌≤◌, ◌<◌, ◌||◌, Bool, true, false, nat_le, List, [], ◌∷◌, ◌++◌, length, filter, Result, Ok, Err, refl, sym, ap, subst, ◌∙◌, if◌then◌else◌}
 use native.Mathlib.Omega.{arith}
-use Rattle.std.proofs.lemmas.List.Elements.{filter_map-append}
+use Rattle.std.proofs.lemmas.List.{append-nil}
+use Rattle.std.proofs.lemmas.List.Elements.{filter_map-append, filter-append}
 use Rattle.list_core.specs.Each.{◌>>=◌, each}
 use Rattle.conf_text.specs.declared.line.Line.{Line}
 use Rattle.conf_tree.specs.declared.claim.Claim.{Claim}
@@ -14,7 +15,7 @@ use Rattle.conf_tree.specs.declared.item.Says.{Says}
 use Rattle.conf_tree.specs.declared.item.Says.TheVariants as says
 use Rattle.conf_tree.specs.declared.said.Said.{Said}
 use Rattle.conf_tree.specs.Statements.{line_says}
-use Rattle.conf_tree.specs.Config.{place_after, place_of, claim_of, claimed, is_frontend, is_backend, is_taken, is_full, allowed, judged, at_line, next_item}
+use Rattle.conf_tree.specs.Config.{place_after, place_of, claim_of, claimed, is_frontend, is_backend, is_taken, is_full, allowed, judged, at_line, next_item, has_effect, told, next_told, items_in}
 use Rattle.conf_tree.specs.Few.{FewSections}
 
 -- An item that was read left room.
@@ -125,16 +126,30 @@ few_more items item full few = (
   subst (λ n. n ≤ 64) (sym (joined is_backend items item)) (backends_of items item.line item.place item.says full few.1),
 )
 
-few_after : (done : List Item) (lines : List Line) (items : List Item) → FewSections done → each next_item done lines ≡ Ok items → FewSections items
-few_after done [] items few is = let same : done ≡ items = cc in subst (λ ys. FewSections ys) same few
-few_after done (line ∷ rest) items few is = by (λ item. few_after (done ++ item ∷ []) rest items) (next_item done line) refl
+-- One more that has an effect, or that has none.
+few_told : (all : List Item) (item : Item) → is_full (told all) item.place item.says ≡ false → FewSections (told all) → FewSections (told (all ++ item ∷ []))
+few_told all item full few = subst (λ ys. FewSections ys) (sym (filter-append (λ i. has_effect i.says) all (item ∷ []))) (by (has_effect item.says))
   where
-    by : ((item : Item) → FewSections (done ++ item ∷ []) → each next_item (done ++ item ∷ []) rest ≡ Ok items → FewSections items)
-        → (r : Result Item ConfFault) → next_item done line ≡ r → FewSections items
-    by more (Err fault) r = let wrong : (Err fault >>= λ item. each next_item (done ++ item ∷ []) rest) ≡ Ok items = rw r at is in absurd cc
-    by more (Ok item) r =
-        let later : each next_item (done ++ item ∷ []) rest ≡ Ok items = rw r at is in
-        more item (few_more done item (left_room done line item r) few) later
+    by : (b : Bool) → FewSections (told all ++ (if b then item ∷ [] else []))
+    by true = few_more (told all) item full few
+    by false = subst (λ ys. FewSections ys) (sym (append-nil (told all))) few
 
-pub few_in : (lines : List Line) (items : List Item) → each next_item [] lines ≡ Ok items → FewSections items
-few_in lines items is = few_after [] lines items ((omega arith), (omega arith)) is
+few_after : (done : List Item) (lines : List Line) (all : List Item) → FewSections (told done) → each next_told done lines ≡ Ok all → FewSections (told all)
+few_after done [] all few is = let same : done ≡ all = cc in subst (λ ys. FewSections (told ys)) same few
+few_after done (line ∷ rest) all few is = by (λ item. few_after (done ++ item ∷ []) rest all) (next_told done line) refl
+  where
+    by : ((item : Item) → FewSections (told (done ++ item ∷ [])) → each next_told (done ++ item ∷ []) rest ≡ Ok all → FewSections (told all))
+        → (r : Result Item ConfFault) → next_told done line ≡ r → FewSections (told all)
+    by more (Err fault) r = let wrong : (Err fault >>= λ item. each next_told (done ++ item ∷ []) rest) ≡ Ok all = rw r at is in absurd cc
+    by more (Ok item) r =
+        let later : each next_told (done ++ item ∷ []) rest ≡ Ok all = rw r at is in
+        more item (few_told done item (left_room (told done) line item r) few) later
+
+pub few_in : (lines : List Line) (items : List Item) → items_in lines ≡ Ok items → FewSections items
+few_in lines items is = by (each next_told [] lines) refl is
+  where
+    by : (r : Result (List Item) ConfFault) → each next_told [] lines ≡ r → (r >>= λ all. Ok (told all)) ≡ Ok items → FewSections items
+    by (Err fault) reads is = absurd cc
+    by (Ok all) reads is =
+        let same : told all ≡ items = cc in
+        subst (λ ys. FewSections ys) same (few_after [] lines all ((omega arith), (omega arith)) reads)

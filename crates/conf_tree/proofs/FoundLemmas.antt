@@ -8,27 +8,37 @@ use Rattle.conf_text.specs.Lines.{lines_of}
 use Rattle.conf_tree.specs.declared.fault.ConfFault.{ConfFault}
 use Rattle.conf_tree.specs.declared.fault.ConfKind.TheVariants.{Text}
 use Rattle.conf_tree.specs.declared.item.Item.{Item}
-use Rattle.conf_tree.specs.Config.{next_item, text_fault, items_of, AreItems, IsConfFault}
+use Rattle.conf_tree.specs.Config.{told, next_told, text_fault, items_in, items_of, AreItems, IsConfFault}
 
 pub found : (text : List ℕ) (items : List Item) → items_of text ≡ Ok items → AreItems text items
 found text items is = by (lines_of text) refl
   where
+    kept : (lines : List Line) → lines_of text ≡ Ok lines → (r : Result (List Item) ConfFault) → each next_told [] lines ≡ r → (r >>= λ all. Ok (told all)) ≡ Ok items → AreItems text items
+    kept lines read (Err fault) reads is = absurd cc
+    kept lines read (Ok all) reads is =
+        let same : told all ≡ items = cc in
+        let more = each_ok next_told [] lines all reads in
+        let P : List Item → Type 0 = λ ys. IsRead next_told lines ys in
+        (lines, all, read, subst P (sym more.1) more.2, sym same)
+
     by : (read : Result (List Line) LineFault) → lines_of text ≡ read → AreItems text items
     by (Err fault) read = let wrong = rw read at is in absurd cc
     by (Ok lines) read =
-        let reads : each next_item [] lines ≡ Ok items = rw read at is in
-        let more = each_ok next_item [] lines items reads in
-        let P : List Item → Type 0 = λ ys. IsRead next_item lines ys in
-        (lines, read, subst P (sym more.1) more.2)
+        let reads : items_in lines ≡ Ok items = rw read at is in
+        kept lines read (each next_told [] lines) refl reads
 
 pub fault_found : (text : List ℕ) (fault : ConfFault) → items_of text ≡ Err fault → IsConfFault text fault
 fault_found text fault is = by (lines_of text) refl
   where
+    first : (lines : List Line) → (r : Result (List Item) ConfFault) → each next_told [] lines ≡ r → (r >>= λ all. Ok (told all)) ≡ Err fault → each next_told [] lines ≡ Err fault
+    first lines (Err f) reads is = reads ∙ is
+    first lines (Ok all) reads is = absurd cc
+
     by : (read : Result (List Line) LineFault) → lines_of text ≡ read → IsConfFault text fault
     by (Err f) read =
-        let same : (text_fault (Err f) >>= λ lines. each next_item [] lines) ≡ Err fault = rw read at is in
+        let same : (text_fault (Err f) >>= λ lines. items_in lines) ≡ Err fault = rw read at is in
         let fault_is : record { line = f.line; kind = Text f.kind } ≡ fault = cc in
         inl (ap (λ r. text_fault r) read ∙ ap (λ x. Err x) fault_is)
     by (Ok lines) read =
-        let reads : each next_item [] lines ≡ Err fault = rw read at is in
-        inr (lines, read, each_err next_item [] lines fault reads)
+        let reads : items_in lines ≡ Err fault = rw read at is in
+        inr (lines, read, each_err next_told [] lines fault (first lines (each next_told [] lines) refl reads))

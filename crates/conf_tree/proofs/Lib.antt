@@ -1,4 +1,5 @@
 pub mod FoundLemmas
 pub mod RisingLemmas
+pub mod ToldLemmas
 pub mod FewLemmas
 pub mod MarkLemmas

@@ -10,18 +10,19 @@ use Rattle.conf_text.specs.Parts.{parts, is_line_feed, without_return, words_in}
 use Rattle.conf_text.specs.declared.line.Line.{Line}
 use Rattle.conf_text.specs.declared.line.LineKind.{LineKind}
 use Rattle.conf_text.specs.declared.line.LineKind.TheVariants.{TooLong, TooManyWords, TooManyLines, Quoting, NotAscii}
-use Rattle.conf_text.specs.Lines as lines
+use Rattle.conf_text.specs.Lines as texts
 use Rattle.conf_tree.specs.declared.fault.ConfKind.{ConfKind}
+use Rattle.conf_tree.specs.declared.fault.ConfFault.{ConfFault}
 use Rattle.conf_tree.specs.declared.item.Item.{Item}
 use Rattle.conf_tree.specs.declared.said.Said.{Said}
 use Rattle.conf_tree.specs.Statements.{line_says}
-use Rattle.conf_tree.specs.Config.{place_after, place_of, allowed, judged, at_line, next_item}
+use Rattle.conf_tree.specs.Config.{place_after, place_of, allowed, judged, at_line, next_item, has_effect, told, next_told, items_in}
 use Rattle.conf_tree.specs.Rising.{AreAbove, Rises}
 
 -- Numbers of lines.
 
-code_number : (number : ℕ) (code : List ℕ) (line : Line) → lines.judged_code number code ≡ Ok line → line.number ≡ number
-code_number number code line is = by (nat_lt 64 (length (words_in code))) (nat_lt 65535 number) (list_any lines.is_quoting code) (not (list_all lines.is_plain code)) is
+code_number : (number : ℕ) (code : List ℕ) (line : Line) → texts.judged_code number code ≡ Ok line → line.number ≡ number
+code_number number code line is = by (nat_lt 64 (length (words_in code))) (nat_lt 65535 number) (list_any texts.is_quoting code) (not (list_all texts.is_plain code)) is
   where
     by : (a b c d : Bool) → (if a then Err TooManyWords else if b then Err TooManyLines else if c then Err Quoting else if d then Err NotAscii else Ok (record { number = number; words = words_in code })) ≡ Ok line
         → line.number ≡ number
@@ -31,20 +32,20 @@ code_number number code line is = by (nat_lt 64 (length (words_in code))) (nat_l
     by false false false true e = absurd cc
     by false false false false e = let same : record { number = number; words = words_in code } ≡ line = cc in ap (λ l. l.number) (sym same)
 
-line_number : (number : ℕ) (text : List ℕ) (line : Line) → lines.judged_line number text ≡ Ok line → line.number ≡ number
+line_number : (number : ℕ) (text : List ℕ) (line : Line) → texts.judged_line number text ≡ Ok line → line.number ≡ number
 line_number number text line is = by (nat_lt 2048 (length text)) is
   where
-    by : (long : Bool) → (if long then Err TooLong else lines.judged_code number (lines.code_in text)) ≡ Ok line → line.number ≡ number
+    by : (long : Bool) → (if long then Err TooLong else texts.judged_code number (texts.code_in text)) ≡ Ok line → line.number ≡ number
     by true e = absurd cc
-    by false e = code_number number (lines.code_in text) line e
+    by false e = code_number number (texts.code_in text) line e
 
-next_number : (before : List Line) (part : List ℕ) (line : Line) → lines.next_line before part ≡ Ok line → line.number ≡ length before + 1
-next_number before part line is = by (lines.judged_line (length before + 1) (without_return part)) refl
+next_number : (before : List Line) (part : List ℕ) (line : Line) → texts.next_line before part ≡ Ok line → line.number ≡ length before + 1
+next_number before part line is = by (texts.judged_line (length before + 1) (without_return part)) refl
   where
-    by : (r : Result Line LineKind) → lines.judged_line (length before + 1) (without_return part) ≡ r → line.number ≡ length before + 1
-    by (Err kind) r = let wrong : lines.at_line (length before + 1) (Err kind) ≡ Ok line = rw r at is in absurd cc
+    by : (r : Result Line LineKind) → texts.judged_line (length before + 1) (without_return part) ≡ r → line.number ≡ length before + 1
+    by (Err kind) r = let wrong : texts.at_line (length before + 1) (Err kind) ≡ Ok line = rw r at is in absurd cc
     by (Ok l) r =
-        let same : lines.at_line (length before + 1) (Ok l) ≡ Ok line = rw r at is in
+        let same : texts.at_line (length before + 1) (Ok l) ≡ Ok line = rw r at is in
         let eq : l ≡ line = cc in
         line_number (length before + 1) (without_return part) line (r ∙ ap (λ x. Ok x) eq)
 
@@ -54,7 +55,7 @@ length_take (suc n) [] less = absurd (omega arith)
 length_take (suc n) (x ∷ xs) less = ap (λ m. suc m) (length_take n xs (omega arith))
 
 -- the line of that index
-numbered : (text : List (List ℕ)) (all : List Line) → IsRead lines.next_line text all → (i : ℕ) (line : Line) → slice_get all i ≡ Some line → line.number ≡ i + 1
+numbered : (text : List (List ℕ)) (all : List Line) → IsRead texts.next_line text all → (i : ℕ) (line : Line) → slice_get all i ≡ Some line → line.number ≡ i + 1
 numbered text all read i line there =
     let within : i < length all = slice_get_within all i line there in
     let inside : i < length text = subst (λ n. i < n) read.0 within in
@@ -88,7 +89,7 @@ item_line items line item is = by (judged items line) refl
         judged_at items line item (r ∙ ap (λ y. Ok y) eq)
 
 -- the item of that index
-item_number : (all : List Line) (items : List Item) → IsRead next_item all items → ((i : ℕ) (line : Line) → slice_get all i ≡ Some line → line.number ≡ i + 1)
+item_number : (all : List Line) (items : List Item) → IsRead next_told all items → ((i : ℕ) (line : Line) → slice_get all i ≡ Some line → line.number ≡ i + 1)
     → (i : ℕ) (item : Item) → slice_get items i ≡ Some item → item.line ≡ 0 + (i + 1)
 item_number [] items read numbers i item there = absurd (let within : i < length items = slice_get_within items i item there in let none : length items ≡ 0 = read.0 in (omega arith))
 item_number (first ∷ all) items read numbers i item there =
@@ -96,7 +97,7 @@ item_number (first ∷ all) items read numbers i item there =
     let inside : i < length (first ∷ all) = subst (λ n. i < n) read.0 within in
     let line = get_or (first ∷ all) i first in
     let here : slice_get (first ∷ all) i ≡ Some line = slice_get-get_or (first ∷ all) i first inside in
-    item_line (take i items) line item (read.1 i line item here there) ∙ numbers i line here ∙ (omega arith)
+    item_line (told (take i items)) line item (read.1 i line item here there) ∙ numbers i line here ∙ (omega arith)
 
 -- So they rise.
 
@@ -113,8 +114,32 @@ rising n (item ∷ rest) numbers =
     let later : (i : ℕ) (x : Item) → slice_get rest i ≡ Some x → x.line ≡ suc n + (i + 1) = λ i x there. numbers (suc i) x there ∙ (omega arith) in
     (above (suc n) item.line rest later (omega arith), rising (suc n) rest later)
 
-pub rises_in : (text : List ℕ) (all : List Line) (items : List Item) → lines.AreLines text all → each next_item [] all ≡ Ok items → Rises items
-rises_in text all items are reads =
-    let more = each_ok next_item [] all items reads in
-    let P : List Item → Type 0 = λ ys. IsRead next_item all ys in
-    rising 0 items (item_number all items (subst P (sym more.1) more.2) (numbered (parts is_line_feed text) all are.1))
+-- So do those of the lines that have an effect.
+
+above_told : (m : ℕ) (items : List Item) → AreAbove m items → AreAbove m (told items)
+above_told m [] above = tt
+above_told m (item ∷ rest) above = by (above_told m rest above.1) (has_effect item.says)
+  where
+    by : AreAbove m (told rest) → (b : Bool) → AreAbove m (if b then item ∷ told rest else told rest)
+    by more true = (above.0, more)
+    by more false = more
+
+rises_told : (items : List Item) → Rises items → Rises (told items)
+rises_told [] rises = tt
+rises_told (item ∷ rest) rises = by (rises_told rest rises.1) (has_effect item.says)
+  where
+    by : Rises (told rest) → (b : Bool) → Rises (if b then item ∷ told rest else told rest)
+    by more true = (above_told item.line rest rises.0, more)
+    by more false = more
+
+pub rises_in : (text : List ℕ) (lines : List Line) (items : List Item) → texts.AreLines text lines → items_in lines ≡ Ok items → Rises items
+rises_in text lines items are is = by (each next_told [] lines) refl is
+  where
+    by : (r : Result (List Item) ConfFault) → each next_told [] lines ≡ r → (r >>= λ all. Ok (told all)) ≡ Ok items → Rises items
+    by (Err fault) reads is = absurd cc
+    by (Ok all) reads is =
+        let same : told all ≡ items = cc in
+        let more = each_ok next_told [] lines all reads in
+        let P : List Item → Type 0 = λ ys. IsRead next_told lines ys in
+        let rises : Rises all = rising 0 all (item_number lines all (subst P (sym more.1) more.2) (numbered (parts is_line_feed text) lines are.1)) in
+        subst (λ ys. Rises ys) same (rises_told all rises)

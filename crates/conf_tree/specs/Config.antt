@@ -152,14 +152,30 @@ abbrev pub text_fault : Result (List Line) LineFault → Result (List Line) Conf
 text_fault (Ok lines) = Ok lines
 text_fault (Err f) = Err (record { line = f.line; kind = kinds.Text f.kind })
 
--- what the lines of a text say, or the fault of the text's characters, or else of its first faulty line
-abbrev pub items_of : List ℕ → Result (List Item) ConfFault
-items_of text = text_fault (lines_of text) >>= λ lines. each next_item [] lines
+abbrev pub has_effect : Says → Bool
+has_effect says.Nothing = false
+has_effect other = true
 
--- the items are what each line says in the light of those before it
+-- the items of the lines that have an effect
+abbrev pub told : List Item → List Item
+told items = filter (λ item. has_effect item.says) items
+
+-- what the line after those says in the light of those that have an effect
+abbrev pub next_told : List Item → Line → Result Item ConfFault
+next_told items line = next_item (told items) line
+
+-- what the lines say that have an effect, or the fault of the first faulty line
+abbrev pub items_in : List Line → Result (List Item) ConfFault
+items_in lines = each next_told [] lines >>= λ items. Ok (told items)
+
+-- the same of a text, or the fault of its characters
+abbrev pub items_of : List ℕ → Result (List Item) ConfFault
+items_of text = text_fault (lines_of text) >>= λ lines. items_in lines
+
+-- the items are, of what each line says in the light of those before it, all that has an effect
 abbrev pub AreItems : List ℕ → List Item → Type 0
-AreItems text items = (lines : List Line) × (lines_of text ≡ Ok lines) × IsRead next_item lines items
+AreItems text items = (lines : List Line) × (all : List Item) × (lines_of text ≡ Ok lines) × IsRead next_told lines all × (items ≡ told all)
 
 -- f is the fault of the text's lines as text, or else of the first line that has one
 abbrev pub IsConfFault : List ℕ → ConfFault → Type 0
-IsConfFault text f = (text_fault (lines_of text) ≡ Err f) ⊎ ((lines : List Line) × (lines_of text ≡ Ok lines) × IsFirstFault next_item lines f)
+IsConfFault text f = (text_fault (lines_of text) ≡ Err f) ⊎ ((lines : List Line) × (lines_of text ≡ Ok lines) × IsFirstFault next_told lines f)

@@ -92,7 +92,7 @@ pub struct ServerWords<'a> {
 /// What a line says.
 #[derive(Debug, Drop)]
 pub enum Says<'a> {
-    /// It has no word, or is read and has no effect.
+    /// It has no word, or is read and has no effect. A tree has no such item.
     Nothing,
     Global,
     Defaults,
@@ -118,8 +118,8 @@ pub struct Item<'a> {
     pub says: Says<'a>,
 }
 
-/// What the lines of a configuration say. Contracts see the list of its items, in the order of the
-/// lines.
+/// What the lines of a configuration say that have an effect. Contracts see the list of its items, in
+/// the order of the lines.
 #[derive(Debug, Drop)]
 pub struct Tree<'a> {
     items: Seq<Item<'a>>,
@@ -143,7 +143,7 @@ impl<'a> Tree<'a> {
     ghost use Rattle.conf_tree.specs.Few.{FewSections};
     ghost use Rattle.conf_tree.specs.Rising.{Rises};
 
-    /// The items, in the order of the lines.
+    /// The items, in the order of the lines. A line without effect has none.
     pub fn items(&self) -> &[Item<'a>]
         ensures items { result.now ≡ self.now }
         ensures rises { Rises self.now }

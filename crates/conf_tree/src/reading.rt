@@ -5,7 +5,7 @@ ghost use Rattle.list_core.specs.Each.{Fails, Gives, each};
 ghost use Rattle.conf_text.specs.Lines.{lines_of, AreLines};
 ghost use Rattle.conf_tree.specs.declared.fault.ConfFault.{ConfFault};
 ghost use Rattle.conf_tree.specs.declared.item.Item.{Item};
-ghost use Rattle.conf_tree.specs.Config.{outside, place_after, place_of, own, claim_of, claimed, is_server_named, has_server, is_taken, is_bind, is_rule, is_server, are_own, is_full, allowed, judged, next_item, text_fault, items_of, AreItems, IsConfFault};
+ghost use Rattle.conf_tree.specs.Config.{outside, place_after, place_of, own, claim_of, claimed, is_server_named, has_server, is_taken, is_bind, is_rule, is_server, are_own, is_full, allowed, judged, next_item, text_fault, has_effect, items_in, items_of, AreItems, IsConfFault};
 
 use crate::claim::{Claims, claim_of};
 use crate::fault::{ConfFault, ConfKind};
@@ -264,15 +264,24 @@ fn lines(alloc: Global, text: &str) -> Result<Lines, Stop<ConfFault>>
     }
 }
 
-fn items<'a>(alloc: Global, lines: &[Line<'a>]) -> Result<Seq<Item<'a>>, Stop<ConfFault>>
-    ensures { Gives result (each next_item [] lines.now) }
+fn has_effect(says: &Says) -> bool
+    ensures { result ≡ has_effect says.now }
 {
-    let mut items = Seq::of(Vec::with_capacity(alloc, lines.len())?);
+    !matches!(says, Says::Nothing)
+}
+
+/// The items of the lines that have an effect. Most lines of a long text may have none.
+fn items<'a>(alloc: Global, lines: &[Line<'a>]) -> Result<Seq<Item<'a>>, Stop<ConfFault>>
+    ensures { Gives result (items_in lines.now) }
+{
+    let mut items = Seq::new(alloc);
     let mut taken = Claims::new(alloc);
     for line in lines {
         let item = next_item(alloc, items.as_slice(), &taken, line)?;
-        taken = claims_with(taken, &item)?;
-        items.push(item)?;
+        if has_effect(&item.says) {
+            taken = claims_with(taken, &item)?;
+            items.push(item)?;
+        }
     }
     Ok(items)
 }
@@ -298,8 +307,8 @@ fn fault_of(stop: Stop<ConfFault>) -> ConfFault
     }
 }
 
-/// What the lines of a text say, or the fault of the least faulty line. Want of memory is told on
-/// line 0.
+/// What the lines of a text say that have an effect, or the fault of the least faulty line. Want of
+/// memory is told on line 0.
 pub fn read_config(alloc: Global, text: &str) -> Result<Tree, ConfFault>
     ensures ok { IfOk result (λ tree. items_of text.now ≡ Ok tree) }
     ensures fault { IfErr result (λ f. (f.kind ≡ ConfKind.NoMemory) ⊎ (items_of text.now ≡ Err f)) }

@@ -349,12 +349,12 @@ fn takes_as_many_lines_as_are_allowed(rt: HostRuntime) -> Result<(), Fail> {
 #[test]
 fn says_what_the_lines_say(rt: HostRuntime) -> Result<(), Fail> {
     let text =
-        "\n frontend web # ours\nbind *:443 accept-proxy\nmaxconn 0003\nstick-table size 2k type ipv6 store conn_cnt\ntcp-request session track-sc1 src table app\nbackend app\nbalance leastconn\nserver s [::1]:80 weight 007 maxconn 9 send-proxy-v2 weight 8";
+        "\n frontend web # ours\nlog global\nbind *:443 accept-proxy\nmaxconn 0003\nstick-table size 2k type ipv6 store conn_cnt\ntcp-request session track-sc1 src table app\nbackend app\nbalance leastconn\nserver s [::1]:80 weight 007 maxconn 9 send-proxy-v2 weight 8";
     let tree = read_config(rt.alloc(), text)?;
     let items = tree.items();
-    assert_eq!(rt; items.len(), 9);
-    for (n, item) in items.iter().enumerate() {
-        assert_eq!(rt; item.line as usize, n + 1);
+    assert_eq!(rt; items.len(), 8);
+    for (item, line) in items.iter().zip([2, 4, 5, 6, 7, 8, 9, 10]) {
+        assert_eq!(rt; item.line, line);
     }
     let any = Endpoint {
         addr: Addr::V4(0),
@@ -366,23 +366,21 @@ fn says_what_the_lines_say(rt: HostRuntime) -> Result<(), Fail> {
         stores_cur: false,
         stores_cnt: true,
     };
-    assert!(rt; matches!(&items[0].says, Says::Nothing));
-    assert!(rt; matches!(&items[1].says, Says::Frontend(name) if name.is(b"web")));
-    assert!(rt; matches!(&items[2].says, Says::Bind(at, true) if *at == any));
-    assert!(rt; matches!(&items[3].says, Says::MaxConn(3)));
-    assert!(rt; matches!(&items[4].says, Says::StickTable(words) if *words == table));
-    assert!(rt; matches!(&items[7].says, Says::Balance(Method::LeastConn)));
-    assert!(rt; items[4].place.kind == SectionKind::Frontend);
-    assert!(rt; items[4].place.name.is(b"web"));
-    assert_eq!(rt; items[4].place.first, 1);
-    assert!(rt; items[0].place.kind == SectionKind::Outside);
-    assert_eq!(rt; items[6].place.first, 6);
-    let Says::Rule(Ruleset::Session, Action::Track(track), _) = &items[5].says else {
+    assert!(rt; matches!(&items[0].says, Says::Frontend(name) if name.is(b"web")));
+    assert!(rt; matches!(&items[1].says, Says::Bind(at, true) if *at == any));
+    assert!(rt; matches!(&items[2].says, Says::MaxConn(3)));
+    assert!(rt; matches!(&items[3].says, Says::StickTable(words) if *words == table));
+    assert!(rt; matches!(&items[6].says, Says::Balance(Method::LeastConn)));
+    assert!(rt; items[3].place.kind == SectionKind::Frontend);
+    assert!(rt; items[3].place.name.is(b"web"));
+    assert_eq!(rt; items[3].place.first, 0);
+    assert_eq!(rt; items[5].place.first, 5);
+    let Says::Rule(Ruleset::Session, Action::Track(track), _) = &items[4].says else {
         return Err(Fail::from("a track"));
     };
     assert_eq!(rt; track.counter, 1);
     assert!(rt; matches!(&track.table, Some(name) if name.is(b"app")));
-    let Says::Server(server) = &items[8].says else {
+    let Says::Server(server) = &items[7].says else {
         return Err(Fail::from("a server"));
     };
     assert!(rt; server.name.is(b"s"));
