@@ -4,7 +4,7 @@ use Rattle.std.specs.List.{range_with_len}
 use Rattle.std.specs.List.Sorted.{IsPermutation, IsSortedBy}
 use Rattle.std.specs.Option.{option_map_or}
 use Rattle.balance_core.specs.declared.load.ServerLoad.{ServerLoad}
-use Rattle.balance_core.specs.declared.cycle.Place.{Place}
+use Rattle.proxy_types.specs.declared.balance.Place.{Place}
 use Rattle.balance_core.specs.declared.round.Placed.{Placed}
 use Rattle.balance_core.specs.Loads.{has_room_at, going_round}
 

@@ -4,8 +4,9 @@ ghost use Rattle.std.specs.List.{range_with_len};
 ghost use Rattle.balance_core.specs.Loads.{first_after};
 ghost use Rattle.balance_core.specs.Rounds.{placed_at, can_take, next_in_round};
 
-use crate::cycle::{Cycle, Place};
+use crate::cycle::Cycle;
 use crate::load::{Load, has_room};
+use proxy_types::Place;
 
 /// A place of the cycle, counted from 0, and its server.
 #[derive(Clone, Copy, Debug, PartialEq, Eq)]

@@ -4,7 +4,7 @@ use Rattle.std.specs.Str.{bytes_eq}
 use Rattle.list_core.specs.Each.{◌>>=◌}
 use Rattle.conf_tree.specs.declared.fault.ConfKind.{ConfKind}
 use Rattle.conf_tree.specs.declared.fault.ConfKind.TheVariants.{BadNumber, Unsupported}
-use Rattle.conf_tree.specs.declared.item.Method.TheVariants as methods
+use Rattle.proxy_types.specs.declared.balance.Method.TheVariants as methods
 use Rattle.conf_tree.specs.declared.item.SectionKind.{SectionKind}
 use Rattle.conf_tree.specs.declared.item.SectionKind.TheVariants as sections
 use Rattle.conf_tree.specs.declared.item.Says.{Says}

@@ -4,8 +4,8 @@ use Rattle.std.specs.Str.{bytes_eq}
 use Rattle.std.specs.List.{slice_split}
 use Rattle.list_core.specs.Each.{◌>>=◌, run}
 use Rattle.list_core.specs.Newest.{newest}
-use Rattle.conf_tree.specs.declared.item.KeyType.{KeyType}
-use Rattle.conf_tree.specs.declared.item.KeyType.TheVariants.{Ip, Ipv6}
+use Rattle.proxy_types.specs.declared.table.KeyType.{KeyType}
+use Rattle.proxy_types.specs.declared.table.KeyType.TheVariants.{Ip, Ipv6}
 use Rattle.conf_tree.specs.declared.item.Says.TheVariants as says
 use Rattle.conf_tree.specs.declared.said.Said.{Said}
 use Rattle.conf_tree.specs.declared.table.TableOptions.{TableOptions}
@@ -91,7 +91,7 @@ abbrev pub table_by : TableOptions → Option KeyType → Option ℕ → Result 
 table_by options None size = Err MissingWord
 table_by options (Some keys) None = Err MissingWord
 table_by options (Some keys) (Some size) = Ok (record {
-  says = says.StickTable (record { keys = keys; size = size; stores_cur = options.stores_cur; stores_cnt = options.stores_cnt });
+  says = says.StickTable (record { keys = keys; size = size; stores = record { cur = options.stores_cur; cnt = options.stores_cnt } });
   twice = options.twice;
   beyond = nat_lt 1048576 size;
 })

@@ -2,6 +2,7 @@
 use acl_core::When;
 use addr_core::Endpoint;
 use list_core::Seq;
+use proxy_types::{KeyType, Method, Stores};
 use std::marker::Model;
 use word_core::Word;
 
@@ -50,29 +51,13 @@ pub struct TrackWords<'a> {
     pub table: Option<Word<'a>>,
 }
 
-/// How a backend chooses among its servers (HAProxy manual, `balance`).
-#[derive(Clone, Copy, Debug, PartialEq, Eq)]
-pub enum Method {
-    RoundRobin,
-    LeastConn,
-    Source,
-}
-
-/// The type of a table's keys (HAProxy manual, `stick-table type`).
-#[derive(Clone, Copy, Debug, PartialEq, Eq)]
-pub enum KeyType {
-    Ip,
-    Ipv6,
-}
-
 /// The words of a `stick-table` line.
 #[derive(Clone, Copy, Debug, PartialEq, Eq)]
 pub struct TableWords {
     pub keys: KeyType,
     /// How many entries there may be, from 1 on.
     pub size: u64,
-    pub stores_cur: bool,
-    pub stores_cnt: bool,
+    pub stores: Stores,
 }
 
 /// The words of a `server` line.

@@ -3,9 +3,9 @@
 
 pub use fault::{ConfFault, ConfKind};
 pub use item::{
-    Action, Item, KeyType, Method, Place, Ruleset, Says, SectionKind, ServerWords, TableWords,
-    TrackWords, Tree,
+    Action, Item, Place, Ruleset, Says, SectionKind, ServerWords, TableWords, TrackWords, Tree,
 };
+pub use proxy_types::{KeyType, Method, Stores};
 pub use reading::read_config;
 
 mod claim;

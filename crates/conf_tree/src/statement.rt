@@ -6,7 +6,7 @@ ghost use Rattle.conf_tree.specs.Statements.{global_of, defaults_of, frontend_of
 ghost use Rattle.conf_tree.specs.Rules.{rule_of};
 
 use crate::fault::ConfKind;
-use crate::item::{Method, Says, SectionKind};
+use crate::item::{Says, SectionKind};
 use crate::keyword::{Keyword, keyword_of, stands};
 use crate::rule::rule;
 use crate::said::Said;
@@ -14,6 +14,7 @@ use crate::server::server;
 use crate::table::table;
 use crate::words::{bind_at, end_at, name_at, number_at, word_at};
 use list_core::Stop;
+use proxy_types::Method;
 use std::alloc::Global;
 use word_core::Word;
 

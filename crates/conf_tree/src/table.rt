@@ -5,11 +5,12 @@ ghost use Rattle.list_core.specs.Each.{run};
 ghost use Rattle.conf_tree.specs.Tables.{unit_of, digits_of, size_at, no_table, table_named, keyed, keys_of, sized, stored, all_stored, next_table_word, table_end, table_by, table_of};
 
 use crate::fault::ConfKind;
-use crate::item::{KeyType, Says, TableWords};
+use crate::item::{Says, TableWords};
 use crate::said::Said;
 use crate::words::number_at;
 use addr_core::parts::cut_at;
 use list_core::newest;
+use proxy_types::{KeyType, Stores};
 use word_core::Word;
 
 /// What the next word of a table is.
@@ -214,8 +215,10 @@ fn table_by<'a>(options: TableOptions) -> Result<Said<'a>, ConfKind>
         says: Says::StickTable(TableWords {
             keys,
             size,
-            stores_cur: options.stores_cur,
-            stores_cnt: options.stores_cnt,
+            stores: Stores {
+                cur: options.stores_cur,
+                cnt: options.stores_cnt,
+            },
         }),
         twice: options.twice,
         beyond: size > 1_048_576,

@@ -234,13 +234,13 @@ fn tables_are_numbered_in_the_order_of_the_text(rt: HostRuntime) -> Result<(), F
         (tables[0].section, tables[0].kind, tables[0].size),
         (Section::Backend, KeyType::Ip, 1024)
     );
-    assert_eq!(rt; (tables[0].stores_cur, tables[0].stores_cnt), (true, false));
+    assert_eq!(rt; (tables[0].stores.cur, tables[0].stores.cnt), (true, false));
     assert_eq!(rt; tables[1].name.as_slice(), b"f".as_slice());
     assert_eq!(rt;
         (tables[1].section, tables[1].kind, tables[1].size),
         (Section::Frontend, KeyType::Ipv6, 7)
     );
-    assert_eq!(rt; (tables[1].stores_cur, tables[1].stores_cnt), (false, true));
+    assert_eq!(rt; (tables[1].stores.cur, tables[1].stores.cnt), (false, true));
     assert_eq!(rt; tables[2].name.as_slice(), b"c".as_slice());
     assert_eq!(rt; (tables[2].section, tables[2].size), (Section::Backend, 2));
     Ok(())

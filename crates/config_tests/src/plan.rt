@@ -3,8 +3,8 @@ use acl_core::{Cond, When};
 use addr_core::{Addr, Endpoint};
 use list_core::{Duplicate, Seq};
 use plan_core::{
-    Action, Backend, Bind, Choice, Frontend, KeyType, Method, Plan, Rule, Section, Server, Table,
-    TableId, Track,
+    Action, Backend, Bind, Choice, Frontend, KeyType, Method, Plan, Rule, Section, Server, Stores,
+    Table, TableId, Track,
 };
 use std::alloc::Global;
 use std::fmt::Debug;
@@ -92,8 +92,10 @@ fn sample_plan(alloc: Global) -> Result<Plan, Fail> {
         name: name(alloc, "app")?,
         kind: KeyType::Ipv6,
         size: 100_000,
-        stores_cur: false,
-        stores_cnt: true,
+        stores: Stores {
+            cur: false,
+            cnt: true,
+        },
     };
     Ok(Plan {
         frontends: one(alloc, sample_frontend(alloc)?)?,
@@ -163,7 +165,7 @@ fn a_copy_has_the_backend_and_the_table(rt: HostRuntime) -> Result<(), Fail> {
         (Section::Backend, KeyType::Ipv6)
     );
     assert_eq!(rt;
-        (table.size, table.stores_cur, table.stores_cnt),
+        (table.size, table.stores.cur, table.stores.cnt),
         (100_000, false, true)
     );
     Ok(())

@@ -1,6 +1,8 @@
 //! What texts say, and what they are refused with, by worked examples.
 use addr_core::{Addr, Endpoint};
-use conf_tree::{Action, KeyType, Method, Ruleset, Says, SectionKind, TableWords, read_config};
+use conf_tree::{
+    Action, KeyType, Method, Ruleset, Says, SectionKind, Stores, TableWords, read_config,
+};
 use std::alloc::Global;
 use std::test::Fail;
 
@@ -363,8 +365,10 @@ fn says_what_the_lines_say(rt: HostRuntime) -> Result<(), Fail> {
     let table = TableWords {
         keys: KeyType::Ipv6,
         size: 2048,
-        stores_cur: false,
-        stores_cnt: true,
+        stores: Stores {
+            cur: false,
+            cnt: true,
+        },
     };
     assert!(rt; matches!(&items[0].says, Says::Frontend(name) if name.is(b"web")));
     assert!(rt; matches!(&items[1].says, Says::Bind(at, true) if *at == any));

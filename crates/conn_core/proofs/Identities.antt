@@ -4,14 +4,14 @@ use Rattle.std.specs.Prelude.{slice_get, find, ◌==◌}
 use Rattle.std.specs.List.{list_any}
 use Rattle.std.specs.Option.{option_map_or}
 use Rattle.std.proofs.lemmas.Bool.Decides.{nat_tests}
-use Rattle.plan_core.specs.declared.plan.Server.{Server}
-use Rattle.plan_core.specs.declared.plan.Backend.{Backend}
-use Rattle.plan_core.specs.declared.plan.Plan.{Plan}
+use Rattle.plan_types.specs.declared.plan.Server.{Server}
+use Rattle.plan_types.specs.declared.plan.Backend.{Backend}
+use Rattle.plan_types.specs.declared.plan.Plan.{Plan}
 use Rattle.addr_core.specs.Ends.{Ends}
 use Rattle.conn_model.specs.declared.plain.Phase.TheVariants.{Offered}
 use Rattle.conn_model.specs.Answer.{saying}
 use Rattle.conn_model.specs.History.{identity_of, identity_at, nobody, kept}
-use Rattle.plan_core.specs.Lines.{LinesDiffer, has_line}
+use Rattle.plan_types.specs.Lines.{LinesDiffer, has_line}
 use Rattle.conn_core.specs.declared.judging.Seat.{Seat}
 use Rattle.conn_core.specs.declared.judging.Verdict.{Verdict}
 use Rattle.conn_core.specs.declared.judging.Verdict.TheVariants.{Served, Refused}

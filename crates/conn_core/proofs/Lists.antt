@@ -2,7 +2,7 @@
 use Rattle.std.proofs.Common.{◌≡◌, ℕ, ◌+◌, List, [], ◌∷◌, ◌++◌, Some, subst, arith}
 use Rattle.conn_model.specs.declared.plain.Row.{Row}
 use Rattle.conn_model.specs.declared.plain.Version.{Version}
-use Rattle.plan_core.specs.Lines.{LinesDiffer}
+use Rattle.plan_types.specs.Lines.{LinesDiffer}
 use Rattle.conn_core.specs.Machine.{HaveLines}
 use Rattle.conn_model.specs.Words.{newest, AreGiven}
 use Rattle.conn_model.proofs.Facts.{given_more, given_append}

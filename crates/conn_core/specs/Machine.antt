@@ -2,8 +2,8 @@
 use Rattle.std.specs.Prelude.{ℕ, List, [], ◌∷◌, Option, Some, slice_get, option_to_list, ◌≡◌, ◌+◌, ◌<◌, ◌^◌, Ok}
 use Rattle.std.specs.List.{AllByRecursion}
 use Rattle.addr_core.specs.Ends.{Ends}
-use Rattle.plan_core.specs.declared.plan.Server.{Server}
-use Rattle.plan_core.specs.declared.plan.Backend.{Backend}
+use Rattle.plan_types.specs.declared.plan.Server.{Server}
+use Rattle.plan_types.specs.declared.plan.Backend.{Backend}
 use Rattle.conn_model.specs.declared.plain.Phase.TheVariants.{Offered}
 use Rattle.conn_core.specs.declared.judging.Seat.{Seat}
 use Rattle.conn_core.specs.declared.judging.Verdict.{Verdict}
@@ -17,8 +17,8 @@ use Rattle.conn_model.specs.declared.plain.Plain.{Plain}
 use Rattle.conn_model.specs.Words.{newest, AreGiven}
 use Rattle.conn_model.specs.Answer.{saying}
 use Rattle.conn_model.specs.History.{id_of, kept_by, opening}
-use Rattle.plan_core.specs.Lines.{LinesDiffer}
-use Rattle.plan_core.specs.declared.plan.Plan.{Plan}
+use Rattle.plan_types.specs.Lines.{LinesDiffer}
+use Rattle.plan_types.specs.declared.plan.Plan.{Plan}
 use Rattle.conn_core.specs.Meaning.{meaning}
 
 -- the id is the next of its frontend, what is said is said to it, and the row is the one that it leaves

@@ -5,7 +5,7 @@ use Rattle.conf_tree.specs.declared.fault.ConfKind.TheVariants.{Unsupported}
 use Rattle.conf_tree.specs.declared.item.Item.{Item}
 use Rattle.conf_tree.specs.Config.{items_of}
 use Rattle.plan_core.specs.declared.fault.PlanFault.{PlanFault}
-use Rattle.plan_core.specs.declared.plan.Plan.{Plan}
+use Rattle.plan_types.specs.declared.plan.Plan.{Plan}
 use Rattle.plan_core.specs.Compiled.{plan_of}
 use Rattle.conn_core.specs.Served.{unserved}
 use Rattle.conn_core.specs.declared.fault.OpenFault.{OpenFault}

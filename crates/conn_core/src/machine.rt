@@ -4,7 +4,7 @@ ghost use Rattle.std.specs.Option.{option_copied, option_map};
 ghost use Rattle.conn_model.specs.Words.{newest, AreGiven};
 ghost use Rattle.conn_model.specs.Answer.{answer_in, accepted_at, closed, row_at, saying, admitted};
 ghost use Rattle.conn_model.specs.History.{after, answer, counts, happening, opening, entry, id_of, kept_by, kept, identity_of, identity_at, NeedsNoMemory, IsLegal, IsWell, Entry};
-ghost use Rattle.plan_core.specs.Lines.{LinesDiffer};
+ghost use Rattle.plan_types.specs.Lines.{LinesDiffer};
 ghost use Rattle.conn_model.specs.Counts.{counts_in, open_of};
 ghost use Rattle.conn_model.specs.Rules.{view};
 ghost use Rattle.conn_model.specs.Runs.{AreAnswers, told};
@@ -24,10 +24,11 @@ use addr_core::Pair;
 use arrayvec::ArrayVec;
 use conn_model::ask::{Ask, Counts};
 use conn_model::event::{ConnId, Event, Why};
-use conn_model::plain::{Identity, Kept, Lane, Listener, Phase, Plain, Row, Served, Version};
+use conn_model::plain::{Kept, Lane, Listener, Phase, Plain, Row, Served, Version};
 use conn_model::reply::{Reply, Said, StepFault};
 use list_core::{Duplicate, Seq, newest};
 use plan_core::{Backend, Plan, Server};
+use proxy_types::ServerIdentity;
 use std::alloc::{AllocError, Global};
 use std::marker::Model;
 
@@ -342,7 +343,7 @@ fn row_for(
         real,
         accepted: now,
         phase: Phase::Offered(Served {
-            server: Identity {
+            server: ServerIdentity {
                 backend: backend.name.duplicate(alloc)?,
                 name: server.name.duplicate(alloc)?,
                 to: server.to,

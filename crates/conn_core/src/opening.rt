@@ -4,9 +4,10 @@ ghost use Rattle.std.specs.List.{enumerate_from};
 ghost use Rattle.conn_model.specs.History.{listeners_of};
 
 use crate::lanes::LaneState;
-use conn_model::plain::{Listener, Place};
+use conn_model::plain::Listener;
 use list_core::{Duplicate, Seq};
 use plan_core::{Backend, Frontend};
+use proxy_types::Place;
 use std::alloc::{AllocError, Global};
 
 /// Adds where a frontend listens.

@@ -1,6 +1,6 @@
 //! The plan of a text.
 ghost use Rattle.std.specs.Prelude.{◌≡◌, ◌⊎◌, ◌≤◌, length, IfOk, IfErr, Ok, Err};
-ghost use Rattle.plan_core.specs.Lines.{LinesDiffer};
+ghost use Rattle.plan_types.specs.Lines.{LinesDiffer};
 ghost use Rattle.conn_core.specs.Meaning.{served, meaning};
 
 use crate::fault::OpenFault;

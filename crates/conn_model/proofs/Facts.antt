@@ -5,9 +5,9 @@ use Rattle.std.specs.List.{AllByRecursion}
 use Rattle.std.proofs.lemmas.Bool.Decides.{nat_tests}
 use Rattle.std.proofs.lemmas.List.{append-nil}
 use Rattle.addr_core.specs.Ends.{Ends}
-use Rattle.plan_core.specs.declared.plan.Server.{Server}
-use Rattle.plan_core.specs.declared.plan.Backend.{Backend}
-use Rattle.plan_core.specs.declared.plan.Frontend.{Frontend}
+use Rattle.plan_types.specs.declared.plan.Server.{Server}
+use Rattle.plan_types.specs.declared.plan.Backend.{Backend}
+use Rattle.plan_types.specs.declared.plan.Frontend.{Frontend}
 use Rattle.conn_model.specs.declared.plain.Row.{Row}
 use Rattle.conn_model.specs.declared.plain.Lane.{Lane}
 use Rattle.conn_model.specs.declared.plain.Listener.{Listener}

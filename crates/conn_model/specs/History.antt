@@ -4,10 +4,10 @@ use Rattle.std.specs.List.{list_any, AllByRecursion, enumerate_from}
 use Rattle.std.specs.Option.{option_map_or}
 use Rattle.addr_core.specs.declared.addr.Endpoint.{Endpoint}
 use Rattle.addr_core.specs.Ends.{Ends}
-use Rattle.plan_core.specs.declared.plan.Frontend.{Frontend}
-use Rattle.plan_core.specs.declared.plan.Backend.{Backend}
-use Rattle.plan_core.specs.declared.plan.Plan.{Plan}
-use Rattle.plan_core.specs.Lines.{has_line}
+use Rattle.plan_types.specs.declared.plan.Frontend.{Frontend}
+use Rattle.plan_types.specs.declared.plan.Backend.{Backend}
+use Rattle.plan_types.specs.declared.plan.Plan.{Plan}
+use Rattle.plan_types.specs.Lines.{has_line}
 use Rattle.conn_model.specs.declared.event.ConnId.{ConnId}
 use Rattle.conn_model.specs.declared.event.Event.{Event}
 use Rattle.conn_model.specs.declared.event.Event.TheVariants as events
@@ -17,7 +17,7 @@ use Rattle.conn_model.specs.declared.reply.Said.{Said}
 use Rattle.conn_model.specs.declared.reply.Said.TheVariants.{Offer, Refuse, Closed}
 use Rattle.conn_model.specs.declared.reply.Reply.{Reply}
 use Rattle.conn_model.specs.declared.reply.StepFault.{StepFault}
-use Rattle.conn_model.specs.declared.plain.Identity.{Identity}
+use Rattle.proxy_types.specs.declared.server.ServerIdentity.{ServerIdentity}
 use Rattle.conn_model.specs.declared.plain.Phase.TheVariants.{Offered}
 use Rattle.conn_model.specs.declared.plain.Row.{Row}
 use Rattle.conn_model.specs.declared.plain.Lane.{Lane}
@@ -58,14 +58,14 @@ speaks number serial said = option_map_or (is_conn number serial) (id_of said) f
 
 -- Who serves a connection.
 
-abbrev pub identity_at : ℕ → Endpoint → Backend → Identity
+abbrev pub identity_at : ℕ → Endpoint → Backend → ServerIdentity
 identity_at n to backend = record { backend = backend.name; name = option_map_or (λ server. server.name) (slice_get backend.servers n) []; to = to }
 
-abbrev pub nobody : Endpoint → Identity
+abbrev pub nobody : Endpoint → ServerIdentity
 nobody to = record { backend = []; name = []; to = to }
 
 -- the server of a line, with its number in its backend
-abbrev pub identity_of : Plan → ℕ → ℕ → Endpoint → Identity
+abbrev pub identity_of : Plan → ℕ → ℕ → Endpoint → ServerIdentity
 identity_of plan line n to = option_map_or (identity_at n to) (find (has_line line) plan.backends) (nobody to)
 
 -- Which connections are open.

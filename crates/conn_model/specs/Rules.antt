@@ -7,10 +7,10 @@ use Rattle.acl_core.specs.declared.criterion.Value.{Value}
 use Rattle.acl_core.specs.declared.criterion.Value.TheVariants as values
 use Rattle.acl_core.specs.declared.condition.When.{When}
 use Rattle.acl_core.specs.Truth.{applies}
-use Rattle.plan_core.specs.declared.plan.Action.{Action}
-use Rattle.plan_core.specs.declared.plan.Action.TheVariants.{Accept, Reject, Track}
-use Rattle.plan_core.specs.declared.plan.Rule.{Rule}
-use Rattle.plan_core.specs.declared.plan.Frontend.{Frontend}
+use Rattle.plan_types.specs.declared.plan.Action.{Action}
+use Rattle.plan_types.specs.declared.plan.Action.TheVariants.{Accept, Reject, Track}
+use Rattle.plan_types.specs.declared.plan.Rule.{Rule}
+use Rattle.plan_types.specs.declared.plan.Frontend.{Frontend}
 use Rattle.conn_model.specs.declared.event.ConnId.{ConnId}
 use Rattle.conn_model.specs.declared.plain.Lane.{Lane}
 use Rattle.conn_model.specs.declared.plain.Version.{Version}

@@ -9,10 +9,10 @@ use Rattle.acl_core.specs.declared.criterion.Operator.TheVariants.{Above}
 use Rattle.acl_core.specs.declared.criterion.Pattern.TheVariants.{Compared, Network}
 use Rattle.acl_core.specs.declared.condition.When.{When}
 use Rattle.acl_core.specs.declared.condition.When.TheVariants.{If}
-use Rattle.plan_core.specs.declared.plan.Action.TheVariants.{Reject}
-use Rattle.conf_tree.specs.declared.item.Method.TheVariants.{RoundRobin}
-use Rattle.plan_core.specs.declared.plan.Server.{Server}
-use Rattle.plan_core.specs.declared.plan.Plan.{Plan}
+use Rattle.plan_types.specs.declared.plan.Action.TheVariants.{Reject}
+use Rattle.proxy_types.specs.declared.balance.Method.TheVariants.{RoundRobin}
+use Rattle.plan_types.specs.declared.plan.Server.{Server}
+use Rattle.plan_types.specs.declared.plan.Plan.{Plan}
 use Rattle.conn_model.specs.declared.event.ConnId.{ConnId}
 use Rattle.conn_model.specs.declared.event.Happening.{Happening}
 use Rattle.conn_model.specs.declared.event.Happening.TheVariants.{Accepted, Closing}

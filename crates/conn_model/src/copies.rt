@@ -1,9 +1,7 @@
 //! Copies of a plain state and of its parts.
 ghost use Rattle.std.specs.Prelude.{◌≡◌, IfOk};
 
-use crate::plain::{
-    Identity, Item, Kept, Lane, Listener, Phase, Place, Plain, Row, Served, Version,
-};
+use crate::plain::{Item, Kept, Lane, Listener, Phase, Plain, Row, Served, Version};
 use list_core::Duplicate;
 use std::alloc::{AllocError, Global};
 
@@ -60,16 +58,6 @@ impl Duplicate for Served {
     }
 }
 
-impl Duplicate for Identity {
-    fn duplicate(&self, alloc: Global) -> Result<Identity, AllocError> {
-        Ok(Identity {
-            backend: self.backend.duplicate(alloc)?,
-            name: self.name.duplicate(alloc)?,
-            to: self.to,
-        })
-    }
-}
-
 impl Duplicate for Version {
     fn duplicate(&self, alloc: Global) -> Result<Version, AllocError> {
         Ok(Version {
@@ -93,12 +81,6 @@ impl Duplicate for Kept {
 
 impl Duplicate for Listener {
     fn duplicate(&self, _alloc: Global) -> Result<Listener, AllocError> {
-        Ok(*self)
-    }
-}
-
-impl Duplicate for Place {
-    fn duplicate(&self, _alloc: Global) -> Result<Place, AllocError> {
         Ok(*self)
     }
 }

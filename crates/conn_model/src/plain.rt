@@ -1,21 +1,13 @@
 //! The state of a balancer as plain data.
 use addr_core::{Addr, Endpoint, Pair};
 use list_core::Seq;
-use plan_core::{Plan, Table, TableId, Track};
-
-/// What the counts of a server go by, through all versions of the configuration.
-#[derive(Debug, Drop)]
-pub struct Identity {
-    /// The name of its backend.
-    pub backend: Seq<u8>,
-    pub name: Seq<u8>,
-    pub to: Endpoint,
-}
+use plan_types::{Plan, Table, TableId, Track};
+use proxy_types::{Place, ServerIdentity};
 
 /// The server that a connection was offered.
 #[derive(Debug, Drop)]
 pub struct Served {
-    pub server: Identity,
+    pub server: ServerIdentity,
     pub line: u32,
     pub judged: Pair,
 }
@@ -58,13 +50,6 @@ pub struct Listener {
     pub frontend: u16,
     pub at: Endpoint,
     pub accept_proxy: bool,
-}
-
-/// A place in the round of a backend: one turn of a server.
-#[derive(Clone, Copy, Debug, PartialEq, Eq)]
-pub struct Place {
-    pub server: u16,
-    pub turn: u16,
 }
 
 /// A version of the configuration that is kept.

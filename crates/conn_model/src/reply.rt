@@ -2,7 +2,7 @@
 use crate::event::{ConnId, Why};
 use addr_core::{Endpoint, Pair};
 use arrayvec::ArrayVec;
-use plan_core::Track;
+use plan_types::Track;
 
 /// Why a connection is refused.
 #[derive(Clone, Copy, Debug, PartialEq, Eq)]

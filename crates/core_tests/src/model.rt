@@ -2,12 +2,11 @@
 use addr_core::{Addr, Endpoint, Pair};
 use arrayvec::ArrayVec;
 use conn_model::event::{ConnId, Why};
-use conn_model::plain::{
-    Identity, Item, Kept, Lane, Listener, Phase, Place, Plain, Row, Served, Version,
-};
+use conn_model::plain::{Item, Kept, Lane, Listener, Phase, Plain, Row, Served, Version};
 use conn_model::reply::{Cause, Reply, Said};
 use list_core::{Duplicate, Seq};
-use plan_core::{KeyType, Plan, Section, Table, TableId, Track};
+use plan_core::{KeyType, Plan, Section, Stores, Table, TableId, Track};
+use proxy_types::{Place, ServerIdentity};
 use std::alloc::Global;
 use std::fmt::Debug;
 use std::test::Fail;
@@ -40,7 +39,7 @@ const TABLE: TableId = TableId {
 };
 
 fn sample_lane(alloc: Global) -> Result<Lane, Fail> {
-    let server = Identity {
+    let server = ServerIdentity {
         backend: name(alloc, "b")?,
         name: name(alloc, "s")?,
         to: local(80),
@@ -91,8 +90,10 @@ fn sample_kept(alloc: Global) -> Result<Kept, Fail> {
         name: name(alloc, "b")?,
         kind: KeyType::Ip,
         size: 8,
-        stores_cur: true,
-        stores_cnt: false,
+        stores: Stores {
+            cur: true,
+            cnt: false,
+        },
     };
     let item = Item {
         key: Addr::V4(9),

@@ -1,6 +1,6 @@
 -- What `check` writes of a configuration.
 use Rattle.std.specs.Prelude.{ℕ, Bool, List, ◌++◌, codes, Option, Some, None, Result, Ok, Err, is_ok}
-use Rattle.plan_core.specs.declared.plan.Plan.{Plan}
+use Rattle.plan_types.specs.declared.plan.Plan.{Plan}
 use Rattle.conn_core.specs.Meaning.{compiled}
 use Rattle.conn_core.specs.Names.{open_text}
 use Rattle.conn_core.specs.declared.fault.OpenFault.{OpenFault}

@@ -4,7 +4,7 @@ use Rattle.std.specs.List.{flat_map}
 use Rattle.hex.specs.Hex.{encode_lower}
 use Rattle.addr_core.specs.Decimal.{decimal}
 use Rattle.addr_core.specs.Text.{endpoint_text, text_of}
-use Rattle.plan_core.specs.declared.track.Track.{Track}
+use Rattle.plan_types.specs.declared.track.Track.{Track}
 use Rattle.conn_model.specs.declared.ask.Ask.{Ask}
 use Rattle.conn_model.specs.declared.ask.Ask.TheVariants as asks
 use Rattle.conn_model.specs.declared.ask.Counts.{Counts}

@@ -1,7 +1,7 @@
 //! Replays of scripts.
 ghost use Rattle.std.specs.Prelude.{◌≡◌, ◌≢◌, ◌⊎◌, ◌≤◌, ◌<◌, ◌++◌, ℕ, List, [], length, Option, Some, None, Ok, Err, IfOk, IfErr, OnOk, true, false};
 ghost use Rattle.device_core.specs.Device.{raised_by};
-ghost use Rattle.plan_core.specs.declared.plan.Plan.{Plan};
+ghost use Rattle.plan_types.specs.declared.plan.Plan.{Plan};
 ghost use Rattle.conn_model.specs.History.{IsWell};
 ghost use Rattle.conn_core.specs.Meaning.{meaning};
 ghost use Rattle.conn_core.specs.Machine.{IsOpened};

@@ -10,9 +10,9 @@ use Rattle.std.proofs.lemmas.Slice.Eq.{bytes_eq-Decides}
 use Rattle.addr_core.specs.declared.addr.Addr.{Addr}
 use Rattle.addr_core.specs.declared.addr.Addr.TheVariants.{V4, V6}
 use Rattle.addr_core.specs.Same.{same_addr, same_endpoint}
-use Rattle.plan_core.specs.declared.plan.Bind.{Bind}
-use Rattle.plan_core.specs.declared.plan.Frontend.{Frontend}
-use Rattle.plan_core.specs.declared.plan.Plan.{Plan}
+use Rattle.plan_types.specs.declared.plan.Bind.{Bind}
+use Rattle.plan_types.specs.declared.plan.Frontend.{Frontend}
+use Rattle.plan_types.specs.declared.plan.Plan.{Plan}
 use Rattle.plan_core.specs.Binds.{Bound, bound_of, bound_in, binds_of, same_flag, same_bind, has_bind, is_bound, are_bound, all_bound, SameBinds}
 
 -- Tests of one pair.

@@ -6,8 +6,8 @@ use Rattle.std.specs.List.{filter_map, cons_option, list_any}
 use Rattle.std.proofs.lemmas.Bool.Decides.{nat_tests}
 use Rattle.conf_tree.specs.declared.item.Item.{Item}
 use Rattle.plan_core.specs.declared.fault.PlanFault.{PlanFault}
-use Rattle.plan_core.specs.declared.plan.Backend.{Backend}
-use Rattle.plan_core.specs.declared.plan.Table.{Table}
+use Rattle.plan_types.specs.declared.plan.Backend.{Backend}
+use Rattle.plan_types.specs.declared.plan.Table.{Table}
 use Rattle.plan_core.specs.declared.proxies.Proxy.{Proxy}
 use Rattle.plan_core.specs.Compiled.{backends_in, plan_faults}
 use Rattle.plan_core.specs.Fields.{tables_in}

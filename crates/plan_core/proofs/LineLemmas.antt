@@ -12,15 +12,15 @@ use Rattle.conf_tree.specs.declared.item.Says.TheVariants as says
 use Rattle.conf_tree.specs.Config as config
 use Rattle.conf_tree.specs.Few.{FewSections}
 use Rattle.conf_tree.specs.Rising.{AreAbove, Rises}
-use Rattle.plan_core.specs.declared.plan.Backend.{Backend}
-use Rattle.plan_core.specs.declared.plan.Plan.{Plan}
-use Rattle.plan_core.specs.declared.plan.Section.{Section}
-use Rattle.plan_core.specs.declared.plan.Section.TheVariants as sections
-use Rattle.plan_core.specs.declared.plan.Server.{Server}
+use Rattle.plan_types.specs.declared.plan.Backend.{Backend}
+use Rattle.plan_types.specs.declared.plan.Plan.{Plan}
+use Rattle.plan_types.specs.declared.plan.Section.{Section}
+use Rattle.plan_types.specs.declared.plan.Section.TheVariants as sections
+use Rattle.plan_types.specs.declared.plan.Server.{Server}
 use Rattle.plan_core.specs.declared.proxies.Proxy.{Proxy}
 use Rattle.plan_core.specs.Compiled.{backend_of, backends_in}
 use Rattle.plan_core.specs.Fields.{server_said, all_said}
-use Rattle.plan_core.specs.Lines.{has_line, LinesDiffer}
+use Rattle.plan_types.specs.Lines.{has_line, LinesDiffer}
 use Rattle.plan_core.specs.Proxies.{head_said, opens, own_lines, base_after, proxy_with, proxies, is_frontend, is_backend, frontends, backends}
 
 -- How many there are.

@@ -4,10 +4,10 @@ use Rattle.conf_tree.specs.declared.item.Item.{Item}
 use Rattle.conf_tree.specs.declared.item.Ruleset.TheVariants.{Connection, Session}
 use Rattle.plan_core.specs.declared.fault.PlanFault.{PlanFault}
 use Rattle.plan_core.specs.declared.fields.Named.{Named}
-use Rattle.plan_core.specs.declared.plan.Backend.{Backend}
-use Rattle.plan_core.specs.declared.plan.Frontend.{Frontend}
-use Rattle.plan_core.specs.declared.plan.Plan.{Plan}
-use Rattle.plan_core.specs.declared.plan.Table.{Table}
+use Rattle.plan_types.specs.declared.plan.Backend.{Backend}
+use Rattle.plan_types.specs.declared.plan.Frontend.{Frontend}
+use Rattle.plan_types.specs.declared.plan.Plan.{Plan}
+use Rattle.plan_types.specs.declared.plan.Table.{Table}
 use Rattle.plan_core.specs.declared.proxies.Proxy.{Proxy}
 use Rattle.plan_core.specs.Proxies.{proxies, frontends, backends}
 use Rattle.plan_core.specs.Fields.{bind_said, default_said, server_said, rule_said, all_said, said_in, limit_in, method_in, tables_in, backend_number}

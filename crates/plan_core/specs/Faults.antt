@@ -7,8 +7,8 @@ use Rattle.plan_core.specs.declared.fault.PlanFault.{PlanFault}
 use Rattle.plan_core.specs.declared.fault.PlanKind.{PlanKind}
 use Rattle.plan_core.specs.declared.fault.PlanKind.TheVariants as kinds
 use Rattle.plan_core.specs.declared.fields.Named.{Named}
-use Rattle.plan_core.specs.declared.plan.Backend.{Backend}
-use Rattle.plan_core.specs.declared.plan.Table.{Table}
+use Rattle.plan_types.specs.declared.plan.Backend.{Backend}
+use Rattle.plan_types.specs.declared.plan.Table.{Table}
 use Rattle.plan_core.specs.declared.proxies.Proxy.{Proxy}
 use Rattle.plan_core.specs.Proxies.{is_frontend}
 use Rattle.plan_core.specs.Fields.{bind_said, default_said, all_said, last_said, said_in, action_of, backend_number}

@@ -7,20 +7,20 @@ use Rattle.acl_core.specs.declared.condition.When.{When}
 use Rattle.conf_tree.specs.declared.item.Action as tree
 use Rattle.conf_tree.specs.declared.item.Action.TheVariants as words
 use Rattle.conf_tree.specs.declared.item.Item.{Item}
-use Rattle.conf_tree.specs.declared.item.Method.{Method}
-use Rattle.conf_tree.specs.declared.item.Method.TheVariants.{RoundRobin}
+use Rattle.proxy_types.specs.declared.balance.Method.{Method}
+use Rattle.proxy_types.specs.declared.balance.Method.TheVariants.{RoundRobin}
 use Rattle.conf_tree.specs.declared.item.Ruleset.{Ruleset}
 use Rattle.conf_tree.specs.declared.item.Ruleset.TheVariants.{Connection, Session}
 use Rattle.conf_tree.specs.declared.item.Says.{Says}
 use Rattle.conf_tree.specs.declared.item.Says.TheVariants as says
 use Rattle.conf_tree.specs.declared.item.TableWords.{TableWords}
-use Rattle.plan_core.specs.declared.plan.Action.{Action}
-use Rattle.plan_core.specs.declared.plan.Action.TheVariants as actions
-use Rattle.plan_core.specs.declared.plan.Backend.{Backend}
-use Rattle.plan_core.specs.declared.plan.Bind.{Bind}
-use Rattle.plan_core.specs.declared.plan.Rule.{Rule}
-use Rattle.plan_core.specs.declared.plan.Server.{Server}
-use Rattle.plan_core.specs.declared.plan.Table.{Table}
+use Rattle.plan_types.specs.declared.plan.Action.{Action}
+use Rattle.plan_types.specs.declared.plan.Action.TheVariants as actions
+use Rattle.plan_types.specs.declared.plan.Backend.{Backend}
+use Rattle.plan_types.specs.declared.plan.Bind.{Bind}
+use Rattle.plan_types.specs.declared.plan.Rule.{Rule}
+use Rattle.plan_types.specs.declared.plan.Server.{Server}
+use Rattle.plan_types.specs.declared.plan.Table.{Table}
 use Rattle.plan_core.specs.declared.proxies.Head.{Head}
 use Rattle.plan_core.specs.declared.proxies.Proxy.{Proxy}
 use Rattle.plan_core.specs.declared.fields.Limit.{Limit}
@@ -93,8 +93,7 @@ table_with head words = record {
   name = head.name;
   kind = words.keys;
   size = words.size;
-  stores_cur = words.stores_cur;
-  stores_cnt = words.stores_cnt;
+  stores = words.stores;
 }
 
 -- the table of a section

@@ -2,6 +2,6 @@ pub mod Binds
 pub mod Compiled
 pub mod Faults
 pub mod Fields
-pub mod Lines
+pub use Rattle.plan_types.specs.Lines
 pub mod Names
 pub mod Proxies

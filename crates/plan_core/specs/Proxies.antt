@@ -4,8 +4,8 @@ use Rattle.std.specs.List.{before_first}
 use Rattle.conf_tree.specs.declared.item.Item.{Item}
 use Rattle.conf_tree.specs.declared.item.Says.{Says}
 use Rattle.conf_tree.specs.declared.item.Says.TheVariants as says
-use Rattle.plan_core.specs.declared.plan.Section.{Section}
-use Rattle.plan_core.specs.declared.plan.Section.TheVariants as sections
+use Rattle.plan_types.specs.declared.plan.Section.{Section}
+use Rattle.plan_types.specs.declared.plan.Section.TheVariants as sections
 use Rattle.plan_core.specs.declared.proxies.Head.{Head}
 use Rattle.plan_core.specs.declared.proxies.Proxy.{Proxy}
 

@@ -5,7 +5,7 @@ ghost use Rattle.std.specs.Str.{bytes_eq};
 ghost use Rattle.addr_core.specs.Same.{same_endpoint};
 ghost use Rattle.plan_core.specs.Binds.{same_flag, same_bind, has_bind, is_bound, are_bound, all_bound, SameBinds};
 
-use crate::plan::{Bind, Frontend, Plan};
+use plan_types::{Bind, Frontend, Plan};
 
 fn same_flag(a: bool, b: bool) -> bool
     ensures { result ≡ same_flag a b }

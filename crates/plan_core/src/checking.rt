@@ -8,10 +8,10 @@ ghost use Rattle.plan_core.specs.Faults.{kind_number, is_before, earlier, earlie
 
 use crate::fault::{PlanFault, PlanKind};
 use crate::fields::{Named, default_in, last_bind};
-use crate::plan::{Backend, Table};
 use crate::proxies::{Proxy, is_frontend};
 use crate::tables::{action_of, number_of};
 use conf_tree::{Item, Says};
+use plan_types::{Backend, Table};
 use word_core::Word;
 
 fn kind_number(kind: PlanKind) -> u8

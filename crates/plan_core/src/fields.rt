@@ -2,10 +2,11 @@
 ghost use Rattle.std.specs.Prelude.{◌≡◌, IfOk};
 ghost use Rattle.plan_core.specs.Fields.{bind_said, limit_said, default_said, method_said, table_said, server_said, all_said, last_said, said_in, limit_in, method_in};
 
-use crate::plan::{Bind, Server};
 use crate::proxies::Proxy;
-use conf_tree::{Item, Method, Says, TableWords};
+use conf_tree::{Item, Says, TableWords};
 use list_core::Seq;
+use plan_types::{Bind, Server};
+use proxy_types::Method;
 use std::alloc::{AllocError, Global};
 use word_core::Word;
 

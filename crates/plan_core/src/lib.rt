@@ -2,19 +2,17 @@
 #![tactic(auto)]
 
 pub use binds::same_binds;
-pub use conf_tree::{KeyType, Method};
 pub use fault::{PlanFault, PlanKind};
-pub use plan::{Action, Backend, Bind, Choice, Frontend, Plan, Rule, Section, Server, Table};
+pub use plan_types::{
+    Action, Backend, Bind, Choice, Frontend, KeyType, Method, Plan, Rule, Section, Server, Stores,
+    Table, TableId, Track,
+};
 pub use planning::compile;
-pub use track::{TableId, Track};
 
 mod binds;
 mod checking;
-mod copies;
 mod fault;
 mod fields;
-mod plan;
 mod planning;
 mod proxies;
 mod tables;
-mod track;

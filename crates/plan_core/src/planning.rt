@@ -5,17 +5,17 @@ ghost use Rattle.plan_core.specs.Compiled.{backend_of, backends_in, default_numb
 ghost use Rattle.plan_core.specs.declared.fault.PlanKind.TheVariants.{NoMemory};
 ghost use Rattle.plan_core.specs.Faults.{IsLeast};
 ghost use Rattle.plan_core.specs.Fields.{tables_in};
-ghost use Rattle.plan_core.specs.Lines.{LinesDiffer};
+ghost use Rattle.plan_types.specs.Lines.{LinesDiffer};
 ghost use Rattle.plan_core.specs.Proxies.{frontends, backends};
 
 use crate::checking::{backend_number, fault_of};
 use crate::fault::PlanFault;
 use crate::fields::{Named, binds_in, default_in, limit_in, method_in, servers_in};
-use crate::plan::{Backend, Frontend, Plan, Table};
 use crate::proxies::{Proxy, is_backend, is_frontend, proxies_in};
 use crate::tables::{rules_in, tables_in};
 use conf_tree::{Ruleset, Tree};
 use list_core::Seq;
+use plan_types::{Backend, Frontend, Plan, Table};
 use std::alloc::{AllocError, Global};
 
 /// A backend with its servers.

@@ -3,9 +3,9 @@ ghost use Rattle.std.specs.Prelude.{◌≡◌, ◌<◌, ◌≤◌, [], length, p
 ghost use Rattle.conf_tree.specs.Few.{FewSections};
 ghost use Rattle.plan_core.specs.Proxies.{head_said, opens, own_lines, base_after, proxy_said, proxies, is_frontend, is_backend, frontends, backends};
 
-use crate::plan::Section;
 use conf_tree::{Item, Says};
 use list_core::Seq;
+use plan_types::Section;
 use std::alloc::{AllocError, Global};
 use std::marker::Model;
 use word_core::Word;

@@ -5,10 +5,10 @@ ghost use Rattle.std.specs.Str.{bytes_eq};
 ghost use Rattle.plan_core.specs.Fields.{table_in, tables_in, is_table_of, table_number, action_of, is_in, rule_said, all_said};
 
 use crate::fields::last_table;
-use crate::plan::{Action, Rule, Section, Table};
 use crate::proxies::Proxy;
 use conf_tree::{Item, Ruleset, Says};
 use list_core::{Duplicate, Seq};
+use plan_types::{Action, Rule, Section, Table};
 use std::alloc::{AllocError, Global};
 use word_core::Word;
 
@@ -22,8 +22,7 @@ fn table_in(alloc: Global, proxy: &Proxy) -> Result<Option<Table>, AllocError>
             name: Seq::duplicate_of(alloc, proxy.head.name.bytes())?,
             kind: words.keys,
             size: words.size,
-            stores_cur: words.stores_cur,
-            stores_cnt: words.stores_cnt,
+            stores: words.stores,
         })),
         None => Ok(None),
     }

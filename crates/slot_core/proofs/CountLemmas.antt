@@ -9,9 +9,9 @@ use Rattle.std.proofs.lemmas.List.Sums.{prefix_len-le-length}
 use Rattle.std.proofs.lemmas.Slice.Eq.{bytes_eq-Decides}
 use Rattle.addr_core.specs.declared.addr.Addr.{Addr}
 use Rattle.addr_core.specs.declared.addr.Addr.TheVariants.{V4, V6}
-use Rattle.slot_core.specs.declared.identity.Identity.{Identity}
+use Rattle.proxy_types.specs.declared.server.ServerIdentity.{ServerIdentity}
 use Rattle.addr_core.specs.Same.{same_addr}
-use Rattle.slot_core.specs.Identity.{same_identity}
+use Rattle.proxy_types.specs.ServerIdentity.{same_server}
 
 same_number : (n : ℕ) → (n == n) ≡ true
 same_number n = grind (arith, nat_tests)
@@ -36,5 +36,5 @@ itself : (a : Addr) → same_addr a a ≡ true
 itself (V4 n) = same_number n
 itself (V6 n) = same_number n
 
-pub same_identity-refl : (i : Identity) → same_identity i i ≡ true
-same_identity-refl i = rw (same_text i.backend, same_text i.name, itself i.to.addr, same_number i.to.port) refl
+pub same_server-refl : (i : ServerIdentity) → same_server i i ≡ true
+same_server-refl i = rw (same_text i.backend, same_text i.name, itself i.to.addr, same_number i.to.port) refl

@@ -2,18 +2,18 @@
 use Rattle.std.specs.Prelude.{ℕ, Bool, List, [], ◌∷◌, ◌++◌, slice_get, slice_set, Option, option_map, if◌then◌else◌}
 use Rattle.std.specs.Option.{is_some, option_map_or}
 use Rattle.std.specs.List.{position}
-use Rattle.slot_core.specs.declared.identity.Identity.{Identity}
+use Rattle.proxy_types.specs.declared.server.ServerIdentity.{ServerIdentity}
 use Rattle.slot_core.specs.declared.slots.Count.{Count}
-use Rattle.slot_core.specs.Identity.{same_identity}
+use Rattle.proxy_types.specs.ServerIdentity.{same_server}
 
-abbrev pub is_of : Identity → Count → Bool
-is_of identity count = same_identity count.identity identity
+abbrev pub is_of : ServerIdentity → Count → Bool
+is_of identity count = same_server count.identity identity
 
-abbrev pub place_of : Identity → List Count → Option ℕ
+abbrev pub place_of : ServerIdentity → List Count → Option ℕ
 place_of identity counts = position (is_of identity) counts
 
 -- one that is new stands last, with no open connection
-abbrev pub with_identity : Identity → List Count → List Count
+abbrev pub with_identity : ServerIdentity → List Count → List Count
 with_identity identity counts = if is_some (place_of identity counts) then counts else counts ++ record { identity = identity; connections = 0 } ∷ []
 
 -- the open connections of the count at a place

@@ -1,2 +1,2 @@
-pub mod Identity
+pub use Rattle.proxy_types.specs.ServerIdentity
 pub mod Counts

@@ -1,8 +1,7 @@
 //! How many connections are open to each server, by the identity of the server.
 #![tactic(auto)]
 
-pub use identity::Identity;
+pub use proxy_types::ServerIdentity;
 pub use slots::{Count, Slot, SlotIx, Slots};
 
-mod identity;
 mod slots;

@@ -3,15 +3,15 @@ ghost use Rattle.std.specs.Prelude.{◌≡◌, ◌↔◌, IsTrue, ◌+◌, ◌-�
 ghost use Rattle.std.specs.List.{position};
 ghost use Rattle.slot_core.specs.Counts.{is_of, place_of, with_identity, open_at, with_open};
 
-use crate::identity::Identity;
 use list_core::Duplicate;
+use proxy_types::ServerIdentity;
 use std::alloc::{AllocError, Global};
 use std::marker::Model;
 
 /// The open connections of a server.
 #[derive(Debug, Drop)]
 pub struct Count {
-    pub identity: Identity,
+    pub identity: ServerIdentity,
     pub connections: u64,
 }
 
@@ -85,7 +85,7 @@ impl Slots {
     }
 
     /// Where an identity is counted. One that is new has no open connection.
-    pub fn add(&mut self, identity: &Identity) -> Result<SlotIx, AllocError>
+    pub fn add(&mut self, identity: &ServerIdentity) -> Result<SlotIx, AllocError>
         ensures ix { IfOk result (λ ix. Some ix.place ≡ place_of identity.now self.new) }
         ensures counts { OnOk result (self.new ≡ with_identity identity.now self.old) }
         ensures err { OnErr result (self.new ≡ self.old) }
@@ -131,7 +131,7 @@ impl Slots {
     }
 }
 
-fn find(counts: &[Count], identity: &Identity) -> Option<usize>
+fn find(counts: &[Count], identity: &ServerIdentity) -> Option<usize>
     ensures { result ≡ position (is_of identity.now) counts.now }
 {
     counts

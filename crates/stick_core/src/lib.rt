@@ -3,8 +3,8 @@
 #![tactic(auto)]
 
 pub use entries::Entry;
-pub use key::Kind;
-pub use table::{Stores, Table, Tracked};
+pub use proxy_types::{KeyType, Stores};
+pub use table::{Table, Tracked};
 
 mod entries;
 mod key;

@@ -6,18 +6,12 @@ ghost use Rattle.stick_core.specs.Entries.{cur_of, released, key_and_count};
 ghost use Rattle.stick_core.specs.Listing.{IsSound, key_taken, entries_after, cur_at, cnt_at};
 
 use crate::entries::{Entry, cnt_in, cur_in, entry_of, has_free, listed, purge, put_last};
-use crate::key::{Kind, key_of};
+use crate::key::key_of;
 use addr_core::Addr;
 use list_core::Seq;
+use proxy_types::{KeyType, Stores};
 use std::alloc::{AllocError, Global};
 use std::marker::Model;
-
-/// Which counts criteria may see (HAProxy manual, `stick-table store`). Both are kept of each key.
-#[derive(Clone, Copy, Debug, PartialEq, Eq)]
-pub struct Stores {
-    pub cur: bool,
-    pub cnt: bool,
-}
 
 /// One tracking of a key. It is spent by `release` on the table that gave it.
 pub struct Tracked {
@@ -44,7 +38,7 @@ impl Tracked {
 /// A table of tracked sources, whose entries contracts see in the order of their last touch.
 #[derive(Debug, Drop)]
 pub struct Table {
-    kind: Kind,
+    kind: KeyType,
     size: u64,
     stores: Stores,
     entries: Vec<Entry>,
@@ -63,7 +57,7 @@ impl Model for Table {
 
 impl Table {
     /// An empty table of at most so many entries, which grows by that allocator.
-    pub fn new(alloc: Global, kind: Kind, size: u64, stores: Stores) -> Table
+    pub fn new(alloc: Global, kind: KeyType, size: u64, stores: Stores) -> Table
         ensures kind { result.kind ≡ kind }
         ensures size { result.size ≡ size }
         ensures stores { result.stores ≡ stores }
@@ -77,7 +71,7 @@ impl Table {
         }
     }
 
-    pub fn kind(&self) -> Kind
+    pub fn kind(&self) -> KeyType
         ensures { result ≡ self.now.kind }
     {
         self.kind

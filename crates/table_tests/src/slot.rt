@@ -1,13 +1,13 @@
 use addr_core::{Addr, Endpoint};
 use list_core::Seq;
-use slot_core::{Identity, Slot, SlotIx, Slots};
+use slot_core::{ServerIdentity, Slot, SlotIx, Slots};
 use std::alloc::{AllocError, Global};
 use std::process::Abort;
 use std::test::Fail;
 
 /// The server `s` of the backend `b` at 10.0.0.20, with a port.
-fn server(alloc: Global, backend: u8, name: u8, port: u16) -> Result<Identity, AllocError> {
-    Ok(Identity {
+fn server(alloc: Global, backend: u8, name: u8, port: u16) -> Result<ServerIdentity, AllocError> {
+    Ok(ServerIdentity {
         backend: Seq::of(vec![in alloc; backend]?),
         name: Seq::of(vec![in alloc; name]?),
         to: Endpoint {

@@ -2,7 +2,7 @@ use addr_core::Addr;
 use std::alloc::Global;
 use std::process::Abort;
 use std::test::Fail;
-use stick_core::{Entry, Kind, Stores, Table, Tracked};
+use stick_core::{Entry, KeyType, Stores, Table, Tracked};
 
 const BOTH: Stores = Stores {
     cur: true,
@@ -49,7 +49,7 @@ fn assert_entries(
 
 #[test]
 fn a_key_counts_once_for_each_tracking(rt: HostRuntime) -> Result<(), Fail> {
-    let mut table = Table::new(rt.alloc(), Kind::Ip, 2, BOTH);
+    let mut table = Table::new(rt.alloc(), KeyType::Ip, 2, BOTH);
     assert_counts(&rt, &table, 7, 0, 0);
     let first = track(&rt, &mut table, 7);
     assert_counts(&rt, &table, 7, 1, 1);
@@ -67,7 +67,7 @@ fn a_key_counts_once_for_each_tracking(rt: HostRuntime) -> Result<(), Fail> {
 
 #[test]
 fn a_full_table_purges_one_entry_without_trackers(rt: HostRuntime) -> Result<(), Fail> {
-    let mut table = Table::new(rt.alloc(), Kind::Ip, 2, BOTH);
+    let mut table = Table::new(rt.alloc(), KeyType::Ip, 2, BOTH);
     let seven = track(&rt, &mut table, 7);
     let eight = track(&rt, &mut table, 8);
     assert!(rt; !table.takes(&source(9)));
@@ -92,7 +92,7 @@ fn a_full_table_purges_one_entry_without_trackers(rt: HostRuntime) -> Result<(),
 
 #[test]
 fn the_order_is_that_of_the_last_touch(rt: HostRuntime) -> Result<(), Fail> {
-    let mut table = Table::new(rt.alloc(), Kind::Ip, 3, BOTH);
+    let mut table = Table::new(rt.alloc(), KeyType::Ip, 3, BOTH);
     let seven = track(&rt, &mut table, 7);
     let eight = track(&rt, &mut table, 8);
     let nine = track(&rt, &mut table, 9);
@@ -113,7 +113,7 @@ fn the_order_is_that_of_the_last_touch(rt: HostRuntime) -> Result<(), Fail> {
 
 #[test]
 fn a_table_of_size_one_changes_its_key(rt: HostRuntime) -> Result<(), Fail> {
-    let mut table = Table::new(rt.alloc(), Kind::Ip, 1, BOTH);
+    let mut table = Table::new(rt.alloc(), KeyType::Ip, 1, BOTH);
     let seven = track(&rt, &mut table, 7);
     assert!(rt; !table.takes(&source(8)));
     release(&rt, &mut table, seven);
@@ -143,9 +143,9 @@ fn a_table_keeps_what_it_was_made_with(rt: HostRuntime) -> Result<(), Fail> {
         cur: false,
         cnt: true,
     };
-    let mut table = Table::new(rt.alloc(), Kind::Ip, 20, only_cnt);
+    let mut table = Table::new(rt.alloc(), KeyType::Ip, 20, only_cnt);
     table.reserve(3)?;
-    assert_eq!(rt; table.kind(), Kind::Ip);
+    assert_eq!(rt; table.kind(), KeyType::Ip);
     assert_eq!(rt; table.size(), 20);
     assert_eq!(rt; table.stores(), only_cnt);
     assert_entries(&rt, rt.alloc(), &table, &[])
@@ -153,7 +153,7 @@ fn a_table_keeps_what_it_was_made_with(rt: HostRuntime) -> Result<(), Fail> {
 
 /// Counts under an address, and under the key that it stands for.
 fn assert_same_key(rt: &impl Abort, alloc: Global, addr: Addr, key: Addr) -> Result<(), Fail> {
-    let mut table = Table::new(alloc, Kind::Ipv6, 2, BOTH);
+    let mut table = Table::new(alloc, KeyType::Ipv6, 2, BOTH);
     assert!(rt; table.cur(&addr) < u64::MAX);
     let tracked = table.track(&addr).expect(rt, "memory");
     assert_eq!(rt; table.cur(&addr), 1);
@@ -179,7 +179,7 @@ fn an_address_of_ipv4_is_mapped_among_those_of_ipv6(rt: HostRuntime) -> Result<(
 
 #[test]
 fn an_address_of_ipv6_is_no_key_among_those_of_ipv4(rt: HostRuntime) -> Result<(), Fail> {
-    let mut table = Table::new(rt.alloc(), Kind::Ip, 2, BOTH);
+    let mut table = Table::new(rt.alloc(), KeyType::Ip, 2, BOTH);
     let mapped = Addr::V6(0xffff_cb00_7107);
     assert!(rt; !table.takes(&mapped));
     let seven = track(&rt, &mut table, 7);

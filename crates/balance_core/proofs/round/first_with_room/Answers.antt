@@ -1,7 +1,7 @@
 use Rattle.std.proofs.Common.{◌≡◌, ◌-◌, Bool, true, false, ℕ, Some, find, get_or, refl, sym, ◌∙◌, arith}
 use Rattle.std.specs.Prelude.{slice_get}
 use Rattle.std.specs.List.{range_with_len}
-use Rattle.balance_core.specs.declared.cycle.Place.{Place}
+use Rattle.proxy_types.specs.declared.balance.Place.{Place}
 use Rattle.balance_core.specs.Rounds.{can_take}
 use Rattle.balance_core.proofs.RangeLemmas.{find-here, find-past}
 use Rattle.std.proofs.lemmas.Option.{slice_get-get_or}

@@ -8,19 +8,19 @@ use std::alloc::{AllocError, Global};
 
 /// What the counts of a server go by, through all versions of the configuration.
 #[derive(Debug, Drop)]
-pub struct Identity {
+pub struct ServerIdentity {
     /// The name of its backend.
     pub backend: Seq<u8>,
     pub name: Seq<u8>,
     pub to: Endpoint,
 }
 
-impl Identity {
-    ghost use Rattle.slot_core.specs.Identity.{same_identity};
+impl ServerIdentity {
+    ghost use Rattle.proxy_types.specs.ServerIdentity.{same_server};
 
     /// Whether both are one.
-    pub fn is_same(&self, other: &Identity) -> bool
-        ensures value { result ≡ same_identity self.now other.now }
+    pub fn is_same(&self, other: &ServerIdentity) -> bool
+        ensures value { result ≡ same_server self.now other.now }
         ensures equal { IsTrue result ↔ (self.now ≡ other.now) }
     {
         is_same_name(&self.backend, &other.backend)
@@ -35,9 +35,9 @@ fn is_same_name(a: &Seq<u8>, b: &Seq<u8>) -> bool
     a.as_slice() == b.as_slice()
 }
 
-impl Duplicate for Identity {
-    fn duplicate(&self, alloc: Global) -> Result<Identity, AllocError> {
-        Ok(Identity {
+impl Duplicate for ServerIdentity {
+    fn duplicate(&self, alloc: Global) -> Result<ServerIdentity, AllocError> {
+        Ok(ServerIdentity {
             backend: self.backend.duplicate(alloc)?,
             name: self.name.duplicate(alloc)?,
             to: self.to,

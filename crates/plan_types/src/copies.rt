@@ -74,8 +74,7 @@ impl Duplicate for Table {
             name: self.name.duplicate(alloc)?,
             kind: self.kind,
             size: self.size,
-            stores_cur: self.stores_cur,
-            stores_cnt: self.stores_cnt,
+            stores: self.stores,
         })
     }
 }

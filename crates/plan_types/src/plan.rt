@@ -1,8 +1,8 @@
 //! Frontends with their rules, backends with their servers, and stick tables.
 use acl_core::When;
 use addr_core::Endpoint;
-use conf_tree::{KeyType, Method};
 use list_core::Seq;
+use proxy_types::{KeyType, Method, Stores};
 
 /// What a rule does once its condition holds (HAProxy manual, `tcp-request connection`).
 #[derive(Clone, Copy, Debug, PartialEq, Eq)]
@@ -70,8 +70,7 @@ pub struct Table {
     pub kind: KeyType,
     /// How many entries there may be.
     pub size: u64,
-    pub stores_cur: bool,
-    pub stores_cnt: bool,
+    pub stores: Stores,
 }
 
 /// A `server` line.

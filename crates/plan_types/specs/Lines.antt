@@ -1,8 +1,8 @@
 -- Servers by their lines.
 use Rattle.std.specs.Prelude.{◌≡◌, ℕ, Bool, true, ◌==◌, slice_get, Some}
 use Rattle.std.specs.List.{list_any}
-use Rattle.plan_core.specs.declared.plan.Backend.{Backend}
-use Rattle.plan_core.specs.declared.plan.Plan.{Plan}
+use Rattle.plan_types.specs.declared.plan.Backend.{Backend}
+use Rattle.plan_types.specs.declared.plan.Plan.{Plan}
 
 -- the backend has the server of that line
 abbrev pub has_line : ℕ → Backend → Bool
