@@ -1,6 +1,7 @@
-pub mod Numbered
-pub mod Facts
-pub mod Law
+pub mod Lists
+pub mod Replies
+pub mod Parts
+pub mod Serials
+pub mod Goes
+pub mod Well
 pub mod Steps
-pub mod Runs
-pub mod Rows

@@ -1,155 +1,261 @@
--- What one more entry does to the plain state.
-use Rattle.std.proofs.Common.{◌≡◌, ◌≢◌, ℕ, zero, suc, ◌+◌, ◌<◌, Bool, true, false, not, ◌||◌, cond, eqb, List, [], ◌∷◌, ◌++◌, Some, None, refl, ◌∙◌, sym, ap, arith, max, get_or}
-use Rattle.std.proofs.lemmas.List.Elements.{filter-append, filter_agree}
-use Rattle.std.proofs.lemmas.List.{append-nil}
-use Rattle.std.specs.Prelude.{slice_get, slice_set, ◌==◌, filter, is_some, Option, option_to_list, IfSome}
+-- The state after one event.
+use Rattle.std.specs.Prelude.{ℕ, zero, suc, Bool, true, false, not, max, List, [], map, filter, find, slice_get, slice_set, is_some, Option, Some, None, refl, ◌+◌, ◌≤◌, ◌<◌, ◌≡◌, ◌≢◌, ◌==◌, ◌&&◌, ◌||◌, ◌∷◌, ◌++◌, if◌then◌else◌}
+use Rattle.std.specs.List.{AllByRecursion}
+use Rattle.std.specs.Option.{option_map_or}
+use Rattle.std.proofs.Common.{sym, ap, ◌∙◌, arith, append-nil, get_or}
+use Rattle.std.proofs.lemmas.Bool.{false≢true, eq-eqb, eqb-true}
 use Rattle.std.proofs.lemmas.Bool.Decides.{nat_tests}
+use Rattle.std.proofs.lemmas.List.{map-append}
+use Rattle.std.proofs.lemmas.List.Elements.{filter-append}
 use Rattle.addr_core.specs.Ends.{Ends}
-use Rattle.conn_model.specs.declared.plain.Row.{Row}
-use Rattle.conn_model.specs.declared.plain.Lane.{Lane}
-use Rattle.conn_model.specs.declared.plain.Version.{Version}
-use Rattle.conn_model.specs.declared.plain.Plain.{Plain}
+use Rattle.plan_types.specs.declared.plan.Plan.{Plan}
 use Rattle.conn_model.specs.declared.event.ConnId.{ConnId}
 use Rattle.conn_model.specs.declared.event.Why.{Why}
-use Rattle.conn_model.specs.declared.event.Happening.TheVariants.{Accepted, Closing}
+use Rattle.conn_model.specs.declared.event.OwnedEvent.TheVariants.{Accept, Close}
 use Rattle.conn_model.specs.declared.reply.Said.{Said}
 use Rattle.conn_model.specs.declared.reply.Said.TheVariants.{Offer, Refuse, Closed}
-use Rattle.conn_model.specs.declared.reply.Reply.{Reply}
-use Rattle.conn_model.specs.Words.{newest, AreGiven}
-use Rattle.conn_model.specs.Answer.{saying, row_in}
 use Rattle.conn_model.specs.declared.plain.Phase.TheVariants.{Offered}
-use Rattle.conn_model.specs.History.{identity_of, id_of, is_of, ends, kept, kept_by, lane_after, after, entry}
-use Rattle.conn_model.proofs.Numbered.{map_from-one, filter-every}
+use Rattle.conn_model.specs.declared.plain.Row.{Row}
+use Rattle.conn_model.specs.declared.plain.FrontendRows.{FrontendRows}
+use Rattle.conn_model.specs.declared.plain.Version.{Version}
+use Rattle.conn_model.specs.declared.plain.Plain.{Plain}
+use Rattle.conn_model.specs.Words.{is_conn, map_from, newest, Rise}
+use Rattle.conn_model.specs.Answer.{row_in, reply_of, version_at}
+use Rattle.conn_model.specs.History.{id_of, speaks_to, newest_number, plan_of, identity_of, by_counter, is_accept_at, arrival, has_ended, row_after, frontend_after, after, entry, Entry, IsFrontendWell, IsWell}
+use Rattle.conn_model.proofs.Lists.{all-more, all-at, all-both}
 
--- what a reply to another connection ends is not this one
-not_ended : (number serial : ℕ) (said : Said) (id : ConnId) → id_of said ≡ Some id → serial ≢ id.serial → not (ends number serial said || false) ≡ true
-not_ended number serial said id says differs = rw says (grind (arith, nat_tests, differs))
+-- Lists of which one item changes.
 
-other_ends : (g serial : ℕ) (said : Said) (id : ConnId) → id_of said ≡ Some id → g ≢ id.frontend → not (ends g serial said || false) ≡ true
-other_ends g serial said id says differs = rw says (grind (arith, nat_tests, differs))
+map_from-none : {X : Type 0} (P : X → Type 0) (change : ℕ → X → X) (start : ℕ) (xs : List X) → AllByRecursion P xs → ((g : ℕ) (y : X) → P y → start ≤ g → change g y ≡ y) → map_from change start xs ≡ xs
+map_from-none P change start [] all same = refl
+map_from-none P change start (x ∷ xs) all same =
+    let here : change start x ≡ x = same start x all.0 (omega arith) in
+    let rest : map_from change (start + 1) xs ≡ xs = map_from-none P change (start + 1) xs all.1 (λ g y is le. same g y is (omega arith)) in
+    cc
 
-rows_stay : (number serial : ℕ) (said : Said) (id : ConnId) (rows : List Row) → id_of said ≡ Some id → AreGiven serial rows → serial < id.serial → filter (λ row. not (ends number row.serial said || false)) rows ≡ rows
-rows_stay number serial said id [] says given lt = refl
-rows_stay number serial said id (row ∷ rows) says given lt =
-    let rest = rows_stay number serial said id rows says given.1 lt in
-    let here : row.serial ≢ id.serial = λ e. omega (arith, given.0, lt, e) in
-    rw (not_ended number row.serial said id says here) (ap (λ ys. row ∷ ys) rest)
+map_from-one : {X : Type 0} (P : X → Type 0) (change : ℕ → X → X) (start at : ℕ) (xs : List X) (x new' : X) → AllByRecursion P xs →
+    slice_get xs at ≡ Some x → change (start + at) x ≡ new' → ((g : ℕ) (y : X) → P y → g ≢ start + at → change g y ≡ y) → map_from change start xs ≡ slice_set xs at new'
+map_from-one P change start at [] x new' all there is others = absurd (cc)
+map_from-one P change start zero (y ∷ xs) x new' all there is others =
+    let same : y ≡ x = cc in
+    let place : start + 0 ≡ start = omega arith in
+    let rest : map_from change (start + 1) xs ≡ xs = map_from-none P change (start + 1) xs all.1 (λ g z known le. others g z known (omega arith)) in
+    cc
+map_from-one P change start (suc at) (y ∷ xs) x new' all there is others =
+    let here : change start y ≡ y = others start y all.0 (omega arith) in
+    let place : start + suc at ≡ (start + 1) + at = omega arith in
+    let rest : map_from change (start + 1) xs ≡ slice_set xs at new' =
+    map_from-one P change (start + 1) at xs x new' all.1 there (ap (λ n. change n x) (sym place) ∙ is) (λ g z known ne. others g z known (omega arith)) in
+    cc
 
-kept_stays : (number : ℕ) (version : Version) (clock : ℕ) (real : Ends) (reply : Reply) (said : Said) → filter (λ row. not (ends number row.serial said || false)) (kept version clock real reply said) ≡ kept version clock real reply said
-kept_stays number version clock real reply (Offer id used line server to judged send) = refl
-kept_stays number version clock real reply (Refuse id used cause) = refl
-kept_stays number version clock real reply (Closed id why) = refl
+-- rows of which some go, and the others stay as they are
+rows-left : (f : Row → Row) (g g' : Row → Bool) (rows : List Row) → AllByRecursion (λ row. (g row ≡ g' row) × (g' row ≡ true → f row ≡ row)) rows → map f (filter g rows) ≡ filter g' rows
+rows-left f g g' [] known = refl
+rows-left f g g' (row ∷ rows) known = by (g' row) refl (rows-left f g g' rows known.1)
+  where
+    by : (b : Bool) → g' row ≡ b → map f (filter g rows) ≡ filter g' rows → map f (filter g (row ∷ rows)) ≡ filter g' (row ∷ rows)
+    by true e rest = let here : f row ≡ row = known.0.1 e in rw (known.0.0, e) (cc (here, rest))
+    by false e rest = rw (known.0.0, e) rest
 
-kept_by_stays : (number : ℕ) (version : Option Version) (clock : ℕ) (real : Ends) (reply : Reply) → filter (λ row. not (ends number row.serial reply.said || false)) (kept_by version clock real reply) ≡ kept_by version clock real reply
-kept_by_stays number None clock real reply = refl
-kept_by_stays number (Some version) clock real reply = kept_stays number version clock real reply reply.said
+filter-true : (rows : List Row) → filter (λ row. true) rows ≡ rows
+filter-true [] = refl
+filter-true (row ∷ rows) = ap (λ rs. row ∷ rs) (filter-true rows)
 
--- no entry of one frontend changes another
-stays : (number : ℕ) (said : Said) (id : ConnId) (lane : Lane) → id_of said ≡ Some id → number ≢ id.frontend → filter (λ row. not (ends number row.serial said || false)) (lane.rows ++ []) ≡ lane.rows
-stays number said id lane says differs =
-    let end : (lane.rows ++ []) ≡ lane.rows = append-nil lane.rows in
-    rw end (filter-every _ lane.rows (λ row. other_ends number row.serial said id says differs))
+-- A reply that does not speak to a connection.
 
-accept_elsewhere : (g : ℕ) (p : Plain) (moment listener : ℕ) (real : Ends) (reply : Reply) (id : ConnId) (lane : Lane) → id_of reply.said ≡ Some id → g ≢ id.frontend →
-    lane_after p (entry moment (Accepted listener real) reply ∷ []) g lane ≡ lane
-accept_elsewhere g p moment listener real reply id lane says differs =
-    let other : eqb id.frontend g ≡ false = grind (arith, nat_tests, differs) in
-    let off : is_of g reply.said ≡ false = rw says other in
-    let more : List Row = kept_by (newest p.versions) (max p.clock moment) real reply in
-    let serial : lane.serial + 0 ≡ lane.serial = omega arith in
-    ap (λ b. record { name = lane.name; serial = lane.serial + (0 + cond b 1 0); rows = filter (λ row. not (ends g row.serial reply.said || false)) (lane.rows ++ cond b more []) }) off
-    ∙ ap (λ rs. record { name = lane.name; serial = lane.serial + 0; rows = rs }) (stays g reply.said id lane says differs)
-    ∙ ap (λ n. record { name = lane.name; serial = n; rows = lane.rows }) serial
+row-unspoken : (p : Plain) (number : ℕ) (e : Entry) (row : Row) → speaks_to number row.serial e.reply.said ≡ false → by_counter row.tracks ≡ row.tracks → row_after p number (e ∷ []) row ≡ row
+row-unspoken p number e row free sorted = rw free (ap (λ ts. record row { tracks = ts }) (ap by_counter (append-nil row.tracks) ∙ sorted))
 
-close_elsewhere : (g : ℕ) (p : Plain) (moment : ℕ) (id : ConnId) (why : Why) (lane : Lane) → g ≢ id.frontend →
-    lane_after p (entry moment (Closing id why) (saying (Closed id why)) ∷ []) g lane ≡ lane
-close_elsewhere g p moment id why lane differs =
-    let serial : lane.serial + 0 ≡ lane.serial = omega arith in
-    ap (λ rs. record { name = lane.name; serial = lane.serial + 0; rows = rs }) (stays g (Closed id why) id lane refl differs)
-    ∙ ap (λ n. record { name = lane.name; serial = n; rows = lane.rows }) serial
+and_false : (a : Bool) → (a && false) ≡ false
+and_false true = refl
+and_false false = refl
 
-accept_here : (number : ℕ) (p : Plain) (moment listener : ℕ) (real : Ends) (reply : Reply) (id : ConnId) (lane : Lane) → id_of reply.said ≡ Some id → number ≡ id.frontend →
-    AreGiven lane.serial lane.rows → id.serial ≡ lane.serial + 1 →
-    lane_after p (entry moment (Accepted listener real) reply ∷ []) number lane
-    ≡ record { name = lane.name; serial = lane.serial + 1; rows = lane.rows ++ kept_by (newest p.versions) (max p.clock moment) real reply }
-accept_here number p moment listener real reply id lane says here given next =
-    let same : eqb id.frontend number ≡ true = grind (arith, nat_tests, here) in
-    let on : is_of number reply.said ≡ true = rw says same in
-    let P : Row → Bool = λ row. not (ends number row.serial reply.said || false) in
-    let more : List Row = kept_by (newest p.versions) (max p.clock moment) real reply in
-    let split : filter P (lane.rows ++ more) ≡ filter P lane.rows ++ filter P more = filter-append P lane.rows more in
-    let old : filter P lane.rows ≡ lane.rows = rows_stay number lane.serial reply.said id lane.rows says given (omega arith) in
-    let new : filter P more ≡ more = kept_by_stays number (newest p.versions) (max p.clock moment) real reply in
-    ap (λ b. record { name = lane.name; serial = lane.serial + (0 + cond b 1 0); rows = filter P (lane.rows ++ cond b more []) }) on
-    ∙ ap (λ rs. record { name = lane.name; serial = lane.serial + 1; rows = rs })
-    (split ∙ ap (λ xs. xs ++ filter P more) old ∙ ap (λ xs. lane.rows ++ xs) new)
+stays : (number : ℕ) (e : Entry) (row : Row) → speaks_to number row.serial e.reply.said ≡ false → not (has_ended number (e ∷ []) row.serial) ≡ true
+stays number e row free = rw (free, and_false _) refl
 
-close_here : (number : ℕ) (p : Plain) (moment : ℕ) (id : ConnId) (why : Why) (lane : Lane) → number ≡ id.frontend →
-    lane_after p (entry moment (Closing id why) (saying (Closed id why)) ∷ []) number lane ≡ record lane { rows = filter (λ row. not (row.serial == id.serial)) lane.rows }
-close_here number p moment id why lane here =
-    let end : (lane.rows ++ []) ≡ lane.rows = append-nil lane.rows in
-    let on : eqb id.frontend number ≡ true = grind (arith, nat_tests, here) in
-    let same : filter (λ row. not (ends number row.serial (Closed id why) || false)) lane.rows ≡ filter (λ row. not (row.serial == id.serial)) lane.rows = filter_agree _ _ (λ row. grind (arith, nat_tests, on)) lane.rows in
-    let serial : lane.serial + 0 ≡ lane.serial = omega arith in
-    ap (λ xs. record { name = lane.name; serial = lane.serial + 0; rows = filter (λ row. not (ends number row.serial (Closed id why) || false)) xs }) end
-    ∙ ap (λ xs. record { name = lane.name; serial = lane.serial + 0; rows = xs }) same
-    ∙ ap (λ n. record { name = lane.name; serial = n; rows = filter (λ row. not (row.serial == id.serial)) lane.rows }) serial
+rows-unspoken : (p : Plain) (number : ℕ) (e : Entry) (rows : List Row) → AllByRecursion (λ row. speaks_to number row.serial e.reply.said ≡ false) rows → AllByRecursion (λ row. by_counter row.tracks ≡ row.tracks) rows →
+    map (row_after p number (e ∷ [])) (filter (λ row. not (has_ended number (e ∷ []) row.serial)) rows) ≡ rows
+rows-unspoken p number e rows free sorted =
+    rows-left (row_after p number (e ∷ [])) (λ row. not (has_ended number (e ∷ []) row.serial)) (λ row. true) rows
+    (all-more (λ row. (speaks_to number row.serial e.reply.said ≡ false) × (by_counter row.tracks ≡ row.tracks)) (λ row. (not (has_ended number (e ∷ []) row.serial) ≡ true) × (true ≡ true → row_after p number (e ∷ []) row ≡ row)) rows
+    (λ row known. (stays number e row known.0, λ same. row-unspoken p number e row known.0 known.1))
+    (all-both (λ row. speaks_to number row.serial e.reply.said ≡ false) (λ row. by_counter row.tracks ≡ row.tracks) rows free sorted))
+    ∙ filter-true rows
 
--- the state after an accept alone
-pub after-accepted : (p : Plain) (moment listener : ℕ) (real : Ends) (id : ConnId) (reply : Reply) (lane : Lane) →
-    slice_get p.lanes id.frontend ≡ Some lane → id_of reply.said ≡ Some id → id.serial ≡ lane.serial + 1 → AreGiven lane.serial lane.rows →
-    after p (entry moment (Accepted listener real) reply ∷ []) ≡ record {
-      clock = max p.clock moment;
-      listeners = p.listeners;
-      lanes = slice_set p.lanes id.frontend (record { name = lane.name; serial = lane.serial + 1; rows = lane.rows ++ kept_by (newest p.versions) (max p.clock moment) real reply });
-      versions = p.versions;
-      tables = p.tables;
-    }
-after-accepted p moment listener real id reply lane there says next given =
-    ap (λ ls. record { clock = max p.clock moment; listeners = p.listeners; lanes = ls; versions = p.versions; tables = p.tables })
-    (map_from-one (lane_after p (entry moment (Accepted listener real) reply ∷ [])) 0 id.frontend p.lanes lane _ there
-    (accept_here (0 + id.frontend) p moment listener real reply id lane says (omega arith) given next)
-    (λ g y differs. accept_elsewhere g p moment listener real reply id y says (λ e. differs (omega arith))))
+all_unspoken : (number : ℕ) (said : Said) (rows : List Row) → ((serial : ℕ) → speaks_to number serial said ≡ false) → AllByRecursion (λ row. speaks_to number row.serial said ≡ false) rows
+all_unspoken number said [] none = tt
+all_unspoken number said (row ∷ rows) none = (none row.serial, all_unspoken number said rows none)
 
--- the state after a close alone
-pub after-closed : (p : Plain) (moment : ℕ) (id : ConnId) (why : Why) (lane : Lane) → slice_get p.lanes id.frontend ≡ Some lane →
-    after p (entry moment (Closing id why) (saying (Closed id why)) ∷ []) ≡ record {
-      clock = max p.clock moment;
-      listeners = p.listeners;
-      lanes = slice_set p.lanes id.frontend (record lane { rows = filter (λ row. not (row.serial == id.serial)) lane.rows });
-      versions = p.versions;
-      tables = p.tables;
-    }
-after-closed p moment id why lane there =
-    ap (λ ls. record { clock = max p.clock moment; listeners = p.listeners; lanes = ls; versions = p.versions; tables = p.tables })
-    (map_from-one (lane_after p (entry moment (Closing id why) (saying (Closed id why)) ∷ [])) 0 id.frontend p.lanes lane _ there
-    (close_here (0 + id.frontend) p moment id why lane (omega arith))
-    (λ g y differs. close_elsewhere g p moment id why y (λ e. differs (omega arith))))
+-- a frontend to which the reply does not speak is as it was
+frontend-elsewhere : (p : Plain) (number : ℕ) (e : Entry) (own : FrontendRows) → IsFrontendWell p.versions own → ((serial : ℕ) → speaks_to number serial e.reply.said ≡ false) →
+    is_accept_at number e.event e.reply.said ≡ false → arrival number (max p.clock e.moment) (newest_number p) e.event e.reply.said ≡ [] →
+    frontend_after p (e ∷ []) number own ≡ own
+frontend-elsewhere p number e own well none off nothing =
+    let serial : own.serial + (0 + 0) ≡ own.serial = omega arith in
+    let rows : map (row_after p number (e ∷ [])) (filter (λ row. not (has_ended number (e ∷ []) row.serial)) (own.rows ++ [])) ≡ own.rows =
+    ap (λ rs. map (row_after p number (e ∷ [])) (filter (λ row. not (has_ended number (e ∷ []) row.serial)) rs)) (append-nil own.rows)
+    ∙ rows-unspoken p number e own.rows (all_unspoken number e.reply.said own.rows none) well.sorted in
+    rw (off, nothing) (ap (λ n. record own { serial = n; rows = map (row_after p number (e ∷ [])) (filter (λ row. not (has_ended number (e ∷ []) row.serial)) (own.rows ++ [])) }) serial
+    ∙ ap (λ rs. record own { rows = rs }) rows)
 
--- where a connection is open, its frontend is there
-pub lane_there : (lanes : List Lane) (number serial : ℕ) (lane : Lane) → is_some (row_in serial (slice_get lanes number)) ≡ true → lane ≡ get_or lanes number lane → slice_get lanes number ≡ Some lane
-lane_there [] number serial lane found read = cc
-lane_there (l ∷ lanes) zero serial lane found read = ap (λ x. Some x) (sym read)
-lane_there (l ∷ lanes) (suc number) serial lane found read = lane_there lanes number serial lane found read
+other_conn : (number serial : ℕ) (said : Said) (id : ConnId) → id_of said ≡ Some id → number ≢ id.frontend → speaks_to number serial said ≡ false
+other_conn number serial said id whom differs =
+    let other : (id.frontend == number) ≡ false = grind (arith, nat_tests, differs) in
+    rw (whom, other) refl
 
--- the row that an accept leaves has the serial of its connection
-kept_serial : (version : Version) (clock : ℕ) (real : Ends) (reply : Reply) (said : Said) (row : Row) (id : ConnId) → row ∷ [] ≡ kept version clock real reply said → id_of said ≡ Some id → row.serial ≡ id.serial
-kept_serial version clock real reply (Offer id' used line server to judged send) row id is says =
-    let same : id' ≡ id = cc in
-    let left : row ≡ record {
-      serial = id'.serial;
-      version = version.number;
+-- An accept.
+
+-- what an accept leaves of the new connection, where this is said to it
+abbrev pub rows_left : Plain → ℕ → Ends → Said → List Row
+rows_left p clock real (Offer id used line server to judged send) =
+    record {
+      serial = id.serial;
+      version = newest_number p;
       real = real;
       accepted = clock;
-      phase = Offered (record { server = identity_of version.plan line server to; line = line; judged = judged });
-      tracks = reply.tracks.items;
-    } = cc in
-    ap (λ r. r.serial) left ∙ ap (λ i. i.serial) same
-kept_serial version clock real reply (Refuse id' used cause) row id is says = absurd (cc)
-kept_serial version clock real reply (Closed id' why) row id is says = absurd (cc)
+      phase = Offered (record { server = identity_of (plan_of p [] (newest_number p)) line server to; line = line; judged = judged });
+      tracks = [];
+    } ∷ []
+rows_left p clock real (Refuse id used cause) = []
+rows_left p clock real (Closed id why) = []
 
-pub left_serial : (version : Option Version) (clock : ℕ) (real : Ends) (reply : Reply) (row : Option Row) (id : ConnId) (n : ℕ) →
-    option_to_list row ≡ kept_by version clock real reply → id_of reply.said ≡ Some id → id.serial ≡ n → IfSome row (λ r. r.serial ≡ n)
-left_serial version clock real reply None id n is says next = tt
-left_serial None clock real reply (Some row) id n is says next = absurd (cc)
-left_serial (Some version) clock real reply (Some row) id n is says next = kept_serial version clock real reply reply.said row id is says ∙ next
+same_number : (n : ℕ) → (n == n) ≡ true
+same_number n = eq-eqb n n refl
+
+-- the row that the entry itself opens
+new_rows_left : (p : Plain) (moment listener : ℕ) (real : Ends) (said : Said) (id : ConnId) → id_of said ≡ Some id →
+    let e : Entry = entry moment (Accept listener real) (reply_of said) in
+    map (row_after p id.frontend (e ∷ [])) (filter (λ row. not (has_ended id.frontend (e ∷ []) row.serial)) (arrival id.frontend (max p.clock moment) (newest_number p) (Accept listener real) said))
+    ≡ rows_left p (max p.clock moment) real said
+new_rows_left p moment listener real (Offer id' used line server to judged send) id whom =
+    let same : id' ≡ id = let it : Some id' ≡ Some id = whom in cc in
+    let front : id'.frontend ≡ id.frontend = ap (λ i. i.frontend) same in
+    rw (front, same_number id.frontend, same_number id'.serial, same_number id.frontend) refl
+new_rows_left p moment listener real (Refuse id' used cause) id whom = refl
+new_rows_left p moment listener real (Closed id' why) id whom = refl
+
+accept-here : (p : Plain) (moment listener : ℕ) (real : Ends) (said : Said) (id : ConnId) (own : FrontendRows) → IsFrontendWell p.versions own → id_of said ≡ Some id → id.serial ≡ own.serial + 1 →
+    frontend_after p (entry moment (Accept listener real) (reply_of said) ∷ []) id.frontend own
+    ≡ record own { serial = own.serial + 1; rows = own.rows ++ rows_left p (max p.clock moment) real said }
+accept-here p moment listener real said id own well whom next =
+    let e : Entry = entry moment (Accept listener real) (reply_of said) in
+    let f : Row → Row = row_after p id.frontend (e ∷ []) in
+    let g : Row → Bool = λ row. not (has_ended id.frontend (e ∷ []) row.serial) in
+    let more : List Row = arrival id.frontend (max p.clock moment) (newest_number p) (Accept listener real) said in
+    let on : is_accept_at id.frontend (Accept listener real) said ≡ true = rw whom (same_number id.frontend) in
+    let unspoken : AllByRecursion (λ row. speaks_to id.frontend row.serial said ≡ false) own.rows =
+    all-more (λ row. row.serial ≤ own.serial) (λ row. speaks_to id.frontend row.serial said ≡ false) own.rows
+    (λ row le. let other : (id.serial == row.serial) ≡ false = grind (arith, nat_tests, next, le) in rw (whom, other, and_false (id.frontend == id.frontend)) refl) well.given in
+    let rows : map f (filter g (own.rows ++ more)) ≡ own.rows ++ rows_left p (max p.clock moment) real said =
+    ap (map f) (filter-append g own.rows more) ∙ map-append f (filter g own.rows) (filter g more)
+    ∙ ap (λ rs. rs ++ map f (filter g more)) (rows-unspoken p id.frontend e own.rows unspoken well.sorted)
+    ∙ ap (λ rs. own.rows ++ rs) (new_rows_left p moment listener real said id whom) in
+    ap (λ b. record own { serial = own.serial + (0 + (if b then 1 else 0)); rows = map f (filter g (own.rows ++ more)) }) on
+    ∙ ap (λ rs. record own { serial = own.serial + 1; rows = rs }) rows
+
+accept-elsewhere : (p : Plain) (moment listener : ℕ) (real : Ends) (said : Said) (id : ConnId) (number : ℕ) (own : FrontendRows) → IsFrontendWell p.versions own → id_of said ≡ Some id → number ≢ id.frontend →
+    frontend_after p (entry moment (Accept listener real) (reply_of said) ∷ []) number own ≡ own
+accept-elsewhere p moment listener real said id number own well whom differs =
+    let other : (id.frontend == number) ≡ false = grind (arith, nat_tests, differs) in
+    frontend-elsewhere p number (entry moment (Accept listener real) (reply_of said)) own well (λ serial. other_conn number serial said id whom differs)
+    (rw (whom, other) refl) (rw (whom, other, and_false _) refl)
+
+-- the state after an accept alone
+pub after-accept : (p : Plain) → IsWell p → (moment listener : ℕ) (real : Ends) (said : Said) (id : ConnId) (own : FrontendRows) →
+    slice_get p.frontends id.frontend ≡ Some own → id_of said ≡ Some id → id.serial ≡ own.serial + 1 →
+    after p (entry moment (Accept listener real) (reply_of said) ∷ []) ≡ record {
+      clock = max p.clock moment;
+      listeners = p.listeners;
+      frontends = slice_set p.frontends id.frontend (record own { serial = own.serial + 1; rows = own.rows ++ rows_left p (max p.clock moment) real said });
+      versions = p.versions;
+      tables = p.tables;
+    }
+after-accept p well moment listener real said id own there whom next =
+    let zero_plus : 0 + id.frontend ≡ id.frontend = omega arith in
+    ap (λ fs. record { clock = max p.clock moment; listeners = p.listeners; frontends = fs; versions = p.versions; tables = p.tables })
+    (map_from-one (IsFrontendWell p.versions) (frontend_after p (entry moment (Accept listener real) (reply_of said) ∷ [])) 0 id.frontend p.frontends own _ well.frontends there
+    (rw zero_plus (accept-here p moment listener real said id own (all-at (IsFrontendWell p.versions) p.frontends id.frontend own well.frontends there) whom next))
+    (λ g y known differs. accept-elsewhere p moment listener real said id g y known whom (λ e. differs (omega arith))))
+
+-- A close.
+
+close-here : (p : Plain) (moment : ℕ) (id : ConnId) (why : Why) (own : FrontendRows) → IsFrontendWell p.versions own →
+    frontend_after p (entry moment (Close id why) (reply_of (Closed id why)) ∷ []) id.frontend own ≡ record own { rows = filter (λ row. not (row.serial == id.serial)) own.rows }
+close-here p moment id why own well =
+    let e : Entry = entry moment (Close id why) (reply_of (Closed id why)) in
+    let f : Row → Row = row_after p id.frontend (e ∷ []) in
+    let g : Row → Bool = λ row. not (has_ended id.frontend (e ∷ []) row.serial) in
+    let g' : Row → Bool = λ row. not (row.serial == id.serial) in
+    let serial : own.serial + 0 ≡ own.serial = omega arith in
+    let rows : map f (filter g (own.rows ++ [])) ≡ filter g' own.rows =
+    ap (λ rs. map f (filter g rs)) (append-nil own.rows)
+    ∙ rows-left f g g' own.rows (all-more (λ row. by_counter row.tracks ≡ row.tracks) (λ row. (g row ≡ g' row) × (g' row ≡ true → f row ≡ row)) own.rows
+    (λ row sorted. (ends row, λ left. row-unspoken p id.frontend e row (speaks row left) sorted)) well.sorted) in
+    ap (λ n. record own { serial = n; rows = map f (filter g (own.rows ++ [])) }) serial ∙ ap (λ rs. record own { rows = rs }) rows
+  where
+    ends : (row : Row) → not (has_ended id.frontend (entry moment (Close id why) (reply_of (Closed id why)) ∷ []) row.serial) ≡ not (row.serial == id.serial)
+    ends row = let on : (id.frontend == id.frontend) ≡ true = same_number id.frontend in grind (arith, nat_tests, on)
+
+    speaks : (row : Row) → not (row.serial == id.serial) ≡ true → speaks_to id.frontend row.serial (Closed id why) ≡ false
+    speaks row left = let on : (id.frontend == id.frontend) ≡ true = same_number id.frontend in grind (arith, nat_tests, on, left)
+
+close-elsewhere : (p : Plain) (moment : ℕ) (id : ConnId) (why : Why) (number : ℕ) (own : FrontendRows) → IsFrontendWell p.versions own → number ≢ id.frontend →
+    frontend_after p (entry moment (Close id why) (reply_of (Closed id why)) ∷ []) number own ≡ own
+close-elsewhere p moment id why number own well differs =
+    frontend-elsewhere p number (entry moment (Close id why) (reply_of (Closed id why))) own well (λ serial. other_conn number serial (Closed id why) id refl differs) refl refl
+
+-- the state after a close alone
+pub after-close : (p : Plain) → IsWell p → (moment : ℕ) (id : ConnId) (why : Why) (own : FrontendRows) → slice_get p.frontends id.frontend ≡ Some own →
+    after p (entry moment (Close id why) (reply_of (Closed id why)) ∷ []) ≡ record {
+      clock = max p.clock moment;
+      listeners = p.listeners;
+      frontends = slice_set p.frontends id.frontend (record own { rows = filter (λ row. not (row.serial == id.serial)) own.rows });
+      versions = p.versions;
+      tables = p.tables;
+    }
+after-close p well moment id why own there =
+    let zero_plus : 0 + id.frontend ≡ id.frontend = omega arith in
+    ap (λ fs. record { clock = max p.clock moment; listeners = p.listeners; frontends = fs; versions = p.versions; tables = p.tables })
+    (map_from-one (IsFrontendWell p.versions) (frontend_after p (entry moment (Close id why) (reply_of (Closed id why)) ∷ [])) 0 id.frontend p.frontends own _ well.frontends there
+    (rw zero_plus (close-here p moment id why own (all-at (IsFrontendWell p.versions) p.frontends id.frontend own well.frontends there)))
+    (λ g y known differs. close-elsewhere p moment id why g y known (λ e. differs (omega arith))))
+
+-- where a connection is open, its frontend is there
+pub frontend_there : (frontends : List FrontendRows) (number serial : ℕ) (own : FrontendRows) → is_some (row_in serial (slice_get frontends number)) ≡ true → own ≡ get_or frontends number own → slice_get frontends number ≡ Some own
+frontend_there [] number serial own found read = cc
+frontend_there (f ∷ frontends) zero serial own found read = ap (λ x. Some x) (sym read)
+frontend_there (f ∷ frontends) (suc number) serial own found read = frontend_there frontends number serial own found read
+
+-- The plan of the version in force.
+
+-- the newest version is the one of its number
+newest-at : (versions : List Version) (v : Version) → Rise (λ version. version.number) versions → newest versions ≡ Some v → version_at versions v.number ≡ Some v
+newest-at [] v rise there = absurd (let wrong : None ≡ Some v = there in cc)
+newest-at (w ∷ []) v rise there = let same : w ≡ v = let it : Some w ≡ Some v = there in cc in rw (eq-eqb w.number v.number (ap (λ u. u.number) same)) (ap (λ u. Some u) same)
+newest-at (w ∷ x ∷ versions) v rise there =
+    let less : w.number < v.number = above (x ∷ versions) v there rise.0 in
+    let differs : (w.number == v.number) ≡ false = grind (arith, nat_tests, less) in
+    rw differs (newest-at (x ∷ versions) v rise.1 there)
+  where
+    above : (vs : List Version) (v : Version) → newest vs ≡ Some v → AllByRecursion (λ u. w.number < u.number) vs → w.number < v.number
+    above [] v there all = absurd (let wrong : None ≡ Some v = there in cc)
+    above (u ∷ []) v there all = let same : u ≡ v = let it : Some u ≡ Some v = there in cc in let n : u.number ≡ v.number = ap (λ x. x.number) same in omega (arith, all.0, n)
+    above (u ∷ y ∷ vs) v there all = above (y ∷ vs) v there all.1
+
+plan-version : (versions : List Version) (n : ℕ) (v : Version) → version_at versions n ≡ Some v → find {X = ℕ × Plan} (λ pair. pair.0 == n) (map (λ version. (version.number, version.plan)) versions) ≡ Some (n, v.plan)
+plan-version [] n v there = absurd (let wrong : None ≡ Some v = there in cc)
+plan-version (w ∷ versions) n v there = by (w.number == n) refl (plan-version versions n v)
+  where
+    by : (b : Bool) → (w.number == n) ≡ b → (version_at versions n ≡ Some v → find {X = ℕ × Plan} (λ pair. pair.0 == n) (map (λ version. (version.number, version.plan)) versions) ≡ Some (n, v.plan)) →
+        find {X = ℕ × Plan} (λ pair. pair.0 == n) (map (λ version. (version.number, version.plan)) (w ∷ versions)) ≡ Some (n, v.plan)
+    by true e rest =
+        let same : w ≡ v = let it : Some w ≡ Some v = rw e at there in cc in
+        let number : w.number ≡ n = eqb-true w.number n e in
+        rw (e, number) (ap (λ u. Some (n, u.plan)) same)
+    by false e rest = rw e (rest (rw e at there))
+
+-- the plan by which a new connection is read is that of the newest version
+pub plan_in_force : (p : Plain) → IsWell p → (v : Version) → newest p.versions ≡ Some v → plan_of p [] (newest_number p) ≡ Some v.plan
+plan_in_force p well v there =
+    let number : newest_number p ≡ v.number = ap (λ o. option_map_or (λ version. version.number) o 0) there in
+    rw (number, plan-version p.versions v.number v (newest-at p.versions v well.rise there)) refl

@@ -1,115 +1,112 @@
 -- What a balancer in a plain state answers to an event.
-use Rattle.std.specs.Prelude.{ℕ, List, [], find, slice_get, Option, Some, None, Result, Ok, Err, ◌+◌, ◌==◌, nat_le, nat_lt, if◌then◌else◌}
+use Rattle.std.specs.Prelude.{ℕ, List, [], ◌∷◌, ◌++◌, length, max, find, slice_get, slice_set, Option, Some, None, Result, Ok, Err, ◌+◌, ◌==◌, nat_le, nat_lt, if◌then◌else◌}
 use Rattle.std.specs.Str.{bytes_eq}
+use Rattle.list_core.specs.Each.{◌>>=◌}
 use Rattle.addr_core.specs.Ends.{Ends}
 use Rattle.plan_types.specs.declared.plan.Server.{Server}
-use Rattle.plan_types.specs.declared.plan.Backend.{Backend}
 use Rattle.plan_types.specs.declared.plan.Frontend.{Frontend}
 use Rattle.plan_types.specs.declared.plan.Plan.{Plan}
 use Rattle.conn_model.specs.declared.event.ConnId.{ConnId}
-use Rattle.conn_model.specs.declared.event.Happening.{Happening}
-use Rattle.conn_model.specs.declared.event.Happening.TheVariants.{Accepted, Closing}
+use Rattle.conn_model.specs.declared.event.OwnedEvent.{OwnedEvent}
+use Rattle.conn_model.specs.declared.event.OwnedEvent.TheVariants.{Accept, Close}
+use Rattle.conn_model.specs.declared.reply.Cause.{Cause}
 use Rattle.conn_model.specs.declared.reply.Cause.TheVariants.{Line, NoBackend, NoServer}
 use Rattle.conn_model.specs.declared.reply.Said.{Said}
 use Rattle.conn_model.specs.declared.reply.Said.TheVariants.{Offer, Refuse, Closed}
 use Rattle.conn_model.specs.declared.reply.Reply.{Reply}
 use Rattle.conn_model.specs.declared.reply.StepFault.{StepFault}
 use Rattle.conn_model.specs.declared.reply.StepFault.TheVariants.{NoListener, NoSuch, Exhausted}
+use Rattle.conn_model.specs.declared.plain.Phase.TheVariants.{Waiting}
 use Rattle.conn_model.specs.declared.plain.Row.{Row}
-use Rattle.conn_model.specs.declared.plain.Lane.{Lane}
-use Rattle.conn_model.specs.declared.plain.Listener.{Listener}
+use Rattle.conn_model.specs.declared.plain.FrontendRows.{FrontendRows}
 use Rattle.conn_model.specs.declared.plain.Version.{Version}
 use Rattle.conn_model.specs.declared.plain.Plain.{Plain}
-use Rattle.conn_model.specs.Words.{newest}
-use Rattle.conn_model.specs.Counts.{open_in}
-use Rattle.conn_model.specs.Rules.{Seat, View, view, rejected}
+use Rattle.conn_model.specs.Words.{newest, or_fault}
+use Rattle.conn_model.specs.Rules.{Candidate, RuleView, rule_view, rejection}
 
--- Connections of the state.
+-- The state, looked up.
 
-abbrev pub row_in : ℕ → Option Lane → Option Row
+abbrev pub row_in : ℕ → Option FrontendRows → Option Row
 row_in serial None = None
-row_in serial (Some lane) = find (λ row. row.serial == serial) lane.rows
+row_in serial (Some own) = find (λ row. row.serial == serial) own.rows
 
-abbrev pub row_at : List Lane → ConnId → Option Row
-row_at lanes id = row_in id.serial (slice_get lanes id.frontend)
+-- the open connection of that name
+abbrev pub row_at : List FrontendRows → ConnId → Option Row
+row_at frontends id = row_in id.serial (slice_get frontends id.frontend)
+
+abbrev pub version_at : List Version → ℕ → Option Version
+version_at versions number = find (λ version. version.number == number) versions
 
 abbrev pub frontend_in : Plan → List ℕ → Option Frontend
 frontend_in plan name = find (λ frontend. bytes_eq frontend.name name) plan.frontends
 
 -- a reply that makes no tracks
-abbrev pub saying : Said → Reply
-saying said = record { said = said; tracks = record { items = [] } }
+abbrev pub reply_of : Said → Reply
+reply_of said = record { said = said; tracks = record { items = [] } }
 
--- Choosing a server.
+-- Judging a connection.
 
--- an offer of the backend's server, with nothing to send before the stream
-abbrev pub offer : ConnId → ℕ → Ends → Backend → Option Server → Said
-offer id used judged backend None = Refuse id used (NoServer backend.line)
-offer id used judged backend (Some server) = Offer id used server.line 0 server.to judged (record { items = [] })
+-- the server of the default backend, or why there is none
+abbrev pub server_for : Candidate → Result Server Cause
+server_for candidate = do
+  number ← or_fault (NoBackend candidate.frontend.line) candidate.frontend.default
+  backend ← or_fault (NoBackend candidate.frontend.line) (slice_get candidate.version.plan.backends number)
+  or_fault (NoServer backend.line) (slice_get backend.servers 0)
 
-abbrev pub served_by : View → ℕ → Ends → Option Backend → Said
-served_by v used judged None = Refuse v.seat.id used (NoBackend v.seat.frontend.line)
-served_by v used judged (Some backend) = offer v.seat.id used judged backend (slice_get backend.servers 0)
+-- a server, unless a line rejects the connection
+abbrev pub server_unless : Candidate → Option ℕ → Result Server Cause
+server_unless candidate (Some line) = Err (Line line)
+server_unless candidate None = server_for candidate
 
-abbrev pub served_at : View → ℕ → Ends → Option ℕ → Said
-served_at v used judged None = Refuse v.seat.id used (NoBackend v.seat.frontend.line)
-served_at v used judged (Some n) = served_by v used judged (slice_get v.seat.version.plan.backends n)
+-- at the accept, where so many other connections of the frontend are open: the limit of the frontend
+-- first, then the connection rules on the real source, then a server
+abbrev pub verdict : Candidate → Ends → ℕ → Result Server Cause
+verdict candidate real others =
+    if nat_le candidate.frontend.limit others then Err (Line candidate.frontend.limit_line)
+    else server_unless candidate (rejection (rule_view candidate real.source.addr) candidate.frontend.connection_rules)
 
--- the default backend, then its server
-abbrev pub choose : View → ℕ → Ends → Said
-choose v used judged = served_at v used judged v.seat.frontend.default
+-- an offer of the server, with nothing to send before the stream, or a refusal
+abbrev pub said_of : ConnId → Ends → Result Server Cause → Said
+said_of id judged (Ok server) = Offer id 0 server.line 0 server.to judged (record { items = [] })
+said_of id judged (Err cause) = Refuse id 0 cause
 
 -- An accept.
 
-abbrev pub ruled : View → Ends → Option ℕ → Said
-ruled v real (Some line) = Refuse v.seat.id 0 (Line line)
-ruled v real None = choose v 0 real
+-- a connection that was accepted, and has no server yet
+abbrev pub new_row : ℕ → ℕ → Ends → ℕ → Row
+new_row serial version real clock = record { serial = serial; version = version; real = real; accepted = clock; phase = Waiting; tracks = [] }
 
--- the connection rules on the real source, then a server
-abbrev pub tried : View → Ends → Said
-tried v real = ruled v real (rejected v v.seat.frontend.connection_rules)
+-- the state with one more row of the frontend of that number, which has these rows
+abbrev pub with_row : Plain → ℕ → FrontendRows → Row → Plain
+with_row p number own row = record p { frontends = slice_set p.frontends number (record own { serial = row.serial; rows = own.rows ++ row ∷ [] }) }
 
--- the frontend's limit first, on the connections that are open before this one
-abbrev pub admitted : View → Ends → Said
-admitted v real =
-    if nat_le v.seat.frontend.limit (open_in v.seat.others v.seat.id.frontend)
-    then Refuse v.seat.id 0 (Line v.seat.frontend.limit_line)
-    else tried v real
+-- where a connection is judged at its accept: it is one of the rows
+abbrev pub candidate_at : Plain → ℕ → ℕ → Ends → FrontendRows → Version → Frontend → Candidate
+candidate_at p clock number real own version frontend = record {
+  state = with_row p number own (new_row (own.serial + 1) version.number real clock);
+  version = version;
+  frontend = frontend;
+  id = record { frontend = number; serial = own.serial + 1 };
+}
 
--- the name of the next connection
-abbrev pub next_id : ℕ → Lane → ConnId
-next_id number lane = record { frontend = number; serial = lane.serial + 1 }
-
-abbrev pub seat_of : List Lane → ℕ → Lane → Version → Frontend → Seat
-seat_of lanes number lane version frontend = record { others = lanes; version = version; frontend = frontend; id = next_id number lane }
-
-abbrev pub accepted_by : List Lane → ℕ → Ends → Lane → Version → Frontend → Result Reply StepFault
-accepted_by lanes number real lane version frontend =
-    if nat_lt lane.serial 0xFFFF_FFFF_FFFF_FFFF
-    then Ok (saying (admitted (view (seat_of lanes number lane version frontend) real.source.addr) real))
-    else Err Exhausted
-
-abbrev pub accepted_in : List Lane → ℕ → Ends → Lane → Version → Option Frontend → Result Reply StepFault
-accepted_in lanes number real lane version None = Err NoListener
-accepted_in lanes number real lane version (Some frontend) = accepted_by lanes number real lane version frontend
-
-abbrev pub accepted_on : List Lane → ℕ → Ends → Option Lane → Option Version → Result Reply StepFault
-accepted_on lanes number real None version = Err NoListener
-accepted_on lanes number real (Some lane) None = Err NoListener
-accepted_on lanes number real (Some lane) (Some version) = accepted_in lanes number real lane version (frontend_in version.plan lane.name)
+-- the reply to a candidate, where so many other connections of its frontend are open
+abbrev pub admission : Candidate → Ends → ℕ → Reply
+admission candidate real others = reply_of (said_of candidate.id real (verdict candidate real others))
 
 -- an accept is judged by the newest version, in the frontend of its listener
-abbrev pub accepted_at : Plain → Ends → Option Listener → Result Reply StepFault
-accepted_at p real None = Err NoListener
-accepted_at p real (Some listener) = accepted_on p.lanes listener.frontend real (slice_get p.lanes listener.frontend) (newest p.versions)
+abbrev pub accept_answer : Plain → ℕ → ℕ → Ends → Result Reply StepFault
+accept_answer p clock listener real = do
+  at ← or_fault NoListener (slice_get p.listeners listener)
+  own ← or_fault NoListener (slice_get p.frontends at.frontend)
+  version ← or_fault NoListener (newest p.versions)
+  frontend ← or_fault NoListener (frontend_in version.plan own.name)
+  if nat_lt own.serial 0xFFFF_FFFF_FFFF_FFFF then Ok (admission (candidate_at p clock at.frontend real own version frontend) real (length own.rows)) else Err Exhausted
 
--- A close.
+-- a connection that is open may be closed
+abbrev pub close_answer : Plain → ConnId → Said → Result Reply StepFault
+close_answer p id said = or_fault NoSuch (row_at p.frontends id) >>= λ row. Ok (reply_of said)
 
-abbrev pub closed : Said → Option Row → Result Reply StepFault
-closed said None = Err NoSuch
-closed said (Some row) = Ok (saying said)
-
--- the reply to an event, or the fault that stands against it
-abbrev pub answer_in : Plain → ℕ → Happening → Result Reply StepFault
-answer_in p moment (Accepted listener real) = accepted_at p real (slice_get p.listeners listener)
-answer_in p moment (Closing id why) = closed (Closed id why) (row_at p.lanes id)
+-- the reply to an event, or why it has none
+abbrev pub answer_in : Plain → ℕ → OwnedEvent → Result Reply StepFault
+answer_in p moment (Accept listener real) = accept_answer p (max p.clock moment) listener real
+answer_in p moment (Close id why) = close_answer p id (Closed id why)

@@ -1,42 +1,46 @@
 -- What happened, and what is left of it.
-use Rattle.std.specs.Prelude.{ℕ, Bool, true, false, not, max, List, [], map, filter, find, slice_get, Option, Some, None, Result, Ok, flat_map, ◌+◌, ◌≡◌, ◌==◌, ◌&&◌, ◌∷◌, ◌++◌, if◌then◌else◌}
+use Rattle.std.specs.Prelude.{ℕ, Bool, true, false, not, max, List, [], map, filter, find, slice_get, length, Option, Some, None, option_map, option_and_then, option_to_list, IsSome, Result, Ok, Err, flat_map, ◌⊎◌, ◌+◌, ◌≤◌, ◌≡◌, ◌==◌, ◌&&◌, ◌∷◌, ◌++◌, if◌then◌else◌}
 use Rattle.std.specs.List.{list_any, AllByRecursion, enumerate_from}
 use Rattle.std.specs.Option.{option_map_or}
 use Rattle.addr_core.specs.declared.addr.Endpoint.{Endpoint}
 use Rattle.addr_core.specs.Ends.{Ends}
+use Rattle.proxy_types.specs.declared.server.ServerIdentity.{ServerIdentity}
 use Rattle.plan_types.specs.declared.plan.Frontend.{Frontend}
 use Rattle.plan_types.specs.declared.plan.Backend.{Backend}
 use Rattle.plan_types.specs.declared.plan.Plan.{Plan}
+use Rattle.plan_types.specs.declared.track.Track.{Track}
 use Rattle.plan_types.specs.Lines.{has_line}
 use Rattle.conn_model.specs.declared.event.ConnId.{ConnId}
 use Rattle.conn_model.specs.declared.event.Event.{Event}
 use Rattle.conn_model.specs.declared.event.Event.TheVariants as events
-use Rattle.conn_model.specs.declared.event.Happening.{Happening}
-use Rattle.conn_model.specs.declared.event.Happening.TheVariants.{Accepted, Closing}
+use Rattle.conn_model.specs.declared.event.OwnedEvent.{OwnedEvent}
+use Rattle.conn_model.specs.declared.event.OwnedEvent.TheVariants.{Accept, Close}
 use Rattle.conn_model.specs.declared.reply.Said.{Said}
 use Rattle.conn_model.specs.declared.reply.Said.TheVariants.{Offer, Refuse, Closed}
 use Rattle.conn_model.specs.declared.reply.Reply.{Reply}
 use Rattle.conn_model.specs.declared.reply.StepFault.{StepFault}
-use Rattle.proxy_types.specs.declared.server.ServerIdentity.{ServerIdentity}
+use Rattle.conn_model.specs.declared.reply.StepFault.TheVariants.{NoMemory}
+use Rattle.conn_model.specs.declared.plain.Phase.{Phase}
 use Rattle.conn_model.specs.declared.plain.Phase.TheVariants.{Offered}
 use Rattle.conn_model.specs.declared.plain.Row.{Row}
-use Rattle.conn_model.specs.declared.plain.Lane.{Lane}
+use Rattle.conn_model.specs.declared.plain.FrontendRows.{FrontendRows}
 use Rattle.conn_model.specs.declared.plain.Listener.{Listener}
 use Rattle.conn_model.specs.declared.plain.Version.{Version}
+use Rattle.conn_model.specs.declared.plain.TableState.{TableState}
 use Rattle.conn_model.specs.declared.plain.Plain.{Plain}
-use Rattle.conn_model.specs.Words.{is_conn, newest, map_from, AreGiven}
 use Rattle.conn_model.specs.declared.ask.Ask.{Ask}
 use Rattle.conn_model.specs.declared.ask.Counts.{Counts}
+use Rattle.conn_model.specs.Words.{is_conn, newest, map_from, Rise}
 use Rattle.conn_model.specs.Counts.{counts_in}
-use Rattle.conn_model.specs.Answer.{answer_in}
+use Rattle.conn_model.specs.Answer.{answer_in, new_row, version_at}
 
 -- an answered event, with the moment that was handed in
 pub record Entry : Type 0 where
   pub moment : ℕ
-  pub event : Happening
+  pub event : OwnedEvent
   pub reply : Reply
 
-abbrev pub entry : ℕ → Happening → Reply → Entry
+abbrev pub entry : ℕ → OwnedEvent → Reply → Entry
 entry moment event reply = record { moment = moment; event = event; reply = reply }
 
 -- A history is the list of the entries, the newest first.
@@ -53,10 +57,34 @@ id_of (Offer id used line server to judged send) = Some id
 id_of (Refuse id used cause) = Some id
 id_of (Closed id why) = Some id
 
-abbrev pub speaks : ℕ → ℕ → Said → Bool
-speaks number serial said = option_map_or (is_conn number serial) (id_of said) false
+-- the reply speaks to the connection of that frontend and serial
+abbrev pub speaks_to : ℕ → ℕ → Said → Bool
+speaks_to number serial said = option_map_or (is_conn number serial) (id_of said) false
 
--- Who serves a connection.
+-- Versions of the configuration, by their numbers.
+
+-- the version that an event brings into force, with its plan
+abbrev pub version_of : OwnedEvent → Option (ℕ × Plan)
+version_of (Accept listener real) = None
+version_of (Close id why) = None
+
+-- the number of the version in force: of the last that was brought, else of the newest at the start
+abbrev pub in_force : ℕ → List Entry → ℕ
+in_force start [] = start
+in_force start (e ∷ h) = option_map_or (λ brought. brought.0) (version_of e.event) (in_force start h)
+
+abbrev pub newest_number : Plain → ℕ
+newest_number p = option_map_or (λ version. version.number) (newest p.versions) 0
+
+-- the plans by the numbers of their versions: those at the start, and those that were brought
+abbrev pub plans : Plain → List Entry → List (ℕ × Plan)
+plans p [] = map (λ version. (version.number, version.plan)) p.versions
+plans p (e ∷ h) = plans p h ++ option_to_list (version_of e.event)
+
+abbrev pub plan_of : Plain → List Entry → ℕ → Option Plan
+plan_of p h number = option_map (λ pair. pair.1) (find (λ pair. pair.0 == number) (plans p h))
+
+-- What a connection is in, by the replies that speak to it.
 
 abbrev pub identity_at : ℕ → Endpoint → Backend → ServerIdentity
 identity_at n to backend = record { backend = backend.name; name = option_map_or (λ server. server.name) (slice_get backend.servers n) []; to = to }
@@ -65,41 +93,32 @@ abbrev pub nobody : Endpoint → ServerIdentity
 nobody to = record { backend = []; name = []; to = to }
 
 -- the server of a line, with its number in its backend
-abbrev pub identity_of : Plan → ℕ → ℕ → Endpoint → ServerIdentity
-identity_of plan line n to = option_map_or (identity_at n to) (find (has_line line) plan.backends) (nobody to)
+abbrev pub identity_of : Option Plan → ℕ → ℕ → Endpoint → ServerIdentity
+identity_of plan line n to = option_map_or (identity_at n to) (option_and_then (λ plan. find (has_line line) plan.backends) plan) (nobody to)
+
+-- the phase after a reply that speaks to the connection
+abbrev pub phase_by : Option Plan → Said → Phase → Phase
+phase_by plan (Offer id used line server to judged send) phase = Offered (record { server = identity_of plan line server to; line = line; judged = judged })
+phase_by plan (Refuse id used cause) phase = phase
+phase_by plan (Closed id why) phase = phase
+
+abbrev pub phase_after : Plain → ℕ → ℕ → ℕ → Phase → List Entry → Phase
+phase_after p number serial version start [] = start
+phase_after p number serial version start (e ∷ h) =
+    if speaks_to number serial e.reply.said
+    then phase_by (plan_of p h version) e.reply.said (phase_after p number serial version start h)
+    else phase_after p number serial version start h
+
+-- the tracks that were made for a connection, the oldest first
+abbrev pub tracks_of : ℕ → ℕ → List Entry → List Track
+tracks_of number serial [] = []
+tracks_of number serial (e ∷ h) = tracks_of number serial h ++ (if speaks_to number serial e.reply.said then e.reply.tracks.items else [])
+
+-- in the order of counters
+abbrev pub by_counter : List Track → List Track
+by_counter tracks = filter (λ track. track.counter == 0) tracks ++ filter (λ track. track.counter == 1) tracks ++ filter (λ track. track.counter == 2) tracks
 
 -- Which connections are open.
-
--- the connection that a reply to an accept left open
-abbrev pub kept : Version → ℕ → Ends → Reply → Said → List Row
-kept version clock real reply (Offer id used line server to judged send) =
-    record {
-      serial = id.serial;
-      version = version.number;
-      real = real;
-      accepted = clock;
-      phase = Offered (record { server = identity_of version.plan line server to; line = line; judged = judged });
-      tracks = reply.tracks.items;
-    } ∷ []
-kept version clock real reply (Refuse id used cause) = []
-kept version clock real reply (Closed id why) = []
-
-abbrev pub kept_by : Option Version → ℕ → Ends → Reply → List Row
-kept_by None clock real reply = []
-kept_by (Some version) clock real reply = kept version clock real reply reply.said
-
--- the reply speaks to a connection of the frontend
-abbrev pub is_of : ℕ → Said → Bool
-is_of number said = option_map_or (λ id. id.frontend == number) (id_of said) false
-
-abbrev pub opened_by : ℕ → Option Version → ℕ → Happening → Reply → List Row
-opened_by number version clock (Accepted listener real) reply = if is_of number reply.said then kept_by version clock real reply else []
-opened_by number version clock (Closing id why) reply = []
-
--- all that were opened in a frontend, the oldest first
-abbrev pub opened : Plain → ℕ → List Entry → List Row
-opened p number [] = []
-opened p number (e ∷ h) = opened p number h ++ opened_by number (newest p.versions) (now_of p.clock (e ∷ h)) e.event e.reply
 
 -- the reply is a last one
 abbrev pub is_last : Said → Bool
@@ -107,58 +126,119 @@ is_last (Offer id used line server to judged send) = false
 is_last (Refuse id used cause) = true
 is_last (Closed id why) = true
 
--- the reply ends the connection
-abbrev pub ends : ℕ → ℕ → Said → Bool
-ends number serial said = is_last said && speaks number serial said
+-- the reply to an accept leaves the connection open
+abbrev pub leaves_open : Said → Bool
+leaves_open (Offer id used line server to judged send) = true
+leaves_open (Refuse id used cause) = false
+leaves_open (Closed id why) = false
 
--- some reply ends it
-abbrev pub ended : ℕ → List Entry → ℕ → Bool
-ended number h serial = list_any (λ e. ends number serial e.reply.said) h
+abbrev pub arrival_of : ℕ → ℕ → ℕ → Ends → Said → Option ConnId → List Row
+arrival_of number clock version real said None = []
+arrival_of number clock version real said (Some id) = if leaves_open said && (id.frontend == number) then new_row id.serial version real clock ∷ [] else []
 
-abbrev pub is_accept_at : ℕ → Happening → Said → Bool
-is_accept_at number (Accepted listener real) said = is_of number said
-is_accept_at number (Closing id why) said = false
+-- the row that an event opens in the frontend, as it is at its accept
+abbrev pub arrival : ℕ → ℕ → ℕ → OwnedEvent → Said → List Row
+arrival number clock version (Accept listener real) said = arrival_of number clock version real said (id_of said)
+arrival number clock version (Close id why) said = []
+
+-- all that were opened in a frontend, the oldest first, each as it was at its accept
+abbrev pub arrivals : Plain → ℕ → List Entry → List Row
+arrivals p number [] = []
+arrivals p number (e ∷ h) = arrivals p number h ++ arrival number (now_of p.clock (e ∷ h)) (in_force (newest_number p) h) e.event e.reply.said
+
+-- some reply ends the connection
+abbrev pub has_ended : ℕ → List Entry → ℕ → Bool
+has_ended number h serial = list_any (λ e. is_last e.reply.said && speaks_to number serial e.reply.said) h
+
+abbrev pub is_accept_at : ℕ → OwnedEvent → Said → Bool
+is_accept_at number (Accept listener real) said = option_map_or (λ id. id.frontend == number) (id_of said) false
+is_accept_at number (Close id why) said = false
 
 -- the accepts of the frontend that were answered
 abbrev pub accepts : ℕ → List Entry → ℕ
 accepts number [] = 0
 accepts number (e ∷ h) = accepts number h + (if is_accept_at number e.event e.reply.said then 1 else 0)
 
--- a frontend after the history: the connections that were opened, without those that were ended
-abbrev pub lane_after : Plain → List Entry → ℕ → Lane → Lane
-lane_after p h number lane = record {
-  name = lane.name;
-  serial = lane.serial + accepts number h;
-  rows = filter (λ row. not (ended number h row.serial)) (lane.rows ++ opened p number h);
+-- a row as the replies to its connection left it
+abbrev pub row_after : Plain → ℕ → List Entry → Row → Row
+row_after p number h row = record row {
+  phase = phase_after p number row.serial row.version row.phase h;
+  tracks = by_counter (row.tracks ++ tracks_of number row.serial h);
 }
+
+-- a frontend after the history: the connections that were opened, without those that were ended
+abbrev pub frontend_after : Plain → List Entry → ℕ → FrontendRows → FrontendRows
+frontend_after p h number own = record own {
+  serial = own.serial + accepts number h;
+  rows = map (row_after p number h) (filter (λ row. not (has_ended number h row.serial)) (own.rows ++ arrivals p number h));
+}
+
+abbrev pub frontends_after : Plain → List Entry → List FrontendRows
+frontends_after p h = map_from (frontend_after p h) 0 p.frontends
+
+-- a version as it is when it comes into force: nothing of its backends was used
+abbrev pub new_version : ℕ → Plan → Version
+new_version number plan = record { number = number; plan = plan; tables = []; cursors = map (λ backend. None) plan.backends }
+
+abbrev pub with_version : List Version → Option (ℕ × Plan) → List Version
+with_version versions None = versions
+with_version versions (Some (number, plan)) = versions ++ new_version number plan ∷ []
+
+-- the versions, one entry after the other
+abbrev pub versions_after : Plain → List Entry → List Version
+versions_after p [] = p.versions
+versions_after p (e ∷ h) = with_version (versions_after p h) (version_of e.event)
+
+-- the tables, one entry after the other; no event changes one yet
+abbrev pub tables_after : Plain → List Entry → List TableState
+tables_after p [] = p.tables
+tables_after p (e ∷ h) = tables_after p h
 
 -- the plain state after the history
 abbrev pub after : Plain → List Entry → Plain
 after p h = record {
   clock = now_of p.clock h;
   listeners = p.listeners;
-  lanes = map_from (lane_after p h) 0 p.lanes;
-  versions = p.versions;
-  tables = p.tables;
+  frontends = frontends_after p h;
+  versions = versions_after p h;
+  tables = tables_after p h;
 }
 
 -- the answer to an event after the history
-abbrev pub answer : Plain → List Entry → ℕ → Happening → Result Reply StepFault
+abbrev pub answer : Plain → List Entry → ℕ → OwnedEvent → Result Reply StepFault
 answer p h moment event = answer_in (after p h) moment event
 
 -- the counts that are asked for after the history
 abbrev pub counts : Plain → List Entry → Ask → Option Counts
 counts p h ask = counts_in (after p h) ask
 
+-- a step may end in that fault: it is the answer, or there was no memory for a reply
+abbrev pub IsFault : Result Reply StepFault → StepFault → Type 0
+IsFault answer fault = (answer ≡ Err fault) ⊎ ((fault ≡ NoMemory) × ((reply : Reply) × (answer ≡ Ok reply)))
+
 -- each reply is the answer after what was before it
 abbrev pub IsLegal : Plain → List Entry → Type 0
 IsLegal p [] = Unit {0}
 IsLegal p (e ∷ h) = IsLegal p h × (answer p h e.moment e.event ≡ Ok e.reply)
 
--- a state that an opening or a legal history can leave
+-- the serials of the rows rise and were given out, each row's version is kept, and its tracks are by counter
+pub record IsFrontendWell (versions : List Version) (own : FrontendRows) : Type 0 where
+  pub rise : Rise (λ row. row.serial) own.rows
+  pub given : AllByRecursion (λ row. row.serial ≤ own.serial) own.rows
+  pub kept : AllByRecursion (λ row. IsSome (version_at versions row.version)) own.rows
+  pub sorted : AllByRecursion (λ row. by_counter row.tracks ≡ row.tracks) own.rows
+
+-- there is a cursor for each backend
+pub record IsVersionWell (version : Version) : Type 0 where
+  pub cursors : length version.cursors ≡ length version.plan.backends
+
+-- a state that an opening or a legal history can leave: besides, the numbers of the versions rise, and
+-- there is a newest
 pub record IsWell (p : Plain) : Type 0 where
-  -- in each frontend the serials of the rows were given out
-  pub serials : AllByRecursion (λ lane. AreGiven lane.serial lane.rows) p.lanes
+  pub frontends : AllByRecursion (IsFrontendWell p.versions) p.frontends
+  pub rise : Rise (λ version. version.number) p.versions
+  pub last : IsSome (newest p.versions)
+  pub versions : AllByRecursion IsVersionWell p.versions
 
 -- nothing happened yet
 
@@ -170,15 +250,15 @@ abbrev pub opening : Plan → ℕ → Plain
 opening plan last = record {
   clock = 0;
   listeners = flat_map listeners_of (enumerate_from 0 plan.frontends);
-  lanes = map (λ frontend. record { name = frontend.name; serial = last; rows = [] }) plan.frontends;
-  versions = record { number = 1; plan = plan; tables = []; cursors = map (λ backend. None) plan.backends } ∷ [];
+  frontends = map (λ frontend. record { name = frontend.name; serial = last; rows = [] }) plan.frontends;
+  versions = new_version 1 plan ∷ [];
   tables = [];
 }
 
 -- an event as a history keeps it
-abbrev pub happening : Event → Happening
-happening (events.Accept listener real) = Accepted listener real
-happening (events.Close id why) = Closing id why
+abbrev pub owned_event : Event → OwnedEvent
+owned_event (events.Accept listener real) = Accept listener real
+owned_event (events.Close id why) = Close id why
 
 -- the event ends a connection, and asks for no memory
 abbrev pub NeedsNoMemory : Event → Type 0

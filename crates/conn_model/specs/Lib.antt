@@ -3,5 +3,3 @@ pub mod Counts
 pub mod Rules
 pub mod Answer
 pub mod History
-pub mod Runs
-pub mod Samples

@@ -1,7 +1,9 @@
 //! Copies of a plain state and of its parts.
 ghost use Rattle.std.specs.Prelude.{◌≡◌, IfOk};
 
-use crate::plain::{Item, Kept, Lane, Listener, Phase, Plain, Row, Served, Version};
+use crate::plain::{
+    Assignment, FrontendRows, Listener, Phase, Plain, Row, TableEntry, TableState, Version,
+};
 use list_core::Duplicate;
 use std::alloc::{AllocError, Global};
 
@@ -10,16 +12,16 @@ impl Duplicate for Plain {
         Ok(Plain {
             clock: self.clock,
             listeners: self.listeners.duplicate(alloc)?,
-            lanes: self.lanes.duplicate(alloc)?,
+            frontends: self.frontends.duplicate(alloc)?,
             versions: self.versions.duplicate(alloc)?,
             tables: self.tables.duplicate(alloc)?,
         })
     }
 }
 
-impl Duplicate for Lane {
-    fn duplicate(&self, alloc: Global) -> Result<Lane, AllocError> {
-        Ok(Lane {
+impl Duplicate for FrontendRows {
+    fn duplicate(&self, alloc: Global) -> Result<FrontendRows, AllocError> {
+        Ok(FrontendRows {
             name: self.name.duplicate(alloc)?,
             serial: self.serial,
             rows: self.rows.duplicate(alloc)?,
@@ -43,14 +45,15 @@ impl Duplicate for Row {
 impl Duplicate for Phase {
     fn duplicate(&self, alloc: Global) -> Result<Phase, AllocError> {
         match self {
-            Phase::Offered(served) => Ok(Phase::Offered(served.duplicate(alloc)?)),
+            Phase::Waiting => Ok(Phase::Waiting),
+            Phase::Offered(assignment) => Ok(Phase::Offered(assignment.duplicate(alloc)?)),
         }
     }
 }
 
-impl Duplicate for Served {
-    fn duplicate(&self, alloc: Global) -> Result<Served, AllocError> {
-        Ok(Served {
+impl Duplicate for Assignment {
+    fn duplicate(&self, alloc: Global) -> Result<Assignment, AllocError> {
+        Ok(Assignment {
             server: self.server.duplicate(alloc)?,
             line: self.line,
             judged: self.judged,
@@ -69,12 +72,12 @@ impl Duplicate for Version {
     }
 }
 
-impl Duplicate for Kept {
-    fn duplicate(&self, alloc: Global) -> Result<Kept, AllocError> {
-        Ok(Kept {
+impl Duplicate for TableState {
+    fn duplicate(&self, alloc: Global) -> Result<TableState, AllocError> {
+        Ok(TableState {
             id: self.id,
             table: self.table.duplicate(alloc)?,
-            items: self.items.duplicate(alloc)?,
+            entries: self.entries.duplicate(alloc)?,
         })
     }
 }
@@ -85,8 +88,8 @@ impl Duplicate for Listener {
     }
 }
 
-impl Duplicate for Item {
-    fn duplicate(&self, _alloc: Global) -> Result<Item, AllocError> {
+impl Duplicate for TableEntry {
+    fn duplicate(&self, _alloc: Global) -> Result<TableEntry, AllocError> {
         Ok(*self)
     }
 }

@@ -24,12 +24,13 @@ pub enum Why {
 pub enum Event {
     /// A connection came to a listener, by its number; the pair is its peer and its local end.
     Accept(u16, Pair),
+    /// A connection ended.
     Close(ConnId, Why),
 }
 
-/// An event as a history keeps it, with memory of its own.
+/// An event with memory of its own, as a history keeps it.
 #[derive(Debug, Drop)]
-pub enum Happening {
-    Accepted(u16, Pair),
-    Closing(ConnId, Why),
+pub enum OwnedEvent {
+    Accept(u16, Pair),
+    Close(ConnId, Why),
 }

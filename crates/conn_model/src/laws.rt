@@ -1,17 +1,30 @@
 //! Laws of the definitions, which every body meets that does by them.
-ghost use Rattle.std.specs.Prelude.{◌≡◌, ℕ, List, ◌++◌};
-ghost use Rattle.conn_model.specs.History.{after, answer, counts, IsLegal, IsWell, Entry};
+ghost use Rattle.std.specs.Prelude.{◌≡◌, ℕ, List, [], ◌++◌, ◌∷◌};
+ghost use Rattle.conn_model.specs.History.{after, answer, counts, opening, IsLegal, IsWell, Entry};
 ghost use Rattle.conn_model.specs.declared.plain.Plain.{Plain};
-ghost use Rattle.conn_model.specs.declared.event.Happening.{Happening};
+ghost use Rattle.plan_types.specs.declared.plan.Plan as plans;
+ghost use Rattle.conn_model.specs.declared.event.OwnedEvent.{OwnedEvent};
 ghost use Rattle.conn_model.specs.declared.ask.Ask.{Ask};
 
-/// What is answered and counted after a history in two parts is what is answered and counted after
-/// the second part, from the state that the first one leaves.
+/// What is answered and counted after a history in two parts (`g` after `h`) is what is answered and
+/// counted after the second part, from the state that the first one leaves.
 pub fn history_in_parts()
-    ensures answers { (p : Plain) (h g : List Entry) (moment : ℕ) (event : Happening) → IsWell p → IsLegal p (g ++ h) →
-        answer p (g ++ h) moment event ≡ answer (after p h) g moment event }
-    ensures counted { (p : Plain) (h g : List Entry) (ask : Ask) → IsWell p → IsLegal p (g ++ h) → counts p (g ++ h) ask ≡ counts (after p h) g ask }
-    ensures states { (p : Plain) (h g : List Entry) → IsWell p → IsLegal p (g ++ h) → after p (g ++ h) ≡ after (after p h) g }
-    ensures legal { (p : Plain) (h g : List Entry) → IsWell p → IsLegal p (g ++ h) → IsLegal (after p h) g }
-    ensures well { (p : Plain) (h : List Entry) → IsWell p → IsLegal p h → IsWell (after p h) }
+    ensures states { (p : Plain) → IsWell p → (g h : List Entry) → IsLegal p (g ++ h) → after (after p h) g ≡ after p (g ++ h) }
+    ensures answers { (p : Plain) → IsWell p → (g h : List Entry) (moment : ℕ) (event : OwnedEvent) → IsLegal p (g ++ h) →
+        answer (after p h) g moment event ≡ answer p (g ++ h) moment event }
+    ensures counted { (p : Plain) → IsWell p → (g h : List Entry) (ask : Ask) → IsLegal p (g ++ h) → counts (after p h) g ask ≡ counts p (g ++ h) ask }
+{}
+
+/// A history is legal where its first part is, and its second from the state after the first.
+pub fn legal_in_parts()
+    ensures first { (p : Plain) (g h : List Entry) → IsLegal p (g ++ h) → IsLegal p h }
+    ensures rest { (p : Plain) → IsWell p → (g h : List Entry) → IsLegal p (g ++ h) → IsLegal (after p h) g }
+    ensures whole { (p : Plain) → IsWell p → (g h : List Entry) → IsLegal p h → IsLegal (after p h) g → IsLegal p (g ++ h) }
+{}
+
+/// A balancer that opens is well, stays so along a legal history, and nothing leaves it as it was.
+pub fn stays_well()
+    ensures opens { (plan : plans.Plan) (last : ℕ) → IsWell (opening plan last) }
+    ensures keeps { (p : Plain) → IsWell p → (h : List Entry) → IsLegal p h → IsWell (after p h) }
+    ensures nothing { (p : Plain) → IsWell p → after p [] ≡ p }
 {}

@@ -4,23 +4,29 @@ use list_core::Seq;
 use plan_types::{Plan, Table, TableId, Track};
 use proxy_types::{Place, ServerIdentity};
 
-/// The server that a connection was offered.
+/// The server that a connection was given.
 #[derive(Debug, Drop)]
-pub struct Served {
+pub struct Assignment {
     pub server: ServerIdentity,
+    /// The line of the server in the configuration.
     pub line: u32,
+    /// The source and the destination by which the connection was judged.
     pub judged: Pair,
 }
 
 /// How far a connection is.
 #[derive(Debug, Drop)]
 pub enum Phase {
-    Offered(Served),
+    /// It was accepted, and has no server yet.
+    Waiting,
+    /// It was offered a server.
+    Offered(Assignment),
 }
 
 /// An open connection of one frontend.
 #[derive(Debug, Drop)]
 pub struct Row {
+    /// From 1, in the order of the frontend's accepts.
     pub serial: u64,
     /// The version of the configuration that judges it.
     pub version: u64,
@@ -35,7 +41,7 @@ pub struct Row {
 
 /// What is kept of one frontend.
 #[derive(Debug, Drop)]
-pub struct Lane {
+pub struct FrontendRows {
     pub name: Seq<u8>,
     /// The last serial that was given out.
     pub serial: u64,
@@ -43,7 +49,7 @@ pub struct Lane {
     pub rows: Seq<Row>,
 }
 
-/// Where events accept.
+/// Where a frontend accepts.
 #[derive(Clone, Copy, Debug, PartialEq, Eq)]
 pub struct Listener {
     /// The number of its frontend.
@@ -65,7 +71,7 @@ pub struct Version {
 
 /// An entry of a table.
 #[derive(Clone, Copy, Debug, PartialEq, Eq)]
-pub struct Item {
+pub struct TableEntry {
     pub key: Addr,
     /// How often it was tracked.
     pub cnt: u64,
@@ -73,10 +79,10 @@ pub struct Item {
 
 /// A table that is kept, with its entries, the one that was touched longest ago first.
 #[derive(Debug, Drop)]
-pub struct Kept {
+pub struct TableState {
     pub id: TableId,
     pub table: Table,
-    pub items: Seq<Item>,
+    pub entries: Seq<TableEntry>,
 }
 
 /// All that a balancer keeps.
@@ -86,9 +92,9 @@ pub struct Plain {
     pub clock: u64,
     pub listeners: Seq<Listener>,
     /// By the number of the frontend.
-    pub lanes: Seq<Lane>,
+    pub frontends: Seq<FrontendRows>,
     /// By number, the newest last.
     pub versions: Seq<Version>,
     /// By incarnation.
-    pub tables: Seq<Kept>,
+    pub tables: Seq<TableState>,
 }

@@ -54,7 +54,7 @@ pub struct Reply {
     pub tracks: ArrayVec<Track, 3>,
 }
 
-/// Why an event is not answered. Of several the first in this order is told.
+/// Why an event is not answered. Of several the first in this order is answered.
 #[derive(Clone, Copy, Debug, PartialEq, Eq)]
 pub enum StepFault {
     /// No listener has the number.

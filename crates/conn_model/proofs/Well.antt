@@ -1,0 +1,121 @@
+-- A legal history keeps what is known of a state, and an opening state has it.
+use Rattle.std.specs.Prelude.{ℕ, Bool, true, false, not, List, [], map, filter, find, length, slice_get, Option, Some, None, IsSome, IfOk, IfErr, Result, Ok, Err, refl, ◌+◌, ◌≤◌, ◌≡◌, ◌⊎◌, ◌==◌, ◌∷◌, ◌++◌}
+use Rattle.std.specs.List.{AllByRecursion}
+use Rattle.std.specs.Option.{option_map_or}
+use Rattle.std.proofs.Common.{sym, ap, ◌∙◌, subst, arith, inl, inr, append_assoc, append-nil}
+use Rattle.std.proofs.lemmas.Bool.{false≢true, eq-eqb}
+use Rattle.std.proofs.lemmas.List.{length-map}
+use Rattle.plan_types.specs.declared.plan.Frontend.{Frontend}
+use Rattle.plan_types.specs.declared.plan.Plan.{Plan}
+use Rattle.conn_model.specs.declared.event.OwnedEvent.{OwnedEvent}
+use Rattle.conn_model.specs.declared.reply.Reply.{Reply}
+use Rattle.conn_model.specs.declared.reply.StepFault.{StepFault}
+use Rattle.conn_model.specs.declared.plain.Row.{Row}
+use Rattle.conn_model.specs.declared.plain.FrontendRows.{FrontendRows}
+use Rattle.conn_model.specs.declared.plain.Version.{Version}
+use Rattle.conn_model.specs.declared.plain.Plain.{Plain}
+use Rattle.conn_model.specs.Words.{newest, Rise}
+use Rattle.conn_model.specs.Answer.{version_at, answer_in}
+use Rattle.conn_model.specs.History.{now_of, in_force, newest_number, tracks_of, by_counter, arrival, arrivals, has_ended, row_after, frontend_after, new_version, after, answer, entry, Entry, IsFault, IsLegal, IsFrontendWell, IsWell, opening}
+use Rattle.conn_model.proofs.Lists.{all-append, all-more, all-each, all-filter, all-map, all-from_zero, rise-filter, rise-map, map_from-same}
+use Rattle.conn_model.proofs.Parts.{in_force-same, versions-same, by_counter-append}
+use Rattle.conn_model.proofs.Replies.{answered}
+use Rattle.conn_model.proofs.Serials.{FrontendFacts, facts_of, rows_given, arrival-all}
+use Rattle.conn_model.proofs.Goes.{well_at, whole_in_parts}
+
+-- the newest version is found by its number
+newest-found : (versions : List Version) (v : Version) → newest versions ≡ Some v → IsSome (version_at versions v.number)
+newest-found [] v there = absurd (let wrong : None ≡ Some v = there in cc)
+newest-found (w ∷ []) v there = let same : w ≡ v = let it : Some w ≡ Some v = there in cc in rw (eq-eqb w.number v.number (ap (λ u. u.number) same)) refl
+newest-found (w ∷ x ∷ versions) v there = by (w.number == v.number) refl (newest-found (x ∷ versions) v there)
+  where
+    by : (b : Bool) → (w.number == v.number) ≡ b → IsSome (version_at (x ∷ versions) v.number) → IsSome (version_at (w ∷ x ∷ versions) v.number)
+    by true e rest = rw e refl
+    by false e rest = rw e rest
+
+force-found : (p : Plain) → IsWell p → IsSome (version_at p.versions (newest_number p))
+force-found p well = by (newest p.versions) refl well.last
+  where
+    by : (o : Option Version) → newest p.versions ≡ o → IsSome o → IsSome (version_at p.versions (newest_number p))
+    by None e is = absurd (false≢true is)
+    by (Some v) e is = rw (ap (λ o. option_map_or (λ version. version.number) o 0) e) (newest-found p.versions v e)
+
+-- the version of each row that was opened is kept
+arrivals-kept : (p : Plain) → IsWell p → (number : ℕ) (h : List Entry) → IsLegal p h → AllByRecursion (λ row. IsSome (version_at p.versions row.version)) (arrivals p number h)
+arrivals-kept p well number [] legal = tt
+arrivals-kept p well number (e ∷ h) legal =
+    let P : Row → Type 0 = λ row. IsSome (version_at p.versions row.version) in
+    all-append P (arrivals p number h) (arrival number (now_of p.clock (e ∷ h)) (in_force (newest_number p) h) e.event e.reply.said)
+    (arrivals-kept p well number h legal.0)
+    (arrival-all P (after p h) number (now_of p.clock (e ∷ h)) (in_force (newest_number p) h) e.event e.reply.said (answered (after p h) e.moment e.event e.reply legal.1)
+    (λ new real here accepting. rw (in_force-same (newest_number p) h) (force-found p well)))
+
+frontend_well_after : (p : Plain) → IsWell p → (h : List Entry) → IsLegal p h → (number : ℕ) (own : FrontendRows) → slice_get p.frontends number ≡ Some own →
+    IsFrontendWell p.versions (frontend_after p h number own)
+frontend_well_after p well h legal number own there =
+    let facts : FrontendFacts p h number own = facts_of p h number own there (well_at p well number own there) legal in
+    let live : Row → Bool = λ row. not (has_ended number h row.serial) in
+    let rows : List Row = own.rows ++ arrivals p number h in
+    let P : Row → Type 0 = λ row. IsSome (version_at p.versions row.version) in
+    record {
+      sorted = all-map (λ row. by_counter row.tracks ≡ row.tracks) (row_after p number h) (filter live rows)
+          (all-each (λ row. by_counter (row_after p number h row).tracks ≡ (row_after p number h row).tracks) (filter live rows) (λ row. by_counter-twice (row.tracks ++ tracks_of number row.serial h)));
+      rise = rise-map (λ row. row.serial) (row_after p number h) (λ row. refl) (filter live rows) (rise-filter (λ row. row.serial) live rows facts.rise);
+      given = rows_given p h number own facts;
+      kept = all-map P (row_after p number h) (filter live rows)
+          (all-filter P live rows (all-append P own.rows (arrivals p number h) (well_at p well number own there).kept (arrivals-kept p well number h legal)));
+    }
+  where
+    by_counter-twice : (tracks : List _) → by_counter (by_counter tracks) ≡ by_counter tracks
+    by_counter-twice tracks = ap by_counter (sym (append-nil (by_counter tracks))) ∙ by_counter-append tracks [] ∙ ap by_counter (append-nil tracks)
+
+-- a legal history keeps what is known
+pub well_after : (p : Plain) → IsWell p → (h : List Entry) → IsLegal p h → IsWell (after p h)
+well_after p well h legal = record {
+  frontends = rw (versions-same p h) (all-from_zero (IsFrontendWell p.versions) (frontend_after p h) p.frontends (λ i own there. frontend_well_after p well h legal i own there));
+  rise = rw (versions-same p h) well.rise;
+  last = rw (versions-same p h) well.last;
+  versions = rw (versions-same p h) well.versions;
+}
+
+-- an opening state has it
+pub opening_well : (plan : Plan) (last : ℕ) → IsWell (opening plan last)
+opening_well plan last = record { frontends = by plan.frontends; rise = (tt, tt); last = refl; versions = (record { cursors = length-map plan.backends (λ backend. None) }, tt) }
+  where
+    by : (frontends : List Frontend) → AllByRecursion (IsFrontendWell (opening plan last).versions) (map (λ frontend. record { name = frontend.name; serial = last; rows = [] }) frontends)
+    by [] = tt
+    by (frontend ∷ frontends) = (record { rise = tt; given = tt; kept = tt; sorted = tt }, by frontends)
+
+-- After nothing the state is the same.
+
+rows_same : (p : Plain) (number : ℕ) (rows : List Row) → AllByRecursion (λ row. by_counter row.tracks ≡ row.tracks) rows →
+    map (row_after p number []) (filter (λ row. true) (rows ++ [])) ≡ rows
+rows_same p number [] sorted = refl
+rows_same p number (row ∷ rows) sorted =
+    let tracks : by_counter (row.tracks ++ []) ≡ row.tracks = ap by_counter (append-nil row.tracks) ∙ sorted.0 in
+    let here : row_after p number [] row ≡ row = ap (λ ts. record row { tracks = ts }) tracks in
+    cc (here, rows_same p number rows sorted.1)
+
+frontend_same : (p : Plain) (number : ℕ) (own : FrontendRows) → IsFrontendWell p.versions own → frontend_after p [] number own ≡ own
+frontend_same p number own well =
+    let serial : own.serial + 0 ≡ own.serial = omega arith in
+    ap (λ n. record own { serial = n; rows = map (row_after p number []) (filter (λ row. true) (own.rows ++ [])) }) serial
+    ∙ ap (λ rows. record own { rows = rows }) (rows_same p number own.rows well.sorted)
+
+pub after-nil : (p : Plain) → IsWell p → after p [] ≡ p
+after-nil p well = ap (λ frontends. record p { frontends = frontends }) (map_from-same (IsFrontendWell p.versions) (frontend_after p []) (frontend_same p) 0 p.frontends well.frontends)
+
+-- One step, of the state and of the history.
+
+pub reply_after : (q new' : Plain) (result : Result Reply StepFault) (moment : ℕ) (event : OwnedEvent) → IfOk result (λ r. answer_in q moment event ≡ Ok r) →
+    IfOk result (λ r. new' ≡ after q (entry moment event r ∷ [])) →
+    IfOk result (λ r. (p : Plain) (h : List Entry) → IsWell p → IsLegal p h → q ≡ after p h → (answer p h moment event ≡ Ok r) × (new' ≡ after p (entry moment event r ∷ h)))
+reply_after q new' (Err fault) moment event reply now = tt
+reply_after q new' (Ok r) moment event reply now = λ p h well legal stands.
+    let answer_is : answer p h moment event ≡ Ok r = subst (λ s. answer_in s moment event ≡ Ok r) stands reply in
+    (answer_is, now ∙ ap (λ s. after s (entry moment event r ∷ [])) stands ∙ whole_in_parts p well (entry moment event r ∷ []) h (legal, answer_is))
+
+pub fault_after : (q : Plain) (result : Result Reply StepFault) (moment : ℕ) (event : OwnedEvent) → IfErr result (λ f. IsFault (answer_in q moment event) f) →
+    IfErr result (λ f. (p : Plain) (h : List Entry) → q ≡ after p h → IsFault (answer p h moment event) f)
+fault_after q (Ok r) moment event fault = tt
+fault_after q (Err f) moment event fault = λ p h stands. subst (λ s. IsFault (answer_in s moment event) f) stands fault
