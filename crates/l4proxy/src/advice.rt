@@ -1,11 +1,10 @@
 //! What a fault of a configuration means, for whoever wrote it.
-use crate::check::fault_of;
-use crate::fault::PrintFault;
 use acl_core::AclFault;
 use conf_text::LineKind;
 use conf_tree::ConfKind;
 use conn_core::OpenFault;
 use plan_core::PlanKind;
+use replay_core::{PrintFault, fault_of};
 use std::alloc::Global;
 
 const NO_MEMORY: &str = "memory ran out, which says nothing of the text";

@@ -8,31 +8,18 @@
 #![tactic(auto)]
 
 use crate::advice::{line_of, refusal, sentence};
-use crate::check::{fault_of, run_check};
 use crate::command::commands;
-use crate::fault::{PrintFault, ReplayFault};
-use crate::replay::run_replay;
 use clap::ArgMatches;
 use clap::error::ErrorKind;
 use conn_core::OpenFault;
 use device_core::{FromRead, ToWrite};
+use replay_core::{PrintFault, ReplayFault, fault_of, run_check, run_replay};
 use std::process::ExitCode;
 use std::rt::Files;
 use std::{env, fs, io};
 
 mod advice;
-mod check;
-#[cfg(test)]
-mod check_tests;
 mod command;
-mod fault;
-mod reading;
-mod replay;
-mod replies;
-mod script;
-mod session;
-#[cfg(test)]
-mod tests;
 
 /// All was done.
 const DONE: u8 = 0;

@@ -1,0 +1,168 @@
+-- The line that writes an event hands it in.
+use Rattle.std.proofs.Common.{◌≡◌, ℕ, ◌<◌, ◌^◌, Bool, true, false, eqb, List, [], ◌∷◌, ◌++◌, Some, Ok, refl, ap, sym, ◌∙◌, append_assoc, arith}
+use Rattle.std.specs.Prelude.{codes, option_map}
+use Rattle.std.specs.Str.{bytes_eq}
+use Rattle.std.specs.List.{list_all, list_any, slice_split, join_with_byte, All, AllByRecursion}
+use Rattle.std.specs.Char.{is_ascii_digit}
+use Rattle.std.proofs.lemmas.Bool.Decides.{nat_tests}
+use Rattle.std.proofs.lemmas.List.Splits.{slice_split_at, slice_split_none}
+use Rattle.std.proofs.lemmas.List.Elements.{All-nil, All-cons, All-append}
+use Rattle.addr_core.specs.Decimal.{decimal, decimal_of}
+use Rattle.addr_core.specs.Ends.{Ends}
+use Rattle.addr_core.specs.Family.{same_family}
+use Rattle.addr_core.specs.Text.{endpoint_of, endpoint_text, host_text, text_of, IsEndpoint}
+use Rattle.addr_core.specs.declared.addr.Addr.{Addr}
+use Rattle.addr_core.specs.declared.addr.Addr.TheVariants.{V4, V6}
+use Rattle.addr_core.specs.declared.addr.Endpoint.{Endpoint}
+use Rattle.addr_core.specs.Groups.{groups_of}
+use Rattle.addr_core.proofs.AddrLemmas.{endpoint_of_written}
+use Rattle.addr_core.proofs.GroupLemmas.{groups_text_all}
+use Rattle.addr_core.proofs.DecimalLemmas.{are_digits_decimal, decimal_of_written}
+use Rattle.conn_model.specs.declared.event.ConnId.{ConnId}
+use Rattle.conn_model.specs.declared.event.Happening.{Happening}
+use Rattle.conn_model.specs.declared.event.Happening.TheVariants.{Accepted, Closing}
+use Rattle.conn_model.specs.declared.event.Why.{Why}
+use Rattle.conn_model.specs.declared.event.Why.TheVariants.{Done, Fault, Stopped, Failed}
+use Rattle.event_text.specs.Script.{ends_of, event_line, event_of, event_words, id_of, id_in, id_text, is_mark, why_of, why_text, wanted_of, words_of, IsHandedIn, Wanted}
+
+-- no byte is the mark
+abbrev Lacks : ℕ → List ℕ → Type 0
+Lacks mark text = All (λ b. is_mark mark b ≡ false) text
+
+-- a byte that is no digit is not among digits
+digits_lack : (mark : ℕ) → mark < 48 → (text : List ℕ) → list_all is_ascii_digit text ≡ true → Lacks mark text
+digits_lack mark low [] all = All-nil (λ b. is_mark mark b ≡ false)
+digits_lack mark low (b ∷ text) all = by (is_ascii_digit b) refl (λ h. digits_lack mark low text h)
+  where
+    by : (t : Bool) → is_ascii_digit b ≡ t → (list_all is_ascii_digit text ≡ true → Lacks mark text) → Lacks mark (b ∷ text)
+    by true is rest = All-cons (λ b. is_mark mark b ≡ false) b text (grind (arith, nat_tests)) (rest (rw is at all))
+    by false is rest = let wrong = rw is at all in absurd cc
+
+decimal_lacks : (mark n : ℕ) → mark < 48 → Lacks mark (decimal n)
+decimal_lacks mark n low = digits_lack mark low (decimal n) (are_digits_decimal n).digits
+
+one_lacks : (mark b : ℕ) → is_mark mark b ≡ false → Lacks mark (b ∷ [])
+one_lacks mark b is = All-cons (λ c. is_mark mark c ≡ false) b [] is (All-nil (λ c. is_mark mark c ≡ false))
+
+both_lack : (mark : ℕ) (xs ys : List ℕ) → Lacks mark xs → Lacks mark ys → Lacks mark (xs ++ ys)
+both_lack mark xs ys first second = All-append (λ b. is_mark mark b ≡ false) xs ys first second
+
+and_lacks : (mark b : ℕ) (xs : List ℕ) → is_mark mark b ≡ false → Lacks mark xs → Lacks mark (b ∷ xs)
+and_lacks mark b xs is rest = All-cons (λ c. is_mark mark c ≡ false) b xs is rest
+
+text_lacks : (addr : Addr) → Lacks 0x20 (text_of addr)
+text_lacks (V4 n) =
+    both_lack 0x20 _ _ (decimal_lacks 0x20 _ (omega arith)) (and_lacks 0x20 46 _ refl
+    (both_lack 0x20 _ _ (decimal_lacks 0x20 _ (omega arith)) (and_lacks 0x20 46 _ refl
+    (both_lack 0x20 _ _ (decimal_lacks 0x20 _ (omega arith)) (and_lacks 0x20 46 _ refl (decimal_lacks 0x20 _ (omega arith)))))))
+text_lacks (V6 n) = groups_text_all (λ b. is_mark 0x20 b ≡ false) (λ d. grind (arith, nat_tests)) refl (groups_of n)
+
+host_lacks : (addr : Addr) → Lacks 0x20 (host_text addr)
+host_lacks (V4 n) = text_lacks (V4 n)
+host_lacks (V6 n) = and_lacks 0x20 91 (text_of (V6 n) ++ 93 ∷ []) refl (both_lack 0x20 (text_of (V6 n)) (93 ∷ []) (text_lacks (V6 n)) (one_lacks 0x20 93 refl))
+
+endpoint_lacks : (endpoint : Endpoint) → Lacks 0x20 (endpoint_text endpoint)
+endpoint_lacks endpoint =
+    both_lack 0x20 (host_text endpoint.addr ++ codes ":") (decimal endpoint.port)
+    (both_lack 0x20 (host_text endpoint.addr) (codes ":") (host_lacks endpoint.addr) (one_lacks 0x20 58 refl)) (decimal_lacks 0x20 endpoint.port (omega arith))
+
+id_lacks : (id : ConnId) → Lacks 0x20 (id_text id)
+id_lacks id =
+    both_lack 0x20 (decimal id.frontend ++ codes ".") (decimal id.serial)
+    (both_lack 0x20 (decimal id.frontend) (codes ".") (decimal_lacks 0x20 id.frontend (omega arith)) (one_lacks 0x20 46 refl)) (decimal_lacks 0x20 id.serial (omega arith))
+
+word_lacks : (text : List ℕ) → list_any (is_mark 0x20) text ≡ false → Lacks 0x20 text
+word_lacks [] none = All-nil (λ b. is_mark 0x20 b ≡ false)
+word_lacks (b ∷ text) none = by (is_mark 0x20 b) refl (λ h. word_lacks text h)
+  where
+    by : (t : Bool) → is_mark 0x20 b ≡ t → (list_any (is_mark 0x20) text ≡ false → Lacks 0x20 text) → Lacks 0x20 (b ∷ text)
+    by true is rest = let wrong = rw is at none in absurd cc
+    by false is rest = and_lacks 0x20 b text is (rest (rw is at none))
+
+why_lacks : (why : Why) → Lacks 0x20 (why_text why)
+why_lacks Done = word_lacks (codes "done") refl
+why_lacks Fault = word_lacks (codes "fault") refl
+why_lacks Stopped = word_lacks (codes "stopped") refl
+why_lacks Failed = word_lacks (codes "failed") refl
+
+-- words joined by spaces are read apart
+words_of-joined : (word : List ℕ) (words : List (List ℕ)) → AllByRecursion (Lacks 0x20) (word ∷ words) → words_of (join_with_byte 0x20 (word ∷ words)) ≡ word ∷ words
+words_of-joined word [] lack = slice_split_none (is_mark 0x20) word lack.0
+words_of-joined word (next ∷ words) lack =
+    slice_split_at (is_mark 0x20) word 0x20 (join_with_byte 0x20 (next ∷ words)) lack.0 refl ∙ ap (λ ws. word ∷ ws) (words_of-joined next words lack.1)
+
+id_of-written : (id : ConnId) → id.frontend < 2 ^ 16 → id.serial < 2 ^ 64 → id_of (id_text id) ≡ Some id
+id_of-written id small short =
+    let cut : slice_split (is_mark 0x2E) (id_text id) ≡ decimal id.frontend ∷ decimal id.serial ∷ [] =
+    ap (slice_split (is_mark 0x2E)) (append_assoc (decimal id.frontend) (codes ".") (decimal id.serial))
+    ∙ slice_split_at (is_mark 0x2E) (decimal id.frontend) 0x2E (decimal id.serial) (decimal_lacks 0x2E id.frontend (omega arith)) refl
+    ∙ ap (λ ps. decimal id.frontend ∷ ps) (slice_split_none (is_mark 0x2E) (decimal id.serial) (decimal_lacks 0x2E id.serial (omega arith))) in
+    let first : decimal_of (decimal id.frontend) 0xFFFF ≡ Some id.frontend = decimal_of_written (decimal id.frontend) 0xFFFF id.frontend (omega arith) refl in
+    let second : decimal_of (decimal id.serial) 0xFFFF_FFFF_FFFF_FFFF ≡ Some id.serial = decimal_of_written (decimal id.serial) 0xFFFF_FFFF_FFFF_FFFF id.serial (omega arith) refl in
+    ap id_in cut ∙ rw (first, second) refl
+
+why_of-written : (why : Why) → why_of (why_text why) ≡ Some why
+why_of-written Done = refl
+why_of-written Fault = refl
+why_of-written Stopped = refl
+why_of-written Failed = refl
+
+ends_of-written : (real : Ends) → IsEndpoint real.source → IsEndpoint real.destination → same_family real.source.addr real.destination.addr ≡ true
+    → ends_of (endpoint_text real.source) (endpoint_text real.destination) ≡ Some real
+ends_of-written real first second same =
+    let source : endpoint_of (endpoint_text real.source) ≡ Ok real.source = endpoint_of_written (endpoint_text real.source) real.source first refl in
+    let destination : endpoint_of (endpoint_text real.destination) ≡ Ok real.destination = endpoint_of_written (endpoint_text real.destination) real.destination second refl in
+    rw (source, destination, same) refl
+
+words_lack : (moment : ℕ) (event : Happening) → (word : List ℕ) × (words : List (List ℕ)) × (event_words moment event ≡ word ∷ words) × AllByRecursion (Lacks 0x20) (word ∷ words)
+words_lack moment (Accepted listener real) = (
+  _,
+  _,
+  refl,
+  (
+    decimal_lacks 0x20 moment (omega arith),
+    (word_lacks (codes "accept") refl, (decimal_lacks 0x20 listener (omega arith), (endpoint_lacks real.source, (endpoint_lacks real.destination, tt)))),
+  ),
+)
+words_lack moment (Closing id why) =
+    (_, _, refl, (decimal_lacks 0x20 moment (omega arith), (word_lacks (codes "close") refl, (id_lacks id, (why_lacks why, tt)))))
+
+words_of-line : (moment : ℕ) (event : Happening) → words_of (event_line moment event) ≡ event_words moment event
+words_of-line moment event =
+    let parts = words_lack moment event in
+    ap (λ ws. words_of (join_with_byte 0x20 ws)) parts.2 ∙ words_of-joined parts.0 parts.1 parts.3 ∙ sym parts.2
+
+event_of-words : (moment : ℕ) (event : Happening) → moment < 2 ^ 64 → IsHandedIn event → event_of (event_words moment event) ≡ Some (moment, event)
+event_of-words moment (Accepted listener real) short given =
+    let at : decimal_of (decimal moment) 0xFFFF_FFFF_FFFF_FFFF ≡ Some moment = decimal_of_written (decimal moment) 0xFFFF_FFFF_FFFF_FFFF moment (omega arith) refl in
+    let number : decimal_of (decimal listener) 0xFFFF ≡ Some listener = decimal_of_written (decimal listener) 0xFFFF listener (omega (arith, given.0)) refl in
+    rw (at, number, ends_of-written real given.1 given.2 given.3) refl
+event_of-words moment (Closing id why) short given =
+    let at : decimal_of (decimal moment) 0xFFFF_FFFF_FFFF_FFFF ≡ Some moment = decimal_of_written (decimal moment) 0xFFFF_FFFF_FFFF_FFFF moment (omega arith) refl in
+    rw (at, id_of-written id given.0 given.1, why_of-written why) refl
+
+-- the line that writes an event hands it in
+pub event_of-line : (line : List ℕ) (moment : ℕ) (event : Happening) → moment < 2 ^ 64 → IsHandedIn event → line ≡ event_line moment event → event_of (words_of line) ≡ Some (moment, event)
+event_of-line line moment event short given is =
+    ap (λ l. event_of (words_of l)) is ∙ ap event_of (words_of-line moment event) ∙ event_of-words moment event short given
+
+-- digits are not the word of a question
+digits_differ : (text : List ℕ) → list_all is_ascii_digit text ≡ true → bytes_eq text (codes "ask") ≡ false
+digits_differ [] all = refl
+digits_differ (b ∷ text) all = by (is_ascii_digit b) refl
+  where
+    by : (t : Bool) → is_ascii_digit b ≡ t → bytes_eq (b ∷ text) (codes "ask") ≡ false
+    by true is = let differs : eqb b 97 ≡ false = grind (arith, nat_tests) in rw differs refl
+    by false is = let wrong = rw is at all in absurd cc
+
+wanted_of-words : (moment : ℕ) (event : Happening) → moment < 2 ^ 64 → IsHandedIn event → wanted_of (event_words moment event) ≡ Some (Wanted.reply (moment, event))
+wanted_of-words moment (Accepted listener real) short given =
+    rw (digits_differ (decimal moment) (are_digits_decimal moment).digits) (ap (option_map (λ timed. Wanted.reply timed)) (event_of-words moment (Accepted listener real) short given))
+wanted_of-words moment (Closing id why) short given =
+    rw (digits_differ (decimal moment) (are_digits_decimal moment).digits) (ap (option_map (λ timed. Wanted.reply timed)) (event_of-words moment (Closing id why) short given))
+
+-- and wants an answer to it
+pub wanted_of-line : (line : List ℕ) (moment : ℕ) (event : Happening) → moment < 2 ^ 64 → IsHandedIn event → line ≡ event_line moment event
+    → wanted_of (words_of line) ≡ Some (Wanted.reply (moment, event))
+wanted_of-line line moment event short given is =
+    ap (λ l. wanted_of (words_of l)) is ∙ ap wanted_of (words_of-line moment event) ∙ wanted_of-words moment event short given

@@ -1,0 +1,4 @@
+pub mod SplitLemmas
+pub mod LongLemmas
+pub mod EventLemmas
+pub mod NumberLemmas

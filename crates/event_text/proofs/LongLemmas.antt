@@ -1,0 +1,17 @@
+-- Lines with a word too many hand in no event.
+use Rattle.std.proofs.Common.{◌≡◌, ℕ, List, ◌∷◌, None, refl}
+use Rattle.std.specs.List.{slice_split}
+use Rattle.event_text.specs.Script.{accept_of, ask_of, close_of, id_in, is_mark, words_of}
+use Rattle.event_text.proofs.SplitLemmas.{split_some}
+
+pub accept_long : (a b c text : List ℕ) → accept_of (a ∷ b ∷ c ∷ words_of text) ≡ None
+accept_long a b c text = let some = split_some (is_mark 0x20) text in rw (some.2) refl
+
+pub close_long : (a b text : List ℕ) → close_of (a ∷ b ∷ words_of text) ≡ None
+close_long a b text = let some = split_some (is_mark 0x20) text in rw (some.2) refl
+
+pub id_long : (a b text : List ℕ) → id_in (a ∷ b ∷ slice_split (is_mark 0x2E) text) ≡ None
+id_long a b text = let some = split_some (is_mark 0x2E) text in rw (some.2) refl
+
+pub ask_long : (a b text : List ℕ) → ask_of (a ∷ b ∷ words_of text) ≡ None
+ask_long a b text = let some = split_some (is_mark 0x20) text in rw (some.2) refl

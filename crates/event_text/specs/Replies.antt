@@ -1,0 +1,59 @@
+-- Replies and counts as lines.
+use Rattle.std.specs.Prelude.{ℕ, ◌==◌, List, ◌++◌, length, codes, Option, Some, None, if◌then◌else◌}
+use Rattle.std.specs.List.{flat_map}
+use Rattle.hex.specs.Hex.{encode_lower}
+use Rattle.addr_core.specs.Decimal.{decimal}
+use Rattle.addr_core.specs.Text.{endpoint_text, text_of}
+use Rattle.plan_types.specs.declared.track.Track.{Track}
+use Rattle.conn_model.specs.declared.ask.Ask.{Ask}
+use Rattle.conn_model.specs.declared.ask.Ask.TheVariants as asks
+use Rattle.conn_model.specs.declared.ask.Counts.{Counts}
+use Rattle.conn_model.specs.declared.reply.Cause.{Cause}
+use Rattle.conn_model.specs.declared.reply.Cause.TheVariants.{Line, NoBackend, NoServer}
+use Rattle.conn_model.specs.declared.reply.Said.{Said}
+use Rattle.conn_model.specs.declared.reply.Said.TheVariants.{Offer, Refuse, Closed}
+use Rattle.conn_model.specs.declared.reply.Reply.{Reply}
+use Rattle.conn_model.specs.declared.reply.StepFault.{StepFault}
+use Rattle.conn_model.specs.declared.reply.StepFault.TheVariants.{NoListener, NoSuch, Exhausted, NoMemory}
+use Rattle.event_text.specs.Script.{id_text, why_text}
+
+-- bytes in hexadecimal, two digits each
+abbrev pub bytes_text : List ℕ → List ℕ
+bytes_text bytes = if length bytes == 0 then codes "-" else encode_lower bytes
+
+abbrev pub cause_text : Cause → List ℕ
+cause_text (Line line) = codes "line " ++ decimal line
+cause_text (NoBackend line) = codes "nobackend line " ++ decimal line
+cause_text (NoServer line) = codes "noserver line " ++ decimal line
+
+abbrev pub said_text : Said → List ℕ
+said_text (Offer id used line server to judged send) =
+    codes "offer " ++ id_text id ++ codes " used " ++ decimal used ++ codes " line " ++ decimal line ++ codes " to " ++ endpoint_text to
+    ++ codes " src " ++ endpoint_text judged.source ++ codes " dst " ++ endpoint_text judged.destination ++ codes " send " ++ bytes_text send.items
+said_text (Refuse id used cause) = codes "refuse " ++ id_text id ++ codes " used " ++ decimal used ++ codes " " ++ cause_text cause
+said_text (Closed id why) = codes "closed " ++ id_text id ++ codes " " ++ why_text why
+
+-- a tracked key: its counter, its table and the address
+abbrev pub track_text : Track → List ℕ
+track_text track =
+    codes " sc" ++ decimal track.counter ++ codes "=" ++ decimal track.table.version ++ codes "." ++ decimal track.table.position
+    ++ codes "/" ++ text_of track.key
+
+-- the line that a reply is
+abbrev pub reply_line : Reply → List ℕ
+reply_line reply = said_text reply.said ++ flat_map track_text reply.tracks.items ++ codes "\n"
+
+abbrev pub fault_name : StepFault → List ℕ
+fault_name NoListener = codes "NoListener"
+fault_name NoSuch = codes "NoSuch"
+fault_name Exhausted = codes "Exhausted"
+fault_name NoMemory = codes "NoMemory"
+
+-- the line of counts that were asked for, or of no such thing
+abbrev pub count_line : Ask → Option Counts → List ℕ
+count_line ask None = codes "count none\n"
+count_line (asks.Frontend number) (Some counts) = codes "count " ++ decimal counts.cur ++ codes "\n"
+
+-- the line that a refused step is
+abbrev pub fault_line : StepFault → List ℕ
+fault_line fault = codes "fault " ++ fault_name fault ++ codes "\n"

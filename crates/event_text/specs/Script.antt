@@ -1,0 +1,143 @@
+-- Scripts: the lines that hand in events, and those that ask for counts.
+use Rattle.std.specs.Prelude.{◌≡◌, ℕ, Bool, true, ◌<◌, ◌^◌, ◌==◌, List, [], ◌∷◌, ◌++◌, codes, Option, Some, None, option_map, if◌then◌else◌}
+use Rattle.std.specs.List.{join_with_byte, slice_split}
+use Rattle.std.specs.Result.{result_ok}
+use Rattle.std.specs.Str.{bytes_eq}
+use Rattle.addr_core.specs.Decimal.{decimal, decimal_of}
+use Rattle.addr_core.specs.Ends.{Ends, pair_of}
+use Rattle.addr_core.specs.Text.{endpoint_of, endpoint_text, IsEndpoint}
+use Rattle.addr_core.specs.Family.{same_family}
+use Rattle.conn_model.specs.declared.ask.Ask.{Ask}
+use Rattle.conn_model.specs.declared.ask.Ask.TheVariants as asks
+use Rattle.conn_model.specs.declared.event.ConnId.{ConnId}
+use Rattle.conn_model.specs.declared.event.Event.{Event}
+use Rattle.conn_model.specs.declared.event.Happening.{Happening}
+use Rattle.conn_model.specs.declared.event.Happening.TheVariants.{Accepted, Closing}
+use Rattle.conn_model.specs.declared.event.Why.{Why}
+use Rattle.conn_model.specs.declared.event.Why.TheVariants.{Done, Fault, Stopped, Failed}
+use Rattle.conn_model.specs.History.{happening}
+use Rattle.event_text.specs.declared.script.Request.{Request}
+use Rattle.event_text.specs.declared.script.Request.TheVariants as requests
+
+-- ---- what is written
+
+-- the name of a connection
+abbrev pub id_text : ConnId → List ℕ
+id_text id = decimal id.frontend ++ codes "." ++ decimal id.serial
+
+abbrev pub why_text : Why → List ℕ
+why_text Done = codes "done"
+why_text Fault = codes "fault"
+why_text Stopped = codes "stopped"
+why_text Failed = codes "failed"
+
+-- the words of the line that hands in an event at a moment
+abbrev pub event_words : ℕ → Happening → List (List ℕ)
+event_words moment (Accepted listener real) =
+    decimal moment ∷ codes "accept" ∷ decimal listener ∷ endpoint_text real.source ∷ endpoint_text real.destination ∷ []
+event_words moment (Closing id why) = decimal moment ∷ codes "close" ∷ id_text id ∷ why_text why ∷ []
+
+-- the line, with one space between each two words
+abbrev pub event_line : ℕ → Happening → List ℕ
+event_line moment event = join_with_byte 0x20 (event_words moment event)
+
+-- ---- what is read
+
+infixl 10 ◌>>=◌
+abbrev pub ◌>>=◌ : {A B : Type 0} → Option A → (A → Option B) → Option B
+None >>= f = None
+(Some x) >>= f = f x
+
+abbrev pub is_mark : ℕ → ℕ → Bool
+is_mark mark byte = byte == mark
+
+-- the words of a line: there is one space between each two
+abbrev pub words_of : List ℕ → List (List ℕ)
+words_of line = slice_split (is_mark 0x20) line
+
+-- the name of the connection of two parts
+abbrev pub id_in : List (List ℕ) → Option ConnId
+id_in (frontend ∷ serial ∷ []) = do
+  number ← decimal_of frontend 0xFFFF
+  last ← decimal_of serial 0xFFFF_FFFF_FFFF_FFFF
+  Some (record { frontend = number; serial = last })
+id_in parts = None
+
+abbrev pub id_of : List ℕ → Option ConnId
+id_of word = id_in (slice_split (is_mark 0x2E) word)
+
+abbrev pub why_of : List ℕ → Option Why
+why_of word =
+    if bytes_eq word (codes "done") then Some Done
+    else if bytes_eq word (codes "fault") then Some Fault
+    else if bytes_eq word (codes "stopped") then Some Stopped
+    else if bytes_eq word (codes "failed") then Some Failed
+    else None
+
+-- the pair of the endpoints that two words stand for, if they are of one family
+abbrev pub ends_of : List ℕ → List ℕ → Option Ends
+ends_of peer local = do
+  source ← result_ok (endpoint_of peer)
+  destination ← result_ok (endpoint_of local)
+  pair_of source destination
+
+abbrev pub accept_of : List (List ℕ) → Option Happening
+accept_of (listener ∷ peer ∷ local ∷ []) = do
+  number ← decimal_of listener 0xFFFF
+  real ← ends_of peer local
+  Some (Accepted number real)
+accept_of words = None
+
+abbrev pub close_of : List (List ℕ) → Option Happening
+close_of (name ∷ note ∷ []) = do
+  id ← id_of name
+  why ← why_of note
+  Some (Closing id why)
+close_of words = None
+
+-- the event of a verb and the words after it
+abbrev pub happening_of : List ℕ → List (List ℕ) → Option Happening
+happening_of verb words =
+    if bytes_eq verb (codes "accept") then accept_of words
+    else if bytes_eq verb (codes "close") then close_of words
+    else None
+
+abbrev pub at_moment : ℕ → Option Happening → Option (ℕ × Happening)
+at_moment moment event = option_map (λ happening. (moment, happening)) event
+
+-- the moment and the event of the words of a line
+abbrev pub event_of : List (List ℕ) → Option (ℕ × Happening)
+event_of (moment ∷ verb ∷ words) = decimal_of moment 0xFFFF_FFFF_FFFF_FFFF >>= λ number. at_moment number (happening_of verb words)
+event_of words = None
+
+-- the same of an event that was read
+abbrev pub timed_event : ℕ × Event → ℕ × Happening
+timed_event timed = (timed.0, happening timed.1)
+
+-- what is asked for by the words behind `ask`
+abbrev pub ask_of : List (List ℕ) → Option Ask
+ask_of (kind ∷ number ∷ []) = if bytes_eq kind (codes "frontend") then option_map (λ n. asks.Frontend n) (decimal_of number 0xFFFF) else None
+ask_of words = None
+
+-- What a line wants: an answer to an event at a moment, or counts.
+pub data Wanted : Type 0 where
+  reply : ℕ × Happening → Wanted
+  count : Ask → Wanted
+
+-- what the words of a line want
+abbrev pub wanted_of : List (List ℕ) → Option Wanted
+wanted_of [] = None
+wanted_of (word ∷ words) =
+    if bytes_eq word (codes "ask") then option_map (λ ask. Wanted.count ask) (ask_of words)
+    else option_map (λ timed. Wanted.reply timed) (event_of (word ∷ words))
+
+-- the same of a request that was read
+abbrev pub wanted : Request → Wanted
+wanted (requests.Event moment event) = Wanted.reply (moment, happening event)
+wanted (requests.Ask ask) = Wanted.count ask
+
+-- the numbers of an event are in range, and its pair is of one family
+abbrev pub IsHandedIn : Happening → Type 0
+IsHandedIn (Accepted listener real) =
+    (listener < 2 ^ 16) × IsEndpoint real.source × IsEndpoint real.destination × (same_family real.source.addr real.destination.addr ≡ true)
+IsHandedIn (Closing id why) = (id.frontend < 2 ^ 16) × (id.serial < 2 ^ 64)

@@ -1,0 +1,269 @@
+//! Replies and counts as lines.
+ghost use Rattle.std.specs.Prelude.{◌≡◌, ◌+◌, ◌/◌, ◌%◌, ◌<◌, ◌≤◌, ◌++◌, ◌∷◌, [], length, codes, OnOk};
+ghost use Rattle.std.specs.List.{flat_map};
+ghost use Rattle.hex.specs.Hex.{encode_lower};
+ghost use Rattle.addr_core.specs.Decimal.{decimal};
+ghost use Rattle.addr_core.specs.declared.addr.Addr.TheVariants.{V4};
+ghost use Rattle.addr_core.specs.Text.{endpoint_text, host_text, text_of};
+ghost use Rattle.event_text.specs.Script.{id_text, why_text};
+ghost use Rattle.event_text.specs.Replies.{bytes_text, cause_text, count_line, fault_line, fault_name, reply_line, said_text, track_text};
+
+use addr_core::{Addr, Endpoint, Pair};
+use conn_model::ask::{Ask, Counts};
+use conn_model::event::{ConnId, Why};
+use conn_model::reply::{Cause, Reply, Said, StepFault};
+use plan_types::Track;
+use std::alloc::AllocError;
+
+fn write_text(out: &mut Vec<u8>, text: &[u8]) -> Result<(), AllocError>
+    ensures { OnOk result (out.new.items ≡ out.old.items ++ text.now) }
+{
+    out.extend_from_slice(text)
+}
+
+/// The two last digits of a number.
+fn write_pair(out: &mut Vec<u8>, pair: u8) -> Result<(), AllocError>
+    requires { pair < 100 }
+    ensures { OnOk result (out.new.items ≡ out.old.items ++ (48 + pair / 10) ∷ (48 + pair % 10) ∷ []) }
+{
+    out.extend_from_slice(&[b'0' + pair / 10, b'0' + pair % 10])
+}
+
+fn write_number(out: &mut Vec<u8>, number: u64) -> Result<(), AllocError>
+    ensures { OnOk result (out.new.items ≡ out.old.items ++ decimal number) }
+{
+    if number < 10 {
+        out.push(b'0' + number as u8)?;
+        return Ok(());
+    }
+    if number < 100 {
+        return write_pair(out, number as u8);
+    }
+    write_number(out, number / 100)?;
+    write_pair(out, (number % 100) as u8)
+}
+
+/// An IPv4 address in dotted decimal.
+fn write_dotted(out: &mut Vec<u8>, number: u32) -> Result<(), AllocError>
+    ensures { OnOk result (out.new.items ≡ out.old.items ++ text_of (V4 number)) }
+{
+    write_number(out, u64::from(number / 0x100_0000))?;
+    write_text(out, b".")?;
+    write_number(out, u64::from(number / 0x1_0000 % 0x100))?;
+    write_text(out, b".")?;
+    write_number(out, u64::from(number / 0x100 % 0x100))?;
+    write_text(out, b".")?;
+    write_number(out, u64::from(number % 0x100))
+}
+
+fn write_addr(out: &mut Vec<u8>, addr: &Addr) -> Result<(), AllocError>
+    ensures { OnOk result (out.new.items ≡ out.old.items ++ text_of addr.now) }
+{
+    match *addr {
+        Addr::V4(number) => write_dotted(out, number),
+        Addr::V6(_) => write_text(out, addr_core::write_addr(addr).as_str().as_bytes()),
+    }
+}
+
+fn write_host(out: &mut Vec<u8>, addr: &Addr) -> Result<(), AllocError>
+    ensures { OnOk result (out.new.items ≡ out.old.items ++ host_text addr.now) }
+{
+    match *addr {
+        Addr::V4(number) => write_dotted(out, number),
+        Addr::V6(_) => {
+            write_text(out, b"[")?;
+            write_addr(out, addr)?;
+            write_text(out, b"]")
+        }
+    }
+}
+
+fn write_endpoint(out: &mut Vec<u8>, endpoint: &Endpoint) -> Result<(), AllocError>
+    ensures { OnOk result (out.new.items ≡ out.old.items ++ endpoint_text endpoint.now) }
+{
+    write_host(out, &endpoint.addr)?;
+    write_text(out, b":")?;
+    write_number(out, u64::from(endpoint.port))
+}
+
+fn write_id(out: &mut Vec<u8>, id: &ConnId) -> Result<(), AllocError>
+    ensures { OnOk result (out.new.items ≡ out.old.items ++ id_text id.now) }
+{
+    write_number(out, u64::from(id.frontend))?;
+    write_text(out, b".")?;
+    write_number(out, id.serial)
+}
+
+fn write_why(out: &mut Vec<u8>, why: &Why) -> Result<(), AllocError>
+    ensures { OnOk result (out.new.items ≡ out.old.items ++ why_text why.now) }
+{
+    match *why {
+        Why::Done => write_text(out, b"done"),
+        Why::Fault => write_text(out, b"fault"),
+        Why::Stopped => write_text(out, b"stopped"),
+        Why::Failed => write_text(out, b"failed"),
+    }
+}
+
+fn write_hex(out: &mut Vec<u8>, bytes: &[u8]) -> Result<(), AllocError>
+    requires { length bytes.now ≤ 107 }
+    ensures { OnOk result (out.new.items ≡ out.old.items ++ encode_lower bytes.now) }
+{
+    let mut digits = [0u8; 214];
+    let text = &mut digits[..2 * bytes.len()];
+    let _fits = hex::encode_to_slice(bytes, text);
+    write_text(out, text)
+}
+
+fn write_bytes(out: &mut Vec<u8>, bytes: &[u8]) -> Result<(), AllocError>
+    requires { length bytes.now ≤ 107 }
+    ensures { OnOk result (out.new.items ≡ out.old.items ++ bytes_text bytes.now) }
+{
+    if bytes.is_empty() {
+        return write_text(out, b"-");
+    }
+    write_hex(out, bytes)
+}
+
+/// A word and a number behind it.
+fn write_field(out: &mut Vec<u8>, name: &[u8], number: u64) -> Result<(), AllocError>
+    ensures { OnOk result (out.new.items ≡ out.old.items ++ (name.now ++ decimal number)) }
+{
+    write_text(out, name)?;
+    write_number(out, number)
+}
+
+/// A word and an endpoint behind it.
+fn write_place(out: &mut Vec<u8>, name: &[u8], endpoint: &Endpoint) -> Result<(), AllocError>
+    ensures { OnOk result (out.new.items ≡ out.old.items ++ (name.now ++ endpoint_text endpoint.now)) }
+{
+    write_text(out, name)?;
+    write_endpoint(out, endpoint)
+}
+
+fn write_cause(out: &mut Vec<u8>, cause: &Cause) -> Result<(), AllocError>
+    ensures { OnOk result (out.new.items ≡ out.old.items ++ cause_text cause.now) }
+{
+    match *cause {
+        Cause::Line(line) => write_field(out, b"line ", u64::from(line)),
+        Cause::NoBackend(line) => write_field(out, b"nobackend line ", u64::from(line)),
+        Cause::NoServer(line) => write_field(out, b"noserver line ", u64::from(line)),
+    }
+}
+
+/// The front of the line of an offer.
+fn write_given(out: &mut Vec<u8>, id: &ConnId, used: u64, line: u32) -> Result<(), AllocError>
+    ensures { OnOk result (out.new.items ≡ out.old.items ++ (codes "offer " ++ id_text id.now ++ codes " used " ++ decimal used ++ codes " line " ++ decimal line)) }
+{
+    write_text(out, b"offer ")?;
+    write_id(out, id)?;
+    write_field(out, b" used ", used)?;
+    write_field(out, b" line ", u64::from(line))
+}
+
+/// The endpoints of an offer.
+fn write_places(out: &mut Vec<u8>, to: &Endpoint, judged: &Pair) -> Result<(), AllocError>
+    ensures { OnOk result (out.new.items ≡ out.old.items ++ (codes " to " ++ endpoint_text to.now ++ codes " src " ++ endpoint_text judged.now.source ++ codes " dst " ++ endpoint_text judged.now.destination)) }
+{
+    write_place(out, b" to ", to)?;
+    write_place(out, b" src ", &judged.source())?;
+    write_place(out, b" dst ", &judged.destination())
+}
+
+fn write_said(out: &mut Vec<u8>, said: &Said) -> Result<(), AllocError>
+    ensures { OnOk result (out.new.items ≡ out.old.items ++ said_text said.now) }
+{
+    match said {
+        Said::Offer {
+            id,
+            used,
+            line,
+            server: _,
+            to,
+            judged,
+            send,
+        } => {
+            write_given(out, id, *used, *line)?;
+            write_places(out, to, judged)?;
+            write_text(out, b" send ")?;
+            write_bytes(out, send.as_slice())
+        }
+        Said::Refuse { id, used, cause } => {
+            write_text(out, b"refuse ")?;
+            write_id(out, id)?;
+            write_field(out, b" used ", *used)?;
+            write_text(out, b" ")?;
+            write_cause(out, cause)
+        }
+        Said::Closed { id, why } => {
+            write_text(out, b"closed ")?;
+            write_id(out, id)?;
+            write_text(out, b" ")?;
+            write_why(out, why)
+        }
+    }
+}
+
+fn write_track(out: &mut Vec<u8>, track: &Track) -> Result<(), AllocError>
+    ensures { OnOk result (out.new.items ≡ out.old.items ++ track_text track.now) }
+{
+    write_field(out, b" sc", u64::from(track.counter))?;
+    write_field(out, b"=", track.table.version)?;
+    write_field(out, b".", u64::from(track.table.position))?;
+    write_text(out, b"/")?;
+    write_addr(out, &track.key)
+}
+
+fn write_tracks(out: &mut Vec<u8>, tracks: &[Track]) -> Result<(), AllocError>
+    ensures { OnOk result (out.new.items ≡ out.old.items ++ flat_map track_text tracks.now) }
+{
+    for track in tracks {
+        write_track(out, track)?;
+    }
+    Ok(())
+}
+
+/// Appends the line of a reply. Where memory runs out, the front of that line may stand there.
+pub fn write_reply(out: &mut Vec<u8>, reply: &Reply) -> Result<(), AllocError>
+    ensures { OnOk result (out.new.items ≡ out.old.items ++ reply_line reply.now) }
+{
+    write_said(out, &reply.said)?;
+    write_tracks(out, reply.tracks.as_slice())?;
+    write_text(out, b"\n")
+}
+
+/// Appends the line of counts that were asked for, or of no such thing. Where memory runs out, the front
+/// of that line may stand there.
+pub fn write_counts(out: &mut Vec<u8>, ask: &Ask, counts: Option<Counts>) -> Result<(), AllocError>
+    ensures { OnOk result (out.new.items ≡ out.old.items ++ count_line ask.now counts) }
+{
+    let Some(counts) = counts else {
+        return write_text(out, b"count none\n");
+    };
+    match *ask {
+        Ask::Frontend(_) => {
+            write_field(out, b"count ", counts.cur)?;
+            write_text(out, b"\n")
+        }
+    }
+}
+
+fn write_name(out: &mut Vec<u8>, fault: &StepFault) -> Result<(), AllocError>
+    ensures { OnOk result (out.new.items ≡ out.old.items ++ fault_name fault.now) }
+{
+    match *fault {
+        StepFault::NoListener => write_text(out, b"NoListener"),
+        StepFault::NoSuch => write_text(out, b"NoSuch"),
+        StepFault::Exhausted => write_text(out, b"Exhausted"),
+        StepFault::NoMemory => write_text(out, b"NoMemory"),
+    }
+}
+
+/// Appends the line of a refused step. Where memory runs out, the front of that line may stand there.
+pub fn write_fault(out: &mut Vec<u8>, fault: &StepFault) -> Result<(), AllocError>
+    ensures { OnOk result (out.new.items ≡ out.old.items ++ fault_line fault.now) }
+{
+    write_text(out, b"fault ")?;
+    write_name(out, fault)?;
+    write_text(out, b"\n")
+}

@@ -1,6 +1,0 @@
-use Rattle.l4proxy.proofs.FrontLemmas.{front_line}
-use Rattle.l4proxy.proofs.check.write_line.Goals as goal
-
-pub returns-in-Err-clause-front : goal.returns-in-Err-clause-front
-returns-in-Err-clause-front g c =
-    λ sent is. front_line _ _ c.args.line.now c.in-Err.ensures.err sent is

@@ -1,6 +1,0 @@
-use Rattle.std.proofs.Common.{◌∙◌}
-use Rattle.l4proxy.proofs.EventLemmas.{wanted_of-line}
-use Rattle.l4proxy.proofs.script.read_request.Goals as goal
-
-pub returns-clause-again : goal.returns-clause-again
-returns-clause-again c = λ moment event short given is. c.request_in.ensures ∙ wanted_of-line c.args.line.now moment event short given is

@@ -1,8 +1,0 @@
-pub mod Script
-pub mod Status
-pub mod Replies
-pub mod Replay
-pub mod Turns
-pub mod Standing
-pub mod Reading
-pub mod Check

@@ -1,0 +1,8 @@
+pub mod LineLemmas
+pub mod FrontLemmas
+pub mod GoesLemmas
+pub mod CarryLemmas
+pub mod ReachedLemmas
+pub mod OutcomeLemmas
+pub mod EndLemmas
+pub mod PlanLemmas

@@ -1,0 +1,53 @@
+-- What comes of a script by the state alone is what comes of it over its history.
+use Rattle.std.proofs.Common.{◌≡◌, ℕ, ◌+◌, List, [], ◌∷◌, Option, Some, None, Result, Ok, Err, refl, ap, sym, ◌∙◌}
+use Rattle.std.proofs.lemmas.List.{append-nil}
+use Rattle.conf_text.specs.Parts.{parts, is_line_feed}
+use Rattle.plan_types.specs.declared.plan.Plan.{Plan}
+use Rattle.conn_model.specs.declared.event.Happening.{Happening}
+use Rattle.conn_model.specs.declared.plain.Plain.{Plain}
+use Rattle.conn_model.specs.declared.reply.Reply.{Reply}
+use Rattle.conn_model.specs.declared.reply.StepFault.{StepFault}
+use Rattle.conn_model.specs.History.{Entry, IsLegal, IsWell, after, answer, counts, entry, opening}
+use Rattle.conn_model.proofs.Law.{after-cons, after-nil}
+use Rattle.event_text.specs.Script.{Wanted}
+use Rattle.event_text.specs.Replies.{count_line}
+use Rattle.replay_core.specs.Replay.{Outcome, after_line, answer_text, asked, before_rest, history_after, outcome, replayed}
+use Rattle.replay_core.specs.Turns.{outcome_in, plain_after, replayed_in, turn}
+use Rattle.replay_core.specs.Standing.{Standing, total_of}
+use Rattle.replay_core.specs.declared.fault.ReplayFault.{ReplayFault}
+
+-- an answer leaves the state after the history that it leaves
+same_after : (p : Plain) (h : List Entry) (moment : ℕ) (event : Happening) (answered : Result Reply StepFault) (rest : List Entry → Outcome) (rest_in : Plain → Outcome)
+    → IsWell p → IsLegal p h → ((g : List Entry) → IsLegal p g → rest g ≡ rest_in (after p g)) → answer p h moment event ≡ answered
+    → rest (history_after h moment event answered) ≡ rest_in (plain_after (after p h) moment event answered)
+same_after p h moment event (Ok reply) rest rest_in well legal next is =
+    next (entry moment event reply ∷ h) (legal, is) ∙ ap rest_in (after-cons p (entry moment event reply) h well (legal, is))
+same_after p h moment event (Err fault) rest rest_in well legal next is = next h legal
+
+same_line : (p : Plain) (h : List Entry) (asks : Result (Option Wanted) ReplayFault) (rest : List Entry → Outcome) (rest_in : Plain → Outcome)
+    → IsWell p → IsLegal p h → ((g : List Entry) → IsLegal p g → rest g ≡ rest_in (after p g)) → after_line p h asks rest ≡ turn (after p h) asks rest_in
+same_line p h (Err fault) rest rest_in well legal next = refl
+same_line p h (Ok None) rest rest_in well legal next = next h legal
+same_line p h (Ok (Some (Wanted.count ask))) rest rest_in well legal next = ap (before_rest (count_line ask (counts p h ask)) 1) (next h legal)
+same_line p h (Ok (Some (Wanted.reply timed))) rest rest_in well legal next =
+    ap (before_rest (answer_text (answer p h timed.0 timed.1)) 1)
+    (same_after p h timed.0 timed.1 (answer p h timed.0 timed.1) rest rest_in well legal next refl)
+
+pub same_outcome : (p : Plain) (h : List Entry) (before : ℕ) (lines : List (List ℕ)) → IsWell p → IsLegal p h → outcome p h before lines ≡ outcome_in (after p h) before lines
+same_outcome p h before [] well legal = refl
+same_outcome p h before (line ∷ lines) well legal =
+    same_line p h (asked (before + 1) line) (λ g. outcome p g (before + 1) lines) (λ q. outcome_in q (before + 1) lines) well legal
+    (λ g ok. same_outcome p g (before + 1) lines well ok)
+
+-- what comes of a script where a plan is opened
+pub same_replayed : (plan : Plan) (script : List ℕ) → IsWell (opening plan 0) → replayed plan script ≡ replayed_in (opening plan 0) 0 script
+same_replayed plan script well =
+    same_outcome (opening plan 0) [] 0 (parts is_line_feed script) well tt ∙ ap (λ p. outcome_in p 0 (parts is_line_feed script)) (after-nil (opening plan 0))
+
+abbrev pub start : Plan → Standing
+start plan = record { plain = opening plan 0; before = 0; answered = 0; unsent = [] }
+
+-- in all, behind what was written before
+pub total_start : (plan : Plan) (sent script : List ℕ) → IsWell (opening plan 0) → total_of sent (start plan) script ≡ before_rest sent 0 (replayed plan script)
+total_start plan sent script well =
+    ap (λ xs. before_rest xs 0 (replayed_in (opening plan 0) 0 script)) (append-nil sent) ∙ ap (before_rest sent 0) (sym (same_replayed plan script well))

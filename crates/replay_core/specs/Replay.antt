@@ -1,0 +1,126 @@
+-- What a script is answered.
+use Rattle.std.specs.Prelude.{◌≡◌, ◌⊎◌, ℕ, Bool, ◌+◌, ◌==◌, ◌||◌, nat_lt, List, [], ◌∷◌, ◌++◌, length, slice_index, Option, Some, None, option_map, Result, Ok, Err, if◌then◌else◌}
+use Rattle.conf_text.specs.Parts.{parts, is_line_feed}
+use Rattle.plan_types.specs.declared.plan.Plan.{Plan}
+use Rattle.conn_model.specs.declared.event.Happening.{Happening}
+use Rattle.conn_model.specs.declared.plain.Plain.{Plain}
+use Rattle.conn_model.specs.declared.reply.Reply.{Reply}
+use Rattle.conn_model.specs.declared.reply.StepFault.{StepFault}
+use Rattle.conn_model.specs.History.{Entry, answer, counts, entry, opening}
+use Rattle.conn_core.specs.Meaning.{meaning}
+use Rattle.event_text.specs.Script.{Wanted, wanted, wanted_of, words_of}
+use Rattle.event_text.specs.Replies.{count_line, fault_line, reply_line}
+use Rattle.event_text.specs.declared.script.Request.{Request}
+use Rattle.replay_core.specs.declared.fault.ReplayFault.{ReplayFault}
+use Rattle.replay_core.specs.declared.fault.ReplayFault.TheVariants.{Config, Format, TooLong, Read, Write, NoMemory}
+
+-- What comes of a script: the lines of its answers, how many these are, and the fault of the line that ends it, if one does.
+pub record Outcome : Type 0 where
+  pub text : List ℕ
+  pub lines : ℕ
+  pub fault : Option ReplayFault
+
+abbrev pub ended : Option ReplayFault → Outcome
+ended fault = record { text = []; lines = 0; fault = fault }
+
+-- so many answers, before what comes after them
+abbrev pub before_rest : List ℕ → ℕ → Outcome → Outcome
+before_rest text lines rest = record { text = text ++ rest.text; lines = lines + rest.lines; fault = rest.fault }
+
+-- ---- one line
+
+-- a line that is empty or begins with # asks for nothing
+abbrev pub is_skipped : List ℕ → Bool
+is_skipped line = length line == 0 || slice_index line 0 == 0x23
+
+abbrev pub wanted_at : ℕ → Option Wanted → Result (Option Wanted) ReplayFault
+wanted_at number None = Err (Format number)
+wanted_at number (Some wants) = Ok (Some wants)
+
+-- what the line of that number asks for: an answer to an event, counts, or nothing; else what is wrong with it
+abbrev pub asked : ℕ → List ℕ → Result (Option Wanted) ReplayFault
+asked number line =
+    if nat_lt 131200 (length line) || nat_lt 1000000 number then Err (TooLong number)
+    else if is_skipped line then Ok None
+    else wanted_at number (wanted_of (words_of line))
+
+-- what was read of a line
+abbrev pub asked_for : Result (Option Request) ReplayFault → Result (Option Wanted) ReplayFault
+asked_for (Ok request) = Ok (option_map wanted request)
+asked_for (Err fault) = Err fault
+
+-- ---- the lines of a script
+
+-- the line of an answer
+abbrev pub answer_text : Result Reply StepFault → List ℕ
+answer_text (Ok reply) = reply_line reply
+answer_text (Err fault) = fault_line fault
+
+-- the history after an answer: a fault leaves it as it was
+abbrev pub history_after : List Entry → ℕ → Happening → Result Reply StepFault → List Entry
+history_after h moment event (Ok reply) = entry moment event reply ∷ h
+history_after h moment event (Err fault) = h
+
+-- what comes of a line behind a history, and of the rest
+abbrev pub after_line : Plain → List Entry → Result (Option Wanted) ReplayFault → (List Entry → Outcome) → Outcome
+after_line p h (Err fault) rest = ended (Some fault)
+after_line p h (Ok None) rest = rest h
+after_line p h (Ok (Some (Wanted.count ask))) rest = before_rest (count_line ask (counts p h ask)) 1 (rest h)
+after_line p h (Ok (Some (Wanted.reply timed))) rest =
+    let answered = answer p h timed.0 timed.1 in before_rest (answer_text answered) 1 (rest (history_after h timed.0 timed.1 answered))
+
+-- what comes of lines, behind a history and so many lines before them
+abbrev pub outcome : Plain → List Entry → ℕ → List (List ℕ) → Outcome
+outcome p h before [] = ended None
+outcome p h before (line ∷ lines) = after_line p h (asked (before + 1) line) (λ g. outcome p g (before + 1) lines)
+
+-- what comes of a script where a plan is opened
+abbrev pub replayed : Plan → List ℕ → Outcome
+replayed plan script = outcome (opening plan 0) [] 0 (parts is_line_feed script)
+
+-- ---- a whole replay
+
+-- what is held is the front of a text
+abbrev pub IsFront : Option (List ℕ) → List ℕ → Type 0
+IsFront held text = (now : List ℕ) × (rest : List ℕ) × (held ≡ Some now) × (text ≡ now ++ rest)
+
+-- The configuration has a meaning, each event of the script was answered, and the answers, so many, stand behind what was written before.
+pub record IsReplayed (config script sent : List ℕ) (held : Option (List ℕ)) (lines : ℕ) : Type 0 where
+  pub plan : Plan
+  pub means : meaning config ≡ Ok plan
+  pub ends : (replayed plan script).fault ≡ None
+  pub wrote : held ≡ Some (sent ++ (replayed plan script).text)
+  pub counts : (replayed plan script).lines ≡ lines
+
+-- A line of the script is wrong, and the answers to all events before it stand behind what was written before.
+pub record IsStopped (config script sent : List ℕ) (held : Option (List ℕ)) (fault : ReplayFault) : Type 0 where
+  pub plan : Plan
+  pub means : meaning config ≡ Ok plan
+  pub ends : (replayed plan script).fault ≡ Some fault
+  pub wrote : held ≡ Some (sent ++ (replayed plan script).text)
+
+-- What was written is the front of the answers to whatever script begins with what was read. So no line is answered before it ended.
+pub record IsCutShort (config script sent : List ℕ) (left held : Option (List ℕ)) : Type 0 where
+  pub plan : Plan
+  pub means : meaning config ≡ Ok plan
+  pub got : List ℕ
+  pub rest : List ℕ
+  pub is_left : left ≡ Some rest
+  pub is_read : script ≡ got ++ rest
+  pub front : (more : List ℕ) → IsFront held (sent ++ (replayed plan (got ++ more)).text)
+
+-- All of the script was read, and what was written is the front of its answers.
+pub record IsCutAtEnd (config script sent : List ℕ) (left held : Option (List ℕ)) : Type 0 where
+  pub plan : Plan
+  pub means : meaning config ≡ Ok plan
+  pub is_left : left ≡ Some []
+  pub front : IsFront held (sent ++ (replayed plan script).text)
+
+-- how a replay ends early
+abbrev pub IsEndedBy : List ℕ → List ℕ → List ℕ → Option (List ℕ) → Option (List ℕ) → ReplayFault → Type 0
+IsEndedBy config script sent left held (Config fault) = (meaning config ≡ Err fault) × (held ≡ Some sent)
+IsEndedBy config script sent left held (Format line) = IsStopped config script sent held (Format line)
+IsEndedBy config script sent left held (TooLong line) = IsStopped config script sent held (TooLong line)
+IsEndedBy config script sent left held Read = IsCutShort config script sent left held
+IsEndedBy config script sent left held Write = IsCutShort config script sent left held ⊎ IsCutAtEnd config script sent left held
+IsEndedBy config script sent left held NoMemory = (held ≡ Some sent) ⊎ IsCutShort config script sent left held

@@ -1,0 +1,109 @@
+//! Whether a configuration is right.
+ghost use Rattle.std.specs.Prelude.{◌≡◌, ◌≢◌, ◌++◌, ℕ, List, Some, Err, IfOk, IfErr, OnOk, OnErr};
+ghost use Rattle.conn_core.specs.Meaning.{compiled, opened};
+ghost use Rattle.plan_core.specs.Compiled.{plan_of};
+ghost use Rattle.replay_core.specs.Check.{check_output, fault_in, is_right, refused_line};
+ghost use Rattle.replay_core.specs.Replay.{IsFront};
+ghost use Rattle.replay_core.specs.Standing.{GaveUp};
+
+use crate::fault::PrintFault;
+use conf_tree::{ConfKind, Tree, read_config};
+use conn_core::OpenFault;
+use device_core::{Failed, Output, write_all};
+use plan_core::{PlanKind, compile};
+use std::alloc::Global;
+
+/// The fault of a configuration whose lines are right, if it has one.
+fn fault_of_plan(alloc: Global, tree: &Tree<'_>) -> Result<Option<OpenFault>, PrintFault>
+    ensures found { IfOk result (λ found. found ≡ fault_in (opened (plan_of tree.now))) }
+    ensures no_memory { IfErr result (λ f. f ≡ PrintFault.NoMemory) }
+{
+    match compile(alloc, tree) {
+        Ok(_plan) => Ok(None),
+        Err(fault) => {
+            if matches!(fault.kind, PlanKind::NoMemory) {
+                return Err(PrintFault::NoMemory);
+            }
+            Ok(Some(OpenFault::Plan(fault)))
+        }
+    }
+}
+
+/// The fault that stands against a configuration, if there is one. It names the least faulty line.
+pub fn fault_of(alloc: Global, config: &str) -> Result<Option<OpenFault>, PrintFault>
+    ensures found { IfOk result (λ found. found ≡ fault_in (compiled config.now)) }
+    ensures no_memory { IfErr result (λ f. f ≡ PrintFault.NoMemory) }
+{
+    match read_config(alloc, config) {
+        Ok(tree) => fault_of_plan(alloc, &tree),
+        Err(fault) => {
+            if matches!(fault.kind, ConfKind::NoMemory) {
+                return Err(PrintFault::NoMemory);
+            }
+            Ok(Some(OpenFault::Config(fault)))
+        }
+    }
+}
+
+/// Writes a line.
+fn write_line<O: Output>(line: &[u8], writer: &mut O) -> Result<(), PrintFault>
+    ensures ok { OnOk result ((sent : List ℕ) → O.held writer.old ≡ Some sent → O.held writer.new ≡ Some (sent ++ line.now)) }
+    ensures failures { OnOk result (O.failures writer.new ≡ O.failures writer.old) }
+    ensures fault { IfErr result (λ f. f ≡ PrintFault.Write) }
+    ensures front { OnErr result ((sent : List ℕ) → O.held writer.old ≡ Some sent → IsFront (O.held writer.new) (sent ++ line.now)) }
+    ensures gave_up { OnErr result (GaveUp (O.failures writer.old) (O.failures writer.new) (O.stalls writer.new)) }
+{
+    match write_all(writer, line) {
+        Ok(()) => Ok(()),
+        Err(Failed) => Err(PrintFault::Write),
+    }
+}
+
+/// Writes the line of a fault.
+fn write_fault<O: Output>(
+    alloc: Global,
+    fault: &OpenFault,
+    writer: &mut O,
+) -> Result<(), PrintFault>
+    ensures ok { OnOk result ((sent : List ℕ) → O.held writer.old ≡ Some sent → O.held writer.new ≡ Some (sent ++ refused_line fault.now)) }
+    ensures failures { OnOk result (O.failures writer.new ≡ O.failures writer.old) }
+    ensures not_read { result ≢ Err PrintFault.Read }
+    ensures no_memory { result ≡ Err PrintFault.NoMemory → writer.new ≡ writer.old }
+    ensures front { result ≡ Err PrintFault.Write → (sent : List ℕ) → O.held writer.old ≡ Some sent → IsFront (O.held writer.new) (sent ++ refused_line fault.now) }
+    ensures gave_up { result ≡ Err PrintFault.Write → GaveUp (O.failures writer.old) (O.failures writer.new) (O.stalls writer.new) }
+{
+    let Ok(line) = format!(in alloc; "{}\n", *fault) else {
+        return Err(PrintFault::NoMemory);
+    };
+    write_line(line.as_str().as_bytes(), writer)
+}
+
+/// Writes one line: `ok` where a configuration is right, else its fault. Whether it is right is told
+/// by its lines and its plan alone: it may be right and ask for what is not served yet.
+pub fn run_check<O: Output>(alloc: Global, config: &str, writer: &mut O) -> Result<bool, PrintFault>
+    // What was written is the line of the text, by the definition of its plan.
+    ensures ok { OnOk result ((sent : List ℕ) → O.held writer.old ≡ Some sent → O.held writer.new ≡ Some (sent ++ check_output config.now)) }
+    ensures right { IfOk result (λ right. right ≡ is_right config.now) }
+    ensures failures { OnOk result (O.failures writer.new ≡ O.failures writer.old) }
+
+    // Without memory nothing was written.
+    ensures no_memory { result ≡ Err PrintFault.NoMemory → writer.new ≡ writer.old }
+
+    // The device gives up before the call does, and what was written is a front of the line.
+    ensures front { result ≡ Err PrintFault.Write → (sent : List ℕ) → O.held writer.old ≡ Some sent → IsFront (O.held writer.new) (sent ++ check_output config.now) }
+    ensures gave_up { result ≡ Err PrintFault.Write → GaveUp (O.failures writer.old) (O.failures writer.new) (O.stalls writer.new) }
+
+    // Nothing is read.
+    ensures not_read { result ≢ Err PrintFault.Read }
+{
+    match fault_of(alloc, config)? {
+        None => {
+            write_line(b"ok\n", writer)?;
+            Ok(true)
+        }
+        Some(fault) => {
+            write_fault(alloc, &fault, writer)?;
+            Ok(false)
+        }
+    }
+}

@@ -1,0 +1,12 @@
+//! The engines of the commands: a script is replayed, a configuration is checked.
+#![tactic(auto)]
+
+pub use check::{fault_of, run_check};
+pub use fault::{PrintFault, ReplayFault};
+pub use replay::{Replayed, run_replay};
+
+mod check;
+mod fault;
+mod reading;
+mod replay;
+mod session;
