@@ -1,5 +1,5 @@
-pub mod FoundLemmas
+pub mod ReadingLaws
 pub mod RisingLemmas
-pub mod ToldLemmas
+pub mod EffectLemmas
 pub mod FewLemmas
 pub mod MarkLemmas

@@ -11,12 +11,12 @@ use Rattle.conf_text.specs.declared.line.Line.{Line}
 use Rattle.conf_text.specs.declared.line.LineKind.{LineKind}
 use Rattle.conf_text.specs.declared.line.LineKind.TheVariants.{TooLong, TooManyWords, TooManyLines, Quoting, NotAscii}
 use Rattle.conf_text.specs.Lines as texts
-use Rattle.conf_tree.specs.declared.fault.ConfKind.{ConfKind}
-use Rattle.conf_tree.specs.declared.fault.ConfFault.{ConfFault}
-use Rattle.conf_tree.specs.declared.item.Item.{Item}
-use Rattle.conf_tree.specs.declared.said.Said.{Said}
-use Rattle.conf_tree.specs.Statements.{line_says}
-use Rattle.conf_tree.specs.Config.{place_after, place_of, allowed, judged, at_line, next_item, has_effect, told, next_told, items_in}
+use Rattle.conf_line.specs.declared.fault.ConfKind.{ConfKind}
+use Rattle.conf_line.specs.declared.fault.ConfFault.{ConfFault}
+use Rattle.conf_tree.specs.declared.tree.ConfigLine.{ConfigLine}
+use Rattle.conf_line.specs.declared.statement.LineReading.{LineReading}
+use Rattle.conf_line.specs.Statements.{line_reading}
+use Rattle.conf_tree.specs.Config.{place_after, place_of, check_line, line_after, at_line, item_after, has_effect, with_effect, next_item, items_in}
 use Rattle.conf_tree.specs.Rising.{AreAbove, Rises}
 
 -- Numbers of lines.
@@ -64,82 +64,82 @@ numbered text all read i line there =
 
 -- Lines of items.
 
-judged_at : (items : List Item) (line : Line) (item : Item) → judged items line ≡ Ok item → item.line ≡ line.number
-judged_at items line item is = by (line_says (place_after items).kind line.words) is
+judged_at : (items : List ConfigLine) (line : Line) (item : ConfigLine) → line_after items line ≡ Ok item → item.line ≡ line.number
+judged_at items line item is = by (line_reading (place_after items).kind line.words) is
   where
-    then_allowed : (said : Said) (r : Result (Unit {0}) ConfKind)
-        → (r >>= λ u. Ok (record { line = line.number; place = place_of (place_after items) (length items) said.says; says = said.says })) ≡ Ok item → item.line ≡ line.number
-    then_allowed said (Err kind) e = absurd cc
-    then_allowed said (Ok u) e =
-        let same : record { line = line.number; place = place_of (place_after items) (length items) said.says; says = said.says } ≡ item = cc in ap (λ i. i.line) (sym same)
+    then_allowed : (reading : LineReading) (r : Result (Unit {0}) ConfKind)
+        → (r >>= λ u. Ok (record { line = line.number; place = place_of (place_after items) (length items) reading.statement; statement = reading.statement })) ≡ Ok item → item.line ≡ line.number
+    then_allowed reading (Err kind) e = absurd cc
+    then_allowed reading (Ok u) e =
+        let same : record { line = line.number; place = place_of (place_after items) (length items) reading.statement; statement = reading.statement } ≡ item = cc in ap (λ i. i.line) (sym same)
 
-    by : (r : Result Said ConfKind) → (r >>= λ said. (allowed items (place_of (place_after items) (length items) said.says) said >>= λ u.
-        Ok (record { line = line.number; place = place_of (place_after items) (length items) said.says; says = said.says }))) ≡ Ok item → item.line ≡ line.number
+    by : (r : Result LineReading ConfKind) → (r >>= λ reading. (check_line items (place_of (place_after items) (length items) reading.statement) reading >>= λ u.
+        Ok (record { line = line.number; place = place_of (place_after items) (length items) reading.statement; statement = reading.statement }))) ≡ Ok item → item.line ≡ line.number
     by (Err kind) e = absurd cc
-    by (Ok said) e = then_allowed said (allowed items (place_of (place_after items) (length items) said.says) said) e
+    by (Ok reading) e = then_allowed reading (check_line items (place_of (place_after items) (length items) reading.statement) reading) e
 
-item_line : (items : List Item) (line : Line) (item : Item) → next_item items line ≡ Ok item → item.line ≡ line.number
-item_line items line item is = by (judged items line) refl
+item_line : (items : List ConfigLine) (line : Line) (item : ConfigLine) → item_after items line ≡ Ok item → item.line ≡ line.number
+item_line items line item is = by (line_after items line) refl
   where
-    by : (r : Result Item ConfKind) → judged items line ≡ r → item.line ≡ line.number
-    by (Err kind) r = let wrong : at_line {X = Item} line.number (Err kind) ≡ Ok item = rw r at is in absurd cc
+    by : (r : Result ConfigLine ConfKind) → line_after items line ≡ r → item.line ≡ line.number
+    by (Err kind) r = let wrong : at_line {X = ConfigLine} line.number (Err kind) ≡ Ok item = rw r at is in absurd cc
     by (Ok x) r =
         let same : at_line line.number (Ok x) ≡ Ok item = rw r at is in
         let eq : x ≡ item = cc in
         judged_at items line item (r ∙ ap (λ y. Ok y) eq)
 
 -- the item of that index
-item_number : (all : List Line) (items : List Item) → IsRead next_told all items → ((i : ℕ) (line : Line) → slice_get all i ≡ Some line → line.number ≡ i + 1)
-    → (i : ℕ) (item : Item) → slice_get items i ≡ Some item → item.line ≡ 0 + (i + 1)
+item_number : (all : List Line) (items : List ConfigLine) → IsRead next_item all items → ((i : ℕ) (line : Line) → slice_get all i ≡ Some line → line.number ≡ i + 1)
+    → (i : ℕ) (item : ConfigLine) → slice_get items i ≡ Some item → item.line ≡ 0 + (i + 1)
 item_number [] items read numbers i item there = absurd (let within : i < length items = slice_get_within items i item there in let none : length items ≡ 0 = read.0 in (omega arith))
 item_number (first ∷ all) items read numbers i item there =
     let within : i < length items = slice_get_within items i item there in
     let inside : i < length (first ∷ all) = subst (λ n. i < n) read.0 within in
     let line = get_or (first ∷ all) i first in
     let here : slice_get (first ∷ all) i ≡ Some line = slice_get-get_or (first ∷ all) i first inside in
-    item_line (told (take i items)) line item (read.1 i line item here there) ∙ numbers i line here ∙ (omega arith)
+    item_line (with_effect (take i items)) line item (read.1 i line item here there) ∙ numbers i line here ∙ (omega arith)
 
 -- So they rise.
 
-above : (n m : ℕ) (items : List Item) → ((i : ℕ) (item : Item) → slice_get items i ≡ Some item → item.line ≡ n + (i + 1)) → m ≤ n → AreAbove m items
+above : (n m : ℕ) (items : List ConfigLine) → ((i : ℕ) (item : ConfigLine) → slice_get items i ≡ Some item → item.line ≡ n + (i + 1)) → m ≤ n → AreAbove m items
 above n m [] numbers less = tt
 above n m (item ∷ rest) numbers less =
     let here : item.line ≡ n + 1 = numbers 0 item refl in
     (subst (λ l. m < l) (sym here) (omega arith), above (suc n) m rest (λ i x there. numbers (suc i) x there ∙ (omega arith)) (omega arith))
 
-rising : (n : ℕ) (items : List Item) → ((i : ℕ) (item : Item) → slice_get items i ≡ Some item → item.line ≡ n + (i + 1)) → Rises items
+rising : (n : ℕ) (items : List ConfigLine) → ((i : ℕ) (item : ConfigLine) → slice_get items i ≡ Some item → item.line ≡ n + (i + 1)) → Rises items
 rising n [] numbers = tt
 rising n (item ∷ rest) numbers =
     let here : item.line ≡ n + 1 = numbers 0 item refl in
-    let later : (i : ℕ) (x : Item) → slice_get rest i ≡ Some x → x.line ≡ suc n + (i + 1) = λ i x there. numbers (suc i) x there ∙ (omega arith) in
+    let later : (i : ℕ) (x : ConfigLine) → slice_get rest i ≡ Some x → x.line ≡ suc n + (i + 1) = λ i x there. numbers (suc i) x there ∙ (omega arith) in
     (above (suc n) item.line rest later (omega arith), rising (suc n) rest later)
 
 -- So do those of the lines that have an effect.
 
-above_told : (m : ℕ) (items : List Item) → AreAbove m items → AreAbove m (told items)
+above_told : (m : ℕ) (items : List ConfigLine) → AreAbove m items → AreAbove m (with_effect items)
 above_told m [] above = tt
-above_told m (item ∷ rest) above = by (above_told m rest above.1) (has_effect item.says)
+above_told m (item ∷ rest) above = by (above_told m rest above.1) (has_effect item.statement)
   where
-    by : AreAbove m (told rest) → (b : Bool) → AreAbove m (if b then item ∷ told rest else told rest)
+    by : AreAbove m (with_effect rest) → (b : Bool) → AreAbove m (if b then item ∷ with_effect rest else with_effect rest)
     by more true = (above.0, more)
     by more false = more
 
-rises_told : (items : List Item) → Rises items → Rises (told items)
+rises_told : (items : List ConfigLine) → Rises items → Rises (with_effect items)
 rises_told [] rises = tt
-rises_told (item ∷ rest) rises = by (rises_told rest rises.1) (has_effect item.says)
+rises_told (item ∷ rest) rises = by (rises_told rest rises.1) (has_effect item.statement)
   where
-    by : Rises (told rest) → (b : Bool) → Rises (if b then item ∷ told rest else told rest)
+    by : Rises (with_effect rest) → (b : Bool) → Rises (if b then item ∷ with_effect rest else with_effect rest)
     by more true = (above_told item.line rest rises.0, more)
     by more false = more
 
-pub rises_in : (text : List ℕ) (lines : List Line) (items : List Item) → texts.AreLines text lines → items_in lines ≡ Ok items → Rises items
-rises_in text lines items are is = by (each next_told [] lines) refl is
+pub rises_in : (text : List ℕ) (lines : List Line) (items : List ConfigLine) → texts.AreLines text lines → items_in lines ≡ Ok items → Rises items
+rises_in text lines items are is = by (each next_item [] lines) refl is
   where
-    by : (r : Result (List Item) ConfFault) → each next_told [] lines ≡ r → (r >>= λ all. Ok (told all)) ≡ Ok items → Rises items
+    by : (r : Result (List ConfigLine) ConfFault) → each next_item [] lines ≡ r → (r >>= λ all. Ok (with_effect all)) ≡ Ok items → Rises items
     by (Err fault) reads is = absurd cc
     by (Ok all) reads is =
-        let same : told all ≡ items = cc in
-        let more = each_ok next_told [] lines all reads in
-        let P : List Item → Type 0 = λ ys. IsRead next_told lines ys in
+        let same : with_effect all ≡ items = cc in
+        let more = each_ok next_item [] lines all reads in
+        let P : List ConfigLine → Type 0 = λ ys. IsRead next_item lines ys in
         let rises : Rises all = rising 0 all (item_number lines all (subst P (sym more.1) more.2) (numbered (parts is_line_feed text) lines are.1)) in
         subst (λ ys. Rises ys) same (rises_told all rises)

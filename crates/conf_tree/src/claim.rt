@@ -4,8 +4,9 @@ ghost use Rattle.std.specs.List.{list_any};
 ghost use Rattle.conf_tree.specs.Config.{claim_of, same_claim, is_frontend, is_backend};
 ghost use Rattle.conf_tree.specs.Marks.{mark_of};
 
-use crate::item::{Place, Says};
+use crate::tree::Place;
 use addr_core::Endpoint;
+use conf_line::Statement;
 use list_core::Seq;
 use std::alloc::{AllocError, Global};
 use std::marker::Model;
@@ -25,14 +26,14 @@ pub enum Claim<'a> {
 }
 
 /// What a line in that section claims.
-pub fn claim_of<'a>(place: &Place<'a>, says: &Says<'a>) -> Option<Claim<'a>>
-    ensures { result ≡ claim_of place.now says.now }
+pub fn claim_of<'a>(place: &Place<'a>, statement: &Statement<'a>) -> Option<Claim<'a>>
+    ensures { result ≡ claim_of place.now statement.now }
 {
-    match says {
-        Says::Frontend(name) => Some(Claim::Frontend(name.again())),
-        Says::Backend(name) => Some(Claim::Backend(name.again())),
-        Says::Bind(at, _) => Some(Claim::Endpoint(*at)),
-        Says::StickTable(_) => Some(Claim::Table(place.name.again())),
+    match statement {
+        Statement::Frontend(name) => Some(Claim::Frontend(name.again())),
+        Statement::Backend(name) => Some(Claim::Backend(name.again())),
+        Statement::Bind(at, _) => Some(Claim::Endpoint(*at)),
+        Statement::StickTable(_) => Some(Claim::Table(place.name.again())),
         _ => None,
     }
 }
@@ -120,7 +121,7 @@ impl<'a> Model for Claims<'a> {
 
 impl<'a> Claims<'a> {
     ghost use Rattle.std.specs.Prelude.{◌≡◌, ◌++◌, [], length, filter, option_to_list, IfOk};
-    ghost use Rattle.conf_tree.specs.Config.{is_claimed, is_frontend, is_backend};
+    ghost use Rattle.conf_tree.specs.Config.{is_claim_taken, is_frontend, is_backend};
 
     pub fn new(alloc: Global) -> Self
         ensures { result ≡ [] }
@@ -133,7 +134,7 @@ impl<'a> Claims<'a> {
 
     /// Whether that is claimed already.
     pub fn has(&self, claim: &Option<Claim>) -> bool
-        ensures { result ≡ is_claimed self.now claim.now }
+        ensures { result ≡ is_claim_taken self.now claim.now }
     {
         match claim {
             Some(claim) => has_claim(self.all.as_slice(), self.marks.as_slice(), claim),

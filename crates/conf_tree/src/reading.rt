@@ -3,15 +3,13 @@ ghost use Rattle.std.specs.Prelude.{◌≡◌, ◌⊎◌, ◌++◌, ◌∷◌, [
 ghost use Rattle.std.specs.List.{list_any};
 ghost use Rattle.list_core.specs.Each.{Fails, Gives, each};
 ghost use Rattle.conf_text.specs.Lines.{lines_of, AreLines};
-ghost use Rattle.conf_tree.specs.declared.fault.ConfFault.{ConfFault};
-ghost use Rattle.conf_tree.specs.declared.item.Item.{Item};
-ghost use Rattle.conf_tree.specs.Config.{outside, place_after, place_of, own, claim_of, claimed, is_server_named, has_server, is_taken, is_bind, is_rule, is_server, are_own, is_full, allowed, judged, next_item, text_fault, has_effect, items_in, items_of, AreItems, IsConfFault};
+ghost use Rattle.conf_line.specs.declared.fault.ConfFault.{ConfFault};
+ghost use Rattle.conf_tree.specs.declared.tree.ConfigLine.{ConfigLine};
+ghost use Rattle.conf_tree.specs.Config.{outside, place_after, place_of, section_lines, claim_of, claims_of, is_server_named, has_server, is_taken, is_bind, is_rule, is_server, lines_reach, is_full, check_line, line_after, item_after, text_fault, has_effect, items_in, items_of, AreItems, IsConfFault};
 
 use crate::claim::{Claims, claim_of};
-use crate::fault::{ConfFault, ConfKind};
-use crate::item::{Item, Place, Says, SectionKind, Tree};
-use crate::said::Said;
-use crate::statement::line_says;
+use crate::tree::{ConfigLine, Place, Tree};
+use conf_line::{ConfFault, ConfKind, LineReading, SectionKind, Statement, read_line};
 use conf_text::{Line, LineKind, Lines};
 use list_core::{Seq, Stop, newest};
 use std::alloc::{AllocError, Global};
@@ -39,7 +37,7 @@ fn again<'a>(place: &Place<'a>) -> Place<'a>
 }
 
 /// The section in which the line after those stands, if it opens none.
-fn place_after<'a>(items: &[Item<'a>]) -> Place<'a>
+fn place_after<'a>(items: &[ConfigLine<'a>]) -> Place<'a>
     ensures { result ≡ place_after items.now }
 {
     match newest(items) {
@@ -49,26 +47,26 @@ fn place_after<'a>(items: &[Item<'a>]) -> Place<'a>
 }
 
 /// The section of a line that says this, as the item of that number.
-fn place_of<'a>(place: Place<'a>, number: usize, says: &Says<'a>) -> Place<'a>
-    ensures { result ≡ place_of place.entry number says.now }
+fn place_of<'a>(place: Place<'a>, number: usize, statement: &Statement<'a>) -> Place<'a>
+    ensures { result ≡ place_of place.entry number statement.now }
 {
-    match says {
-        Says::Global => Place {
+    match statement {
+        Statement::Global => Place {
             kind: SectionKind::Global,
             name: Word::of(&[]),
             first: number,
         },
-        Says::Defaults => Place {
+        Statement::Defaults => Place {
             kind: SectionKind::Defaults,
             name: Word::of(&[]),
             first: number,
         },
-        Says::Frontend(name) => Place {
+        Statement::Frontend(name) => Place {
             kind: SectionKind::Frontend,
             name: name.again(),
             first: number,
         },
-        Says::Backend(name) => Place {
+        Statement::Backend(name) => Place {
             kind: SectionKind::Backend,
             name: name.again(),
             first: number,
@@ -78,8 +76,8 @@ fn place_of<'a>(place: Place<'a>, number: usize, says: &Says<'a>) -> Place<'a>
 }
 
 /// The lines of a section, of all those before.
-fn own<'t, 'a>(place: &Place, items: &'t [Item<'a>]) -> &'t [Item<'a>]
-    ensures { result.now ≡ own place.now items.now }
+fn section_lines<'t, 'a>(place: &Place, items: &'t [ConfigLine<'a>]) -> &'t [ConfigLine<'a>]
+    ensures { result.now ≡ section_lines place.now items.now }
 {
     if place.first < items.len() {
         return &items[place.first..];
@@ -87,63 +85,65 @@ fn own<'t, 'a>(place: &Place, items: &'t [Item<'a>]) -> &'t [Item<'a>]
     &[]
 }
 
-fn is_server_named(name: &Word, says: &Says) -> bool
-    ensures { result ≡ is_server_named name.now says.now }
+fn is_server_named(name: &Word, statement: &Statement) -> bool
+    ensures { result ≡ is_server_named name.now statement.now }
 {
-    match says {
-        Says::Server(server) => server.name.is(name.bytes()),
+    match statement {
+        Statement::Server(server) => server.name.is(name.bytes()),
         _ => false,
     }
 }
 
-fn is_any_server_named(lines: &[Item], name: &Word) -> bool
-    ensures { result ≡ list_any (λ item. is_server_named name.now item.says) lines.now }
+fn is_any_server_named(lines: &[ConfigLine], name: &Word) -> bool
+    ensures { result ≡ list_any (λ item. is_server_named name.now item.statement) lines.now }
 {
-    lines.iter().any(|item| is_server_named(name, &item.says))
+    lines
+        .iter()
+        .any(|item| is_server_named(name, &item.statement))
 }
 
-fn has_server(lines: &[Item], says: &Says) -> bool
-    ensures { result ≡ has_server lines.now says.now }
+fn has_server(lines: &[ConfigLine], statement: &Statement) -> bool
+    ensures { result ≡ has_server lines.now statement.now }
 {
-    match says {
-        Says::Server(server) => is_any_server_named(lines, &server.name),
+    match statement {
+        Statement::Server(server) => is_any_server_named(lines, &server.name),
         _ => false,
     }
 }
 
-fn is_bind(says: &Says) -> bool
-    ensures { result ≡ is_bind says.now }
+fn is_bind(statement: &Statement) -> bool
+    ensures { result ≡ is_bind statement.now }
 {
-    matches!(says, Says::Bind(_, _))
+    matches!(statement, Statement::Bind(_, _))
 }
 
-fn is_rule(says: &Says) -> bool
-    ensures { result ≡ is_rule says.now }
+fn is_rule(statement: &Statement) -> bool
+    ensures { result ≡ is_rule statement.now }
 {
-    matches!(says, Says::Rule(_, _, _))
+    matches!(statement, Statement::Rule(_, _, _))
 }
 
-fn is_server(says: &Says) -> bool
-    ensures { result ≡ is_server says.now }
+fn is_server(statement: &Statement) -> bool
+    ensures { result ≡ is_server statement.now }
 {
-    matches!(says, Says::Server(_))
+    matches!(statement, Statement::Server(_))
 }
 
-fn bind_count(lines: &[Item]) -> usize
-    ensures { result ≡ length (filter (λ item. is_bind item.says) lines.now) }
+fn bind_count(lines: &[ConfigLine]) -> usize
+    ensures { result ≡ length (filter (λ item. is_bind item.statement) lines.now) }
 {
-    lines.iter().filter(|item| is_bind(&item.says)).count()
+    lines.iter().filter(|item| is_bind(&item.statement)).count()
 }
 
-fn rule_count(lines: &[Item]) -> usize
-    ensures { result ≡ length (filter (λ item. is_rule item.says) lines.now) }
+fn rule_count(lines: &[ConfigLine]) -> usize
+    ensures { result ≡ length (filter (λ item. is_rule item.statement) lines.now) }
 {
-    lines.iter().filter(|item| is_rule(&item.says)).count()
+    lines.iter().filter(|item| is_rule(&item.statement)).count()
 }
 
 /// Whether there are as many rules as may stand. Short sections need no look at their lines.
-fn are_rules(lines: &[Item]) -> bool
-    ensures { result ≡ are_own 256 is_rule lines.now }
+fn are_rules(lines: &[ConfigLine]) -> bool
+    ensures { result ≡ lines_reach 256 is_rule lines.now }
 {
     if lines.len() < 256 {
         return false;
@@ -151,84 +151,92 @@ fn are_rules(lines: &[Item]) -> bool
     rule_count(lines) >= 256
 }
 
-fn server_count(lines: &[Item]) -> usize
-    ensures { result ≡ length (filter (λ item. is_server item.says) lines.now) }
+fn server_count(lines: &[ConfigLine]) -> usize
+    ensures { result ≡ length (filter (λ item. is_server item.statement) lines.now) }
 {
-    lines.iter().filter(|item| is_server(&item.says)).count()
+    lines
+        .iter()
+        .filter(|item| is_server(&item.statement))
+        .count()
 }
 
 /// Whether an earlier line has what may stand once.
-fn is_taken(items: &[Item], taken: &Claims, place: &Place, says: &Says) -> bool
-    requires { taken.now ≡ claimed items.now }
-    ensures { result ≡ is_taken items.now place.now says.now }
+fn is_taken(items: &[ConfigLine], taken: &Claims, place: &Place, statement: &Statement) -> bool
+    requires { taken.now ≡ claims_of items.now }
+    ensures { result ≡ is_taken items.now place.now statement.now }
 {
-    let claim = claim_of(place, says);
-    taken.has(&claim) || has_server(own(place, items), says)
+    let claim = claim_of(place, statement);
+    taken.has(&claim) || has_server(section_lines(place, items), statement)
 }
 
 /// Whether one line more of the kind is too many.
-fn is_full(items: &[Item], taken: &Claims, place: &Place, says: &Says) -> bool
-    requires { taken.now ≡ claimed items.now }
-    ensures { result ≡ is_full items.now place.now says.now }
+fn is_full(items: &[ConfigLine], taken: &Claims, place: &Place, statement: &Statement) -> bool
+    requires { taken.now ≡ claims_of items.now }
+    ensures { result ≡ is_full items.now place.now statement.now }
 {
-    match says {
-        Says::Frontend(_) => taken.frontends() >= 64,
-        Says::Backend(_) => taken.backends() >= 64,
-        Says::Bind(_, _) => bind_count(own(place, items)) >= 64,
-        Says::Rule(_, _, _) => are_rules(own(place, items)),
-        Says::Server(_) => server_count(own(place, items)) >= 64,
+    match statement {
+        Statement::Frontend(_) => taken.frontends() >= 64,
+        Statement::Backend(_) => taken.backends() >= 64,
+        Statement::Bind(_, _) => bind_count(section_lines(place, items)) >= 64,
+        Statement::Rule(_, _, _) => are_rules(section_lines(place, items)),
+        Statement::Server(_) => server_count(section_lines(place, items)) >= 64,
         _ => false,
     }
 }
 
 /// Whether a line that says this may stand behind those.
-fn allowed(items: &[Item], taken: &Claims, place: &Place, said: &Said) -> Result<(), ConfKind>
-    requires { taken.now ≡ claimed items.now }
-    ensures { result ≡ allowed items.now place.now said.now }
+fn check_line(
+    items: &[ConfigLine],
+    taken: &Claims,
+    place: &Place,
+    reading: &LineReading,
+) -> Result<(), ConfKind>
+    requires { taken.now ≡ claims_of items.now }
+    ensures { result ≡ check_line items.now place.now reading.now }
 {
-    if said.twice || is_taken(items, taken, place, &said.says) {
+    if reading.repeats || is_taken(items, taken, place, &reading.statement) {
         return Err(ConfKind::Duplicate);
     }
-    if said.beyond || is_full(items, taken, place, &said.says) {
+    if reading.exceeds || is_full(items, taken, place, &reading.statement) {
         return Err(ConfKind::Limit);
     }
     Ok(())
 }
 
 /// What the line after those says.
-fn judge<'a>(
+fn read_line_after<'a>(
     alloc: Global,
-    items: &[Item<'a>],
+    items: &[ConfigLine<'a>],
     taken: &Claims,
     line: &Line<'a>,
-) -> Result<Item<'a>, Stop<ConfKind>>
-    requires { taken.now ≡ claimed items.now }
-    ensures { Gives result (judged items.now line.now) }
+) -> Result<ConfigLine<'a>, Stop<ConfKind>>
+    requires { taken.now ≡ claims_of items.now }
+    ensures { Gives result (line_after items.now line.now) }
 {
     let before = place_after(items);
-    let said = line_says(alloc, before.kind, line.words.as_slice())?;
-    let place = place_of(before, items.len(), &said.says);
-    match allowed(items, taken, &place, &said) {
-        Ok(()) => Ok(Item {
+    let reading = read_line(alloc, before.kind, line.words.as_slice())?;
+    let place = place_of(before, items.len(), &reading.statement);
+    match check_line(items, taken, &place, &reading) {
+        Ok(()) => Ok(ConfigLine {
             line: line.number,
             place,
-            says: said.says,
+            statement: reading.statement,
         }),
         Err(kind) => Err(Stop::Fault(kind)),
     }
 }
 
 /// The item of the line after those.
-fn next_item<'a>(
+fn item_after<'a>(
     alloc: Global,
-    items: &[Item<'a>],
+    items: &[ConfigLine<'a>],
     taken: &Claims,
     line: &Line<'a>,
-) -> Result<Item<'a>, Stop<ConfFault>>
-    requires { taken.now ≡ claimed items.now }
-    ensures { Gives result (next_item items.now line.now) }
+) -> Result<ConfigLine<'a>, Stop<ConfFault>>
+    requires { taken.now ≡ claims_of items.now }
+    ensures { Gives result (item_after items.now line.now) }
 {
-    match judge(alloc, items, taken, line) {
+    match read_line_after(alloc, items, taken, line) {
         Ok(item) => Ok(item),
         Err(Stop::Memory) => Err(Stop::Memory),
         Err(Stop::Fault(kind)) => Err(Stop::Fault(ConfFault {
@@ -239,10 +247,10 @@ fn next_item<'a>(
 }
 
 /// What is claimed with one item more.
-fn claims_with<'a>(taken: Claims<'a>, item: &Item<'a>) -> Result<Claims<'a>, AllocError>
-    ensures { IfOk result (λ claims. claims ≡ taken.entry ++ claimed (item.now ∷ [])) }
+fn claims_with<'a>(taken: Claims<'a>, item: &ConfigLine<'a>) -> Result<Claims<'a>, AllocError>
+    ensures { IfOk result (λ claims. claims ≡ taken.entry ++ claims_of (item.now ∷ [])) }
 {
-    let claim = claim_of(&item.place, &item.says);
+    let claim = claim_of(&item.place, &item.statement);
     taken.with(claim)
 }
 
@@ -264,21 +272,21 @@ fn lines(alloc: Global, text: &str) -> Result<Lines, Stop<ConfFault>>
     }
 }
 
-fn has_effect(says: &Says) -> bool
-    ensures { result ≡ has_effect says.now }
+fn has_effect(statement: &Statement) -> bool
+    ensures { result ≡ has_effect statement.now }
 {
-    !matches!(says, Says::Nothing)
+    !matches!(statement, Statement::Nothing)
 }
 
 /// The items of the lines that have an effect. Most lines of a long text may have none.
-fn items<'a>(alloc: Global, lines: &[Line<'a>]) -> Result<Seq<Item<'a>>, Stop<ConfFault>>
+fn items<'a>(alloc: Global, lines: &[Line<'a>]) -> Result<Seq<ConfigLine<'a>>, Stop<ConfFault>>
     ensures { Gives result (items_in lines.now) }
 {
     let mut items = Seq::new(alloc);
     let mut taken = Claims::new(alloc);
     for line in lines {
-        let item = next_item(alloc, items.as_slice(), &taken, line)?;
-        if has_effect(&item.says) {
+        let item = item_after(alloc, items.as_slice(), &taken, line)?;
+        if has_effect(&item.statement) {
             taken = claims_with(taken, &item)?;
             items.push(item)?;
         }
@@ -296,7 +304,7 @@ fn tree_in(alloc: Global, text: &str) -> Result<Tree, Stop<ConfFault>>
 
 /// What is told of a stop; want of memory on line 0.
 fn fault_of(stop: Stop<ConfFault>) -> ConfFault
-    ensures { (read : Result (List Item) ConfFault) → Fails stop read → (result.kind ≡ ConfKind.NoMemory) ⊎ (read ≡ Err result) }
+    ensures { (read : Result (List ConfigLine) ConfFault) → Fails stop read → (result.kind ≡ ConfKind.NoMemory) ⊎ (read ≡ Err result) }
 {
     match stop {
         Stop::Fault(fault) => fault,
@@ -315,8 +323,8 @@ pub fn read_config(alloc: Global, text: &str) -> Result<Tree, ConfFault>
 
     // So each line says what it says in the light of those before it, and the fault is that of the
     // text, or else of the first line that has one.
-    ensures found { IfOk result (λ tree. AreItems text.now tree) }
-    ensures fault_found { IfErr result (λ f. (f.kind ≡ ConfKind.NoMemory) ⊎ IsConfFault text.now f) }
+    ensures each_line { IfOk result (λ tree. AreItems text.now tree) }
+    ensures first_fault { IfErr result (λ f. (f.kind ≡ ConfKind.NoMemory) ⊎ IsConfFault text.now f) }
 {
     match tree_in(alloc, text) {
         Ok(tree) => Ok(tree),

@@ -1,21 +1,21 @@
 -- What a configuration means: its plan, or the fault that stands against it.
 use Rattle.std.specs.Prelude.{ℕ, List, Option, Some, None, Result, Ok, Err}
-use Rattle.conf_tree.specs.declared.fault.ConfFault.{ConfFault}
-use Rattle.conf_tree.specs.declared.fault.ConfKind.TheVariants.{Unsupported}
-use Rattle.conf_tree.specs.declared.item.Item.{Item}
+use Rattle.conf_line.specs.declared.fault.ConfFault.{ConfFault}
+use Rattle.conf_line.specs.declared.fault.ConfKind.TheVariants.{Unsupported}
+use Rattle.conf_tree.specs.declared.tree.ConfigLine.{ConfigLine}
 use Rattle.conf_tree.specs.Config.{items_of}
 use Rattle.plan_core.specs.declared.fault.PlanFault.{PlanFault}
 use Rattle.plan_types.specs.declared.plan.Plan.{Plan}
 use Rattle.plan_core.specs.Compiled.{plan_of}
-use Rattle.conn_core.specs.Served.{unserved}
-use Rattle.conn_core.specs.declared.fault.OpenFault.{OpenFault}
-use Rattle.conn_core.specs.declared.fault.OpenFault.TheVariants as opens
+use Rattle.config_core.specs.Served.{unserved}
+use Rattle.config_core.specs.declared.fault.OpenFault.{OpenFault}
+use Rattle.config_core.specs.declared.fault.OpenFault.TheVariants as opens
 
 abbrev pub opened : Result Plan PlanFault → Result Plan OpenFault
 opened (Err fault) = Err (opens.Plan fault)
 opened (Ok plan) = Ok plan
 
-abbrev pub planned : Result (List Item) ConfFault → Result Plan OpenFault
+abbrev pub planned : Result (List ConfigLine) ConfFault → Result Plan OpenFault
 planned (Err fault) = Err (opens.Config fault)
 planned (Ok items) = opened (plan_of items)
 
@@ -24,16 +24,16 @@ abbrev pub compiled : List ℕ → Result Plan OpenFault
 compiled text = planned (items_of text)
 
 -- a plan, unless a line is not served
-abbrev pub unless_refused : Option Item → Result Plan OpenFault → Result Plan OpenFault
+abbrev pub unless_refused : Option ConfigLine → Result Plan OpenFault → Result Plan OpenFault
 unless_refused refused (Err fault) = Err fault
 unless_refused None (Ok plan) = Ok plan
 unless_refused (Some item) (Ok plan) = Err (opens.Config (record { line = item.line; kind = Unsupported }))
 
 -- the plan of what the lines say; a line that is not served is told where nothing else is wrong
-abbrev pub served : List Item → Result Plan OpenFault
+abbrev pub served : List ConfigLine → Result Plan OpenFault
 served items = unless_refused (unserved items) (opened (plan_of items))
 
-abbrev pub meant : Result (List Item) ConfFault → Result Plan OpenFault
+abbrev pub meant : Result (List ConfigLine) ConfFault → Result Plan OpenFault
 meant (Err fault) = Err (opens.Config fault)
 meant (Ok items) = served items
 

@@ -1,10 +1,10 @@
 -- How a fault of a configuration is printed.
 use Rattle.std.specs.Prelude.{ℕ, List, ◌++◌, codes}
 use Rattle.std.specs.Fmt.{decimal}
-use Rattle.conf_tree.specs.Names.{conf_name}
+use Rattle.conf_line.specs.Names.{conf_name}
 use Rattle.plan_core.specs.Names.{plan_name}
-use Rattle.conn_core.specs.declared.fault.OpenFault.{OpenFault}
-use Rattle.conn_core.specs.declared.fault.OpenFault.TheVariants.{Config, Plan, NoMemory}
+use Rattle.config_core.specs.declared.fault.OpenFault.{OpenFault}
+use Rattle.config_core.specs.declared.fault.OpenFault.TheVariants.{Config, Plan, NoMemory}
 
 abbrev pub open_text : OpenFault → List ℕ
 open_text (Config fault) = codes "line " ++ (decimal fault.line ++ (codes ": " ++ conf_name fault.kind))

@@ -1,14 +1,14 @@
 -- What of a configuration is served. The language has more than the balancer takes up yet.
 use Rattle.std.specs.Prelude.{Bool, true, false, not, is_none, nat_lt, ◌==◌, ◌&&◌, List, find, Option}
 use Rattle.std.specs.List.{list_any}
-use Rattle.conf_tree.specs.declared.item.Action.{Action}
-use Rattle.conf_tree.specs.declared.item.Action.TheVariants.{Accept, Reject, Track}
-use Rattle.conf_tree.specs.declared.item.Ruleset.{Ruleset}
-use Rattle.conf_tree.specs.declared.item.Ruleset.TheVariants.{Connection, Session}
-use Rattle.conf_tree.specs.declared.item.ServerWords.{ServerWords}
-use Rattle.conf_tree.specs.declared.item.Says.{Says}
-use Rattle.conf_tree.specs.declared.item.Says.TheVariants as says
-use Rattle.conf_tree.specs.declared.item.Item.{Item}
+use Rattle.conf_line.specs.declared.statement.Action.{Action}
+use Rattle.conf_line.specs.declared.statement.Action.TheVariants.{Accept, Reject, Track}
+use Rattle.conf_line.specs.declared.statement.Ruleset.{Ruleset}
+use Rattle.conf_line.specs.declared.statement.Ruleset.TheVariants.{Connection, Session}
+use Rattle.conf_line.specs.declared.statement.ServerWords.{ServerWords}
+use Rattle.conf_line.specs.declared.statement.Statement.{Statement}
+use Rattle.conf_line.specs.declared.statement.Statement.TheVariants as statements
+use Rattle.conf_tree.specs.declared.tree.ConfigLine.{ConfigLine}
 use Rattle.conf_tree.specs.Config.{is_server}
 
 -- rules are tried at the accept
@@ -27,22 +27,28 @@ abbrev pub is_plain : ServerWords → Bool
 is_plain words = is_none words.weight && is_none words.limit && not words.disabled && not words.send_proxy && not words.send_proxy_v2
 
 -- an earlier line of the same section has a server
-abbrev pub is_second : List Item → Item → Bool
-is_second items item = list_any (λ other. nat_lt other.line item.line && (other.place.first == item.place.first) && is_server other.says) items
+abbrev pub is_second : List ConfigLine → ConfigLine → Bool
+is_second items item = list_any (λ other. nat_lt other.line item.line && (other.place.first == item.place.first) && is_server other.statement) items
 
 -- the words of a line are served: no header is expected, no address is tracked, no server is chosen among several
-abbrev pub says_served : Bool → Says → Bool
-says_served second (says.Bind at accept_proxy) = not accept_proxy
-says_served second (says.Rule list action when) = at_accept list && ends_list action
-says_served second (says.StickTable words) = false
-says_served second (says.Balance method) = false
-says_served second (says.Server words) = is_plain words && not second
-says_served second other = true
+abbrev pub says_served : Bool → Statement → Bool
+says_served second (statements.Bind at accept_proxy) = not accept_proxy
+says_served second (statements.Rule list action when) = at_accept list && ends_list action
+says_served second (statements.StickTable words) = false
+says_served second (statements.Balance method) = false
+says_served second (statements.Server words) = is_plain words && not second
+says_served second statements.Nothing = true
+says_served second statements.Global = true
+says_served second statements.Defaults = true
+says_served second (statements.Frontend name) = true
+says_served second (statements.Backend name) = true
+says_served second (statements.MaxConn limit) = true
+says_served second (statements.DefaultBackend name) = true
 
 -- the line is served
-abbrev pub is_served : List Item → Item → Bool
-is_served items item = says_served (is_second items item) item.says
+abbrev pub is_served : List ConfigLine → ConfigLine → Bool
+is_served items item = says_served (is_second items item) item.statement
 
 -- the first line that is not served
-abbrev pub unserved : List Item → Option Item
+abbrev pub unserved : List ConfigLine → Option ConfigLine
 unserved items = find (λ item. not (is_served items item)) items

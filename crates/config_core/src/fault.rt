@@ -16,7 +16,7 @@ pub enum OpenFault {
 /// As `line 3: Unsupported`; want of memory says so without a line.
 impl fmt::Display for OpenFault {
     ghost use Rattle.std.specs.Prelude.{Some};
-    ghost use Rattle.conn_core.specs.Names.{open_text};
+    ghost use Rattle.config_core.specs.Names.{open_text};
 
     ghost output = { λ fault. Some (open_text fault) };
 
@@ -33,7 +33,7 @@ impl Error for OpenFault {}
 
 impl From<AllocError> for OpenFault {
     ghost use Rattle.std.specs.Prelude.{◌≡◌};
-    ghost use Rattle.conn_core.specs.declared.fault.OpenFault.TheVariants.{NoMemory};
+    ghost use Rattle.config_core.specs.declared.fault.OpenFault.TheVariants.{NoMemory};
 
     ghost from_gives = { λ _ fault. fault ≡ NoMemory };
 

@@ -1,7 +1,7 @@
 //! The plan of a text.
 ghost use Rattle.std.specs.Prelude.{◌≡◌, ◌⊎◌, ◌≤◌, length, IfOk, IfErr, Ok, Err};
 ghost use Rattle.plan_types.specs.Lines.{LinesDiffer};
-ghost use Rattle.conn_core.specs.Meaning.{served, meaning};
+ghost use Rattle.config_core.specs.Meaning.{served, meaning};
 
 use crate::fault::OpenFault;
 use crate::serving::unserved_line;

@@ -1,9 +1,9 @@
 //! Which lines of a configuration are served.
 ghost use Rattle.std.specs.Prelude.{◌≡◌, ◌==◌, ◌&&◌, nat_lt, option_map};
 ghost use Rattle.conf_tree.specs.Config.{is_server};
-ghost use Rattle.conn_core.specs.Served.{at_accept, ends_list, is_plain, is_second, is_served, says_served, unserved};
+ghost use Rattle.config_core.specs.Served.{at_accept, ends_list, is_plain, is_second, is_served, says_served, unserved};
 
-use conf_tree::{Action, Item, Ruleset, Says, ServerWords};
+use conf_tree::{Action, ConfigLine, Ruleset, ServerWords, Statement};
 
 fn is_at_accept(list: Ruleset) -> bool
     ensures { result ≡ at_accept list }
@@ -34,40 +34,40 @@ fn is_without_options(server: &ServerWords<'_>) -> bool
 }
 
 /// Whether an earlier line of the same section has a server.
-fn has_earlier(items: &[Item<'_>], item: &Item<'_>) -> bool
+fn has_earlier(items: &[ConfigLine<'_>], item: &ConfigLine<'_>) -> bool
     ensures { result ≡ is_second items.now item.now }
 {
     items.iter().any(|other| is_earlier(other, item))
 }
 
-fn is_earlier(other: &Item<'_>, item: &Item<'_>) -> bool
-    ensures { result ≡ (nat_lt other.now.line item.now.line && (other.now.place.first == item.now.place.first) && is_server other.now.says) }
+fn is_earlier(other: &ConfigLine<'_>, item: &ConfigLine<'_>) -> bool
+    ensures { result ≡ (nat_lt other.now.line item.now.line && (other.now.place.first == item.now.place.first) && is_server other.now.statement) }
 {
     other.line < item.line
         && other.place.first == item.place.first
-        && matches!(&other.says, Says::Server(_))
+        && matches!(&other.statement, Statement::Server(_))
 }
 
-fn is_served(items: &[Item<'_>], item: &Item<'_>) -> bool
+fn is_served(items: &[ConfigLine<'_>], item: &ConfigLine<'_>) -> bool
     ensures { result ≡ is_served items.now item.now }
 {
-    match &item.says {
-        Says::Bind(_, accept_proxy) => !*accept_proxy,
-        Says::Rule(list, action, _) => is_at_accept(*list) && can_end_list(action),
-        Says::StickTable(_) | Says::Balance(_) => false,
-        Says::Server(server) => is_without_options(server) && !has_earlier(items, item),
-        Says::Nothing
-        | Says::Global
-        | Says::Defaults
-        | Says::Frontend(_)
-        | Says::Backend(_)
-        | Says::MaxConn(_)
-        | Says::DefaultBackend(_) => true,
+    match &item.statement {
+        Statement::Bind(_, accept_proxy) => !*accept_proxy,
+        Statement::Rule(list, action, _) => is_at_accept(*list) && can_end_list(action),
+        Statement::StickTable(_) | Statement::Balance(_) => false,
+        Statement::Server(server) => is_without_options(server) && !has_earlier(items, item),
+        Statement::Nothing
+        | Statement::Global
+        | Statement::Defaults
+        | Statement::Frontend(_)
+        | Statement::Backend(_)
+        | Statement::MaxConn(_)
+        | Statement::DefaultBackend(_) => true,
     }
 }
 
 /// The line of the first item that is not served.
-pub fn unserved_line(items: &[Item<'_>]) -> Option<u32>
+pub fn unserved_line(items: &[ConfigLine<'_>]) -> Option<u32>
     ensures { result ≡ option_map (λ item. item.line) (unserved items.now) }
 {
     let item = items.iter().find(|item| !is_served(items, item))?;

@@ -1,7 +1,7 @@
 //! What texts say, and what they are refused with, by worked examples.
 use addr_core::{Addr, Endpoint};
 use conf_tree::{
-    Action, KeyType, Method, Ruleset, Says, SectionKind, Stores, TableWords, read_config,
+    Action, KeyType, Method, Ruleset, SectionKind, Statement, Stores, TableWords, read_config,
 };
 use std::alloc::Global;
 use std::test::Fail;
@@ -370,21 +370,21 @@ fn says_what_the_lines_say(rt: HostRuntime) -> Result<(), Fail> {
             cnt: true,
         },
     };
-    assert!(rt; matches!(&items[0].says, Says::Frontend(name) if name.is(b"web")));
-    assert!(rt; matches!(&items[1].says, Says::Bind(at, true) if *at == any));
-    assert!(rt; matches!(&items[2].says, Says::MaxConn(3)));
-    assert!(rt; matches!(&items[3].says, Says::StickTable(words) if *words == table));
-    assert!(rt; matches!(&items[6].says, Says::Balance(Method::LeastConn)));
+    assert!(rt; matches!(&items[0].statement, Statement::Frontend(name) if name.is(b"web")));
+    assert!(rt; matches!(&items[1].statement, Statement::Bind(at, true) if *at == any));
+    assert!(rt; matches!(&items[2].statement, Statement::MaxConn(3)));
+    assert!(rt; matches!(&items[3].statement, Statement::StickTable(words) if *words == table));
+    assert!(rt; matches!(&items[6].statement, Statement::Balance(Method::LeastConn)));
     assert!(rt; items[3].place.kind == SectionKind::Frontend);
     assert!(rt; items[3].place.name.is(b"web"));
     assert_eq!(rt; items[3].place.first, 0);
     assert_eq!(rt; items[5].place.first, 5);
-    let Says::Rule(Ruleset::Session, Action::Track(track), _) = &items[4].says else {
+    let Statement::Rule(Ruleset::Session, Action::Track(track), _) = &items[4].statement else {
         return Err(Fail::from("a track"));
     };
     assert_eq!(rt; track.counter, 1);
     assert!(rt; matches!(&track.table, Some(name) if name.is(b"app")));
-    let Says::Server(server) = &items[7].says else {
+    let Statement::Server(server) = &items[7].statement else {
         return Err(Fail::from("a server"));
     };
     assert!(rt; server.name.is(b"s"));

@@ -8,7 +8,7 @@ use Rattle.conn_model.specs.Words.{AreGiven}
 use Rattle.conn_model.specs.declared.plain.Lane.{Lane}
 use Rattle.conn_model.specs.declared.plain.Plain.{Plain}
 use Rattle.conn_model.specs.History.{opening, IsWell}
-use Rattle.conn_core.specs.declared.fault.OpenFault.{OpenFault}
+use Rattle.config_core.specs.declared.fault.OpenFault.{OpenFault}
 
 -- nothing is open in any frontend
 nothing_open : (last : ℕ) (frontends : List Frontend)

@@ -1,5 +1,3 @@
 pub mod Judging
 pub mod Machine
-pub mod Meaning
-pub mod Names
-pub mod Served
+pub use Rattle.config_core.specs.Meaning

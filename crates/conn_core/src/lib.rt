@@ -1,13 +1,11 @@
 //! The decisions of a balancer: what each event is answered, and what is kept for it.
 #![tactic(auto)]
 
-pub use fault::OpenFault;
+pub use config_core::OpenFault;
 pub use machine::Core;
 
-mod fault;
+mod admission;
 mod judging;
-mod lanes;
 mod machine;
 mod opening;
-mod planning;
-mod serving;
+mod rows;

@@ -3,10 +3,10 @@ ghost use Rattle.std.specs.Prelude.{◌≡◌, ◌≤◌, ◌<◌, ◌++◌, [],
 ghost use Rattle.std.specs.List.{enumerate_from};
 ghost use Rattle.conn_model.specs.History.{listeners_of};
 
-use crate::lanes::LaneState;
+use crate::rows::FrontendState;
 use conn_model::plain::Listener;
 use list_core::{Duplicate, Seq};
-use plan_core::{Backend, Frontend};
+use plan_types::{Backend, Frontend};
 use proxy_types::Place;
 use std::alloc::{AllocError, Global};
 
@@ -40,15 +40,31 @@ pub fn listeners(alloc: Global, frontends: &[Frontend]) -> Result<Seq<Listener>,
     Ok(all)
 }
 
-/// The lanes of all frontends, with nothing open.
-pub fn lanes(alloc: Global, frontends: &[Frontend], last: u64) -> Result<Vec<LaneState>, AllocError>
-    ensures { IfOk result (λ lanes. lanes.items ≡ map (λ frontend. record { name = frontend.name; serial = last; rows = [] }) frontends.now) }
+/// The names of all frontends.
+fn names(alloc: Global, frontends: &[Frontend]) -> Result<Vec<Seq<u8>>, AllocError>
+    ensures { IfOk result (λ names. names.items ≡ map (λ frontend. frontend.name) frontends.now) }
 {
-    let mut lanes = Vec::new(alloc);
+    let mut names = Vec::with_capacity(alloc, frontends.len())?;
     for frontend in frontends {
-        lanes.push(LaneState::new(alloc, frontend.name.duplicate(alloc)?, last))?;
+        names.push(frontend.name.duplicate(alloc)?)?;
     }
-    Ok(lanes)
+    Ok(names)
+}
+
+/// All frontends, of which nothing is open.
+pub fn frontends(
+    alloc: Global,
+    frontends: &[Frontend],
+    last: u64,
+) -> Result<Vec<FrontendState>, AllocError>
+    ensures { IfOk result (λ states. states.items ≡ map (λ frontend. record { name = frontend.name; serial = last; rows = [] }) frontends.now) }
+{
+    let names = names(alloc, frontends)?;
+    let mut states = Vec::with_capacity(alloc, names.len())?;
+    for name in names {
+        states.push_reserved(FrontendState::new(alloc, name, last));
+    }
+    Ok(states)
 }
 
 /// A cursor for each backend, unset.

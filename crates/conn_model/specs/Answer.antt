@@ -47,23 +47,23 @@ reply_of said = record { said = said; tracks = record { items = [] } }
 -- Judging a connection.
 
 -- the server of the default backend, or why there is none
-abbrev pub server_for : Candidate → Result Server Cause
-server_for candidate = do
-  number ← or_fault (NoBackend candidate.frontend.line) candidate.frontend.default
-  backend ← or_fault (NoBackend candidate.frontend.line) (slice_get candidate.version.plan.backends number)
+abbrev pub server_for : Version → Frontend → Result Server Cause
+server_for version frontend = do
+  number ← or_fault (NoBackend frontend.line) frontend.default
+  backend ← or_fault (NoBackend frontend.line) (slice_get version.plan.backends number)
   or_fault (NoServer backend.line) (slice_get backend.servers 0)
 
 -- a server, unless a line rejects the connection
-abbrev pub server_unless : Candidate → Option ℕ → Result Server Cause
-server_unless candidate (Some line) = Err (Line line)
-server_unless candidate None = server_for candidate
+abbrev pub server_unless : Version → Frontend → Option ℕ → Result Server Cause
+server_unless version frontend (Some line) = Err (Line line)
+server_unless version frontend None = server_for version frontend
 
 -- at the accept, where so many other connections of the frontend are open: the limit of the frontend
 -- first, then the connection rules on the real source, then a server
 abbrev pub verdict : Candidate → Ends → ℕ → Result Server Cause
 verdict candidate real others =
     if nat_le candidate.frontend.limit others then Err (Line candidate.frontend.limit_line)
-    else server_unless candidate (rejection (rule_view candidate real.source.addr) candidate.frontend.connection_rules)
+    else server_unless candidate.version candidate.frontend (rejection (rule_view candidate real.source.addr) candidate.frontend.connection_rules)
 
 -- an offer of the server, with nothing to send before the stream, or a refusal
 abbrev pub said_of : ConnId → Ends → Result Server Cause → Said

@@ -13,7 +13,7 @@ use Rattle.addr_core.specs.Same.{same_addr, same_endpoint}
 use Rattle.plan_types.specs.declared.plan.Bind.{Bind}
 use Rattle.plan_types.specs.declared.plan.Frontend.{Frontend}
 use Rattle.plan_types.specs.declared.plan.Plan.{Plan}
-use Rattle.plan_core.specs.Binds.{Bound, bound_of, bound_in, binds_of, same_flag, same_bind, has_bind, is_bound, are_bound, all_bound, SameBinds}
+use Rattle.plan_core.specs.Binds.{BindKey, bind_key, bind_keys_in, bind_keys, same_flag, same_bind, has_bind, has_named_bind, has_binds_of, has_all_binds, SameBinds}
 
 -- Tests of one pair.
 
@@ -46,7 +46,7 @@ same_flag_itself : (a : Bool) → same_flag a a ≡ true
 same_flag_itself true = refl
 same_flag_itself false = refl
 
-bind_same : (name : List ℕ) (a b : Bind) → same_bind a b ≡ true → bound_of name b ≡ bound_of name a
+bind_same : (name : List ℕ) (a b : Bind) → same_bind a b ≡ true → bind_key name b ≡ bind_key name a
 bind_same name a b is =
     let parts = both_true (same_endpoint a.at b.at) (same_flag a.accept_proxy b.accept_proxy) is in
     let ends = both_true (same_addr a.at.addr b.at.addr) (a.at.port == b.at.port) parts.0 in
@@ -55,14 +55,14 @@ bind_same name a b is =
     let flag : a.accept_proxy ≡ b.accept_proxy = flag_same a.accept_proxy b.accept_proxy parts.1 in
     sym (rw (addr, port, flag) refl)
 
-same_bind_of : (name other : List ℕ) (a b : Bind) → bound_of name a ≡ bound_of other b → same_bind a b ≡ true
+same_bind_of : (name other : List ℕ) (a b : Bind) → bind_key name a ≡ bind_key other b → same_bind a b ≡ true
 same_bind_of name other a b is =
     let addr : a.at.addr ≡ b.at.addr = ap (λ bound. bound.addr) is in
     let port : a.at.port ≡ b.at.port = ap (λ bound. bound.port) is in
     let flag : a.accept_proxy ≡ b.accept_proxy = ap (λ bound. bound.accept_proxy) is in
     rw (addr, port, flag) (rw (same_addr_itself b.at.addr, same_eqb b.at.port, same_flag_itself b.accept_proxy) refl)
 
-name_of : (name other : List ℕ) (a b : Bind) → bound_of name a ≡ bound_of other b → name ≡ other
+name_of : (name other : List ℕ) (a b : Bind) → bind_key name a ≡ bind_key other b → name ≡ other
 name_of name other a b is = ap (λ bound. bound.frontend) is
 
 -- The binds of a frontend.
@@ -77,108 +77,108 @@ of_two : {X : Type 0} (y x : X) (xs : List X) → Contains (y ∷ xs) x → (y �
 of_two y x xs (zero, less, is) = inl is
 of_two y x xs (suc k, less, is) = inr (k, omega arith, is)
 
-found_bind : (name : List ℕ) (bind : Bind) (binds : List Bind) → list_any (same_bind bind) binds ≡ true → Contains (map (bound_of name) binds) (bound_of name bind)
+found_bind : (name : List ℕ) (bind : Bind) (binds : List Bind) → list_any (same_bind bind) binds ≡ true → Contains (map (bind_key name) binds) (bind_key name bind)
 found_bind name bind [] is = absurd cc
 found_bind name bind (first ∷ rest) is = by (same_bind bind first) refl is (λ more. found_bind name bind rest more)
   where
-    by : (b : Bool) → same_bind bind first ≡ b → list_any (same_bind bind) (first ∷ rest) ≡ true → (list_any (same_bind bind) rest ≡ true → Contains (map (bound_of name) rest) (bound_of name bind)) →
-        Contains (map (bound_of name) (first ∷ rest)) (bound_of name bind)
-    by true same has more = subst (λ x. Contains (map (bound_of name) (first ∷ rest)) x) (bind_same name bind first same) (first_one (bound_of name first) (map (bound_of name) rest))
-    by false same has more = one_later (bound_of name first) (bound_of name bind) (map (bound_of name) rest) (more (rw same at has))
+    by : (b : Bool) → same_bind bind first ≡ b → list_any (same_bind bind) (first ∷ rest) ≡ true → (list_any (same_bind bind) rest ≡ true → Contains (map (bind_key name) rest) (bind_key name bind)) →
+        Contains (map (bind_key name) (first ∷ rest)) (bind_key name bind)
+    by true same has more = subst (λ x. Contains (map (bind_key name) (first ∷ rest)) x) (bind_same name bind first same) (first_one (bind_key name first) (map (bind_key name) rest))
+    by false same has more = one_later (bind_key name first) (bind_key name bind) (map (bind_key name) rest) (more (rw same at has))
 
-bind_found : (name other : List ℕ) (bind : Bind) (binds : List Bind) → Contains (map (bound_of other) binds) (bound_of name bind) → (other ≡ name) × (list_any (same_bind bind) binds ≡ true)
+bind_found : (name other : List ℕ) (bind : Bind) (binds : List Bind) → Contains (map (bind_key other) binds) (bind_key name bind) → (other ≡ name) × (list_any (same_bind bind) binds ≡ true)
 bind_found name other bind [] is = absurd (let less : is.0 < 0 = is.1 in omega arith)
-bind_found name other bind (first ∷ rest) is = by (of_two (bound_of other first) (bound_of name bind) (map (bound_of other) rest) is) (λ more. bind_found name other bind rest more)
+bind_found name other bind (first ∷ rest) is = by (of_two (bind_key other first) (bind_key name bind) (map (bind_key other) rest) is) (λ more. bind_found name other bind rest more)
   where
     later : (b : Bool) → list_any (same_bind bind) rest ≡ true → (b || list_any (same_bind bind) rest) ≡ true
     later true has = refl
     later false has = has
 
-    by : (bound_of other first ≡ bound_of name bind) ⊎ Contains (map (bound_of other) rest) (bound_of name bind) →
-        (Contains (map (bound_of other) rest) (bound_of name bind) → (other ≡ name) × (list_any (same_bind bind) rest ≡ true)) →
+    by : (bind_key other first ≡ bind_key name bind) ⊎ Contains (map (bind_key other) rest) (bind_key name bind) →
+        (Contains (map (bind_key other) rest) (bind_key name bind) → (other ≡ name) × (list_any (same_bind bind) rest ≡ true)) →
         (other ≡ name) × (list_any (same_bind bind) (first ∷ rest) ≡ true)
     by (inl same) more = (name_of other name first bind same, rw (same_bind_of name other bind first (sym same)) refl)
     by (inr there) more = let found = more there in (found.0, later (same_bind bind first) found.1)
 
 -- The binds of a plan.
 
-found_in : (name : List ℕ) (bind : Bind) (frontend : Frontend) → has_bind name bind frontend ≡ true → Contains (bound_in frontend) (bound_of name bind)
+found_in : (name : List ℕ) (bind : Bind) (frontend : Frontend) → has_bind name bind frontend ≡ true → Contains (bind_keys_in frontend) (bind_key name bind)
 found_in name bind frontend is =
     let parts = both_true (bytes_eq frontend.name name) (list_any (same_bind bind) frontend.binds) is in
     let named : frontend.name ≡ name = (bytes_eq-Decides frontend.name name).0 parts.0 in
     rw named (found_bind name bind frontend.binds parts.1)
 
-in_found : (name : List ℕ) (bind : Bind) (frontend : Frontend) → Contains (bound_in frontend) (bound_of name bind) → has_bind name bind frontend ≡ true
+in_found : (name : List ℕ) (bind : Bind) (frontend : Frontend) → Contains (bind_keys_in frontend) (bind_key name bind) → has_bind name bind frontend ≡ true
 in_found name bind frontend is =
     let found = bind_found name frontend.name bind frontend.binds is in
     let named : bytes_eq frontend.name name ≡ true = (bytes_eq-Decides frontend.name name).1 found.0 in
     rw (named, found.1) refl
 
-found_among : (name : List ℕ) (bind : Bind) (frontends : List Frontend) → list_any (has_bind name bind) frontends ≡ true → Contains (flat_map bound_in frontends) (bound_of name bind)
+found_among : (name : List ℕ) (bind : Bind) (frontends : List Frontend) → list_any (has_bind name bind) frontends ≡ true → Contains (flat_map bind_keys_in frontends) (bind_key name bind)
 found_among name bind [] is = absurd cc
 found_among name bind (first ∷ rest) is = by (has_bind name bind first) refl is (λ more. found_among name bind rest more)
   where
-    by : (b : Bool) → has_bind name bind first ≡ b → list_any (has_bind name bind) (first ∷ rest) ≡ true → (list_any (has_bind name bind) rest ≡ true → Contains (flat_map bound_in rest) (bound_of name bind)) →
-        Contains (flat_map bound_in (first ∷ rest)) (bound_of name bind)
-    by true has is more = Contains-append_left (bound_in first) (flat_map bound_in rest) (bound_of name bind) (found_in name bind first has)
-    by false has is more = Contains-append_right (bound_in first) (flat_map bound_in rest) (bound_of name bind) (more (rw has at is))
+    by : (b : Bool) → has_bind name bind first ≡ b → list_any (has_bind name bind) (first ∷ rest) ≡ true → (list_any (has_bind name bind) rest ≡ true → Contains (flat_map bind_keys_in rest) (bind_key name bind)) →
+        Contains (flat_map bind_keys_in (first ∷ rest)) (bind_key name bind)
+    by true has is more = Contains-append_left (bind_keys_in first) (flat_map bind_keys_in rest) (bind_key name bind) (found_in name bind first has)
+    by false has is more = Contains-append_right (bind_keys_in first) (flat_map bind_keys_in rest) (bind_key name bind) (more (rw has at is))
 
-among_found : (name : List ℕ) (bind : Bind) (frontends : List Frontend) → Contains (flat_map bound_in frontends) (bound_of name bind) → list_any (has_bind name bind) frontends ≡ true
+among_found : (name : List ℕ) (bind : Bind) (frontends : List Frontend) → Contains (flat_map bind_keys_in frontends) (bind_key name bind) → list_any (has_bind name bind) frontends ≡ true
 among_found name bind [] is = absurd (let less : is.0 < 0 = is.1 in omega arith)
 among_found name bind (first ∷ rest) is =
-    by (Contains-append_cases (bound_in first) (flat_map bound_in rest) (bound_of name bind) is) (λ more. among_found name bind rest more)
+    by (Contains-append_cases (bind_keys_in first) (flat_map bind_keys_in rest) (bind_key name bind) is) (λ more. among_found name bind rest more)
   where
     later : (b : Bool) → list_any (has_bind name bind) rest ≡ true → (b || list_any (has_bind name bind) rest) ≡ true
     later true has = refl
     later false has = has
 
-    by : Contains (bound_in first) (bound_of name bind) ⊎ Contains (flat_map bound_in rest) (bound_of name bind) →
-        (Contains (flat_map bound_in rest) (bound_of name bind) → list_any (has_bind name bind) rest ≡ true) → list_any (has_bind name bind) (first ∷ rest) ≡ true
+    by : Contains (bind_keys_in first) (bind_key name bind) ⊎ Contains (flat_map bind_keys_in rest) (bind_key name bind) →
+        (Contains (flat_map bind_keys_in rest) (bind_key name bind) → list_any (has_bind name bind) rest ≡ true) → list_any (has_bind name bind) (first ∷ rest) ≡ true
     by (inl here) more = rw (in_found name bind first here) refl
     by (inr there) more = later (has_bind name bind first) (more there)
 
 -- All binds of one plan are among those of another.
 
-within_bind : (plan : Plan) (name : List ℕ) (binds : List Bind) (bound : Bound) → list_all (is_bound plan name) binds ≡ true → Contains (map (bound_of name) binds) bound → Contains (binds_of plan) bound
+within_bind : (plan : Plan) (name : List ℕ) (binds : List Bind) (bound : BindKey) → list_all (has_named_bind plan name) binds ≡ true → Contains (map (bind_key name) binds) bound → Contains (bind_keys plan) bound
 within_bind plan name [] bound all is = absurd (let less : is.0 < 0 = is.1 in omega arith)
 within_bind plan name (first ∷ rest) bound all is =
-    let parts = both_true (is_bound plan name first) (list_all (is_bound plan name) rest) all in
-    by parts.0 (of_two (bound_of name first) bound (map (bound_of name) rest) is) (λ there. within_bind plan name rest bound parts.1 there)
+    let parts = both_true (has_named_bind plan name first) (list_all (has_named_bind plan name) rest) all in
+    by parts.0 (of_two (bind_key name first) bound (map (bind_key name) rest) is) (λ there. within_bind plan name rest bound parts.1 there)
   where
-    by : is_bound plan name first ≡ true → (bound_of name first ≡ bound) ⊎ Contains (map (bound_of name) rest) bound → (Contains (map (bound_of name) rest) bound → Contains (binds_of plan) bound) → Contains (binds_of plan) bound
-    by has (inl same) more = subst (λ x. Contains (binds_of plan) x) same (found_among name first plan.frontends has)
+    by : has_named_bind plan name first ≡ true → (bind_key name first ≡ bound) ⊎ Contains (map (bind_key name) rest) bound → (Contains (map (bind_key name) rest) bound → Contains (bind_keys plan) bound) → Contains (bind_keys plan) bound
+    by has (inl same) more = subst (λ x. Contains (bind_keys plan) x) same (found_among name first plan.frontends has)
     by has (inr there) more = more there
 
-within : (plan : Plan) (frontends : List Frontend) (bound : Bound) → list_all (are_bound plan) frontends ≡ true → Contains (flat_map bound_in frontends) bound → Contains (binds_of plan) bound
+within : (plan : Plan) (frontends : List Frontend) (bound : BindKey) → list_all (has_binds_of plan) frontends ≡ true → Contains (flat_map bind_keys_in frontends) bound → Contains (bind_keys plan) bound
 within plan [] bound all is = absurd (let less : is.0 < 0 = is.1 in omega arith)
 within plan (first ∷ rest) bound all is =
-    let parts = both_true (are_bound plan first) (list_all (are_bound plan) rest) all in
-    by parts.0 (Contains-append_cases (bound_in first) (flat_map bound_in rest) bound is) (λ there. within plan rest bound parts.1 there)
+    let parts = both_true (has_binds_of plan first) (list_all (has_binds_of plan) rest) all in
+    by parts.0 (Contains-append_cases (bind_keys_in first) (flat_map bind_keys_in rest) bound is) (λ there. within plan rest bound parts.1 there)
   where
-    by : are_bound plan first ≡ true → Contains (bound_in first) bound ⊎ Contains (flat_map bound_in rest) bound → (Contains (flat_map bound_in rest) bound → Contains (binds_of plan) bound) → Contains (binds_of plan) bound
+    by : has_binds_of plan first ≡ true → Contains (bind_keys_in first) bound ⊎ Contains (flat_map bind_keys_in rest) bound → (Contains (flat_map bind_keys_in rest) bound → Contains (bind_keys plan) bound) → Contains (bind_keys plan) bound
     by has (inl here) more = within_bind plan first.name first.binds bound has here
     by has (inr there) more = more there
 
-bind_within : (plan : Plan) (name : List ℕ) (binds : List Bind) → ((bound : Bound) → Contains (map (bound_of name) binds) bound → Contains (binds_of plan) bound) → list_all (is_bound plan name) binds ≡ true
+bind_within : (plan : Plan) (name : List ℕ) (binds : List Bind) → ((bound : BindKey) → Contains (map (bind_key name) binds) bound → Contains (bind_keys plan) bound) → list_all (has_named_bind plan name) binds ≡ true
 bind_within plan name [] all = refl
 bind_within plan name (first ∷ rest) all =
-    let here : is_bound plan name first ≡ true = among_found name first plan.frontends (all (bound_of name first) (first_one (bound_of name first) (map (bound_of name) rest))) in
-    let more : list_all (is_bound plan name) rest ≡ true = bind_within plan name rest (λ bound is. all bound (one_later (bound_of name first) bound (map (bound_of name) rest) is)) in
+    let here : has_named_bind plan name first ≡ true = among_found name first plan.frontends (all (bind_key name first) (first_one (bind_key name first) (map (bind_key name) rest))) in
+    let more : list_all (has_named_bind plan name) rest ≡ true = bind_within plan name rest (λ bound is. all bound (one_later (bind_key name first) bound (map (bind_key name) rest) is)) in
     rw (here, more) refl
 
-all_within : (plan : Plan) (frontends : List Frontend) → ((bound : Bound) → Contains (flat_map bound_in frontends) bound → Contains (binds_of plan) bound) → list_all (are_bound plan) frontends ≡ true
+all_within : (plan : Plan) (frontends : List Frontend) → ((bound : BindKey) → Contains (flat_map bind_keys_in frontends) bound → Contains (bind_keys plan) bound) → list_all (has_binds_of plan) frontends ≡ true
 all_within plan [] all = refl
 all_within plan (first ∷ rest) all =
-    let here : are_bound plan first ≡ true = bind_within plan first.name first.binds (λ bound is. all bound (Contains-append_left (bound_in first) (flat_map bound_in rest) bound is)) in
-    let more : list_all (are_bound plan) rest ≡ true = all_within plan rest (λ bound is. all bound (Contains-append_right (bound_in first) (flat_map bound_in rest) bound is)) in
+    let here : has_binds_of plan first ≡ true = bind_within plan first.name first.binds (λ bound is. all bound (Contains-append_left (bind_keys_in first) (flat_map bind_keys_in rest) bound is)) in
+    let more : list_all (has_binds_of plan) rest ≡ true = all_within plan rest (λ bound is. all bound (Contains-append_right (bind_keys_in first) (flat_map bind_keys_in rest) bound is)) in
     rw (here, more) refl
 
 -- the test says whether they are
-pub decides_bound : (plan other : Plan) → (all_bound plan other ≡ true) ↔ ((bound : Bound) → Contains (binds_of other) bound → Contains (binds_of plan) bound)
+pub decides_bound : (plan other : Plan) → (has_all_binds plan other ≡ true) ↔ ((bound : BindKey) → Contains (bind_keys other) bound → Contains (bind_keys plan) bound)
 decides_bound plan other = (λ all bound is. within plan other.frontends bound all is, λ all. all_within plan other.frontends all)
 
-pub both_ways : (a b : Plan) (r : Bool) → r ≡ (all_bound a b && all_bound b a) → (r ≡ true) ↔ SameBinds a b
+pub both_ways : (a b : Plan) (r : Bool) → r ≡ (has_all_binds a b && has_all_binds b a) → (r ≡ true) ↔ SameBinds a b
 both_ways a b r both = (
-  λ is bound. (let parts = both_true (all_bound a b) (all_bound b a) (sym both ∙ is) in ((decides_bound b a).0 parts.1 bound, (decides_bound a b).0 parts.0 bound)),
+  λ is bound. (let parts = both_true (has_all_binds a b) (has_all_binds b a) (sym both ∙ is) in ((decides_bound b a).0 parts.1 bound, (decides_bound a b).0 parts.0 bound)),
   λ same. both ∙ rw ((decides_bound a b).1 (λ bound is. (same bound).1 is), (decides_bound b a).1 (λ bound is. (same bound).0 is)) refl,
 )

@@ -4,7 +4,7 @@ use native.Mathlib.Omega.{arith}
 use Rattle.std.specs.Prelude.{◌==◌, flat_map, IfSome}
 use Rattle.std.specs.List.{filter_map, cons_option, list_any}
 use Rattle.std.proofs.lemmas.Bool.Decides.{nat_tests}
-use Rattle.conf_tree.specs.declared.item.Item.{Item}
+use Rattle.conf_tree.specs.declared.tree.ConfigLine.{ConfigLine}
 use Rattle.plan_core.specs.declared.fault.PlanFault.{PlanFault}
 use Rattle.plan_types.specs.declared.plan.Backend.{Backend}
 use Rattle.plan_types.specs.declared.plan.Table.{Table}
@@ -98,7 +98,7 @@ none_left (fault ∷ rest) is = absurd (by (least rest) is)
     by None e = cc
     by (Some other) e = cc
 
-pub none_stands : (tables : List Table) (backends : List Backend) (all : List Proxy) (items : List Item) → None ≡ least (faults_of tables backends all) →
+pub none_stands : (tables : List Table) (backends : List Backend) (all : List Proxy) (items : List ConfigLine) → None ≡ least (faults_of tables backends all) →
     all ≡ proxies [] items → tables ≡ tables_in all → backends ≡ backends_in all → plan_faults items ≡ []
 none_stands tables backends all items none of_items of_tables of_backends =
     none_left (plan_faults items)

@@ -5,10 +5,10 @@ use Rattle.std.specs.Prelude.{slice_get, ◌==◌, option_map, option_to_list}
 use Rattle.std.specs.List.{AllByRecursion, cons_option, list_any, prefix_len}
 use Rattle.std.proofs.lemmas.Bool.Decides.{nat_tests}
 use Rattle.conf_tree.specs.declared.claim.Claim.{Claim}
-use Rattle.conf_tree.specs.declared.item.Item.{Item}
-use Rattle.conf_tree.specs.declared.item.Place.{Place}
-use Rattle.conf_tree.specs.declared.item.Says.{Says}
-use Rattle.conf_tree.specs.declared.item.Says.TheVariants as says
+use Rattle.conf_tree.specs.declared.tree.ConfigLine.{ConfigLine}
+use Rattle.conf_tree.specs.declared.tree.Place.{Place}
+use Rattle.conf_line.specs.declared.statement.Statement.{Statement}
+use Rattle.conf_line.specs.declared.statement.Statement.TheVariants as statements
 use Rattle.conf_tree.specs.Config as config
 use Rattle.conf_tree.specs.Few.{FewSections}
 use Rattle.conf_tree.specs.Rising.{AreAbove, Rises}
@@ -19,58 +19,58 @@ use Rattle.plan_types.specs.declared.plan.Section.TheVariants as sections
 use Rattle.plan_types.specs.declared.plan.Server.{Server}
 use Rattle.plan_core.specs.declared.proxies.Proxy.{Proxy}
 use Rattle.plan_core.specs.Compiled.{backend_of, backends_in}
-use Rattle.plan_core.specs.Fields.{server_said, all_said}
+use Rattle.plan_core.specs.Fields.{line_server, all_of}
 use Rattle.plan_types.specs.Lines.{has_line, LinesDiffer}
-use Rattle.plan_core.specs.Proxies.{head_said, opens, own_lines, base_after, proxy_with, proxies, is_frontend, is_backend, frontends, backends}
+use Rattle.plan_core.specs.Proxies.{line_head, opens, own_lines, base_after, proxy_with, proxies, is_frontend, is_backend, frontends, backends}
 
 -- How many there are.
 
-one_frontend : (said : Says) (line : ℕ) (place : Place) (base own : List Item) (rest : List Proxy) (claims : List Claim) → length (filter is_frontend rest) ≡ length (filter config.is_frontend claims) →
-    length (filter is_frontend (option_to_list (option_map (proxy_with base own) (head_said line said)) ++ rest)) ≡ length (filter config.is_frontend (cons_option (config.claim_of place said) claims))
-one_frontend says.Nothing line place base own rest claims same = same
-one_frontend says.Global line place base own rest claims same = same
-one_frontend says.Defaults line place base own rest claims same = same
-one_frontend (says.Frontend name) line place base own rest claims same = ap (λ n. suc n) same
-one_frontend (says.Backend name) line place base own rest claims same = same
-one_frontend (says.MaxConn limit) line place base own rest claims same = same
-one_frontend (says.DefaultBackend name) line place base own rest claims same = same
-one_frontend (says.Balance method) line place base own rest claims same = same
-one_frontend (says.Bind endpoint flag) line place base own rest claims same = same
-one_frontend (says.Rule list action when) line place base own rest claims same = same
-one_frontend (says.StickTable table) line place base own rest claims same = same
-one_frontend (says.Server server) line place base own rest claims same = same
+one_frontend : (setting : Statement) (line : ℕ) (place : Place) (base own : List ConfigLine) (rest : List Proxy) (claims : List Claim) → length (filter is_frontend rest) ≡ length (filter config.is_frontend claims) →
+    length (filter is_frontend (option_to_list (option_map (proxy_with base own) (line_head line setting)) ++ rest)) ≡ length (filter config.is_frontend (cons_option (config.claim_of place setting) claims))
+one_frontend statements.Nothing line place base own rest claims same = same
+one_frontend statements.Global line place base own rest claims same = same
+one_frontend statements.Defaults line place base own rest claims same = same
+one_frontend (statements.Frontend name) line place base own rest claims same = ap (λ n. suc n) same
+one_frontend (statements.Backend name) line place base own rest claims same = same
+one_frontend (statements.MaxConn limit) line place base own rest claims same = same
+one_frontend (statements.DefaultBackend name) line place base own rest claims same = same
+one_frontend (statements.Balance method) line place base own rest claims same = same
+one_frontend (statements.Bind endpoint flag) line place base own rest claims same = same
+one_frontend (statements.Rule list action when) line place base own rest claims same = same
+one_frontend (statements.StickTable table) line place base own rest claims same = same
+one_frontend (statements.Server server) line place base own rest claims same = same
 
-one_backend : (said : Says) (line : ℕ) (place : Place) (base own : List Item) (rest : List Proxy) (claims : List Claim) → length (filter is_backend rest) ≡ length (filter config.is_backend claims) →
-    length (filter is_backend (option_to_list (option_map (proxy_with base own) (head_said line said)) ++ rest)) ≡ length (filter config.is_backend (cons_option (config.claim_of place said) claims))
-one_backend says.Nothing line place base own rest claims same = same
-one_backend says.Global line place base own rest claims same = same
-one_backend says.Defaults line place base own rest claims same = same
-one_backend (says.Frontend name) line place base own rest claims same = same
-one_backend (says.Backend name) line place base own rest claims same = ap (λ n. suc n) same
-one_backend (says.MaxConn limit) line place base own rest claims same = same
-one_backend (says.DefaultBackend name) line place base own rest claims same = same
-one_backend (says.Balance method) line place base own rest claims same = same
-one_backend (says.Bind endpoint flag) line place base own rest claims same = same
-one_backend (says.Rule list action when) line place base own rest claims same = same
-one_backend (says.StickTable table) line place base own rest claims same = same
-one_backend (says.Server server) line place base own rest claims same = same
+one_backend : (setting : Statement) (line : ℕ) (place : Place) (base own : List ConfigLine) (rest : List Proxy) (claims : List Claim) → length (filter is_backend rest) ≡ length (filter config.is_backend claims) →
+    length (filter is_backend (option_to_list (option_map (proxy_with base own) (line_head line setting)) ++ rest)) ≡ length (filter config.is_backend (cons_option (config.claim_of place setting) claims))
+one_backend statements.Nothing line place base own rest claims same = same
+one_backend statements.Global line place base own rest claims same = same
+one_backend statements.Defaults line place base own rest claims same = same
+one_backend (statements.Frontend name) line place base own rest claims same = same
+one_backend (statements.Backend name) line place base own rest claims same = ap (λ n. suc n) same
+one_backend (statements.MaxConn limit) line place base own rest claims same = same
+one_backend (statements.DefaultBackend name) line place base own rest claims same = same
+one_backend (statements.Balance method) line place base own rest claims same = same
+one_backend (statements.Bind endpoint flag) line place base own rest claims same = same
+one_backend (statements.Rule list action when) line place base own rest claims same = same
+one_backend (statements.StickTable table) line place base own rest claims same = same
+one_backend (statements.Server server) line place base own rest claims same = same
 
-frontends_claimed : (base items : List Item) → length (frontends (proxies base items)) ≡ length (filter config.is_frontend (config.claimed items))
+frontends_claimed : (base items : List ConfigLine) → length (frontends (proxies base items)) ≡ length (filter config.is_frontend (config.claims_of items))
 frontends_claimed base [] = refl
 frontends_claimed base (item ∷ rest) =
-    one_frontend item.says item.line item.place base (own_lines rest) (proxies (base_after base (own_lines rest) item.says) rest) (config.claimed rest)
-    (frontends_claimed (base_after base (own_lines rest) item.says) rest)
+    one_frontend item.statement item.line item.place base (own_lines rest) (proxies (base_after base (own_lines rest) item.statement) rest) (config.claims_of rest)
+    (frontends_claimed (base_after base (own_lines rest) item.statement) rest)
 
-backends_claimed : (base items : List Item) → length (backends (proxies base items)) ≡ length (filter config.is_backend (config.claimed items))
+backends_claimed : (base items : List ConfigLine) → length (backends (proxies base items)) ≡ length (filter config.is_backend (config.claims_of items))
 backends_claimed base [] = refl
 backends_claimed base (item ∷ rest) =
-    one_backend item.says item.line item.place base (own_lines rest) (proxies (base_after base (own_lines rest) item.says) rest) (config.claimed rest)
-    (backends_claimed (base_after base (own_lines rest) item.says) rest)
+    one_backend item.statement item.line item.place base (own_lines rest) (proxies (base_after base (own_lines rest) item.statement) rest) (config.claims_of rest)
+    (backends_claimed (base_after base (own_lines rest) item.statement) rest)
 
-pub few_frontends : (items : List Item) → FewSections items → length (frontends (proxies [] items)) ≤ 64
+pub few_frontends : (items : List ConfigLine) → FewSections items → length (frontends (proxies [] items)) ≤ 64
 few_frontends items few = rw (frontends_claimed [] items) few.0
 
-pub few_backends : (items : List Item) → FewSections items → length (backends (proxies [] items)) ≤ 64
+pub few_backends : (items : List ConfigLine) → FewSections items → length (backends (proxies [] items)) ≤ 64
 few_backends items few = rw (backends_claimed [] items) few.1
 
 both : (all : List Proxy) → length all ≡ length (frontends all) + length (backends all)
@@ -82,7 +82,7 @@ both (proxy ∷ rest) = by proxy.head.section refl (both rest)
     by sections.Frontend is sum = rw is omega arith
     by sections.Backend is sum = rw is omega arith
 
-pub few_proxies : (items : List Item) → FewSections items → length (proxies [] items) ≤ 128
+pub few_proxies : (items : List ConfigLine) → FewSections items → length (proxies [] items) ≤ 128
 few_proxies items few =
     let front : length (frontends (proxies [] items)) ≤ 64 = few_frontends items few in
     let back : length (backends (proxies [] items)) ≤ 64 = few_backends items few in
@@ -100,122 +100,122 @@ Parted [] = Unit {0}
 Parted (proxy ∷ rest) =
     AllByRecursion (λ item. proxy.head.line < item.line) proxy.own × AllByRecursion (λ item. AreBehind item.line rest) proxy.own × Parted rest
 
-one_behind : (said : Says) (n line : ℕ) (base own : List Item) (rest : List Proxy) → n < line → AreBehind n rest →
-    AreBehind n (option_to_list (option_map (proxy_with base own) (head_said line said)) ++ rest)
-one_behind says.Nothing n line base own rest less behind = behind
-one_behind says.Global n line base own rest less behind = behind
-one_behind says.Defaults n line base own rest less behind = behind
-one_behind (says.Frontend name) n line base own rest less behind = (less, behind)
-one_behind (says.Backend name) n line base own rest less behind = (less, behind)
-one_behind (says.MaxConn limit) n line base own rest less behind = behind
-one_behind (says.DefaultBackend name) n line base own rest less behind = behind
-one_behind (says.Balance method) n line base own rest less behind = behind
-one_behind (says.Bind endpoint flag) n line base own rest less behind = behind
-one_behind (says.Rule list action when) n line base own rest less behind = behind
-one_behind (says.StickTable table) n line base own rest less behind = behind
-one_behind (says.Server server) n line base own rest less behind = behind
+one_behind : (setting : Statement) (n line : ℕ) (base own : List ConfigLine) (rest : List Proxy) → n < line → AreBehind n rest →
+    AreBehind n (option_to_list (option_map (proxy_with base own) (line_head line setting)) ++ rest)
+one_behind statements.Nothing n line base own rest less behind = behind
+one_behind statements.Global n line base own rest less behind = behind
+one_behind statements.Defaults n line base own rest less behind = behind
+one_behind (statements.Frontend name) n line base own rest less behind = (less, behind)
+one_behind (statements.Backend name) n line base own rest less behind = (less, behind)
+one_behind (statements.MaxConn limit) n line base own rest less behind = behind
+one_behind (statements.DefaultBackend name) n line base own rest less behind = behind
+one_behind (statements.Balance method) n line base own rest less behind = behind
+one_behind (statements.Bind endpoint flag) n line base own rest less behind = behind
+one_behind (statements.Rule list action when) n line base own rest less behind = behind
+one_behind (statements.StickTable table) n line base own rest less behind = behind
+one_behind (statements.Server server) n line base own rest less behind = behind
 
-heads_behind : (n : ℕ) (base items : List Item) → AreAbove n items → AreBehind n (proxies base items)
+heads_behind : (n : ℕ) (base items : List ConfigLine) → AreAbove n items → AreBehind n (proxies base items)
 heads_behind n base [] above = tt
 heads_behind n base (item ∷ rest) above =
-    one_behind item.says n item.line base (own_lines rest) (proxies (base_after base (own_lines rest) item.says) rest) above.0
-    (heads_behind n (base_after base (own_lines rest) item.says) rest above.1)
+    one_behind item.statement n item.line base (own_lines rest) (proxies (base_after base (own_lines rest) item.statement) rest) above.0
+    (heads_behind n (base_after base (own_lines rest) item.statement) rest above.1)
 
-own_more : (item : Item) (rest : List Item) → own_lines (item ∷ rest) ≡ (if opens item.says then [] else item ∷ own_lines rest)
-own_more item rest = by (opens item.says) refl
+own_more : (item : ConfigLine) (rest : List ConfigLine) → own_lines (item ∷ rest) ≡ (if opens item.statement then [] else item ∷ own_lines rest)
+own_more item rest = by (opens item.statement) refl
   where
-    by : (b : Bool) → opens item.says ≡ b → own_lines (item ∷ rest) ≡ (if opens item.says then [] else item ∷ own_lines rest)
+    by : (b : Bool) → opens item.statement ≡ b → own_lines (item ∷ rest) ≡ (if opens item.statement then [] else item ∷ own_lines rest)
     by true is = rw is refl
     by false is =
-        let n = prefix_len (λ (x : Item). not (opens x.says)) rest in
+        let n = prefix_len (λ (x : ConfigLine). not (opens x.statement)) rest in
         let next : 1 + n ≡ suc n = omega arith in
         rw is (ap (λ m. take m (item ∷ rest)) next)
 
-no_head : (said : Says) (line : ℕ) (base own : List Item) → opens said ≡ false → option_to_list (option_map (proxy_with base own) (head_said line said)) ≡ []
-no_head says.Nothing line base own is = refl
-no_head says.Global line base own is = absurd cc
-no_head says.Defaults line base own is = absurd cc
-no_head (says.Frontend name) line base own is = absurd cc
-no_head (says.Backend name) line base own is = absurd cc
-no_head (says.MaxConn limit) line base own is = refl
-no_head (says.DefaultBackend name) line base own is = refl
-no_head (says.Balance method) line base own is = refl
-no_head (says.Bind endpoint flag) line base own is = refl
-no_head (says.Rule list action when) line base own is = refl
-no_head (says.StickTable table) line base own is = refl
-no_head (says.Server server) line base own is = refl
+no_head : (setting : Statement) (line : ℕ) (base own : List ConfigLine) → opens setting ≡ false → option_to_list (option_map (proxy_with base own) (line_head line setting)) ≡ []
+no_head statements.Nothing line base own is = refl
+no_head statements.Global line base own is = absurd cc
+no_head statements.Defaults line base own is = absurd cc
+no_head (statements.Frontend name) line base own is = absurd cc
+no_head (statements.Backend name) line base own is = absurd cc
+no_head (statements.MaxConn limit) line base own is = refl
+no_head (statements.DefaultBackend name) line base own is = refl
+no_head (statements.Balance method) line base own is = refl
+no_head (statements.Bind endpoint flag) line base own is = refl
+no_head (statements.Rule list action when) line base own is = refl
+no_head (statements.StickTable table) line base own is = refl
+no_head (statements.Server server) line base own is = refl
 
-own_above : (n : ℕ) (items : List Item) → AreAbove n items → AllByRecursion (λ item. n < item.line) (own_lines items)
+own_above : (n : ℕ) (items : List ConfigLine) → AreAbove n items → AllByRecursion (λ item. n < item.line) (own_lines items)
 own_above n [] above = tt
-own_above n (item ∷ rest) above = rw (own_more item rest) (by (opens item.says) (own_above n rest above.1))
+own_above n (item ∷ rest) above = rw (own_more item rest) (by (opens item.statement) (own_above n rest above.1))
   where
     by : (b : Bool) → AllByRecursion (λ item. n < item.line) (own_lines rest) → AllByRecursion (λ item. n < item.line) (if b then [] else item ∷ own_lines rest)
     by true later = tt
     by false later = (above.0, later)
 
-own_before : (base items : List Item) → Rises items → AllByRecursion (λ item. AreBehind item.line (proxies base items)) (own_lines items)
+own_before : (base items : List ConfigLine) → Rises items → AllByRecursion (λ item. AreBehind item.line (proxies base items)) (own_lines items)
 own_before base [] rises = tt
-own_before base (item ∷ rest) rises = rw (own_more item rest) (by (opens item.says) refl (own_before (base_after base (own_lines rest) item.says) rest rises.1))
+own_before base (item ∷ rest) rises = rw (own_more item rest) (by (opens item.statement) refl (own_before (base_after base (own_lines rest) item.statement) rest rises.1))
   where
-    by : (b : Bool) → opens item.says ≡ b → AllByRecursion (λ x. AreBehind x.line (proxies (base_after base (own_lines rest) item.says) rest)) (own_lines rest) →
+    by : (b : Bool) → opens item.statement ≡ b → AllByRecursion (λ x. AreBehind x.line (proxies (base_after base (own_lines rest) item.statement) rest)) (own_lines rest) →
         AllByRecursion (λ x. AreBehind x.line (proxies base (item ∷ rest))) (if b then [] else item ∷ own_lines rest)
     by true is later = tt
     by false is later =
-        let more = proxies (base_after base (own_lines rest) item.says) rest in
-        let same : proxies base (item ∷ rest) ≡ more = ap (λ head. head ++ more) (no_head item.says item.line base (own_lines rest) is) in
+        let more = proxies (base_after base (own_lines rest) item.statement) rest in
+        let same : proxies base (item ∷ rest) ≡ more = ap (λ head. head ++ more) (no_head item.statement item.line base (own_lines rest) is) in
         subst (λ all. AreBehind item.line all × AllByRecursion (λ x. AreBehind x.line all) (own_lines rest)) (sym same)
-        (heads_behind item.line (base_after base (own_lines rest) item.says) rest rises.0, later)
+        (heads_behind item.line (base_after base (own_lines rest) item.statement) rest rises.0, later)
 
-one_parted : (said : Says) (line : ℕ) (base own : List Item) (rest : List Proxy) → AllByRecursion (λ item. line < item.line) own → AllByRecursion (λ item. AreBehind item.line rest) own → Parted rest →
-    Parted (option_to_list (option_map (proxy_with base own) (head_said line said)) ++ rest)
-one_parted says.Nothing line base own rest above before parted = parted
-one_parted says.Global line base own rest above before parted = parted
-one_parted says.Defaults line base own rest above before parted = parted
-one_parted (says.Frontend name) line base own rest above before parted = (above, before, parted)
-one_parted (says.Backend name) line base own rest above before parted = (above, before, parted)
-one_parted (says.MaxConn limit) line base own rest above before parted = parted
-one_parted (says.DefaultBackend name) line base own rest above before parted = parted
-one_parted (says.Balance method) line base own rest above before parted = parted
-one_parted (says.Bind endpoint flag) line base own rest above before parted = parted
-one_parted (says.Rule list action when) line base own rest above before parted = parted
-one_parted (says.StickTable table) line base own rest above before parted = parted
-one_parted (says.Server server) line base own rest above before parted = parted
+one_parted : (setting : Statement) (line : ℕ) (base own : List ConfigLine) (rest : List Proxy) → AllByRecursion (λ item. line < item.line) own → AllByRecursion (λ item. AreBehind item.line rest) own → Parted rest →
+    Parted (option_to_list (option_map (proxy_with base own) (line_head line setting)) ++ rest)
+one_parted statements.Nothing line base own rest above before parted = parted
+one_parted statements.Global line base own rest above before parted = parted
+one_parted statements.Defaults line base own rest above before parted = parted
+one_parted (statements.Frontend name) line base own rest above before parted = (above, before, parted)
+one_parted (statements.Backend name) line base own rest above before parted = (above, before, parted)
+one_parted (statements.MaxConn limit) line base own rest above before parted = parted
+one_parted (statements.DefaultBackend name) line base own rest above before parted = parted
+one_parted (statements.Balance method) line base own rest above before parted = parted
+one_parted (statements.Bind endpoint flag) line base own rest above before parted = parted
+one_parted (statements.Rule list action when) line base own rest above before parted = parted
+one_parted (statements.StickTable table) line base own rest above before parted = parted
+one_parted (statements.Server server) line base own rest above before parted = parted
 
-parted : (base items : List Item) → Rises items → Parted (proxies base items)
+parted : (base items : List ConfigLine) → Rises items → Parted (proxies base items)
 parted base [] rises = tt
 parted base (item ∷ rest) rises =
-    one_parted item.says item.line base (own_lines rest) (proxies (base_after base (own_lines rest) item.says) rest)
-    (own_above item.line rest rises.0) (own_before (base_after base (own_lines rest) item.says) rest rises.1)
-    (parted (base_after base (own_lines rest) item.says) rest rises.1)
+    one_parted item.statement item.line base (own_lines rest) (proxies (base_after base (own_lines rest) item.statement) rest)
+    (own_above item.line rest rises.0) (own_before (base_after base (own_lines rest) item.statement) rest rises.1)
+    (parted (base_after base (own_lines rest) item.statement) rest rises.1)
 
 -- A server's line is one of its backend's.
 
 eqb_same : (a b : ℕ) → eqb a b ≡ true → a ≡ b
 eqb_same a b is = grind (arith, nat_tests)
 
-one_line : (Q : ℕ → Type 0) (said : Says) (at line : ℕ) (rest : List Server) → list_any (λ server. server.line == line) (cons_option (server_said at said) rest) ≡ true → Q at →
+one_line : (Q : ℕ → Type 0) (setting : Statement) (at line : ℕ) (rest : List Server) → list_any (λ server. server.line == line) (cons_option (line_server at setting) rest) ≡ true → Q at →
     (list_any (λ server. server.line == line) rest ≡ true → Q line) → Q line
-one_line Q says.Nothing at line rest has here later = later has
-one_line Q says.Global at line rest has here later = later has
-one_line Q says.Defaults at line rest has here later = later has
-one_line Q (says.Frontend name) at line rest has here later = later has
-one_line Q (says.Backend name) at line rest has here later = later has
-one_line Q (says.MaxConn limit) at line rest has here later = later has
-one_line Q (says.DefaultBackend name) at line rest has here later = later has
-one_line Q (says.Balance method) at line rest has here later = later has
-one_line Q (says.Bind endpoint flag) at line rest has here later = later has
-one_line Q (says.Rule list action when) at line rest has here later = later has
-one_line Q (says.StickTable table) at line rest has here later = later has
-one_line Q (says.Server server) at line rest has here later = by (at == line) refl has
+one_line Q statements.Nothing at line rest has here later = later has
+one_line Q statements.Global at line rest has here later = later has
+one_line Q statements.Defaults at line rest has here later = later has
+one_line Q (statements.Frontend name) at line rest has here later = later has
+one_line Q (statements.Backend name) at line rest has here later = later has
+one_line Q (statements.MaxConn limit) at line rest has here later = later has
+one_line Q (statements.DefaultBackend name) at line rest has here later = later has
+one_line Q (statements.Balance method) at line rest has here later = later has
+one_line Q (statements.Bind endpoint flag) at line rest has here later = later has
+one_line Q (statements.Rule list action when) at line rest has here later = later has
+one_line Q (statements.StickTable table) at line rest has here later = later has
+one_line Q (statements.Server server) at line rest has here later = by (at == line) refl has
   where
-    by : (b : Bool) → (at == line) ≡ b → list_any (λ server. server.line == line) (cons_option (server_said at (says.Server server)) rest) ≡ true → Q line
+    by : (b : Bool) → (at == line) ≡ b → list_any (λ server. server.line == line) (cons_option (line_server at (statements.Server server)) rest) ≡ true → Q line
     by true is has = subst Q (eqb_same at line is) here
     by false is has = later (rw is at has)
 
-line_in : (Q : ℕ → Type 0) (line : ℕ) (own : List Item) → list_any (λ server. server.line == line) (all_said server_said own) ≡ true → AllByRecursion (λ item. Q item.line) own → Q line
+line_in : (Q : ℕ → Type 0) (line : ℕ) (own : List ConfigLine) → list_any (λ server. server.line == line) (all_of line_server own) ≡ true → AllByRecursion (λ item. Q item.line) own → Q line
 line_in Q line [] has all = absurd cc
 line_in Q line (item ∷ rest) has all =
-    one_line Q item.says item.line line (all_said server_said rest) has all.0 (λ later. line_in Q line rest later all.1)
+    one_line Q item.statement item.line line (all_of line_server rest) has all.0 (λ later. line_in Q line rest later all.1)
 
 -- So no two backends have servers of one line.
 
@@ -262,5 +262,5 @@ differ (proxy ∷ rest) parts line i j a b first second in_a in_b =
     by true is (suc m) (suc n) first second more = more m n (rw is at first) (rw is at second)
     by false is m n first second more = more m n (rw is at first) (rw is at second)
 
-pub lines_differ : (items : List Item) (plan : Plan) → Rises items → plan.backends ≡ backends_in (proxies [] items) → LinesDiffer plan
+pub lines_differ : (items : List ConfigLine) (plan : Plan) → Rises items → plan.backends ≡ backends_in (proxies [] items) → LinesDiffer plan
 lines_differ items plan rises is = rw is (differ (proxies [] items) (parted [] items rises))

@@ -9,25 +9,25 @@ use Rattle.plan_types.specs.declared.plan.Frontend.{Frontend}
 use Rattle.plan_types.specs.declared.plan.Plan.{Plan}
 
 -- a bind: the name of its frontend, its address and port, and whether connections begin with a header
-pub record Bound : Type 0 where
+pub record BindKey : Type 0 where
   pub frontend : List ℕ
   pub addr : Addr
   pub port : ℕ
   pub accept_proxy : Bool
 
-abbrev pub bound_of : List ℕ → Bind → Bound
-bound_of name bind = record { frontend = name; addr = bind.at.addr; port = bind.at.port; accept_proxy = bind.accept_proxy }
+abbrev pub bind_key : List ℕ → Bind → BindKey
+bind_key name bind = record { frontend = name; addr = bind.at.addr; port = bind.at.port; accept_proxy = bind.accept_proxy }
 
-abbrev pub bound_in : Frontend → List Bound
-bound_in frontend = map (bound_of frontend.name) frontend.binds
+abbrev pub bind_keys_in : Frontend → List BindKey
+bind_keys_in frontend = map (bind_key frontend.name) frontend.binds
 
 -- all binds of a plan
-abbrev pub binds_of : Plan → List Bound
-binds_of plan = flat_map bound_in plan.frontends
+abbrev pub bind_keys : Plan → List BindKey
+bind_keys plan = flat_map bind_keys_in plan.frontends
 
 -- each bind of either is a bind of the other
 abbrev pub SameBinds : Plan → Plan → Type 0
-SameBinds a b = (bind : Bound) → Contains (binds_of a) bind ↔ Contains (binds_of b) bind
+SameBinds a b = (bind : BindKey) → Contains (bind_keys a) bind ↔ Contains (bind_keys b) bind
 
 -- The same as tests, frontend by frontend.
 
@@ -43,11 +43,11 @@ same_bind a b = same_endpoint a.at b.at && same_flag a.accept_proxy b.accept_pro
 abbrev pub has_bind : List ℕ → Bind → Frontend → Bool
 has_bind name bind frontend = bytes_eq frontend.name name && list_any (same_bind bind) frontend.binds
 
-abbrev pub is_bound : Plan → List ℕ → Bind → Bool
-is_bound plan name bind = list_any (has_bind name bind) plan.frontends
+abbrev pub has_named_bind : Plan → List ℕ → Bind → Bool
+has_named_bind plan name bind = list_any (has_bind name bind) plan.frontends
 
-abbrev pub are_bound : Plan → Frontend → Bool
-are_bound plan frontend = list_all (is_bound plan frontend.name) frontend.binds
+abbrev pub has_binds_of : Plan → Frontend → Bool
+has_binds_of plan frontend = list_all (has_named_bind plan frontend.name) frontend.binds
 
-abbrev pub all_bound : Plan → Plan → Bool
-all_bound plan other = list_all (are_bound plan) other.frontends
+abbrev pub has_all_binds : Plan → Plan → Bool
+has_all_binds plan other = list_all (has_binds_of plan) other.frontends

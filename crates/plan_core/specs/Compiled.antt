@@ -1,7 +1,7 @@
 -- The plan of what the lines of a configuration say, or the fault that stands against it.
 use Rattle.std.specs.Prelude.{ℕ, List, [], map, option_and_then, Option, Some, None, Result, Ok, Err}
-use Rattle.conf_tree.specs.declared.item.Item.{Item}
-use Rattle.conf_tree.specs.declared.item.Ruleset.TheVariants.{Connection, Session}
+use Rattle.conf_tree.specs.declared.tree.ConfigLine.{ConfigLine}
+use Rattle.conf_line.specs.declared.statement.Ruleset.TheVariants.{Connection, Session}
 use Rattle.plan_core.specs.declared.fault.PlanFault.{PlanFault}
 use Rattle.plan_core.specs.declared.fields.Named.{Named}
 use Rattle.plan_types.specs.declared.plan.Backend.{Backend}
@@ -10,7 +10,7 @@ use Rattle.plan_types.specs.declared.plan.Plan.{Plan}
 use Rattle.plan_types.specs.declared.plan.Table.{Table}
 use Rattle.plan_core.specs.declared.proxies.Proxy.{Proxy}
 use Rattle.plan_core.specs.Proxies.{proxies, frontends, backends}
-use Rattle.plan_core.specs.Fields.{bind_said, default_said, server_said, rule_said, all_said, said_in, limit_in, method_in, tables_in, backend_number}
+use Rattle.plan_core.specs.Fields.{line_bind, line_default, line_server, line_rule, all_of, setting_in, limit_in, method_in, tables_in, backend_number}
 use Rattle.plan_core.specs.Faults.{faults_of, least}
 
 -- a backend with its servers
@@ -19,7 +19,7 @@ backend_of proxy = record {
   name = proxy.head.name;
   line = proxy.head.line;
   method = method_in proxy;
-  servers = all_said server_said proxy.own;
+  servers = all_of line_server proxy.own;
 }
 
 abbrev pub backends_in : List Proxy → List Backend
@@ -27,20 +27,20 @@ backends_in all = map backend_of (backends all)
 
 -- the number of the backend that is named
 abbrev pub default_number : List Backend → Option Named → Option ℕ
-default_number all said = option_and_then (λ named. backend_number all named.name) said
+default_number all setting = option_and_then (λ named. backend_number all named.name) setting
 
 -- a frontend with its lines, where tables and backends are numbered so
 abbrev pub frontend_of : List Table → List Backend → Proxy → Frontend
 frontend_of tables all proxy = record {
   name = proxy.head.name;
   line = proxy.head.line;
-  binds = all_said bind_said proxy.own;
+  binds = all_of line_bind proxy.own;
   limit = (limit_in proxy).limit;
   limit_line = (limit_in proxy).line;
-  connection_rules = all_said (rule_said Connection tables proxy.head.name) proxy.own;
-  session_rules = all_said (rule_said Session tables proxy.head.name) proxy.own;
+  connection_rules = all_of (line_rule Connection tables proxy.head.name) proxy.own;
+  session_rules = all_of (line_rule Session tables proxy.head.name) proxy.own;
   choices = [];
-  default = default_number all (said_in default_said proxy);
+  default = default_number all (setting_in line_default proxy);
 }
 
 abbrev pub frontends_in : List Proxy → List Frontend
@@ -50,7 +50,7 @@ abbrev pub plan_with : List Proxy → Plan
 plan_with all = record { frontends = frontends_in all; backends = backends_in all; tables = tables_in all }
 
 -- all that stands against a plan of the lines
-abbrev pub plan_faults : List Item → List PlanFault
+abbrev pub plan_faults : List ConfigLine → List PlanFault
 plan_faults items = faults_of (tables_in (proxies [] items)) (backends_in (proxies [] items)) (proxies [] items)
 
 abbrev pub plan_or : List Proxy → Option PlanFault → Result Plan PlanFault
@@ -58,5 +58,5 @@ plan_or all None = Ok (plan_with all)
 plan_or all (Some fault) = Err fault
 
 -- the plan of the lines, or the least of the faults
-abbrev pub plan_of : List Item → Result Plan PlanFault
+abbrev pub plan_of : List ConfigLine → Result Plan PlanFault
 plan_of items = plan_or (proxies [] items) (least (plan_faults items))

@@ -1,8 +1,8 @@
 -- What may stand against the plan of a configuration, and which fault is told.
 use Rattle.std.specs.Prelude.{◌≡◌, ℕ, Bool, false, ◌&&◌, ◌||◌, ◌==◌, nat_lt, List, [], ◌∷◌, ◌++◌, is_some, flat_map, Option, Some, None, if◌then◌else◌, All, Contains}
 use Rattle.std.specs.List.{list_any}
-use Rattle.conf_tree.specs.declared.item.Says.{Says}
-use Rattle.conf_tree.specs.declared.item.Says.TheVariants as says
+use Rattle.conf_line.specs.declared.statement.Statement.{Statement}
+use Rattle.conf_line.specs.declared.statement.Statement.TheVariants as statements
 use Rattle.plan_core.specs.declared.fault.PlanFault.{PlanFault}
 use Rattle.plan_core.specs.declared.fault.PlanKind.{PlanKind}
 use Rattle.plan_core.specs.declared.fault.PlanKind.TheVariants as kinds
@@ -11,7 +11,7 @@ use Rattle.plan_types.specs.declared.plan.Backend.{Backend}
 use Rattle.plan_types.specs.declared.plan.Table.{Table}
 use Rattle.plan_core.specs.declared.proxies.Proxy.{Proxy}
 use Rattle.plan_core.specs.Proxies.{is_frontend}
-use Rattle.plan_core.specs.Fields.{bind_said, default_said, all_said, last_said, said_in, action_of, backend_number}
+use Rattle.plan_core.specs.Fields.{line_bind, line_default, all_of, last_of, setting_in, action_of, backend_number}
 
 -- Which of two faults is told.
 
@@ -48,7 +48,7 @@ IsLeast faults fault = Contains faults fault × All (λ other. is_before other f
 
 -- no `bind` line: told on the line that opens the frontend
 abbrev pub bind_faults : Proxy → List PlanFault
-bind_faults proxy = if is_some (last_said bind_said proxy.own) then [] else record { line = proxy.head.line; kind = kinds.NoBind } ∷ []
+bind_faults proxy = if is_some (last_of line_bind proxy.own) then [] else record { line = proxy.head.line; kind = kinds.NoBind } ∷ []
 
 -- the `default_backend` that counts names no backend: told on its own line, which may stand in `defaults`
 abbrev pub default_faults : List Backend → Option Named → List PlanFault
@@ -57,14 +57,14 @@ default_faults backends (Some named) =
     if is_some (backend_number backends named.name) then [] else record { line = named.line; kind = kinds.NoBackend } ∷ []
 
 -- a rule tracks in a table that is not there
-abbrev pub track_fault : List Table → List ℕ → ℕ → Says → Option PlanFault
-track_fault tables name line (says.Rule list action when) =
+abbrev pub track_fault : List Table → List ℕ → ℕ → Statement → Option PlanFault
+track_fault tables name line (statements.Rule list action when) =
     if is_some (action_of tables name action) then None else Some (record { line = line; kind = kinds.NoTable })
 track_fault tables name line other = None
 
 abbrev pub frontend_faults : List Table → List Backend → Proxy → List PlanFault
 frontend_faults tables backends proxy =
-    bind_faults proxy ++ default_faults backends (said_in default_said proxy) ++ all_said (track_fault tables proxy.head.name) proxy.own
+    bind_faults proxy ++ default_faults backends (setting_in line_default proxy) ++ all_of (track_fault tables proxy.head.name) proxy.own
 
 -- nothing stands against a backend
 abbrev pub faults_in : List Table → List Backend → Proxy → List PlanFault

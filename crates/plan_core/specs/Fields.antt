@@ -4,16 +4,16 @@ use Rattle.std.specs.List.{filter_map}
 use Rattle.std.specs.Option.{option_or, option_map}
 use Rattle.std.specs.Str.{bytes_eq}
 use Rattle.acl_core.specs.declared.condition.When.{When}
-use Rattle.conf_tree.specs.declared.item.Action as tree
-use Rattle.conf_tree.specs.declared.item.Action.TheVariants as words
-use Rattle.conf_tree.specs.declared.item.Item.{Item}
+use Rattle.conf_line.specs.declared.statement.Action as tree
+use Rattle.conf_line.specs.declared.statement.Action.TheVariants as words
+use Rattle.conf_tree.specs.declared.tree.ConfigLine.{ConfigLine}
 use Rattle.proxy_types.specs.declared.balance.Method.{Method}
 use Rattle.proxy_types.specs.declared.balance.Method.TheVariants.{RoundRobin}
-use Rattle.conf_tree.specs.declared.item.Ruleset.{Ruleset}
-use Rattle.conf_tree.specs.declared.item.Ruleset.TheVariants.{Connection, Session}
-use Rattle.conf_tree.specs.declared.item.Says.{Says}
-use Rattle.conf_tree.specs.declared.item.Says.TheVariants as says
-use Rattle.conf_tree.specs.declared.item.TableWords.{TableWords}
+use Rattle.conf_line.specs.declared.statement.Ruleset.{Ruleset}
+use Rattle.conf_line.specs.declared.statement.Ruleset.TheVariants.{Connection, Session}
+use Rattle.conf_line.specs.declared.statement.Statement.{Statement}
+use Rattle.conf_line.specs.declared.statement.Statement.TheVariants as statements
+use Rattle.conf_line.specs.declared.statement.TableWords.{TableWords}
 use Rattle.plan_types.specs.declared.plan.Action.{Action}
 use Rattle.plan_types.specs.declared.plan.Action.TheVariants as actions
 use Rattle.plan_types.specs.declared.plan.Backend.{Backend}
@@ -29,29 +29,29 @@ use Rattle.plan_core.specs.Proxies.{is_frontend_section}
 
 -- What one line says of a matter, if anything.
 
-abbrev pub bind_said : ℕ → Says → Option Bind
-bind_said line (says.Bind at proxy) = Some (record { at = at; accept_proxy = proxy })
-bind_said line other = None
+abbrev pub line_bind : ℕ → Statement → Option Bind
+line_bind line (statements.Bind at proxy) = Some (record { at = at; accept_proxy = proxy })
+line_bind line other = None
 
-abbrev pub limit_said : ℕ → Says → Option Limit
-limit_said line (says.MaxConn limit) = Some (record { limit = limit; line = line })
-limit_said line other = None
+abbrev pub line_limit : ℕ → Statement → Option Limit
+line_limit line (statements.MaxConn limit) = Some (record { limit = limit; line = line })
+line_limit line other = None
 
-abbrev pub default_said : ℕ → Says → Option Named
-default_said line (says.DefaultBackend name) = Some (record { name = name; line = line })
-default_said line other = None
+abbrev pub line_default : ℕ → Statement → Option Named
+line_default line (statements.DefaultBackend name) = Some (record { name = name; line = line })
+line_default line other = None
 
-abbrev pub method_said : ℕ → Says → Option Method
-method_said line (says.Balance method) = Some method
-method_said line other = None
+abbrev pub line_method : ℕ → Statement → Option Method
+line_method line (statements.Balance method) = Some method
+line_method line other = None
 
-abbrev pub table_said : ℕ → Says → Option TableWords
-table_said line (says.StickTable table) = Some table
-table_said line other = None
+abbrev pub line_table : ℕ → Statement → Option TableWords
+line_table line (statements.StickTable table) = Some table
+line_table line other = None
 
 -- weight 1 where none is said, and any number of connections
-abbrev pub server_said : ℕ → Says → Option Server
-server_said line (says.Server server) =
+abbrev pub line_server : ℕ → Statement → Option Server
+line_server line (statements.Server server) =
     Some (record {
       name = server.name;
       line = line;
@@ -62,28 +62,28 @@ server_said line (says.Server server) =
       send_proxy = server.send_proxy;
       send_proxy_v2 = server.send_proxy_v2;
     })
-server_said line other = None
+line_server line other = None
 
 -- What some lines say of it: all in their order, or the last.
 
-abbrev pub all_said : {X : Type 0} → (ℕ → Says → Option X) → List Item → List X
-all_said said items = filter_map (λ item. said item.line item.says) items
+abbrev pub all_of : {X : Type 0} → (ℕ → Statement → Option X) → List ConfigLine → List X
+all_of setting items = filter_map (λ item. setting item.line item.statement) items
 
-abbrev pub last_said : {X : Type 0} → (ℕ → Says → Option X) → List Item → Option X
-last_said said [] = None
-last_said said (item ∷ rest) = option_or (last_said said rest) (said item.line item.says)
+abbrev pub last_of : {X : Type 0} → (ℕ → Statement → Option X) → List ConfigLine → Option X
+last_of setting [] = None
+last_of setting (item ∷ rest) = option_or (last_of setting rest) (setting item.line item.statement)
 
 -- the last in the section itself, or else in the `defaults` in force
-abbrev pub said_in : {X : Type 0} → (ℕ → Says → Option X) → Proxy → Option X
-said_in said proxy = option_or (last_said said proxy.own) (last_said said proxy.base)
+abbrev pub setting_in : {X : Type 0} → (ℕ → Statement → Option X) → Proxy → Option X
+setting_in setting proxy = option_or (last_of setting proxy.own) (last_of setting proxy.base)
 
 -- 2,000 connections where no limit is said, in the name of the section's own line
 abbrev pub limit_in : Proxy → Limit
-limit_in proxy = unwrap_or (said_in limit_said proxy) (record { limit = 2000; line = proxy.head.line })
+limit_in proxy = unwrap_or (setting_in line_limit proxy) (record { limit = 2000; line = proxy.head.line })
 
 -- round robin where nothing is said
 abbrev pub method_in : Proxy → Method
-method_in proxy = unwrap_or (said_in method_said proxy) RoundRobin
+method_in proxy = unwrap_or (setting_in line_method proxy) RoundRobin
 
 -- Tables.
 
@@ -98,7 +98,7 @@ table_with head words = record {
 
 -- the table of a section
 abbrev pub table_in : Proxy → Option Table
-table_in proxy = option_map (table_with proxy.head) (last_said table_said proxy.own)
+table_in proxy = option_map (table_with proxy.head) (last_of line_table proxy.own)
 
 -- all tables, those of frontends and backends mixed, in the order of the text
 abbrev pub tables_in : List Proxy → List Table
@@ -135,10 +135,10 @@ abbrev pub rule_with : ℕ → When → Action → Rule
 rule_with line when action = record { line = line; action = action; when = when }
 
 -- the rule that a line puts on that list
-abbrev pub rule_said : Ruleset → List Table → List ℕ → ℕ → Says → Option Rule
-rule_said list tables name line (says.Rule said action when) =
-    if is_in list said then option_map (rule_with line when) (action_of tables name action) else None
-rule_said list tables name line other = None
+abbrev pub line_rule : Ruleset → List Table → List ℕ → ℕ → Statement → Option Rule
+line_rule list tables name line (statements.Rule other action when) =
+    if is_in list other then option_map (rule_with line when) (action_of tables name action) else None
+line_rule list tables name line other = None
 
 -- Backends.
 

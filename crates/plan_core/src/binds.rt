@@ -3,7 +3,7 @@ ghost use Rattle.std.specs.Prelude.{◌≡◌, ◌↔◌, ◌&&◌, ◌==◌, Is
 ghost use Rattle.std.specs.List.{list_any, list_all};
 ghost use Rattle.std.specs.Str.{bytes_eq};
 ghost use Rattle.addr_core.specs.Same.{same_endpoint};
-ghost use Rattle.plan_core.specs.Binds.{same_flag, same_bind, has_bind, is_bound, are_bound, all_bound, SameBinds};
+ghost use Rattle.plan_core.specs.Binds.{same_flag, same_bind, has_bind, has_named_bind, has_binds_of, has_all_binds, SameBinds};
 
 use plan_types::{Bind, Frontend, Plan};
 
@@ -35,50 +35,50 @@ fn is_named(frontend: &Frontend, name: &[u8]) -> bool
     frontend.name.as_slice() == name
 }
 
-fn has_named_bind(frontend: &Frontend, name: &[u8], bind: &Bind) -> bool
+fn frontend_has_bind(frontend: &Frontend, name: &[u8], bind: &Bind) -> bool
     ensures { result ≡ has_bind name.now bind.now frontend.now }
 {
     is_named(frontend, name) && has_bind(frontend, bind)
 }
 
 /// Whether a plan has that bind in the frontend of that name.
-fn is_bound(plan: &Plan, name: &[u8], bind: &Bind) -> bool
-    ensures { result ≡ is_bound plan.now name.now bind.now }
+fn has_named_bind(plan: &Plan, name: &[u8], bind: &Bind) -> bool
+    ensures { result ≡ has_named_bind plan.now name.now bind.now }
 {
     plan.frontends
         .as_slice()
         .iter()
-        .any(|frontend| has_named_bind(frontend, name, bind))
+        .any(|frontend| frontend_has_bind(frontend, name, bind))
 }
 
 /// Whether a plan has all binds of a frontend.
-fn are_bound(plan: &Plan, frontend: &Frontend) -> bool
-    ensures { result ≡ are_bound plan.now frontend.now }
+fn has_binds_of(plan: &Plan, frontend: &Frontend) -> bool
+    ensures { result ≡ has_binds_of plan.now frontend.now }
 {
     let name = frontend.name.as_slice();
     frontend
         .binds
         .as_slice()
         .iter()
-        .all(|bind| is_bound(plan, name, bind))
+        .all(|bind| has_named_bind(plan, name, bind))
 }
 
 /// Whether a plan has all binds of another.
-fn all_bound(plan: &Plan, other: &Plan) -> bool
-    ensures { result ≡ all_bound plan.now other.now }
+fn has_all_binds(plan: &Plan, other: &Plan) -> bool
+    ensures { result ≡ has_all_binds plan.now other.now }
 {
     other
         .frontends
         .as_slice()
         .iter()
-        .all(|frontend| are_bound(plan, frontend))
+        .all(|frontend| has_binds_of(plan, frontend))
 }
 
 /// Whether each of two plans has all binds of the other.
-fn bound_both_ways(a: &Plan, b: &Plan) -> bool
-    ensures { result ≡ (all_bound a.now b.now && all_bound b.now a.now) }
+fn same_binds_both_ways(a: &Plan, b: &Plan) -> bool
+    ensures { result ≡ (has_all_binds a.now b.now && has_all_binds b.now a.now) }
 {
-    all_bound(a, b) && all_bound(b, a)
+    has_all_binds(a, b) && has_all_binds(b, a)
 }
 
 /// Whether two plans have the same binds: the same set of frontend's name, address, port and
@@ -86,5 +86,5 @@ fn bound_both_ways(a: &Plan, b: &Plan) -> bool
 pub fn same_binds(a: &Plan, b: &Plan) -> bool
     ensures { IsTrue result ↔ SameBinds a.now b.now }
 {
-    bound_both_ways(a, b)
+    same_binds_both_ways(a, b)
 }

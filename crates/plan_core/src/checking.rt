@@ -3,14 +3,14 @@ ghost use Rattle.std.specs.Prelude.{◌≡◌, ◌≤◌, ◌<◌, length, flat_
 ghost use Rattle.std.specs.List.{list_any};
 ghost use Rattle.std.specs.Str.{bytes_eq};
 ghost use Rattle.plan_core.specs.Proxies.{is_frontend};
-ghost use Rattle.plan_core.specs.Fields.{all_said, backend_number};
+ghost use Rattle.plan_core.specs.Fields.{all_of, backend_number};
 ghost use Rattle.plan_core.specs.Faults.{kind_number, is_before, earlier, earliest, least, IsLeast, bind_faults, default_faults, track_fault, frontend_faults, faults_in, no_frontend, faults_of};
 
 use crate::fault::{PlanFault, PlanKind};
 use crate::fields::{Named, default_in, last_bind};
 use crate::proxies::{Proxy, is_frontend};
 use crate::tables::{action_of, number_of};
-use conf_tree::{Item, Says};
+use conf_tree::{ConfigLine, Statement};
 use plan_types::{Backend, Table};
 use word_core::Word;
 
@@ -83,11 +83,11 @@ pub fn backend_number(backends: &[Backend], name: &Word) -> Option<u16>
     number_of(backend_place(backends, name))
 }
 
-fn default_fault(backends: &[Backend], said: &Option<Named>) -> Option<PlanFault>
+fn default_fault(backends: &[Backend], setting: &Option<Named>) -> Option<PlanFault>
     requires { length backends.now ≤ 65535 }
-    ensures { result ≡ least (default_faults backends.now said.now) }
+    ensures { result ≡ least (default_faults backends.now setting.now) }
 {
-    let Some(named) = said else {
+    let Some(named) = setting else {
         return None;
     };
     if backend_number(backends, &named.name).is_some() {
@@ -99,12 +99,12 @@ fn default_fault(backends: &[Backend], said: &Option<Named>) -> Option<PlanFault
     })
 }
 
-fn track_fault(tables: &[Table], name: &Word, item: &Item) -> Option<PlanFault>
+fn track_fault(tables: &[Table], name: &Word, item: &ConfigLine) -> Option<PlanFault>
     requires { length tables.now ≤ 65535 }
-    ensures { result ≡ track_fault tables.now name.now item.now.line item.now.says }
+    ensures { result ≡ track_fault tables.now name.now item.now.line item.now.statement }
 {
-    match &item.says {
-        Says::Rule(_, action, _) => {
+    match &item.statement {
+        Statement::Rule(_, action, _) => {
             if action_of(tables, name, action).is_some() {
                 return None;
             }
@@ -118,9 +118,9 @@ fn track_fault(tables: &[Table], name: &Word, item: &Item) -> Option<PlanFault>
 }
 
 /// The least fault of the rules in some lines.
-fn track_fault_in(tables: &[Table], name: &Word, items: &[Item]) -> Option<PlanFault>
+fn track_fault_in(tables: &[Table], name: &Word, items: &[ConfigLine]) -> Option<PlanFault>
     requires { length tables.now ≤ 65535 }
-    ensures { result ≡ least (all_said (track_fault tables.now name.now) items.now) }
+    ensures { result ≡ least (all_of (track_fault tables.now name.now) items.now) }
 {
     let mut found = None;
     for item in items {

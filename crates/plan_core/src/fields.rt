@@ -1,9 +1,9 @@
 //! What the lines of a frontend or backend say of each matter.
 ghost use Rattle.std.specs.Prelude.{◌≡◌, IfOk};
-ghost use Rattle.plan_core.specs.Fields.{bind_said, limit_said, default_said, method_said, table_said, server_said, all_said, last_said, said_in, limit_in, method_in};
+ghost use Rattle.plan_core.specs.Fields.{line_bind, line_limit, line_default, line_method, line_table, line_server, all_of, last_of, setting_in, limit_in, method_in};
 
 use crate::proxies::Proxy;
-use conf_tree::{Item, Says, TableWords};
+use conf_tree::{ConfigLine, Statement, TableWords};
 use list_core::Seq;
 use plan_types::{Bind, Server};
 use proxy_types::Method;
@@ -24,11 +24,11 @@ pub struct Limit {
     pub line: u32,
 }
 
-fn bind_said(item: &Item) -> Option<Bind>
-    ensures { result ≡ bind_said item.now.line item.now.says }
+fn line_bind(item: &ConfigLine) -> Option<Bind>
+    ensures { result ≡ line_bind item.now.line item.now.statement }
 {
-    match &item.says {
-        Says::Bind(at, proxy) => Some(Bind {
+    match &item.statement {
+        Statement::Bind(at, proxy) => Some(Bind {
             at: *at,
             accept_proxy: *proxy,
         }),
@@ -36,11 +36,11 @@ fn bind_said(item: &Item) -> Option<Bind>
     }
 }
 
-fn limit_said(item: &Item) -> Option<Limit>
-    ensures { result ≡ limit_said item.now.line item.now.says }
+fn line_limit(item: &ConfigLine) -> Option<Limit>
+    ensures { result ≡ line_limit item.now.line item.now.statement }
 {
-    match &item.says {
-        Says::MaxConn(limit) => Some(Limit {
+    match &item.statement {
+        Statement::MaxConn(limit) => Some(Limit {
             limit: *limit,
             line: item.line,
         }),
@@ -48,11 +48,11 @@ fn limit_said(item: &Item) -> Option<Limit>
     }
 }
 
-fn default_said<'a>(item: &Item<'a>) -> Option<Named<'a>>
-    ensures { result ≡ default_said item.now.line item.now.says }
+fn line_default<'a>(item: &ConfigLine<'a>) -> Option<Named<'a>>
+    ensures { result ≡ line_default item.now.line item.now.statement }
 {
-    match &item.says {
-        Says::DefaultBackend(name) => Some(Named {
+    match &item.statement {
+        Statement::DefaultBackend(name) => Some(Named {
             name: name.again(),
             line: item.line,
         }),
@@ -60,29 +60,29 @@ fn default_said<'a>(item: &Item<'a>) -> Option<Named<'a>>
     }
 }
 
-fn method_said(item: &Item) -> Option<Method>
-    ensures { result ≡ method_said item.now.line item.now.says }
+fn line_method(item: &ConfigLine) -> Option<Method>
+    ensures { result ≡ line_method item.now.line item.now.statement }
 {
-    match &item.says {
-        Says::Balance(method) => Some(*method),
+    match &item.statement {
+        Statement::Balance(method) => Some(*method),
         _ => None,
     }
 }
 
-fn table_said(item: &Item) -> Option<TableWords>
-    ensures { result ≡ table_said item.now.line item.now.says }
+fn line_table(item: &ConfigLine) -> Option<TableWords>
+    ensures { result ≡ line_table item.now.line item.now.statement }
 {
-    match &item.says {
-        Says::StickTable(table) => Some(*table),
+    match &item.statement {
+        Statement::StickTable(table) => Some(*table),
         _ => None,
     }
 }
 
-fn server_said(alloc: Global, item: &Item) -> Result<Option<Server>, AllocError>
-    ensures { IfOk result (λ server. server ≡ server_said item.now.line item.now.says) }
+fn line_server(alloc: Global, item: &ConfigLine) -> Result<Option<Server>, AllocError>
+    ensures { IfOk result (λ server. server ≡ line_server item.now.line item.now.statement) }
 {
-    match &item.says {
-        Says::Server(server) => Ok(Some(Server {
+    match &item.statement {
+        Statement::Server(server) => Ok(Some(Server {
             name: Seq::duplicate_of(alloc, server.name.bytes())?,
             line: item.line,
             to: server.to,
@@ -97,53 +97,53 @@ fn server_said(alloc: Global, item: &Item) -> Result<Option<Server>, AllocError>
 }
 
 /// The last `bind` line.
-pub fn last_bind(items: &[Item]) -> Option<Bind>
-    ensures { result ≡ last_said bind_said items.now }
+pub fn last_bind(items: &[ConfigLine]) -> Option<Bind>
+    ensures { result ≡ last_of line_bind items.now }
 {
     let mut last = None;
     for item in items {
-        last = bind_said(item).or(last);
+        last = line_bind(item).or(last);
     }
     last
 }
 
-fn last_limit(items: &[Item]) -> Option<Limit>
-    ensures { result ≡ last_said limit_said items.now }
+fn last_limit(items: &[ConfigLine]) -> Option<Limit>
+    ensures { result ≡ last_of line_limit items.now }
 {
     let mut last = None;
     for item in items {
-        last = limit_said(item).or(last);
+        last = line_limit(item).or(last);
     }
     last
 }
 
-fn last_default<'a>(items: &[Item<'a>]) -> Option<Named<'a>>
-    ensures { result ≡ last_said default_said items.now }
+fn last_default<'a>(items: &[ConfigLine<'a>]) -> Option<Named<'a>>
+    ensures { result ≡ last_of line_default items.now }
 {
     let mut last = None;
     for item in items {
-        last = default_said(item).or(last);
+        last = line_default(item).or(last);
     }
     last
 }
 
-fn last_method(items: &[Item]) -> Option<Method>
-    ensures { result ≡ last_said method_said items.now }
+fn last_method(items: &[ConfigLine]) -> Option<Method>
+    ensures { result ≡ last_of line_method items.now }
 {
     let mut last = None;
     for item in items {
-        last = method_said(item).or(last);
+        last = line_method(item).or(last);
     }
     last
 }
 
 /// The `stick-table` line of a section.
-pub fn last_table(items: &[Item]) -> Option<TableWords>
-    ensures { result ≡ last_said table_said items.now }
+pub fn last_table(items: &[ConfigLine]) -> Option<TableWords>
+    ensures { result ≡ last_of line_table items.now }
 {
     let mut last = None;
     for item in items {
-        last = table_said(item).or(last);
+        last = line_table(item).or(last);
     }
     last
 }
@@ -163,7 +163,7 @@ pub fn limit_in(proxy: &Proxy) -> Limit
 
 /// The `default_backend` of a frontend.
 pub fn default_in<'a>(proxy: &Proxy<'a>) -> Option<Named<'a>>
-    ensures { result ≡ said_in default_said proxy.now }
+    ensures { result ≡ setting_in line_default proxy.now }
 {
     last_default(proxy.own.items()).or(last_default(proxy.base.items()))
 }
@@ -178,24 +178,24 @@ pub fn method_in(proxy: &Proxy) -> Method
     }
 }
 
-pub fn binds_in(alloc: Global, items: &[Item]) -> Result<Seq<Bind>, AllocError>
-    ensures { IfOk result (λ binds. binds ≡ all_said bind_said items.now) }
+pub fn binds_in(alloc: Global, items: &[ConfigLine]) -> Result<Seq<Bind>, AllocError>
+    ensures { IfOk result (λ binds. binds ≡ all_of line_bind items.now) }
 {
     let mut binds = Seq::new(alloc);
     for item in items {
-        if let Some(bind) = bind_said(item) {
+        if let Some(bind) = line_bind(item) {
             binds.push(bind)?;
         }
     }
     Ok(binds)
 }
 
-pub fn servers_in(alloc: Global, items: &[Item]) -> Result<Seq<Server>, AllocError>
-    ensures { IfOk result (λ servers. servers ≡ all_said server_said items.now) }
+pub fn servers_in(alloc: Global, items: &[ConfigLine]) -> Result<Seq<Server>, AllocError>
+    ensures { IfOk result (λ servers. servers ≡ all_of line_server items.now) }
 {
     let mut servers = Seq::new(alloc);
     for item in items {
-        if let Some(server) = server_said(alloc, item)? {
+        if let Some(server) = line_server(alloc, item)? {
             servers.push(server)?;
         }
     }

@@ -44,11 +44,11 @@ fn backends_in(alloc: Global, all: &[Proxy]) -> Result<Seq<Backend>, AllocError>
 }
 
 /// The number of the backend that is named.
-fn default_number(backends: &[Backend], said: &Option<Named>) -> Option<u16>
+fn default_number(backends: &[Backend], setting: &Option<Named>) -> Option<u16>
     requires { length backends.now ≤ 65535 }
-    ensures { result ≡ default_number backends.now said.now }
+    ensures { result ≡ default_number backends.now setting.now }
 {
-    match said {
+    match setting {
         Some(named) => backend_number(backends, &named.name),
         None => None,
     }

@@ -1,9 +1,9 @@
 //! The frontends and backends of a configuration, each with its lines.
 ghost use Rattle.std.specs.Prelude.{◌≡◌, ◌<◌, ◌≤◌, [], length, position, IfOk, IfSome};
 ghost use Rattle.conf_tree.specs.Few.{FewSections};
-ghost use Rattle.plan_core.specs.Proxies.{head_said, opens, own_lines, base_after, proxy_said, proxies, is_frontend, is_backend, frontends, backends};
+ghost use Rattle.plan_core.specs.Proxies.{line_head, opens, own_lines, base_after, line_proxy, proxies, is_frontend, is_backend, frontends, backends};
 
-use conf_tree::{Item, Says};
+use conf_tree::{ConfigLine, Statement};
 use list_core::Seq;
 use plan_types::Section;
 use std::alloc::{AllocError, Global};
@@ -13,14 +13,14 @@ use word_core::Word;
 /// Lines of a configuration, which borrow it. Contracts see their list.
 #[derive(Drop)]
 pub struct Lines<'a> {
-    items: &'a [Item<'a>],
+    items: &'a [ConfigLine<'a>],
 }
 
 impl<'a> Model for Lines<'a> {
     ghost use Rattle.std.specs.Prelude.{List};
-    ghost use Rattle.conf_tree.specs.declared.item.Item.{Item};
+    ghost use Rattle.conf_tree.specs.declared.tree.ConfigLine.{ConfigLine};
 
-    ghost Value = { List Item };
+    ghost Value = { List ConfigLine };
 
     ghost view = { λ l. l.items.now };
 }
@@ -28,13 +28,13 @@ impl<'a> Model for Lines<'a> {
 impl<'a> Lines<'a> {
     ghost use Rattle.std.specs.Prelude.{◌≡◌};
 
-    pub fn of(items: &'a [Item<'a>]) -> Self
+    pub fn of(items: &'a [ConfigLine<'a>]) -> Self
         ensures { result ≡ items.now }
     {
         Lines { items }
     }
 
-    pub fn items(&self) -> &'a [Item<'a>]
+    pub fn items(&self) -> &'a [ConfigLine<'a>]
         ensures { result.now ≡ self.now }
     {
         self.items
@@ -59,16 +59,16 @@ pub struct Proxy<'a> {
     pub base: Lines<'a>,
 }
 
-fn head_said<'a>(item: &Item<'a>) -> Option<Head<'a>>
-    ensures { result ≡ head_said item.now.line item.now.says }
+fn line_head<'a>(item: &ConfigLine<'a>) -> Option<Head<'a>>
+    ensures { result ≡ line_head item.now.line item.now.statement }
 {
-    match &item.says {
-        Says::Frontend(name) => Some(Head {
+    match &item.statement {
+        Statement::Frontend(name) => Some(Head {
             section: Section::Frontend,
             name: name.again(),
             line: item.line,
         }),
-        Says::Backend(name) => Some(Head {
+        Statement::Backend(name) => Some(Head {
             section: Section::Backend,
             name: name.again(),
             line: item.line,
@@ -77,25 +77,25 @@ fn head_said<'a>(item: &Item<'a>) -> Option<Head<'a>>
     }
 }
 
-fn opens(says: &Says) -> bool
-    ensures { result ≡ opens says.now }
+fn opens(statement: &Statement) -> bool
+    ensures { result ≡ opens statement.now }
 {
     matches!(
-        says,
-        Says::Global | Says::Defaults | Says::Frontend(_) | Says::Backend(_)
+        statement,
+        Statement::Global | Statement::Defaults | Statement::Frontend(_) | Statement::Backend(_)
     )
 }
 
 /// The place of the first item that opens a section.
-fn next_section(items: &[Item]) -> Option<usize>
-    ensures value { result ≡ position (λ item. opens item.says) items.now }
+fn next_section(items: &[ConfigLine]) -> Option<usize>
+    ensures value { result ≡ position (λ item. opens item.statement) items.now }
     ensures within { IfSome result (λ end. end < length items.now) }
 {
-    items.iter().position(|item| opens(&item.says))
+    items.iter().position(|item| opens(&item.statement))
 }
 
 /// The lines up to the next section.
-fn own_lines<'a>(items: &'a [Item<'a>]) -> &'a [Item<'a>]
+fn own_lines<'a>(items: &'a [ConfigLine<'a>]) -> &'a [ConfigLine<'a>]
     ensures { result.now ≡ own_lines items.now }
 {
     match next_section(items) {
@@ -105,20 +105,28 @@ fn own_lines<'a>(items: &'a [Item<'a>]) -> &'a [Item<'a>]
 }
 
 /// The lines of the `defaults` in force behind an item.
-fn base_after<'a>(base: &'a [Item<'a>], says: &Says, after: &'a [Item<'a>]) -> &'a [Item<'a>]
-    ensures { result.now ≡ base_after base.now (own_lines after.now) says.now }
+fn base_after<'a>(
+    base: &'a [ConfigLine<'a>],
+    statement: &Statement,
+    after: &'a [ConfigLine<'a>],
+) -> &'a [ConfigLine<'a>]
+    ensures { result.now ≡ base_after base.now (own_lines after.now) statement.now }
 {
-    match says {
-        Says::Defaults => own_lines(after),
+    match statement {
+        Statement::Defaults => own_lines(after),
         _ => base,
     }
 }
 
 /// The frontend or backend that an item opens, with the items after it.
-fn proxy_said<'a>(base: &'a [Item<'a>], after: &'a [Item<'a>], item: &Item<'a>) -> Option<Proxy<'a>>
-    ensures { result ≡ proxy_said base.now (own_lines after.now) item.now }
+fn line_proxy<'a>(
+    base: &'a [ConfigLine<'a>],
+    after: &'a [ConfigLine<'a>],
+    item: &ConfigLine<'a>,
+) -> Option<Proxy<'a>>
+    ensures { result ≡ line_proxy base.now (own_lines after.now) item.now }
 {
-    match head_said(item) {
+    match line_head(item) {
         Some(head) => Some(Proxy {
             head,
             own: Lines::of(own_lines(after)),
@@ -128,24 +136,27 @@ fn proxy_said<'a>(base: &'a [Item<'a>], after: &'a [Item<'a>], item: &Item<'a>) 
     }
 }
 
-fn all_proxies<'a>(alloc: Global, items: &'a [Item<'a>]) -> Result<Seq<Proxy<'a>>, AllocError>
+fn all_proxies<'a>(alloc: Global, items: &'a [ConfigLine<'a>]) -> Result<Seq<Proxy<'a>>, AllocError>
     ensures { IfOk result (λ all. all ≡ proxies [] items.now) }
 {
-    let mut base: &'a [Item<'a>] = &[];
+    let mut base: &'a [ConfigLine<'a>] = &[];
     let mut all: Seq<Proxy<'a>> = Seq::new(alloc);
-    let mut rest: &'a [Item<'a>] = items;
+    let mut rest: &'a [ConfigLine<'a>] = items;
     while let [item, after @ ..] = rest {
-        if let Some(proxy) = proxy_said(base, after, item) {
+        if let Some(proxy) = line_proxy(base, after, item) {
             all.push(proxy)?;
         }
-        base = base_after(base, &item.says, after);
+        base = base_after(base, &item.statement, after);
         rest = after;
     }
     Ok(all)
 }
 
 /// The frontends and backends of a configuration, in their order.
-pub fn proxies_in<'a>(alloc: Global, items: &'a [Item<'a>]) -> Result<Seq<Proxy<'a>>, AllocError>
+pub fn proxies_in<'a>(
+    alloc: Global,
+    items: &'a [ConfigLine<'a>],
+) -> Result<Seq<Proxy<'a>>, AllocError>
     requires { FewSections items.now }
     ensures value { IfOk result (λ all. all ≡ proxies [] items.now) }
     ensures frontends { IfOk result (λ all. length (frontends all) ≤ 64) }

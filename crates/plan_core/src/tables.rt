@@ -2,11 +2,11 @@
 ghost use Rattle.std.specs.Prelude.{◌≡◌, ◌<◌, ◌≤◌, length, position, IfOk, IfSome};
 ghost use Rattle.std.specs.Option.{option_map, option_copied};
 ghost use Rattle.std.specs.Str.{bytes_eq};
-ghost use Rattle.plan_core.specs.Fields.{table_in, tables_in, is_table_of, table_number, action_of, is_in, rule_said, all_said};
+ghost use Rattle.plan_core.specs.Fields.{table_in, tables_in, is_table_of, table_number, action_of, is_in, line_rule, all_of};
 
 use crate::fields::last_table;
 use crate::proxies::Proxy;
-use conf_tree::{Item, Ruleset, Says};
+use conf_tree::{ConfigLine, Ruleset, Statement};
 use list_core::{Duplicate, Seq};
 use plan_types::{Action, Rule, Section, Table};
 use std::alloc::{AllocError, Global};
@@ -107,10 +107,10 @@ pub fn action_of(tables: &[Table], name: &Word, action: &conf_tree::Action) -> O
     }
 }
 
-fn is_in(list: Ruleset, said: Ruleset) -> bool
-    ensures { result ≡ is_in list said }
+fn is_in(list: Ruleset, other: Ruleset) -> bool
+    ensures { result ≡ is_in list other }
 {
-    match (list, said) {
+    match (list, other) {
         (Ruleset::Connection, Ruleset::Connection) => true,
         (Ruleset::Connection, Ruleset::Session) => false,
         (Ruleset::Session, Ruleset::Connection) => false,
@@ -119,19 +119,19 @@ fn is_in(list: Ruleset, said: Ruleset) -> bool
 }
 
 /// The rule that a line puts on that list.
-fn rule_said(
+fn line_rule(
     alloc: Global,
     list: Ruleset,
     tables: &[Table],
     name: &Word,
-    item: &Item,
+    item: &ConfigLine,
 ) -> Result<Option<Rule>, AllocError>
     requires { length tables.now ≤ 65535 }
-    ensures { IfOk result (λ rule. rule ≡ rule_said list tables.now name.now item.now.line item.now.says) }
+    ensures { IfOk result (λ rule. rule ≡ line_rule list tables.now name.now item.now.line item.now.statement) }
 {
-    match &item.says {
-        Says::Rule(said, action, when) => {
-            if !is_in(list, *said) {
+    match &item.statement {
+        Statement::Rule(other, action, when) => {
+            if !is_in(list, *other) {
                 return Ok(None);
             }
             match action_of(tables, name, action) {
@@ -153,14 +153,14 @@ pub fn rules_in(
     list: Ruleset,
     tables: &[Table],
     name: &Word,
-    items: &[Item],
+    items: &[ConfigLine],
 ) -> Result<Seq<Rule>, AllocError>
     requires { length tables.now ≤ 65535 }
-    ensures { IfOk result (λ rules. rules ≡ all_said (rule_said list tables.now name.now) items.now) }
+    ensures { IfOk result (λ rules. rules ≡ all_of (line_rule list tables.now name.now) items.now) }
 {
     let mut rules = Seq::new(alloc);
     for item in items {
-        if let Some(rule) = rule_said(alloc, list, tables, name, item)? {
+        if let Some(rule) = line_rule(alloc, list, tables, name, item)? {
             rules.push(rule)?;
         }
     }

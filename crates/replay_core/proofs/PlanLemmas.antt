@@ -1,7 +1,7 @@
 -- A replay from the opening of a plan on.
 use Rattle.std.proofs.Common.{◌≡◌, ◌⊎◌, ℕ, List, ◌++◌, Option, Some, None, Ok, ap, subst, sym, ◌∙◌, inl, inr, zero-add}
 use Rattle.plan_types.specs.declared.plan.Plan.{Plan}
-use Rattle.conn_core.specs.Meaning.{meaning}
+use Rattle.config_core.specs.Meaning.{meaning}
 use Rattle.conn_model.specs.History.{IsWell, opening}
 use Rattle.replay_core.specs.Replay.{IsCutAtEnd, IsCutShort, IsEndedBy, IsFront, IsReplayed, IsStopped, Outcome, replayed}
 use Rattle.replay_core.specs.Reading.{Cut, CutAtEnd, Ended, Wrote}

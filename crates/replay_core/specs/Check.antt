@@ -1,9 +1,9 @@
 -- What `check` writes of a configuration.
 use Rattle.std.specs.Prelude.{ℕ, Bool, List, ◌++◌, codes, Option, Some, None, Result, Ok, Err, is_ok}
 use Rattle.plan_types.specs.declared.plan.Plan.{Plan}
-use Rattle.conn_core.specs.Meaning.{compiled}
-use Rattle.conn_core.specs.Names.{open_text}
-use Rattle.conn_core.specs.declared.fault.OpenFault.{OpenFault}
+use Rattle.config_core.specs.Meaning.{compiled}
+use Rattle.config_core.specs.Names.{open_text}
+use Rattle.config_core.specs.declared.fault.OpenFault.{OpenFault}
 
 -- the text has a plan
 abbrev pub is_right : List ℕ → Bool

@@ -7,7 +7,7 @@ use Rattle.conn_model.specs.declared.plain.Plain.{Plain}
 use Rattle.conn_model.specs.declared.reply.Reply.{Reply}
 use Rattle.conn_model.specs.declared.reply.StepFault.{StepFault}
 use Rattle.conn_model.specs.History.{Entry, answer, counts, entry, opening}
-use Rattle.conn_core.specs.Meaning.{meaning}
+use Rattle.config_core.specs.Meaning.{meaning}
 use Rattle.event_text.specs.Script.{Wanted, wanted, wanted_of, words_of}
 use Rattle.event_text.specs.Replies.{count_line, fault_line, reply_line}
 use Rattle.event_text.specs.declared.script.Request.{Request}

@@ -1,6 +1,6 @@
 //! Whether a configuration is right.
 ghost use Rattle.std.specs.Prelude.{◌≡◌, ◌≢◌, ◌++◌, ℕ, List, Some, Err, IfOk, IfErr, OnOk, OnErr};
-ghost use Rattle.conn_core.specs.Meaning.{compiled, opened};
+ghost use Rattle.config_core.specs.Meaning.{compiled, opened};
 ghost use Rattle.plan_core.specs.Compiled.{plan_of};
 ghost use Rattle.replay_core.specs.Check.{check_output, fault_in, is_right, refused_line};
 ghost use Rattle.replay_core.specs.Replay.{IsFront};

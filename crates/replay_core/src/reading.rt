@@ -1,7 +1,7 @@
 //! Reading a script in blocks.
 ghost use Rattle.std.specs.Prelude.{◌≡◌, ◌≢◌, ◌⊎◌, ◌+◌, ◌-◌, ◌<◌, ◌≤◌, ◌++◌, ◌∷◌, ℕ, List, [], length, drop, take, Option, Some, None, Ok, Err, OnOk, OnErr, IfOk, IfErr};
 ghost use Rattle.device_core.specs.Device.{raised_by};
-ghost use Rattle.conn_core.specs.declared.fault.OpenFault.{OpenFault};
+ghost use Rattle.config_core.specs.declared.fault.OpenFault.{OpenFault};
 ghost use Rattle.replay_core.specs.Replay.{ended};
 ghost use Rattle.replay_core.specs.Standing.{total, total_of, total_of_lines, GaveUp, Goes, Halts, IsLineFault, IsUnended};
 ghost use Rattle.replay_core.specs.Reading.{Done, IsSpent, Stops};

@@ -3,9 +3,9 @@ ghost use Rattle.std.specs.Prelude.{◌≡◌, ◌≢◌, ◌⊎◌, ◌≤◌, 
 ghost use Rattle.device_core.specs.Device.{raised_by};
 ghost use Rattle.plan_types.specs.declared.plan.Plan.{Plan};
 ghost use Rattle.conn_model.specs.History.{IsWell};
-ghost use Rattle.conn_core.specs.Meaning.{meaning};
+ghost use Rattle.config_core.specs.Meaning.{meaning};
 ghost use Rattle.conn_core.specs.Machine.{IsOpened};
-ghost use Rattle.conn_core.specs.declared.fault.OpenFault.{OpenFault};
+ghost use Rattle.config_core.specs.declared.fault.OpenFault.{OpenFault};
 ghost use Rattle.replay_core.specs.Replay.{IsEndedBy, IsReplayed};
 ghost use Rattle.replay_core.specs.Standing.{GaveUp, Standing};
 ghost use Rattle.replay_core.specs.Reading.{Ended, IsSpent, Stops, Wrote, is_told};

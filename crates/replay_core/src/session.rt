@@ -5,7 +5,7 @@ ghost use Rattle.conn_model.specs.Answer.{answer_in};
 ghost use Rattle.conn_model.specs.Counts.{counts_in};
 ghost use Rattle.event_text.specs.Replies.{count_line};
 ghost use Rattle.conn_model.specs.History.{happening};
-ghost use Rattle.conn_core.specs.declared.fault.OpenFault.{OpenFault};
+ghost use Rattle.config_core.specs.declared.fault.OpenFault.{OpenFault};
 ghost use Rattle.replay_core.specs.Replay.{answer_text, asked, asked_for, ended};
 ghost use Rattle.replay_core.specs.Turns.{plain_after};
 ghost use Rattle.replay_core.specs.Standing.{total, total_of_lines, Ends, GaveUp, Goes, Halts, IsFrontOf, IsLineFault, IsUnended};

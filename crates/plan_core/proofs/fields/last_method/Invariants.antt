@@ -1,7 +1,7 @@
 use Rattle.std.proofs.Common.{◌≡◌, drop}
 use Rattle.std.specs.Option.{option_or}
-use Rattle.plan_core.specs.Fields.{method_said, last_said}
+use Rattle.plan_core.specs.Fields.{line_method, last_of}
 use Rattle.plan_core.proofs.fields.last_method.Given as goal
 
 abbrev pub invariant-loop-item : goal.invariant-loop-item
-invariant-loop-item l = option_or (last_said method_said (drop l.item-index l.items)) l.last ≡ last_said method_said l.items
+invariant-loop-item l = option_or (last_of line_method (drop l.item-index l.items)) l.last ≡ last_of line_method l.items

@@ -1,0 +1,77 @@
+-- What a `tcp-request` line says.
+use Rattle.std.specs.Prelude.{ℕ, ◌∷◌, List, [], Some, None, Result, Ok, Err, codes, if◌then◌else◌}
+use Rattle.std.specs.Str.{bytes_eq}
+use Rattle.list_core.specs.Each.{◌>>=◌}
+use Rattle.acl_core.specs.declared.fault.AclFault.{AclFault}
+use Rattle.acl_core.specs.declared.condition.When.{When}
+use Rattle.acl_core.specs.declared.condition.When.TheVariants as whens
+use Rattle.acl_core.specs.Reading.{condition_of}
+use Rattle.conf_line.specs.declared.statement.Action.{Action}
+use Rattle.conf_line.specs.declared.statement.Action.TheVariants.{Accept, Reject, Track}
+use Rattle.conf_line.specs.declared.statement.Ruleset.{Ruleset}
+use Rattle.conf_line.specs.declared.statement.Ruleset.TheVariants.{Connection, Session}
+use Rattle.conf_line.specs.declared.statement.Statement.{Statement}
+use Rattle.conf_line.specs.declared.statement.Statement.TheVariants as statements
+use Rattle.conf_line.specs.declared.fault.ConfKind.{ConfKind}
+use Rattle.conf_line.specs.declared.fault.ConfKind.TheVariants.{Unsupported, Acl}
+use Rattle.conf_line.specs.Words.{word_at, name_at}
+
+-- When a rule applies: always, or by a condition behind `if` or `unless`.
+
+abbrev pub acl_result : {X : Type 0} → Result X AclFault → Result X ConfKind
+acl_result (Ok x) = Ok x
+acl_result (Err fault) = Err (Acl fault)
+
+abbrev pub when_of : List (List ℕ) → Result When ConfKind
+when_of [] = Ok whens.Always
+when_of (word ∷ rest) =
+    if bytes_eq word (codes "if") then (acl_result (condition_of rest) >>= λ condition. Ok (whens.If condition))
+    else if bytes_eq word (codes "unless") then (acl_result (condition_of rest) >>= λ condition. Ok (whens.Unless condition))
+    else Err Unsupported
+
+-- The action.
+
+-- behind `src`: the table of a section, or that of the rule's own
+abbrev pub table_at : ℕ → List (List ℕ) → Result (Action × List (List ℕ)) ConfKind
+table_at counter [] = Ok (Track (record { counter = counter; table = None }), [])
+table_at counter (word ∷ rest) =
+    if bytes_eq word (codes "table") then (name_at rest >>= λ name. Ok (Track (record { counter = counter; table = Some name.0 }), name.1))
+    else Ok (Track (record { counter = counter; table = None }), word ∷ rest)
+
+-- behind `track-sc0` and the like: the key is the source
+abbrev pub track_at : ℕ → List (List ℕ) → Result (Action × List (List ℕ)) ConfKind
+track_at counter words = do
+  key ← word_at words
+  if bytes_eq key.0 (codes "src") then table_at counter key.1 else Err Unsupported
+
+-- an action, and the words behind it
+abbrev pub action_at : List (List ℕ) → Result (Action × List (List ℕ)) ConfKind
+action_at words = do
+  word ← word_at words
+  if bytes_eq word.0 (codes "accept") then Ok (Accept, word.1)
+      else if bytes_eq word.0 (codes "reject") then Ok (Reject, word.1)
+      else if bytes_eq word.0 (codes "track-sc0") then track_at 0 word.1
+      else if bytes_eq word.0 (codes "track-sc1") then track_at 1 word.1
+      else if bytes_eq word.0 (codes "track-sc2") then track_at 2 word.1
+      else Err Unsupported
+
+-- the list that the rule belongs to, and the words behind it
+abbrev pub ruleset_at : List (List ℕ) → Result (Ruleset × List (List ℕ)) ConfKind
+ruleset_at words = do
+  word ← word_at words
+  if bytes_eq word.0 (codes "connection") then Ok (Connection, word.1)
+      else if bytes_eq word.0 (codes "session") then Ok (Session, word.1)
+      else Err Unsupported
+
+-- the list and the action, and the words behind them
+abbrev pub head_at : List (List ℕ) → Result (Ruleset × (Action × List (List ℕ))) ConfKind
+head_at words = do
+  list ← ruleset_at words
+  action ← action_at list.1
+  Ok (list.0, action)
+
+abbrev pub rule_of : List (List ℕ) → Result Statement ConfKind
+rule_of words = do
+  head ← head_at words
+  when ← when_of head.1.1
+  Ok (statements.Rule head.0 head.1.0 when)

@@ -1,0 +1,156 @@
+-- What a line says by its words alone, or the first word that cannot stand.
+use Rattle.std.specs.Prelude.{ℕ, Bool, true, false, ◌||◌, ◌==◌, ◌∷◌, nat_lt, List, [], Result, Ok, Err, codes, if◌then◌else◌}
+use Rattle.std.specs.Str.{bytes_eq}
+use Rattle.list_core.specs.Each.{◌>>=◌}
+use Rattle.conf_line.specs.declared.fault.ConfKind.{ConfKind}
+use Rattle.conf_line.specs.declared.fault.ConfKind.TheVariants.{BadNumber, Unsupported}
+use Rattle.proxy_types.specs.declared.balance.Method.TheVariants as methods
+use Rattle.conf_line.specs.declared.statement.SectionKind.{SectionKind}
+use Rattle.conf_line.specs.declared.statement.SectionKind.TheVariants as sections
+use Rattle.conf_line.specs.declared.statement.Statement.{Statement}
+use Rattle.conf_line.specs.declared.statement.Statement.TheVariants as statements
+use Rattle.conf_line.specs.declared.keyword.Keyword.{Keyword}
+use Rattle.conf_line.specs.declared.keyword.Keyword.TheVariants as k
+use Rattle.conf_line.specs.declared.statement.LineReading.{LineReading}
+use Rattle.conf_line.specs.Keywords.{keyword_of, check_keyword}
+use Rattle.conf_line.specs.Words.{word_at, end_at, name_at, number_at, bind_at}
+use Rattle.conf_line.specs.Rules.{rule_of}
+use Rattle.conf_line.specs.Servers.{server_of}
+use Rattle.conf_line.specs.Tables.{table_of}
+
+-- Sections.
+
+abbrev pub global_of : List (List ℕ) → Result Statement ConfKind
+global_of words = end_at words >>= λ _. Ok statements.Global
+
+-- the name of defaults says nothing
+abbrev pub defaults_of : List (List ℕ) → Result Statement ConfKind
+defaults_of [] = Ok statements.Defaults
+defaults_of (word ∷ rest) = do
+  name ← name_at (word ∷ rest)
+  _ ← end_at name.1
+  Ok statements.Defaults
+
+abbrev pub frontend_of : List (List ℕ) → Result Statement ConfKind
+frontend_of words = do
+  name ← name_at words
+  _ ← end_at name.1
+  Ok (statements.Frontend name.0)
+
+abbrev pub backend_of : List (List ℕ) → Result Statement ConfKind
+backend_of words = do
+  name ← name_at words
+  _ ← end_at name.1
+  Ok (statements.Backend name.0)
+
+-- Lines of sections.
+
+abbrev pub mode_of : List (List ℕ) → Result Statement ConfKind
+mode_of words = do
+  word ← word_at words
+  if bytes_eq word.0 (codes "tcp") then (end_at word.1 >>= λ _. Ok statements.Nothing) else Err Unsupported
+
+abbrev pub default_backend_of : List (List ℕ) → Result Statement ConfKind
+default_backend_of words = do
+  name ← name_at words
+  _ ← end_at name.1
+  Ok (statements.DefaultBackend name.0)
+
+abbrev pub method_of : List ℕ → Result Statement ConfKind
+method_of word =
+    if bytes_eq word (codes "roundrobin") then Ok (statements.Balance methods.RoundRobin)
+    else if bytes_eq word (codes "leastconn") then Ok (statements.Balance methods.LeastConn)
+    else if bytes_eq word (codes "source") then Ok (statements.Balance methods.Source)
+    else Err Unsupported
+
+abbrev pub balance_of : List (List ℕ) → Result Statement ConfKind
+balance_of words = do
+  word ← word_at words
+  method ← method_of word.0
+  _ ← end_at word.1
+  Ok method
+
+-- `accept-proxy` may stand behind the endpoint
+abbrev pub accepts_proxy : List (List ℕ) → Result Bool ConfKind
+accepts_proxy [] = Ok false
+accepts_proxy (word ∷ rest) = if bytes_eq word (codes "accept-proxy") then (end_at rest >>= λ _. Ok true) else Err Unsupported
+
+abbrev pub bind_of : List (List ℕ) → Result Statement ConfKind
+bind_of words = do
+  word ← word_at words
+  at ← bind_at word.0
+  proxy ← accepts_proxy word.1
+  Ok (statements.Bind at proxy)
+
+-- a number of connections from 1 on
+abbrev pub max_conn_of : List (List ℕ) → Result LineReading ConfKind
+max_conn_of words = do
+  word ← word_at words
+  limit ← number_at word.0
+  if limit == 0 then Err BadNumber else do
+    _ ← end_at word.1
+    Ok (record { statement = statements.MaxConn limit; repeats = false; exceeds = nat_lt 1048576 limit })
+
+-- Lines that are read and have no effect; the words behind those offered are not read.
+
+abbrev pub without_effect_if : (List ℕ → Bool) → List (List ℕ) → Result Statement ConfKind
+without_effect_if is_offered words = do
+  word ← word_at words
+  if is_offered word.0 then Ok statements.Nothing else Err Unsupported
+
+abbrev pub is_global : List ℕ → Bool
+is_global word = bytes_eq word (codes "global")
+
+abbrev pub is_option : List ℕ → Bool
+is_option word = bytes_eq word (codes "tcplog") || bytes_eq word (codes "dontlognull")
+
+abbrev pub is_timeout : List ℕ → Bool
+is_timeout word = bytes_eq word (codes "connect") || bytes_eq word (codes "client") || bytes_eq word (codes "server")
+
+-- in global all words behind `log` are free
+abbrev pub log_of : SectionKind → List (List ℕ) → Result Statement ConfKind
+log_of sections.Global words = Ok statements.Nothing
+log_of sections.Outside words = without_effect_if is_global words
+log_of sections.Defaults words = without_effect_if is_global words
+log_of sections.Frontend words = without_effect_if is_global words
+log_of sections.Backend words = without_effect_if is_global words
+
+-- All lines.
+
+-- a line in which nothing stands twice, and no number is beyond its limit
+abbrev pub plain_reading : Result Statement ConfKind → Result LineReading ConfKind
+plain_reading (Err kind) = Err kind
+plain_reading (Ok reading) = Ok (record { statement = reading; repeats = false; exceeds = false })
+
+-- what a line says behind its keyword; some of the language's lines are not taken
+abbrev pub keyword_reading : SectionKind → Keyword → List (List ℕ) → Result LineReading ConfKind
+keyword_reading kind k.Global words = plain_reading (global_of words)
+keyword_reading kind k.Defaults words = plain_reading (defaults_of words)
+keyword_reading kind k.Frontend words = plain_reading (frontend_of words)
+keyword_reading kind k.Backend words = plain_reading (backend_of words)
+keyword_reading kind k.Mode words = plain_reading (mode_of words)
+keyword_reading kind k.MaxConn words = max_conn_of words
+keyword_reading kind k.DefaultBackend words = plain_reading (default_backend_of words)
+keyword_reading kind k.Balance words = plain_reading (balance_of words)
+keyword_reading kind k.Bind words = plain_reading (bind_of words)
+keyword_reading kind k.TcpRequest words = plain_reading (rule_of words)
+keyword_reading kind k.StickTable words = table_of words
+keyword_reading kind k.Server words = server_of words
+keyword_reading kind k.Log words = plain_reading (log_of kind words)
+keyword_reading kind k.Option words = plain_reading (without_effect_if is_option words)
+keyword_reading kind k.Timeout words = plain_reading (without_effect_if is_timeout words)
+keyword_reading kind k.Daemon words = plain_reading (Ok statements.Nothing)
+keyword_reading kind k.User words = plain_reading (Ok statements.Nothing)
+keyword_reading kind k.Group words = plain_reading (Ok statements.Nothing)
+keyword_reading kind k.Chroot words = plain_reading (Ok statements.Nothing)
+keyword_reading kind k.Pidfile words = plain_reading (Ok statements.Nothing)
+keyword_reading kind k.Nbthread words = plain_reading (Ok statements.Nothing)
+keyword_reading kind k.Acl words = Err Unsupported
+keyword_reading kind k.UseBackend words = Err Unsupported
+keyword_reading kind k.Listen words = Err Unsupported
+keyword_reading kind k.Unknown words = Err Unsupported
+
+-- what a line says in a section of that kind
+abbrev pub line_reading : SectionKind → List (List ℕ) → Result LineReading ConfKind
+line_reading kind [] = plain_reading (Ok statements.Nothing)
+line_reading kind (word ∷ rest) = check_keyword kind (keyword_of word) >>= λ _. keyword_reading kind (keyword_of word) rest

@@ -1,0 +1,18 @@
+//! What one line of a configuration says by its words alone.
+#![tactic(auto)]
+
+pub use fault::{ConfFault, ConfKind};
+pub use proxy_types::{KeyType, Method, Stores};
+pub use reading::read_line;
+pub use statement::{
+    Action, LineReading, Ruleset, SectionKind, ServerWords, Statement, TableWords, TrackWords,
+};
+
+mod fault;
+mod keyword;
+mod reading;
+mod rule;
+mod server;
+mod statement;
+mod table;
+mod words;

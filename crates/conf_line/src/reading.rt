@@ -1,0 +1,277 @@
+//! What a line says by its words alone.
+ghost use Rattle.std.specs.Prelude.{◌≡◌, Result, Ok};
+ghost use Rattle.list_core.specs.Each.{Gives};
+ghost use Rattle.conf_line.specs.Keywords.{keyword_of, check_keyword};
+ghost use Rattle.conf_line.specs.Statements.{global_of, defaults_of, frontend_of, backend_of, mode_of, default_backend_of, method_of, balance_of, accepts_proxy, bind_of, max_conn_of, without_effect_if, is_global, is_option, is_timeout, log_of, plain_reading, keyword_reading, line_reading};
+ghost use Rattle.conf_line.specs.Rules.{rule_of};
+
+use crate::fault::ConfKind;
+use crate::keyword::{Keyword, check_keyword, keyword_of};
+use crate::rule::rule;
+use crate::server::server;
+use crate::statement::{LineReading, SectionKind, Statement};
+use crate::table::table;
+use crate::words::{bind_at, end_at, name_at, number_at, word_at};
+use list_core::Stop;
+use proxy_types::Method;
+use std::alloc::Global;
+use word_core::Word;
+
+fn global<'a>(words: &[Word<'a>]) -> Result<Statement<'a>, ConfKind>
+    ensures { result ≡ global_of words.now }
+{
+    end_at(words)?;
+    Ok(Statement::Global)
+}
+
+fn defaults<'a>(words: &[Word<'a>]) -> Result<Statement<'a>, ConfKind>
+    ensures { result ≡ defaults_of words.now }
+{
+    if words.is_empty() {
+        return Ok(Statement::Defaults);
+    }
+    let (_name, rest) = name_at(words)?;
+    end_at(rest)?;
+    Ok(Statement::Defaults)
+}
+
+fn frontend<'a>(words: &[Word<'a>]) -> Result<Statement<'a>, ConfKind>
+    ensures { result ≡ frontend_of words.now }
+{
+    let (name, rest) = name_at(words)?;
+    end_at(rest)?;
+    Ok(Statement::Frontend(name))
+}
+
+fn backend<'a>(words: &[Word<'a>]) -> Result<Statement<'a>, ConfKind>
+    ensures { result ≡ backend_of words.now }
+{
+    let (name, rest) = name_at(words)?;
+    end_at(rest)?;
+    Ok(Statement::Backend(name))
+}
+
+fn mode<'a>(words: &[Word<'a>]) -> Result<Statement<'a>, ConfKind>
+    ensures { result ≡ mode_of words.now }
+{
+    let (word, rest) = word_at(words)?;
+    if !word.is(b"tcp") {
+        return Err(ConfKind::Unsupported);
+    }
+    end_at(rest)?;
+    Ok(Statement::Nothing)
+}
+
+fn default_backend<'a>(words: &[Word<'a>]) -> Result<Statement<'a>, ConfKind>
+    ensures { result ≡ default_backend_of words.now }
+{
+    let (name, rest) = name_at(words)?;
+    end_at(rest)?;
+    Ok(Statement::DefaultBackend(name))
+}
+
+fn method_of<'a>(word: &Word<'a>) -> Result<Statement<'a>, ConfKind>
+    ensures { result ≡ method_of word.now }
+{
+    if word.is(b"roundrobin") {
+        Ok(Statement::Balance(Method::RoundRobin))
+    } else if word.is(b"leastconn") {
+        Ok(Statement::Balance(Method::LeastConn))
+    } else if word.is(b"source") {
+        Ok(Statement::Balance(Method::Source))
+    } else {
+        Err(ConfKind::Unsupported)
+    }
+}
+
+fn balance<'a>(words: &[Word<'a>]) -> Result<Statement<'a>, ConfKind>
+    ensures { result ≡ balance_of words.now }
+{
+    let (word, rest) = word_at(words)?;
+    let method = method_of(word)?;
+    end_at(rest)?;
+    Ok(method)
+}
+
+/// Whether connections begin with a PROXY header, by the words behind an endpoint.
+fn accepts_proxy(words: &[Word]) -> Result<bool, ConfKind>
+    ensures { result ≡ accepts_proxy words.now }
+{
+    match words {
+        [] => Ok(false),
+        [word, rest @ ..] => {
+            if !word.is(b"accept-proxy") {
+                return Err(ConfKind::Unsupported);
+            }
+            end_at(rest)?;
+            Ok(true)
+        }
+    }
+}
+
+fn bind<'a>(words: &[Word<'a>]) -> Result<Statement<'a>, ConfKind>
+    ensures { result ≡ bind_of words.now }
+{
+    let (word, rest) = word_at(words)?;
+    let at = bind_at(word)?;
+    let proxy = accepts_proxy(rest)?;
+    Ok(Statement::Bind(at, proxy))
+}
+
+fn max_conn<'a>(words: &[Word<'a>]) -> Result<LineReading<'a>, ConfKind>
+    ensures { result ≡ max_conn_of words.now }
+{
+    let (word, rest) = word_at(words)?;
+    let limit = number_at(word.bytes())?;
+    if limit == 0 {
+        return Err(ConfKind::BadNumber);
+    }
+    end_at(rest)?;
+    Ok(LineReading {
+        statement: Statement::MaxConn(limit),
+        repeats: false,
+        exceeds: limit > 1_048_576,
+    })
+}
+
+/// `log global`.
+fn global_log<'a>(words: &[Word<'a>]) -> Result<Statement<'a>, ConfKind>
+    ensures { result ≡ without_effect_if is_global words.now }
+{
+    let (word, _rest) = word_at(words)?;
+    if word.is(b"global") {
+        return Ok(Statement::Nothing);
+    }
+    Err(ConfKind::Unsupported)
+}
+
+/// An option without effect.
+fn option<'a>(words: &[Word<'a>]) -> Result<Statement<'a>, ConfKind>
+    ensures { result ≡ without_effect_if is_option words.now }
+{
+    let (word, _rest) = word_at(words)?;
+    if word.is(b"tcplog") || word.is(b"dontlognull") {
+        return Ok(Statement::Nothing);
+    }
+    Err(ConfKind::Unsupported)
+}
+
+/// A time without effect.
+fn timeout<'a>(words: &[Word<'a>]) -> Result<Statement<'a>, ConfKind>
+    ensures { result ≡ without_effect_if is_timeout words.now }
+{
+    let (word, _rest) = word_at(words)?;
+    if word.is(b"connect") || word.is(b"client") || word.is(b"server") {
+        return Ok(Statement::Nothing);
+    }
+    Err(ConfKind::Unsupported)
+}
+
+fn log<'a>(kind: SectionKind, words: &[Word<'a>]) -> Result<Statement<'a>, ConfKind>
+    ensures { result ≡ log_of kind words.now }
+{
+    match kind {
+        SectionKind::Global => Ok(Statement::Nothing),
+        SectionKind::Outside
+        | SectionKind::Defaults
+        | SectionKind::Frontend
+        | SectionKind::Backend => global_log(words),
+    }
+}
+
+/// A line in which nothing stands twice, and no number is beyond its limit.
+fn plain_reading<'a>(
+    statement: Result<Statement<'a>, ConfKind>,
+) -> Result<LineReading<'a>, Stop<ConfKind>>
+    ensures { Gives result (plain_reading statement.entry) }
+{
+    match statement {
+        Ok(statement) => Ok(LineReading {
+            statement,
+            repeats: false,
+            exceeds: false,
+        }),
+        Err(kind) => Err(Stop::Fault(kind)),
+    }
+}
+
+/// A rule's line.
+fn rule_reading<'a>(alloc: Global, words: &[Word<'a>]) -> Result<LineReading<'a>, Stop<ConfKind>>
+    ensures { Gives result (plain_reading (rule_of words.now)) }
+{
+    let statement = rule(alloc, words)?;
+    Ok(LineReading {
+        statement,
+        repeats: false,
+        exceeds: false,
+    })
+}
+
+/// A line that took no memory to read.
+fn without_memory<'a>(
+    reading: Result<LineReading<'a>, ConfKind>,
+) -> Result<LineReading<'a>, Stop<ConfKind>>
+    ensures { Gives result reading.entry }
+{
+    match reading {
+        Ok(reading) => Ok(reading),
+        Err(kind) => Err(Stop::Fault(kind)),
+    }
+}
+
+/// What a line says behind its keyword.
+fn keyword_reading<'a>(
+    alloc: Global,
+    kind: SectionKind,
+    keyword: Keyword,
+    words: &[Word<'a>],
+) -> Result<LineReading<'a>, Stop<ConfKind>>
+    ensures { Gives result (keyword_reading kind keyword words.now) }
+{
+    match keyword {
+        Keyword::Global => plain_reading(global(words)),
+        Keyword::Defaults => plain_reading(defaults(words)),
+        Keyword::Frontend => plain_reading(frontend(words)),
+        Keyword::Backend => plain_reading(backend(words)),
+        Keyword::Mode => plain_reading(mode(words)),
+        Keyword::MaxConn => without_memory(max_conn(words)),
+        Keyword::DefaultBackend => plain_reading(default_backend(words)),
+        Keyword::Balance => plain_reading(balance(words)),
+        Keyword::Bind => plain_reading(bind(words)),
+        Keyword::TcpRequest => rule_reading(alloc, words),
+        Keyword::StickTable => without_memory(table(words)),
+        Keyword::Server => without_memory(server(words)),
+        Keyword::Log => plain_reading(log(kind, words)),
+        Keyword::Option => plain_reading(option(words)),
+        Keyword::Timeout => plain_reading(timeout(words)),
+        Keyword::Daemon
+        | Keyword::User
+        | Keyword::Group
+        | Keyword::Chroot
+        | Keyword::Pidfile
+        | Keyword::Nbthread => plain_reading(Ok(Statement::Nothing)),
+        Keyword::Acl | Keyword::UseBackend | Keyword::Listen | Keyword::Unknown => {
+            Err(Stop::Fault(ConfKind::Unsupported))
+        }
+    }
+}
+
+/// What a line says in a section of that kind.
+pub fn read_line<'a>(
+    alloc: Global,
+    kind: SectionKind,
+    words: &[Word<'a>],
+) -> Result<LineReading<'a>, Stop<ConfKind>>
+    ensures { Gives result (line_reading kind words.now) }
+{
+    match words {
+        [] => plain_reading(Ok(Statement::Nothing)),
+        [word, rest @ ..] => {
+            let keyword = keyword_of(word);
+            match check_keyword(kind, keyword) {
+                Ok(()) => keyword_reading(alloc, kind, keyword, rest),
+                Err(kind) => Err(Stop::Fault(kind)),
+            }
+        }
+    }
+}

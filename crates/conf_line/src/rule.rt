@@ -1,0 +1,141 @@
+//! Rules of a frontend.
+ghost use Rattle.std.specs.Prelude.{◌≡◌};
+ghost use Rattle.list_core.specs.Each.{Gives};
+ghost use Rattle.acl_core.specs.Reading as reading;
+ghost use Rattle.conf_line.specs.Words.{Sees};
+ghost use Rattle.conf_line.specs.Rules.{acl_result, when_of, table_at, track_at, action_at, ruleset_at, head_at, rule_of};
+
+use crate::fault::ConfKind;
+use crate::statement::{Action, Ruleset, Statement, TrackWords};
+use crate::words::{name_at, word_at};
+use acl_core::{AclFault, Cond, When, read_cond};
+use list_core::Stop;
+use std::alloc::Global;
+use word_core::Word;
+
+fn condition(alloc: Global, words: &[Word]) -> Result<Cond, Stop<ConfKind>>
+    ensures { Gives result (acl_result (reading.condition_of words.now)) }
+{
+    match read_cond(alloc, words) {
+        Ok(condition) => Ok(condition),
+        Err(fault) => {
+            if matches!(fault, AclFault::NoMemory) {
+                return Err(Stop::Memory);
+            }
+            Err(Stop::Fault(ConfKind::Acl(fault)))
+        }
+    }
+}
+
+/// When a rule applies, by the words behind its action.
+fn when(alloc: Global, words: &[Word]) -> Result<When, Stop<ConfKind>>
+    ensures { Gives result (when_of words.now) }
+{
+    match words {
+        [] => Ok(When::Always),
+        [word, rest @ ..] => {
+            if word.is(b"if") {
+                Ok(When::If(condition(alloc, rest)?))
+            } else if word.is(b"unless") {
+                Ok(When::Unless(condition(alloc, rest)?))
+            } else {
+                Err(Stop::Fault(ConfKind::Unsupported))
+            }
+        }
+    }
+}
+
+/// The table that a track names, and the words behind it.
+fn table_at<'a, 'w>(
+    counter: u8,
+    words: &'w [Word<'a>],
+) -> Result<(Action<'a>, &'w [Word<'a>]), ConfKind>
+    ensures { Sees (λ x. (x.0, x.1.now)) result (table_at counter words.now) }
+{
+    match words {
+        [word, rest @ ..] if word.is(b"table") => {
+            let (name, rest) = name_at(rest)?;
+            Ok((
+                Action::Track(TrackWords {
+                    counter,
+                    table: Some(name),
+                }),
+                rest,
+            ))
+        }
+        _ => Ok((
+            Action::Track(TrackWords {
+                counter,
+                table: None,
+            }),
+            words,
+        )),
+    }
+}
+
+/// What is tracked, and the words behind it.
+fn track_at<'a, 'w>(
+    counter: u8,
+    words: &'w [Word<'a>],
+) -> Result<(Action<'a>, &'w [Word<'a>]), ConfKind>
+    ensures { Sees (λ x. (x.0, x.1.now)) result (track_at counter words.now) }
+{
+    let (key, rest) = word_at(words)?;
+    if !key.is(b"src") {
+        return Err(ConfKind::Unsupported);
+    }
+    table_at(counter, rest)
+}
+
+/// An action, and the words behind it.
+fn action_at<'a, 'w>(words: &'w [Word<'a>]) -> Result<(Action<'a>, &'w [Word<'a>]), ConfKind>
+    ensures { Sees (λ x. (x.0, x.1.now)) result (action_at words.now) }
+{
+    let (word, rest) = word_at(words)?;
+    if word.is(b"accept") {
+        Ok((Action::Accept, rest))
+    } else if word.is(b"reject") {
+        Ok((Action::Reject, rest))
+    } else if word.is(b"track-sc0") {
+        track_at(0, rest)
+    } else if word.is(b"track-sc1") {
+        track_at(1, rest)
+    } else if word.is(b"track-sc2") {
+        track_at(2, rest)
+    } else {
+        Err(ConfKind::Unsupported)
+    }
+}
+
+/// The list that a rule belongs to, and the words behind it.
+fn ruleset_at<'a, 'w>(words: &'w [Word<'a>]) -> Result<(Ruleset, &'w [Word<'a>]), ConfKind>
+    ensures { Sees (λ x. (x.0, x.1.now)) result (ruleset_at words.now) }
+{
+    let (word, rest) = word_at(words)?;
+    if word.is(b"connection") {
+        Ok((Ruleset::Connection, rest))
+    } else if word.is(b"session") {
+        Ok((Ruleset::Session, rest))
+    } else {
+        Err(ConfKind::Unsupported)
+    }
+}
+
+/// The list and the action of a rule, and the words behind them.
+fn head_at<'a, 'w>(words: &'w [Word<'a>]) -> Result<(Ruleset, Action<'a>, &'w [Word<'a>]), ConfKind>
+    ensures { Sees (λ x. (x.0, (x.1, x.2.now))) result (head_at words.now) }
+{
+    let (ruleset, rest) = ruleset_at(words)?;
+    let (action, rest) = action_at(rest)?;
+    Ok((ruleset, action, rest))
+}
+
+/// A rule.
+pub fn rule<'a>(alloc: Global, words: &[Word<'a>]) -> Result<Statement<'a>, Stop<ConfKind>>
+    ensures { Gives result (rule_of words.now) }
+{
+    match head_at(words) {
+        Ok((ruleset, action, rest)) => Ok(Statement::Rule(ruleset, action, when(alloc, rest)?)),
+        Err(kind) => Err(Stop::Fault(kind)),
+    }
+}

@@ -1,0 +1,93 @@
+//! What the lines of a configuration say.
+use acl_core::When;
+use addr_core::Endpoint;
+use proxy_types::{KeyType, Method, Stores};
+use word_core::Word;
+
+/// The kind of a section.
+#[derive(Clone, Copy, Debug, PartialEq, Eq)]
+pub enum SectionKind {
+    /// Before any section.
+    Outside,
+    Global,
+    Defaults,
+    Frontend,
+    Backend,
+}
+
+/// The two lists of rules of a frontend (HAProxy manual, `tcp-request`).
+#[derive(Clone, Copy, Debug, PartialEq, Eq)]
+pub enum Ruleset {
+    Connection,
+    Session,
+}
+
+/// What a rule does once it applies (HAProxy manual, `tcp-request connection`).
+#[derive(Debug, Drop)]
+pub enum Action<'a> {
+    Accept,
+    Reject,
+    Track(TrackWords<'a>),
+}
+
+/// A source address is tracked (HAProxy manual, `track-sc0`).
+#[derive(Debug, Drop)]
+pub struct TrackWords<'a> {
+    /// The counter, 0 to 2.
+    pub counter: u8,
+    /// The section whose table it is, the rule's own where none is named.
+    pub table: Option<Word<'a>>,
+}
+
+/// The words of a `stick-table` line.
+#[derive(Clone, Copy, Debug, PartialEq, Eq)]
+pub struct TableWords {
+    pub keys: KeyType,
+    /// How many entries there may be, from 1 on.
+    pub size: u64,
+    pub stores: Stores,
+}
+
+/// The words of a `server` line.
+#[derive(Debug, Drop)]
+pub struct ServerWords<'a> {
+    pub name: Word<'a>,
+    pub to: Endpoint,
+    /// 0 to 256.
+    pub weight: Option<u16>,
+    /// How many connections may be open, 0 for any number.
+    pub limit: Option<u64>,
+    pub disabled: bool,
+    pub send_proxy: bool,
+    pub send_proxy_v2: bool,
+}
+
+/// What a line says.
+#[derive(Debug, Drop)]
+pub enum Statement<'a> {
+    /// It has no word, or is read and has no effect. A tree has no such item.
+    Nothing,
+    Global,
+    Defaults,
+    Frontend(Word<'a>),
+    Backend(Word<'a>),
+    /// How many connections may be open.
+    MaxConn(u64),
+    DefaultBackend(Word<'a>),
+    Balance(Method),
+    /// Where connections are accepted, and whether each begins with a PROXY header.
+    Bind(Endpoint, bool),
+    Rule(Ruleset, Action<'a>, When),
+    StickTable(TableWords),
+    Server(ServerWords<'a>),
+}
+
+/// What a line says by its words alone.
+#[derive(Drop)]
+pub struct LineReading<'a> {
+    pub statement: Statement<'a>,
+    /// A word that may be given once is given twice.
+    pub repeats: bool,
+    /// A number is greater than its limit.
+    pub exceeds: bool,
+}
