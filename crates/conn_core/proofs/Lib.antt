@@ -1,3 +1,4 @@
-pub mod Lists
-pub mod Identities
-pub mod Openings
+mod RowLemmas
+mod LineLemmas
+mod AcceptLemmas
+mod StepLemmas

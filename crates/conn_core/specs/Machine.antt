@@ -43,7 +43,7 @@ offered_row arrival backend server = record {
   serial = arrival.id.serial;
   version = arrival.version;
   real = arrival.real;
-  accepted = arrival.now;
+  accepted = arrival.accepted;
   phase = Offered (record { server = record { backend = backend.name; name = server.name; to = server.to }; line = server.line; judged = arrival.real });
   tracks = [];
 }

@@ -16,15 +16,15 @@ use plan_types::{Backend, Server};
 use proxy_types::ServerIdentity;
 use std::alloc::{AllocError, Global};
 
-/// A connection that came, and when it came.
-#[derive(Clone, Copy)]
+/// A connection that came to a listener.
+#[derive(Drop)]
 pub struct Arrival {
     pub id: ConnId,
     /// The version of the configuration that judges it.
     pub version: u64,
     pub real: Pair,
-    /// The moment, in ms.
-    pub now: u64,
+    /// The moment of its accept, in ms.
+    pub accepted: u64,
 }
 
 /// An accept that is answered: the new connection's name, what it is told, and what is kept of it. It
@@ -36,14 +36,14 @@ pub struct Admission {
 }
 
 /// What an accept of that verdict is answered and leaves.
-pub fn admission(
+pub fn admission_of(
     alloc: Global,
-    arrival: Arrival,
+    arrival: &Arrival,
     verdict: &Verdict<'_>,
 ) -> Result<Admission, StepFault>
-    ensures id { IfOk result (λ a. a.id ≡ arrival.id) }
-    ensures said { IfOk result (λ a. a.said ≡ said_of arrival.id arrival.real (result_of verdict.now)) }
-    ensures row { IfOk result (λ a. option_to_list a.row ≡ left_by arrival verdict.now) }
+    ensures id { IfOk result (λ a. a.id ≡ arrival.now.id) }
+    ensures said { IfOk result (λ a. a.said ≡ said_of arrival.now.id arrival.now.real (result_of verdict.now)) }
+    ensures row { IfOk result (λ a. option_to_list a.row ≡ left_by arrival.now verdict.now) }
     ensures fault { IfErr result (λ f. f ≡ StepFault.NoMemory) }
 {
     let Ok(row) = row_left(alloc, arrival, verdict) else {
@@ -81,10 +81,10 @@ fn said(id: ConnId, real: Pair, verdict: &Verdict<'_>) -> Said
 /// What a verdict leaves of the connection.
 fn row_left(
     alloc: Global,
-    arrival: Arrival,
+    arrival: &Arrival,
     verdict: &Verdict<'_>,
 ) -> Result<Option<OpenRow>, AllocError>
-    ensures { IfOk result (λ row. option_to_list row ≡ left_by arrival verdict.now) }
+    ensures { IfOk result (λ row. option_to_list row ≡ left_by arrival.now verdict.now) }
 {
     match verdict {
         Verdict::Assigned(backend, server) => Ok(Some(row_for(alloc, arrival, backend, server)?)),
@@ -95,11 +95,11 @@ fn row_left(
 /// The row of a connection that is offered a server.
 fn row_for(
     alloc: Global,
-    arrival: Arrival,
+    arrival: &Arrival,
     backend: &Backend,
     server: &Server,
 ) -> Result<OpenRow, AllocError>
-    ensures { IfOk result (λ row. row ≡ offered_row arrival backend.now server.now) }
+    ensures { IfOk result (λ row. row ≡ offered_row arrival.now backend.now server.now) }
 {
     let assignment = Assignment {
         server: ServerIdentity {
@@ -114,7 +114,7 @@ fn row_for(
         serial: arrival.id.serial,
         version: arrival.version,
         real: arrival.real,
-        accepted: arrival.now,
+        accepted: arrival.accepted,
         assignment,
     })
 }

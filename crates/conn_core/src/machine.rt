@@ -11,10 +11,10 @@ ghost use Rattle.conn_model.specs.declared.plain.Plain.{Plain};
 ghost use Rattle.config_core.specs.Meaning.{meaning};
 ghost use Rattle.conn_core.specs.Machine.{IsOpened, Next};
 
-use crate::admission::{Admission, Arrival, admission};
+use crate::admission::{Admission, Arrival, admission_of};
 use crate::judging::{frontend_named, item, judge};
 use crate::opening::{cursors, frontends, listeners};
-use crate::rows::{FrontendState, OpenRow, row_of};
+use crate::rows::{FrontendState, OpenRow, end_all, row_of};
 use addr_core::Pair;
 use arrayvec::ArrayVec;
 use config_core::{OpenFault, read_plan};
@@ -123,7 +123,7 @@ impl Core {
         ensures well { IsWell self.new }
     {
         let reply = self.work(moment, event);
-        self.confirm();
+        let _clock = self.clock();
         reply
     }
 
@@ -145,9 +145,8 @@ impl Core {
         ensures plain { IfOk result (λ plain. plain ≡ self.now) }
         ensures well { IsWell self.now }
     {
-        self.confirm();
         Ok(Plain {
-            clock: self.clock,
+            clock: self.clock(),
             listeners: self.listeners.duplicate(self.alloc)?,
             frontends: plain_frontends(self.alloc, self.frontends.as_slice())?,
             versions: self.versions.duplicate(self.alloc)?,
@@ -161,20 +160,19 @@ impl Core {
             alloc: _,
             clock: _,
             listeners: _listeners,
-            mut frontends,
+            frontends,
             versions: _versions,
             tables: _tables,
         } = self;
-        while let Some(own) = frontends.pop() {
-            own.end();
-        }
-        frontends.destroy_empty();
+        end_all(frontends);
     }
 
-    /// What is known of every core.
-    fn confirm(&self)
-        ensures { IsWell self.now }
+    /// The greatest moment so far, in ms. Of each core it is known that every history can be continued.
+    fn clock(&self) -> u64
+        ensures value { result ≡ self.now.clock }
+        ensures well { IsWell self.now }
     {
+        self.clock
     }
 
     fn work(&mut self, moment: u64, event: &Event) -> Result<Reply, StepFault>
@@ -235,10 +233,10 @@ impl Core {
             },
             version: version.number,
             real,
-            now,
+            accepted: now,
         };
         let verdict = judge(version, frontend, real.source().addr, own.count());
-        let admission = admission(self.alloc, arrival, &verdict)?;
+        let admission = admission_of(self.alloc, &arrival, &verdict)?;
         Ok(admission)
     }
 

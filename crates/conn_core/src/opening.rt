@@ -1,9 +1,9 @@
 //! The state in which a plan is opened.
-ghost use Rattle.std.specs.Prelude.{◌≡◌, ◌≤◌, ◌<◌, ◌++◌, [], map, flat_map, length, None, IfOk, OnOk};
+ghost use Rattle.std.specs.Prelude.{◌≡◌, ◌≤◌, ◌<◌, ◌++◌, ◌∷◌, [], map, flat_map, length, None, IfOk, OnOk};
 ghost use Rattle.std.specs.List.{enumerate_from};
 ghost use Rattle.conn_model.specs.History.{listeners_of};
 
-use crate::rows::FrontendState;
+use crate::rows::{FrontendState, end_all};
 use conn_model::plain::Listener;
 use list_core::{Duplicate, Seq};
 use plan_types::{Backend, Frontend};
@@ -40,15 +40,23 @@ pub fn listeners(alloc: Global, frontends: &[Frontend]) -> Result<Seq<Listener>,
     Ok(all)
 }
 
-/// The names of all frontends.
-fn names(alloc: Global, frontends: &[Frontend]) -> Result<Vec<Seq<u8>>, AllocError>
-    ensures { IfOk result (λ names. names.items ≡ map (λ frontend. frontend.name) frontends.now) }
+/// Adds a frontend of which nothing is open.
+fn push_frontend(
+    alloc: Global,
+    states: &mut Vec<FrontendState>,
+    frontend: &Frontend,
+    last: u64,
+) -> Result<(), AllocError>
+    ensures { OnOk result (states.new.items ≡ states.old.items ++ record { name = frontend.now.name; serial = last; rows = [] } ∷ []) }
 {
-    let mut names = Vec::with_capacity(alloc, frontends.len())?;
-    for frontend in frontends {
-        names.push(frontend.name.duplicate(alloc)?)?;
+    let name = frontend.name.duplicate(alloc)?;
+    match states.push(FrontendState::new(alloc, name, last)) {
+        Ok(()) => Ok(()),
+        Err(failed) => {
+            failed.value.end();
+            Err(AllocError)
+        }
     }
-    Ok(names)
 }
 
 /// All frontends, of which nothing is open.
@@ -59,10 +67,12 @@ pub fn frontends(
 ) -> Result<Vec<FrontendState>, AllocError>
     ensures { IfOk result (λ states. states.items ≡ map (λ frontend. record { name = frontend.name; serial = last; rows = [] }) frontends.now) }
 {
-    let names = names(alloc, frontends)?;
-    let mut states = Vec::with_capacity(alloc, names.len())?;
-    for name in names {
-        states.push_reserved(FrontendState::new(alloc, name, last));
+    let mut states = Vec::new(alloc);
+    for frontend in frontends {
+        if let Err(error) = push_frontend(alloc, &mut states, frontend, last) {
+            end_all(states);
+            return Err(error);
+        }
     }
     Ok(states)
 }

@@ -177,6 +177,14 @@ impl FrontendState {
     }
 }
 
+/// Ends all frontends with their rows.
+pub fn end_all(mut frontends: Vec<FrontendState>) {
+    while let Some(own) = frontends.pop() {
+        own.end();
+    }
+    frontends.destroy_empty();
+}
+
 fn plain_rows(alloc: Global, rows: &[OpenRow]) -> Result<Seq<Row>, AllocError>
     ensures { IfOk result (λ copies. copies ≡ rows.now) }
 {

@@ -1,9 +1,9 @@
-use Rattle.conn_model.specs.History.{happening}
-use Rattle.conn_model.proofs.Law.{reply_told, fault_told}
+use Rattle.conn_model.specs.History.{owned_event}
+use Rattle.conn_model.proofs.Well.{reply_after, fault_after}
 use Rattle.conn_core.proofs.machine.Core.step.Goals as goal
 
 pub returns-clause-reply : goal.returns-clause-reply
-returns-clause-reply c = reply_told c.args.self.now c.work.new.self c.work.result c.args.moment (happening c.args.event.now) c.work.ensures.reply c.work.ensures.new
+returns-clause-reply c = reply_after c.args.self.now c.work-reply.new.self c.work-reply.result c.args.moment (owned_event c.args.event.now) c.work-reply.ensures.reply c.work-reply.ensures.new
 
 pub returns-clause-fault : goal.returns-clause-fault
-returns-clause-fault c = fault_told c.args.self.now c.work.result c.args.moment (happening c.args.event.now) c.work.ensures.fault
+returns-clause-fault c = fault_after c.args.self.now c.work-reply.result c.args.moment (owned_event c.args.event.now) c.work-reply.ensures.fault

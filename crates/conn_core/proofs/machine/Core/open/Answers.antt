@@ -1,5 +1,0 @@
-use Rattle.conn_core.proofs.Openings.{opened_is_well}
-use Rattle.conn_core.proofs.machine.Core.open.Goals as goal
-
-pub returns-clause-well : goal.returns-clause-well
-returns-clause-well c = opened_is_well c.start.result c.in_ok-plan.plan 0 c.start.ensures.ok
