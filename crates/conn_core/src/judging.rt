@@ -18,18 +18,18 @@ use plan_types::{Action, Backend, Frontend, Plan, Rule, Server};
 struct RuleFacts {
     source: Addr,
     /// The open connections of its frontend, itself included.
-    open: u64,
+    connections: u64,
 }
 
 impl View for RuleFacts {
     ghost use Rattle.conn_core.specs.Judging.{worth_of};
 
-    ghost worth = { λ facts. worth_of facts.source facts.open };
+    ghost worth = { λ facts. worth_of facts.source facts.connections };
 
     fn value(&self, criterion: &Criterion) -> Value {
         match criterion {
             Criterion::Source => Value::Source(self.source),
-            Criterion::FrontendConnections => Value::Number(self.open),
+            Criterion::FrontendConnections => Value::Number(self.connections),
         }
     }
 }
@@ -65,13 +65,13 @@ fn has_name(frontend: &Frontend, name: &[u8]) -> bool
 }
 
 fn applies(when: &When, facts: &RuleFacts) -> bool
-    ensures { result ≡ applies (worth_of facts.now.source facts.now.open) when.now }
+    ensures { result ≡ applies (worth_of facts.now.source facts.now.connections) when.now }
 {
     when.applies(facts)
 }
 
 fn ends_list(rule: &Rule, facts: &RuleFacts) -> bool
-    ensures { result ≡ (is_final rule.now.action && applies (worth_of facts.now.source facts.now.open) rule.now.when) }
+    ensures { result ≡ (is_final rule.now.action && applies (worth_of facts.now.source facts.now.connections) rule.now.when) }
 {
     match rule.action {
         Action::Accept => applies(&rule.when, facts),
@@ -82,14 +82,14 @@ fn ends_list(rule: &Rule, facts: &RuleFacts) -> bool
 
 /// The first rule that ends the list.
 fn decide<'a>(rules: &'a [Rule], facts: &RuleFacts) -> Option<&'a Rule>
-    ensures { option_copied result ≡ find (λ rule. is_final rule.action && applies (worth_of facts.now.source facts.now.open) rule.when) rules.now }
+    ensures { option_copied result ≡ find (λ rule. is_final rule.action && applies (worth_of facts.now.source facts.now.connections) rule.when) rules.now }
 {
     rules.iter().find(|rule| ends_list(rule, facts))
 }
 
 /// The line that rejects the connection, if the list does.
 fn rejecting_line(rules: &[Rule], facts: &RuleFacts) -> Option<u32>
-    ensures { result ≡ rejection_by (worth_of facts.now.source facts.now.open) rules.now }
+    ensures { result ≡ rejection_by (worth_of facts.now.source facts.now.connections) rules.now }
 {
     let rule = decide(rules, facts)?;
     match rule.action {
@@ -131,7 +131,7 @@ pub fn judge<'a>(
     }
     let facts = RuleFacts {
         source,
-        open: others + 1,
+        connections: others + 1,
     };
     match rejecting_line(frontend.connection_rules.as_slice(), &facts) {
         Some(line) => Verdict::Refused(Cause::Line(line)),
