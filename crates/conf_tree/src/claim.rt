@@ -9,7 +9,7 @@ use addr_core::Endpoint;
 use list_core::Seq;
 use std::alloc::{AllocError, Global};
 use std::marker::Model;
-use word_core::Word;
+use text_core::Word;
 
 /// What a line claims for itself in the whole text.
 #[derive(Drop)]

@@ -4,7 +4,7 @@ use addr_core::Endpoint;
 use list_core::Seq;
 use proxy_types::{KeyType, Method, Stores};
 use std::marker::Model;
-use word_core::Word;
+use text_core::Word;
 
 /// The kind of a section.
 #[derive(Clone, Copy, Debug, PartialEq, Eq)]

@@ -4,7 +4,7 @@ ghost use Rattle.conf_tree.specs.Keywords.{keyword_of, stands};
 
 use crate::fault::ConfKind;
 use crate::item::SectionKind;
-use word_core::Word;
+use text_core::Word;
 
 /// The first word of a line.
 #[derive(Clone, Copy, Debug, PartialEq, Eq)]

@@ -15,7 +15,7 @@ use crate::statement::line_says;
 use conf_text::{Line, LineKind, Lines};
 use list_core::{Seq, Stop, newest};
 use std::alloc::{AllocError, Global};
-use word_core::Word;
+use text_core::Word;
 
 /// Before any section.
 fn outside<'a>() -> Place<'a>

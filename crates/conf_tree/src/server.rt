@@ -7,7 +7,7 @@ use crate::fault::ConfKind;
 use crate::item::{Says, ServerWords};
 use crate::said::Said;
 use crate::words::{name_at, number_at, served_at, word_at};
-use word_core::Word;
+use text_core::Word;
 
 /// What the next word of a server is.
 #[derive(Clone, Copy)]

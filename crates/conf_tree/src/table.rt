@@ -8,10 +8,9 @@ use crate::fault::ConfKind;
 use crate::item::{Says, TableWords};
 use crate::said::Said;
 use crate::words::number_at;
-use addr_core::parts::cut_at;
 use list_core::newest;
 use proxy_types::{KeyType, Stores};
-use word_core::Word;
+use text_core::{Word, cut_at};
 
 /// What the next word of a table is.
 #[derive(Clone, Copy)]
