@@ -5,7 +5,8 @@ use Rattle.list_core.specs.Each.{◌>>=◌, each}
 use Rattle.addr_core.specs.declared.reading.AddrFault.{AddrFault}
 use Rattle.addr_core.specs.Prefix.{Prefix}
 use Rattle.addr_core.specs.Text.{net_of}
-use Rattle.addr_core.specs.Decimal.{number_of}
+use Rattle.text_core.specs.Cut.{cut}
+use Rattle.text_core.specs.Decimal.{number_of}
 use Rattle.acl_core.specs.declared.fault.AclFault.{AclFault}
 use Rattle.acl_core.specs.declared.fault.AclFault.TheVariants.{UnknownCriterion, BadPattern, NoPattern, UnknownName, BadBraces, EmptyGroup}
 use Rattle.acl_core.specs.declared.criterion.Criterion.{Criterion}
@@ -48,17 +49,18 @@ range_between low high =
       most ← end_in greatest high
       Ok (patterns.Within least most)
 
-abbrev pub range_at : List ℕ → Option ℕ → Result Pattern AclFault
-range_at word None = do
+-- a number alone, or the range of the texts before and after a colon
+abbrev pub range_in : List ℕ → Option (List ℕ × List ℕ) → Result Pattern AclFault
+range_in word None = do
   n ← number_in word
   Ok (patterns.Within n n)
-range_at word (Some colon) = range_between (take colon word) (drop (colon + 1) word)
+range_in word (Some ends) = range_between ends.0 ends.1
 
--- a number alone, or a range by its first colon
+-- a number alone, or a range by its first colon: 58 is the colon
 abbrev pub range_of : List ℕ → Result Pattern AclFault
-range_of word = range_at word (position (λ b. b == 58) word)
+range_of word = range_in word (cut (58 ∷ []) word)
 
--- a number behind an operator
+-- a number after an operator
 abbrev pub bound_of : Operator → List ℕ → Result Pattern AclFault
 bound_of operator word = do
   n ← number_in word
@@ -120,18 +122,18 @@ abbrev pub braced : List (List ℕ) → Result Test AclFault
 braced [] = Err BadBraces
 braced (word ∷ rest) = test_of (word ∷ rest)
 
--- where the closing brace lacks, only a word that cannot stand comes before that
+-- where there is no closing brace, a wrong word before that is reported first
 abbrev pub unclosed : Result Test AclFault → Result Test AclFault
 unclosed (Err UnknownCriterion) = Err UnknownCriterion
 unclosed (Err BadPattern) = Err BadPattern
 unclosed other = Err BadBraces
 
--- behind the closing brace
+-- after the closing brace
 abbrev pub ended : Test → List (List ℕ) → Result Test AclFault
 ended test [] = Ok test
 ended test (word ∷ rest) = Err UnknownName
 
--- behind the opening brace, where the closing one stands there
+-- after the opening brace, where the closing one is at that place
 abbrev pub closed_at : List (List ℕ) → Option ℕ → Result Test AclFault
 closed_at words None = unclosed (braced words)
 closed_at words (Some closing) = do

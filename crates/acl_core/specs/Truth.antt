@@ -15,7 +15,7 @@ use Rattle.acl_core.specs.declared.condition.Cond.{Cond}
 use Rattle.acl_core.specs.declared.condition.When.{When}
 use Rattle.acl_core.specs.declared.condition.When.TheVariants.{Always, If, Unless}
 
--- a number stands so to a bound
+-- a number compares so with a bound
 abbrev pub compares : Operator → ℕ → ℕ → Bool
 compares Equal number bound = number == bound
 compares AtLeast number bound = nat_le bound number

@@ -81,7 +81,7 @@ impl Pattern {
 }
 
 impl Operator {
-    /// Whether the number stands so to the bound.
+    /// Whether the number compares so with the bound.
     pub fn holds(self, number: u64, bound: u64) -> bool
         ensures { result ≡ compares self number bound }
     {

@@ -1,18 +1,18 @@
 //! Reading tests and conditions.
-ghost use Rattle.std.specs.Prelude.{◌≡◌, ◌⊎◌, ◌<◌, ◌==◌, [], length, position, IfOk, IfErr, IfSome, None, Err, codes};
+ghost use Rattle.std.specs.Prelude.{◌≡◌, ◌⊎◌, ◌<◌, [], length, position, IfOk, IfErr, IfSome, None, Err, codes};
 ghost use Rattle.std.specs.Str.{bytes_eq};
 ghost use Rattle.list_core.specs.Each.{Gives, each};
 ghost use Rattle.addr_core.specs.Text.{net_of};
-ghost use Rattle.acl_core.specs.Reading.{network_of, number_in, end_in, range_between, range_at, range_of, bound_of, value_of, values_of, criterion_of, operator_of, numbers_of, patterns_of, test_of, braced, unclosed, ended, closed_at, in_braces, groups_of, condition_of};
+ghost use Rattle.acl_core.specs.Reading.{network_of, number_in, end_in, range_between, range_in, range_of, bound_of, value_of, values_of, criterion_of, operator_of, numbers_of, patterns_of, test_of, braced, unclosed, ended, closed_at, in_braces, groups_of, condition_of};
 
 use crate::condition::{Cond, Term, Test};
 use crate::criterion::{Criterion, Operator, Pattern};
 use crate::fault::AclFault;
-use addr_core::decimal::read_number;
 use addr_core::read_net;
 use list_core::{Seq, Stop};
 use std::alloc::{AllocError, Global};
-use word_core::Word;
+use text_core::decimal::read_number;
+use text_core::{Word, cut_at};
 
 /// How the values of a test are read.
 #[derive(Clone, Copy)]
@@ -20,7 +20,7 @@ enum Form {
     Networks,
     /// Numbers, and ranges of them.
     Ranges,
-    /// Numbers behind an operator.
+    /// Numbers after an operator.
     Bounds(Operator),
 }
 
@@ -52,6 +52,7 @@ fn end(absent: u64, word: &[u8]) -> Result<u64, AclFault>
     number(word)
 }
 
+/// A range by the texts before and after its colon.
 fn range_between(low: &[u8], high: &[u8]) -> Result<Pattern, AclFault>
     ensures { result ≡ range_between low.now high.now }
 {
@@ -64,26 +65,18 @@ fn range_between(low: &[u8], high: &[u8]) -> Result<Pattern, AclFault>
 }
 
 fn single(word: &[u8]) -> Result<Pattern, AclFault>
-    ensures { result ≡ range_at word.now None }
+    ensures { result ≡ range_in word.now None }
 {
     let number = number(word)?;
     Ok(Pattern::Within(number, number))
 }
 
-/// The place of the first colon.
-fn colon(word: &[u8]) -> Option<usize>
-    ensures place { result ≡ position (λ b. b == 58) word.now }
-    ensures inside { IfSome result (λ colon. colon < length word.now) }
-{
-    word.iter().position(|byte| *byte == b':')
-}
-
-/// A number alone, or a range.
+/// A number alone, or a range by its first colon.
 fn range(word: &[u8]) -> Result<Pattern, AclFault>
     ensures { result ≡ range_of word.now }
 {
-    match colon(word) {
-        Some(colon) => range_between(&word[..colon], &word[colon + 1..]),
+    match cut_at(word, b':') {
+        Some((low, high)) => range_between(low, high),
         None => single(word),
     }
 }
@@ -223,7 +216,7 @@ fn unclosed(alloc: Global, words: &[Word]) -> Stop<AclFault>
     }
 }
 
-/// Behind the closing brace no word is left.
+/// After the closing brace no word is left.
 fn ended(words: &[Word], test: Test) -> Result<Test, Stop<AclFault>>
     ensures { Gives result (ended test words.now) }
 {
@@ -241,7 +234,7 @@ fn closing(words: &[Word]) -> Option<usize>
     words.iter().position(|word| word.is(b"}"))
 }
 
-/// Behind the opening brace.
+/// The words after the opening brace.
 fn closed(alloc: Global, words: &[Word]) -> Result<Test, Stop<AclFault>>
     ensures { Gives result (closed_at words.now (position (λ w. bytes_eq w (codes "}")) words.now)) }
 {
@@ -295,9 +288,9 @@ fn condition(alloc: Global, words: &[Word]) -> Result<Cond, Stop<AclFault>>
     })
 }
 
-/// The test that the words are: a criterion and its values, as of an `acl` line behind its name
+/// The test that the words are: a criterion and its values, as of an `acl` line after its name
 /// (HAProxy manual, `acl`). The criteria are `src` and `fe_conn` without argument. Of the words, read
-/// from the left, the first that cannot stand decides.
+/// from the left, the first wrong one decides.
 pub fn read_test(alloc: Global, words: &[Word]) -> Result<Test, AclFault>
     ensures ok { IfOk result (λ test. test_of words.now ≡ Ok test) }
     ensures fault { IfErr result (λ fault. (fault ≡ AclFault.NoMemory) ⊎ (test_of words.now ≡ Err fault)) }
@@ -309,7 +302,7 @@ pub fn read_test(alloc: Global, words: &[Word]) -> Result<Test, AclFault>
     }
 }
 
-/// The condition that the words behind `if` or `unless` are (HAProxy manual, "using ACLs to form
+/// The condition that the words after `if` or `unless` are (HAProxy manual, "using ACLs to form
 /// conditions"): one test in braces. A word outside them is a name, and none is declared.
 pub fn read_cond(alloc: Global, words: &[Word]) -> Result<Cond, AclFault>
     ensures ok { IfOk result (λ condition. condition_of words.now ≡ Ok condition) }

@@ -6,8 +6,9 @@ use Rattle.std.proofs.lemmas.Bool.Decides.{nat_tests}
 use Rattle.std.proofs.lemmas.List.Folds.{list_any_none}
 use Rattle.std.proofs.lemmas.List.Elements.{All-weaker, All-get_or}
 use Rattle.list_core.specs.Each.{◌>>=◌}
-use Rattle.addr_core.specs.Decimal.{decimal, decimal_of}
-use Rattle.addr_core.specs.Dotted.{cut, dotted_of, dotted_text, is_colon, is_dot, is_empty}
+use Rattle.text_core.specs.Decimal.{decimal, decimal_of}
+use Rattle.text_core.specs.Cut.{cut}
+use Rattle.addr_core.specs.Dotted.{dotted_of, dotted_text, is_colon, is_dot, is_empty}
 use Rattle.addr_core.specs.Prefix.{Prefix, width_of}
 use Rattle.addr_core.specs.Six.{is_six_byte, six_of}
 use Rattle.addr_core.specs.Text.{addr_of, bare_of, bracketed_of, endpoint_of, endpoint_text, host_text, in_brackets, net_in, net_of, one_address, text_of, with_bits, with_port, IsAddr, IsEndpoint, IsEndpointText, IsHost, IsNet, IsNetText, IsText}
@@ -15,12 +16,12 @@ use Rattle.addr_core.specs.declared.addr.Addr.{Addr}
 use Rattle.addr_core.specs.declared.addr.Addr.TheVariants.{V4, V6}
 use Rattle.addr_core.specs.declared.addr.Endpoint.{Endpoint}
 use Rattle.addr_core.specs.declared.reading.AddrFault.{AddrFault}
-use Rattle.addr_core.proofs.DecimalLemmas.{decimal-decimal_of, decimal_of_written}
+use Rattle.text_core.proofs.DecimalLemmas.{decimal-decimal_of, decimal_of_written}
 use Rattle.addr_core.proofs.DottedLemmas.{bind_is, dotted_of-dotted_text, dotted_text-dotted_of, dotted_text_all, some_dotted}
 use Rattle.addr_core.proofs.SixLemmas.{six_of_text, six_text_all, six_text_colon, six_text_some}
 use Rattle.addr_core.proofs.SixReading.{six_is}
 use Rattle.addr_core.proofs.SixWritten.{six_text_written}
-use Rattle.addr_core.proofs.TextLemmas.{cut-at_mark, cut-first, cut-joins, cut-no_mark, cut_pair-at_mark, cut_pair-joins}
+use Rattle.text_core.proofs.CutLemmas.{cut-at_mark, cut-first, cut-joins, cut-no_mark, cut_pair-at_mark, cut_pair-joins}
 
 -- one answer has one value
 addr_is : (a b : Addr) → ◌≡◌ {A = Result Addr AddrFault} (Ok a) (Ok b) → a ≡ b
@@ -40,7 +41,7 @@ not_empty text some = grind (arith, nat_tests)
 no_colon : (n : ℕ) → list_any is_colon (dotted_text n) ≡ false
 no_colon n = list_any_none is_colon (dotted_text n) (dotted_text_all (λ b. is_colon b ≡ false) (λ b low high. grind (arith, nat_tests)) refl n)
 
--- an address is read of a text that stands for it
+-- an address is read of each of its texts
 pub addr_of_text : (text : List ℕ) (addr : Addr) → IsAddr addr → IsText text addr → addr_of text ≡ Ok addr
 addr_of_text text (V4 n) small is = ap (λ t. addr_of t) is ∙ rw (not_empty (dotted_text n) (some_dotted n), no_colon n, dotted_of-dotted_text n small) refl
 addr_of_text text (V6 n) small is = rw (not_empty text (six_text_some text n is), six_text_colon text n is, six_of_text text n is) refl
@@ -72,7 +73,7 @@ without_colon text addr none is = by (is_empty text) refl
         let read = bind_is (dotted_of (slice_split is_dot text)) (λ number. Ok (V4 number)) addr (rw (a, none) at is) in
         (read.0, sym (addr_is (V4 read.0) addr read.2))
 
--- the written text stands for the address
+-- the written text is a text of the address
 pub is_text_of : (addr : Addr) → IsAddr addr → IsText (text_of addr) addr
 is_text_of (V4 n) small = refl
 is_text_of (V6 n) small = six_text_written n small

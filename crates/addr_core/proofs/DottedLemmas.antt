@@ -4,14 +4,15 @@ use Rattle.std.specs.Prelude.{◌||◌, nat_lt, Result, Ok, Err}
 use Rattle.std.specs.List.{list_all, list_any, slice_split, join_with_byte, All}
 use Rattle.std.specs.Char.{is_ascii_digit}
 use Rattle.std.proofs.lemmas.Bool.Decides.{nat_tests}
-use Rattle.std.proofs.lemmas.List.Splits.{slice_split_at, slice_split_none, join_with_byte-slice_split}
+use Rattle.std.proofs.lemmas.List.Splits.{length-slice_split, slice_split_at, slice_split_none, join_with_byte-slice_split}
 use Rattle.std.proofs.lemmas.List.Elements.{All-nil, All-cons, All-append}
 use Rattle.std.proofs.lemmas.List.Folds.{list_any-append}
 use Rattle.list_core.specs.Each.{◌>>=◌}
-use Rattle.addr_core.specs.Decimal.{decimal, value_of, has_leading_zero}
+use Rattle.text_core.specs.Decimal.{decimal, value_of, has_leading_zero}
 use Rattle.addr_core.specs.Dotted.{dotted_of, dotted_text, four_of, is_dot, is_empty, octet_of}
 use Rattle.addr_core.specs.declared.reading.AddrFault.{AddrFault}
-use Rattle.addr_core.proofs.DecimalLemmas.{are_digits_decimal, has_leading_zero-decimal, decimal-value_of}
+use Rattle.addr_core.specs.declared.reading.AddrFault.TheVariants.{BadGroups}
+use Rattle.text_core.proofs.DecimalLemmas.{are_digits_decimal, has_leading_zero-decimal, decimal-value_of}
 
 -- ---- each byte
 
@@ -165,3 +166,11 @@ has_dot_text n = list_any-append is_dot (decimal (n / 2 ^ 24)) (46 ∷ (decimal 
     by : (t : Bool) → (t || true) ≡ true
     by true = refl
     by false = refl
+
+-- five parts or more
+pub dotted_of-more : (a b c d x y : List ℕ) → slice_split is_dot d ≡ x ∷ slice_split is_dot y → dotted_of (a ∷ b ∷ c ∷ slice_split is_dot d) ≡ Err BadGroups
+dotted_of-more a b c d x y is = by (slice_split is_dot y) refl
+  where
+    by : (rest : List (List ℕ)) → slice_split is_dot y ≡ rest → dotted_of (a ∷ b ∷ c ∷ slice_split is_dot d) ≡ Err BadGroups
+    by [] some = absurd (let count = length-slice_split is_dot y in omega (arith, count, ap length some))
+    by (z ∷ more) some = rw (is, some) refl

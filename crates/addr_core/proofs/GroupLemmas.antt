@@ -7,9 +7,9 @@ use Rattle.std.specs.Char.{digit_char}
 use Rattle.std.specs.List.{All}
 use Rattle.std.proofs.lemmas.List.Elements.{All-nil, All-cons, All-append}
 use Rattle.addr_core.specs.Groups.{colon_text, groups_text, hex_in, hexadecimal, longest, without_run, zeros, IsLongest}
-use Rattle.addr_core.proofs.TextLemmas.{range_to_end}
+use Rattle.std.proofs.lemmas.List.{take_rest}
 
--- the first group, and each other behind a colon
+-- the first group, and each other after a colon
 colon_text_more : (first : ℕ) (groups : List ℕ) → colon_text (first ∷ groups) ≡ hexadecimal first ++ flat_map (λ group. 58 ∷ hexadecimal group) groups
 colon_text_more first [] = sym (append-nil (hexadecimal first))
 colon_text_more first (next ∷ groups) = ap (λ rest. hexadecimal first ++ 58 ∷ rest) (colon_text_more next groups)
@@ -18,7 +18,7 @@ pub groups_pushed : (groups front middle whole : List ℕ) → 1 ≤ length grou
     → whole ≡ middle ++ flat_map (λ group. 58 ∷ hexadecimal group) (take (length groups - 1) (drop 1 groups)) → whole ≡ front ++ colon_text groups
 groups_pushed [] front middle whole some one more = absurd (omega arith)
 groups_pushed (group ∷ groups) front middle whole some one more =
-    let rest : take (length (group ∷ groups) - 1) groups ≡ groups = range_to_end 1 (group ∷ groups) in
+    let rest : take (length (group ∷ groups) - 1) groups ≡ groups = take_rest (group ∷ groups) 1 in
     more ∙ rw (one, rest) (append_assoc front (hexadecimal group) (flat_map (λ g. 58 ∷ hexadecimal g) groups) ∙ ap (λ text. front ++ text) (sym (colon_text_more group groups)))
 
 -- groups without a run of two zeros or more
@@ -34,7 +34,7 @@ pub run_written : (groups empty front one two whole : List ℕ) (place count : �
 unfolding groups_text
 run_written groups empty front one two whole place count none before first second after same_place same_count long =
     let test : nat_lt (longest groups).count 2 ≡ false = grind (arith, nat_tests) in
-    after ∙ rw (range_to_end (place + count) groups, second, first, before, none, test, same_place, same_count)
+    after ∙ rw (take_rest groups (place + count), second, first, before, none, test, same_place, same_count)
     (append_assoc (colon_text (take (longest groups).place groups) ++ 58 ∷ []) (58 ∷ []) (colon_text (drop ((longest groups).place + (longest groups).count) groups))
     ∙ append_assoc (colon_text (take (longest groups).place groups)) (58 ∷ []) (58 ∷ colon_text (drop ((longest groups).place + (longest groups).count) groups)))
 
@@ -79,13 +79,13 @@ none_later zero = omega arith
 none_later (suc at) = omega arith
 
 longest_is : (groups : List ℕ) → IsLongest (longest groups).place (longest groups).count groups
-longest_is [] = record { stands = refl; longest = none_later; first = λ at low. absurd (omega arith) }
+longest_is [] = record { there = refl; longest = none_later; first = λ at low. absurd (omega arith) }
 longest_is (group ∷ groups) = by (nat_le (longest groups).count (zeros (group ∷ groups))) refl (longest_is groups)
   where
     by : (t : Bool) → nat_le (longest groups).count (zeros (group ∷ groups)) ≡ t → IsLongest (longest groups).place (longest groups).count groups → IsLongest (longest (group ∷ groups)).place (longest (group ∷ groups)).count (group ∷ groups)
     by true is later =
         let above : (longest groups).count ≤ zeros (group ∷ groups) = grind (arith, nat_tests) in
-        rw is (record { stands = refl; longest = here above; first = λ at low. absurd (omega arith) })
+        rw is (record { there = refl; longest = here above; first = λ at low. absurd (omega arith) })
       where
         here : (longest groups).count ≤ zeros (group ∷ groups) → (at : ℕ) → zeros (drop at (group ∷ groups)) ≤ zeros (group ∷ groups)
         here above zero = omega arith
@@ -93,7 +93,7 @@ longest_is (group ∷ groups) = by (nat_le (longest groups).count (zeros (group 
     by false is later =
         let below : zeros (group ∷ groups) < (longest groups).count = grind (arith, nat_tests) in
         let next : (longest groups).place + 1 ≡ suc (longest groups).place = omega arith in
-        rw is (record { stands = rw next later.stands; longest = anywhere below; first = before below })
+        rw is (record { there = rw next later.there; longest = anywhere below; first = before below })
       where
         anywhere : zeros (group ∷ groups) < (longest groups).count → (at : ℕ) → zeros (drop at (group ∷ groups)) ≤ (longest groups).count
         anywhere below zero = omega arith

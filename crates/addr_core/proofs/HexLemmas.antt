@@ -23,7 +23,7 @@ pub hexadecimal_small : (n : ℕ) → n < 16 → hexadecimal n ≡ digit_char n 
 unfolding hexadecimal
 hexadecimal_small n small = let test : nat_lt n 16 ≡ true = grind (arith, nat_tests) in rw test refl
 
--- the last digit, behind the others
+-- the last digit, after the others
 pub hexadecimal_step : (n : ℕ) → 16 ≤ n → n < 2 ^ 16 → hexadecimal n ≡ hexadecimal (n / 16) ++ digit_char (n % 16) ∷ []
 unfolding hexadecimal
 hexadecimal_step n large small =

@@ -1,5 +1,4 @@
 pub mod AddrLemmas
-pub mod DecimalLemmas
 pub mod DottedLemmas
 pub mod GroupLemmas
 pub mod HexLemmas
@@ -7,4 +6,3 @@ pub mod SixLemmas
 pub mod SixReading
 pub mod SixSteps
 pub mod SixWritten
-pub mod TextLemmas

@@ -1,4 +1,4 @@
--- IPv6 addresses: a text that stands for one is read as it.
+-- IPv6 addresses: each text of one is read as it.
 use Rattle.std.proofs.Common.{append-nil, ◌≡◌, ℕ, suc, ◌+◌, ◌-◌, ◌/◌, ◌%◌, ◌^◌, ◌<◌, ◌≤◌, Bool, true, false, List, [], ◌∷◌, ◌++◌, length, get_or, replicate, Some, None, refl, ◌∙◌, sym, ap, subst, arith, inl, inr}
 use Rattle.std.specs.Prelude.{◌&&◌, ◌||◌, ◌==◌, nat_lt, Ok}
 use Rattle.std.specs.List.{list_all, list_any, join_with_byte, All, AllByRecursion}
@@ -6,11 +6,12 @@ use Rattle.std.specs.Char.{is_ascii_hexdigit}
 use Rattle.std.proofs.lemmas.Bool.Decides.{nat_tests}
 use Rattle.std.proofs.lemmas.List.Folds.{list_any_none, list_any-append}
 use Rattle.std.proofs.lemmas.List.Elements.{All-nil, All-cons, All-append, All-head, All-weaker, recursion_from_All}
-use Rattle.addr_core.specs.Dotted.{cut, dotted_text, is_colon, is_dot, is_empty}
+use Rattle.text_core.specs.Cut.{cut}
+use Rattle.addr_core.specs.Dotted.{dotted_text, is_colon, is_dot, is_empty}
 use Rattle.addr_core.specs.Six.{group_count, groups_in, has_dot, hex_value, is_group, is_six_byte, number_of, six_of, word_groups, words_of, AreGroups, IsSixText}
 use Rattle.addr_core.proofs.DottedLemmas.{dotted_of-dotted_text, has_dot_text, dotted_text_all, some_dotted}
 use Rattle.addr_core.proofs.SixSteps.{six_parts}
-use Rattle.addr_core.proofs.TextLemmas.{cut_pair-single, cut_pair-step, split-join}
+use Rattle.text_core.proofs.CutLemmas.{cut_pair-single, cut_pair-step, split-join}
 
 -- ---- words
 

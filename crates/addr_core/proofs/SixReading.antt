@@ -1,4 +1,4 @@
--- IPv6 addresses: what is read of a text stands for it.
+-- IPv6 addresses: what is read of a text has that text.
 use Rattle.std.proofs.Common.{append-nil, ◌≡◌, ℕ, ◌+◌, ◌-◌, ◌/◌, ◌%◌, ◌^◌, Bool, true, false, List, [], ◌∷◌, ◌++◌, length, replicate, Some, None, Option, refl, ◌∙◌, sym, ap, arith, inl, inr}
 use Rattle.std.specs.Prelude.{◌&&◌, ◌||◌, nat_lt, Result, Ok}
 use Rattle.std.specs.List.{list_all, onto_first, slice_split, join_with_byte, AllByRecursion}
@@ -7,12 +7,13 @@ use Rattle.std.proofs.lemmas.Bool.Decides.{nat_tests}
 use Rattle.std.proofs.lemmas.List.Folds.{list_all-append}
 use Rattle.std.proofs.lemmas.List.Splits.{join_with_byte-slice_split}
 use Rattle.list_core.specs.Each.{◌>>=◌}
-use Rattle.addr_core.specs.Dotted.{cut, dotted_of, is_colon, is_dot, is_empty}
+use Rattle.text_core.specs.Cut.{cut}
+use Rattle.addr_core.specs.Dotted.{dotted_of, is_colon, is_dot, is_empty}
 use Rattle.addr_core.specs.Six.{gap_of, group_count, groups_in, has_dot, hex_value, is_eight, is_group, is_six_byte, number_of, short_of, short_with, six_of, whole_of, word_groups, words_of, AreGroups, IsShort, IsSixText, IsTail, IsWhole}
 use Rattle.addr_core.specs.declared.reading.AddrFault.{AddrFault}
 use Rattle.addr_core.proofs.DottedLemmas.{bind_is, dotted_text-dotted_of}
 use Rattle.addr_core.proofs.SixSteps.{counted, gap_is, groups_are, neither}
-use Rattle.addr_core.proofs.TextLemmas.{cut_pair-joins}
+use Rattle.text_core.proofs.CutLemmas.{cut_pair-joins}
 
 -- ---- bytes of words
 

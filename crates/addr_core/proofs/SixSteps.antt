@@ -6,11 +6,12 @@ use Rattle.std.specs.Option.{option_map, unwrap_or}
 use Rattle.std.proofs.lemmas.Bool.Decides.{nat_tests}
 use Rattle.std.proofs.lemmas.List.{length-replicate}
 use Rattle.list_core.specs.Each.{◌>>=◌}
-use Rattle.addr_core.specs.Dotted.{cut, dotted_of, is_colon, is_dot, is_empty}
+use Rattle.text_core.specs.Cut.{cut}
+use Rattle.addr_core.specs.Dotted.{dotted_of, is_colon, is_dot, is_empty}
 use Rattle.addr_core.specs.Six.{gap_of, group_count, groups_in, has_dot, is_six_byte, parts_of, six_of, words_of, word_groups, HasRoom, ReadsOnto}
 use Rattle.addr_core.specs.declared.reading.AddrFault.{AddrFault}
 use Rattle.addr_core.proofs.DottedLemmas.{bind_is}
-use Rattle.addr_core.proofs.TextLemmas.{split_first}
+use Rattle.text_core.proofs.CutLemmas.{split_first}
 
 pub power_sixteen : (i : ℕ) → i < 4 → 16 ^ i ≤ 4096
 power_sixteen zero small = omega arith
@@ -39,14 +40,14 @@ pub count_more : (k : ℕ) (o : Option ℕ) → option_map (λ n. n + k) (option
 count_more k None = refl
 count_more k (Some n) = ap (λ m. Some m) (omega arith)
 
--- a word before others stands for one group
+-- a word before others has one group
 pub count_step : (dotted : Bool) (whole : List (List ℕ)) (word more : List ℕ) → whole ≡ word ∷ slice_split is_colon more → is_empty word ≡ false → has_dot word ≡ false
     → group_count dotted whole ≡ option_map (λ count. count + 1) (group_count dotted (slice_split is_colon more))
 count_step dotted whole word more is some plain =
     let rest = split_first is_colon more in
     ap (group_count dotted) (is ∙ ap (λ ws. word ∷ ws) rest.2) ∙ rw (some, plain) refl ∙ ap (λ ws. option_map (λ count. count + 1) (group_count dotted ws)) (sym rest.2)
 
--- an empty word, or one with a dot, stands before no other
+-- an empty word, or one with a dot, has no other after it
 pub count_stop : (dotted : Bool) (whole : List (List ℕ)) (word more : List ℕ) → whole ≡ word ∷ slice_split is_colon more → (is_empty word || has_dot word) ≡ true → group_count dotted whole ≡ None
 count_stop dotted whole word more is wrong =
     let rest = split_first is_colon more in
@@ -79,7 +80,7 @@ room_step used whole word more is room = by (is_empty word || has_dot word) refl
 pub groups_are : (a b : List ℕ) → ◌≡◌ {A = Result (List ℕ) AddrFault} (Ok a) (Ok b) → a ≡ b
 groups_are a b is = cc
 
--- a word without a dot stands for one group
+-- a word without a dot has one group
 word_length : (word groups : List ℕ) → has_dot word ≡ false → word_groups word ≡ Ok groups → length groups ≡ 1
 word_length word groups plain is = by (nat_lt 4 (length word)) refl
   where

@@ -1,10 +1,9 @@
--- IPv4 addresses as text, and texts in parts.
-use Rattle.std.specs.Prelude.{ℕ, Bool, not, ◌+◌, ◌*◌, ◌/◌, ◌%◌, ◌^◌, ◌||◌, ◌==◌, nat_eq, nat_lt, List, [], ◌∷◌, length, drop, map, Result, Ok, Err, Option, Some, None, if◌then◌else◌}
-use Rattle.std.specs.List.{join_with_byte, list_all, starts_with}
-use Rattle.std.specs.Option.{option_map}
+-- IPv4 addresses as text.
+use Rattle.std.specs.Prelude.{ℕ, Bool, not, ◌+◌, ◌*◌, ◌/◌, ◌%◌, ◌^◌, ◌||◌, ◌==◌, nat_lt, List, [], ◌∷◌, length, map, Result, Ok, Err, if◌then◌else◌}
+use Rattle.std.specs.List.{join_with_byte, list_all}
 use Rattle.std.specs.Char.{is_ascii_digit}
 use Rattle.list_core.specs.Each.{◌>>=◌}
-use Rattle.addr_core.specs.Decimal.{decimal, has_leading_zero, value_of}
+use Rattle.text_core.specs.Decimal.{decimal, has_leading_zero, value_of}
 use Rattle.addr_core.specs.declared.reading.AddrFault.{AddrFault}
 use Rattle.addr_core.specs.declared.reading.AddrFault.TheVariants.{BadDigit, LeadingZero, OutOfRange, BadGroups}
 
@@ -18,7 +17,7 @@ octets_of number = (number / 2 ^ 24) ∷ (number / 2 ^ 16 % 2 ^ 8) ∷ (number /
 abbrev pub dotted_text : ℕ → List ℕ
 dotted_text number = join_with_byte 46 (map decimal (octets_of number))
 
--- ---- texts in parts
+-- ---- bytes and parts
 
 abbrev pub is_dot : ℕ → Bool
 is_dot byte = byte == 46
@@ -29,16 +28,9 @@ is_colon byte = byte == 58
 abbrev pub is_empty : List ℕ → Bool
 is_empty text = length text == 0
 
--- what stands before the first mark, and what stands after it
-abbrev pub cut : List ℕ → List ℕ → Option (List ℕ × List ℕ)
-cut mark [] = None
-cut mark (byte ∷ more) =
-    if starts_with nat_eq (byte ∷ more) mark then Some ([], drop (length mark) (byte ∷ more))
-    else option_map (λ parts. (byte ∷ parts.0, parts.1)) (cut mark more)
-
 -- ---- what is read
 
--- the number that a part of an IPv4 address stands for
+-- the number of a part of an IPv4 address
 abbrev pub octet_of : List ℕ → Result ℕ AddrFault
 octet_of part =
     if not (list_all is_ascii_digit part) then Err BadDigit

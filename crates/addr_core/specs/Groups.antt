@@ -18,7 +18,7 @@ groups_of number =
     (number / 2 ^ 112) ∷ (number / 2 ^ 96 % 2 ^ 16) ∷ (number / 2 ^ 80 % 2 ^ 16) ∷ (number / 2 ^ 64 % 2 ^ 16)
     ∷ (number / 2 ^ 48 % 2 ^ 16) ∷ (number / 2 ^ 32 % 2 ^ 16) ∷ (number / 2 ^ 16 % 2 ^ 16) ∷ (number % 2 ^ 16) ∷ []
 
--- how many zero groups stand before the first that is not zero
+-- how many zero groups come before the first that is not zero
 abbrev pub zeros : List ℕ → ℕ
 zeros groups = prefix_len (λ group. group == 0) groups
 
@@ -38,9 +38,9 @@ abbrev pub longest : List ℕ → Run
 longest [] = record { place = 0; count = 0 }
 longest (group ∷ groups) = longer (zeros (group ∷ groups)) (longest groups)
 
--- what that says: the run stands there, none is longer, and each before it is shorter
+-- what that says: the run is there, none is longer, and each before it is shorter
 pub record IsLongest (place count : ℕ) (groups : List ℕ) : Type 0 where
-  pub stands : zeros (drop place groups) ≡ count
+  pub there : zeros (drop place groups) ≡ count
   pub longest : (at : ℕ) → zeros (drop at groups) ≤ count
   pub first : (at : ℕ) → at < place → zeros (drop at groups) < count
 

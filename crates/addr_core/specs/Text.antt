@@ -3,8 +3,9 @@ use Rattle.std.specs.Prelude.{◌≡◌, ◌⊎◌, ℕ, Bool, ◌^◌, ◌<◌,
 use Rattle.std.specs.List.{list_any, slice_split}
 use Rattle.std.specs.Option.{ok_or}
 use Rattle.list_core.specs.Each.{◌>>=◌}
-use Rattle.addr_core.specs.Decimal.{decimal, decimal_of}
-use Rattle.addr_core.specs.Dotted.{cut, dotted_of, dotted_text, is_colon, is_dot, is_empty}
+use Rattle.text_core.specs.Decimal.{decimal, decimal_of}
+use Rattle.text_core.specs.Cut.{cut}
+use Rattle.addr_core.specs.Dotted.{dotted_of, dotted_text, is_colon, is_dot, is_empty}
 use Rattle.addr_core.specs.Groups.{groups_of, groups_text}
 use Rattle.addr_core.specs.Prefix.{Prefix, width_of}
 use Rattle.addr_core.specs.Six.{six_of, IsSixText}
@@ -46,14 +47,14 @@ IsEndpoint endpoint = IsAddr endpoint.addr × (endpoint.port < 2 ^ 16)
 abbrev pub IsNet : Prefix → Type 0
 IsNet net = IsAddr net.addr × (net.bits ≤ width_of net.addr)
 
--- ---- which texts stand for a value
+-- ---- the texts of a value
 
 -- An IPv4 address has one text, an IPv6 address many.
 abbrev pub IsText : List ℕ → Addr → Type 0
 IsText text (V4 number) = text ≡ dotted_text number
 IsText text (V6 number) = IsSixText text number
 
--- a text of an address as it stands before a port: 91 and 93 are the brackets
+-- a text of an address before a port: 91 and 93 are the brackets
 abbrev pub IsHost : List ℕ → Addr → Type 0
 IsHost host (V4 number) = IsText host (V4 number)
 IsHost host (V6 number) = (text : List ℕ) × (host ≡ 91 ∷ text ++ 93 ∷ []) × IsText text (V6 number)
@@ -73,18 +74,18 @@ IsNetText text net =
 abbrev pub begins_bracket : List ℕ → Bool
 begins_bracket text = slice_index text 0 == 91
 
--- the address that a text stands for
+-- the address of a text
 abbrev pub addr_of : List ℕ → Result Addr AddrFault
 addr_of text =
     if is_empty text then Err Empty
     else if list_any is_colon text then six_of text >>= (λ number. Ok (V6 number))
     else dotted_of (slice_split is_dot text) >>= (λ number. Ok (V4 number))
 
--- the address with the port that a text stands for
+-- the address with the port of a text
 abbrev pub with_port : List ℕ → Addr → Result Endpoint AddrFault
 with_port text addr = ok_or (decimal_of text 65535) BadPort >>= λ port. Ok (record { addr = addr; port = port })
 
--- an IPv4 address does not stand between brackets
+-- an IPv4 address is not in brackets
 abbrev pub in_brackets : Addr → Result Addr AddrFault
 in_brackets (V4 number) = Err BadGroups
 in_brackets (V6 number) = Ok (V6 number)
@@ -99,25 +100,25 @@ abbrev pub bare_of : Option (List ℕ × List ℕ) → Result Endpoint AddrFault
 bare_of None = Err BadPort
 bare_of (Some parts) = addr_of parts.0 >>= with_port parts.1
 
--- the endpoint that a text stands for
+-- the endpoint of a text
 abbrev pub endpoint_of : List ℕ → Result Endpoint AddrFault
 endpoint_of text =
     if is_empty text then Err Empty
     else if begins_bracket text then bracketed_of (cut (codes "]:") (drop 1 text))
     else bare_of (cut (codes ":") text)
 
--- the address with the bits that a text stands for
+-- the address with the bits of a text
 abbrev pub with_bits : List ℕ → Addr → Result Prefix AddrFault
 with_bits text addr = ok_or (decimal_of text (width_of addr)) BadPrefix >>= λ bits. Ok (record { addr = addr; bits = bits })
 
 abbrev pub one_address : Addr → Result Prefix AddrFault
 one_address addr = Ok (record { addr = addr; bits = width_of addr })
 
--- the network of what stands before and after a slash, if there is one
+-- the network of the texts before and after a slash, if there is one
 abbrev pub net_in : List ℕ → Option (List ℕ × List ℕ) → Result Prefix AddrFault
 net_in text None = addr_of text >>= one_address
 net_in text (Some parts) = addr_of parts.0 >>= with_bits parts.1
 
--- the network that a text stands for
+-- the network of a text
 abbrev pub net_of : List ℕ → Result Prefix AddrFault
 net_of text = net_in text (cut (codes "/") text)

@@ -71,7 +71,7 @@ fn push_colon(text: &mut ArrayString<39>)
     text.push(':');
 }
 
-/// Appends the groups, each behind a colon.
+/// Appends the groups, each after a colon.
 fn push_more(text: &mut ArrayString<39>, groups: &[u16])
     requires { length text.old.bytes + 5 * length groups.now ≤ 39 }
     ensures bytes { text.new.bytes ≡ text.old.bytes ++ flat_map (λ group. 58 ∷ hexadecimal group) groups.now }
@@ -96,7 +96,7 @@ fn push_groups(text: &mut ArrayString<39>, groups: &[u16])
     push_more(text, rest);
 }
 
-/// How many zero groups stand before the first that is not zero.
+/// How many zero groups come before the first that is not zero.
 fn zeros(groups: &[u16]) -> usize
     ensures count { result ≡ zeros groups.now }
     ensures bound { result ≤ length groups.now }

@@ -8,11 +8,9 @@ pub use reading::{AddrFault, read_addr, read_endpoint, read_net};
 pub use writing::{write_addr, write_endpoint};
 
 mod addr;
-pub mod decimal;
 mod groups;
 mod net;
 mod pair;
-pub mod parts;
 mod reading;
 mod six;
 mod writing;

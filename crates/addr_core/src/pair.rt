@@ -11,9 +11,9 @@ pub struct Pair {
 }
 
 impl Model for Pair {
-    ghost use Rattle.addr_core.specs.Ends.{Ends};
+    ghost use Rattle.addr_core.specs.PairValue.{PairValue};
 
-    ghost Value = { Ends };
+    ghost Value = { PairValue };
 
     ghost use Rattle.std.specs.Prelude.{◌≡◌, true};
     ghost use Rattle.addr_core.specs.Family.{same_family};
@@ -22,13 +22,13 @@ impl Model for Pair {
 
     ghost invariant = { λ p. same_family p.source.addr p.destination.addr ≡ true };
 
-    ghost inverse = { λ e. record { source = e.source; destination = e.destination } };
+    ghost inverse = { λ p. record { source = p.source; destination = p.destination } };
 }
 
 impl Pair {
     ghost use Rattle.std.specs.Prelude.{◌≡◌, true, if◌then◌else◌, Some, None};
     ghost use Rattle.addr_core.specs.Family.{same_family};
-    ghost use Rattle.addr_core.specs.Ends.{pair_of};
+    ghost use Rattle.addr_core.specs.PairValue.{pair_of};
 
     /// The pair of these endpoints, if they are of one family.
     pub fn of(source: Endpoint, destination: Endpoint) -> Option<Pair>

@@ -1,22 +1,25 @@
 //! Reading addresses, endpoints and networks.
 ghost use Rattle.std.specs.Prelude.{◌≡◌, ◌+◌, ◌*◌, ◌<◌, ◌↔◌, ◌∷◌, [], Ok};
 ghost use Rattle.std.specs.List.{list_any, slice_split};
-ghost use Rattle.addr_core.specs.Dotted.{cut, dotted_of, four_of, is_colon, is_dot, octet_of};
+ghost use Rattle.text_core.specs.Cut.{cut};
+ghost use Rattle.addr_core.specs.Dotted.{dotted_of, four_of, is_colon, is_dot, octet_of};
 ghost use Rattle.addr_core.specs.Text.{addr_of, bare_of, bracketed_of, endpoint_of, in_brackets, net_in, net_of, with_bits, with_port, IsAddr, IsEndpoint, IsEndpointText, IsNet, IsNetText, IsText};
 
 use crate::addr::{Addr, Endpoint};
-use crate::decimal::{are_digits, has_leading_zero, number_up_to, read_decimal};
 use crate::net::Net;
-use crate::parts::{cut, cut_at};
 use crate::six::six;
+use text_core::decimal::{are_digits, has_leading_zero, number_up_to, read_decimal};
+use text_core::{cut, cut_at};
 
-/// Why a text stands for no address, endpoint or network.
-#[derive(Clone, Copy, Debug, PartialEq, Eq, PartialOrd, Ord, Hash)]
+/// Why a text is no address, endpoint or network (RFC 3986, section 3.2.2; RFC 4291, section 2.2; RFC
+/// 4632, section 3.1). Of an address it is the fault of its first part that has one; the address comes before
+/// the port and the bits.
+#[derive(Clone, Copy, Debug, PartialEq, Eq)]
 pub enum AddrFault {
-    /// There is no character where an address should stand.
+    /// There is no character in the place of an address.
     Empty,
-    /// A part of an IPv4 address has a character that is no decimal digit, or an IPv6 address one that
-    /// is no hexadecimal digit, colon or dot.
+    /// A part of an IPv4 address has a character that is no decimal digit, or an IPv6 address has one
+    /// that is no hexadecimal digit, colon or dot.
     BadDigit,
     /// A part of an IPv4 address has a 0 before another digit.
     LeadingZero,
@@ -36,7 +39,7 @@ fn has_colon(text: &[u8]) -> bool
     text.iter().any(|byte| *byte == b':')
 }
 
-/// The number that a part of an IPv4 address stands for.
+/// The number of a part of an IPv4 address.
 fn octet(part: &[u8]) -> Result<u8, AddrFault>
     ensures { result ≡ octet_of part.now }
 {
@@ -107,7 +110,7 @@ fn addr_in(text: &[u8]) -> Result<Addr, AddrFault>
 fn with_port(text: &[u8], addr: Addr) -> Result<Endpoint, AddrFault>
     ensures { result ≡ with_port text.now addr }
 {
-    match read_decimal(text, 65535) {
+    match read_decimal(text, u64::from(u16::MAX)) {
         Some(port) => Ok(Endpoint {
             addr,
             port: port as u16,
@@ -137,7 +140,7 @@ fn bracketed(text: &[u8]) -> Result<Endpoint, AddrFault>
 fn bare(text: &[u8]) -> Result<Endpoint, AddrFault>
     ensures { result ≡ bare_of (cut (58 ∷ []) text.now) }
 {
-    let Some((addr, port)) = cut(text, b":") else {
+    let Some((addr, port)) = cut_at(text, b':') else {
         return Err(AddrFault::BadPort);
     };
     with_port(port, addr_in(addr)?)
@@ -167,7 +170,7 @@ fn with_bits(text: &[u8], addr: Addr) -> Result<Net, AddrFault>
 fn net_in(text: &[u8]) -> Result<Net, AddrFault>
     ensures { result ≡ net_of text.now }
 {
-    match cut(text, b"/") {
+    match cut_at(text, b'/') {
         Some((addr, bits)) => with_bits(bits, addr_in(addr)?),
         None => {
             let addr = addr_in(text)?;
@@ -182,19 +185,19 @@ fn net_in(text: &[u8]) -> Result<Net, AddrFault>
 pub fn read_addr(text: &[u8]) -> Result<Addr, AddrFault>
     ensures exact { result ≡ addr_of text.now }
 
-    // An address is what is read of the texts that stand for it, and of no other.
-    ensures stands { (addr : Addr) → IsAddr addr → (result ≡ Ok addr) ↔ IsText text.now addr }
+    // An address is read of its own texts, and of no other.
+    ensures own_texts { (addr : Addr) → IsAddr addr → (result ≡ Ok addr) ↔ IsText text.now addr }
 {
     addr_in(text)
 }
 
 /// The endpoint of a text as `127.0.0.1:80`, the form of an address with its port in HAProxy's keywords
-/// `bind` and `server`. Brackets stand round an address of IPv6 (RFC 3986, section 3.2.2).
+/// `bind` and `server`. An address of IPv6 is in brackets (RFC 3986, section 3.2.2).
 pub fn read_endpoint(text: &[u8]) -> Result<Endpoint, AddrFault>
     ensures exact { result ≡ endpoint_of text.now }
 
-    // An endpoint is what is read of the texts that stand for it, and of no other.
-    ensures stands { (endpoint : Endpoint) → IsEndpoint endpoint →
+    // An endpoint is read of its own texts, and of no other.
+    ensures own_texts { (endpoint : Endpoint) → IsEndpoint endpoint →
         (result ≡ Ok endpoint) ↔ IsEndpointText text.now endpoint }
 {
     endpoint_in(text)
@@ -205,8 +208,8 @@ pub fn read_endpoint(text: &[u8]) -> Result<Endpoint, AddrFault>
 pub fn read_net(text: &[u8]) -> Result<Net, AddrFault>
     ensures exact { result ≡ net_of text.now }
 
-    // A network is what is read of the texts that stand for it, and of no other.
-    ensures stands { (net : Net) → IsNet net → (result ≡ Ok net) ↔ IsNetText text.now net }
+    // A network is read of its own texts, and of no other.
+    ensures own_texts { (net : Net) → IsNet net → (result ≡ Ok net) ↔ IsNetText text.now net }
 {
     net_in(text)
 }

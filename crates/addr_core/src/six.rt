@@ -4,9 +4,9 @@ ghost use Rattle.std.specs.List.{list_all, slice_split};
 ghost use Rattle.addr_core.specs.Dotted.{dotted_of, is_dot, is_empty};
 ghost use Rattle.addr_core.specs.Six.{gap_of, group_count, group_of, groups_in, has_dot, is_eight, is_six_byte, nibble, number_of, short_of, six_of, whole_of, word_groups, words_of, HasRoom, ReadsOnto};
 
-use crate::parts::{cut, cut_at};
 use crate::reading::{AddrFault, dotted};
 use arrayvec::ArrayVec;
+use text_core::{cut, cut_at};
 
 fn is_six_byte(byte: u8) -> bool
     ensures { result ≡ is_six_byte byte }
@@ -26,14 +26,14 @@ fn has_dot(word: &[u8]) -> bool
     word.iter().any(|byte| *byte == b'.')
 }
 
-/// Whether a word may not stand before another: it is empty or has a dot.
+/// Whether no other word may follow: it is empty or has a dot.
 fn is_no_group(word: &[u8]) -> bool
     ensures { result ≡ (is_empty word.now || has_dot word.now) }
 {
     word.is_empty() || has_dot(word)
 }
 
-/// For how many groups the last of several words stands.
+/// How many groups the last of several words has.
 fn last_count(word: &[u8], may_be_dotted: bool) -> Option<usize>
     ensures { result ≡ group_count may_be_dotted (word.now ∷ []) }
 {
@@ -49,7 +49,7 @@ fn last_count(word: &[u8], may_be_dotted: bool) -> Option<usize>
     None
 }
 
-/// For how many groups a text stands.
+/// How many groups a text has.
 fn count(text: &[u8], may_be_dotted: bool) -> Option<usize>
     ensures { result ≡ group_count may_be_dotted (words_of text.now) }
 {
@@ -79,7 +79,7 @@ fn nibble(byte: u8) -> u16
     }
 }
 
-/// The group that a word stands for.
+/// The group of a word.
 fn group(word: &[u8]) -> Result<u16, AddrFault>
     ensures { result ≡ group_of word.now }
 {
@@ -93,7 +93,7 @@ fn group(word: &[u8]) -> Result<u16, AddrFault>
     Ok(group)
 }
 
-/// Appends the groups that a word stands for.
+/// Appends the groups of a word.
 fn push_word(groups: &mut ArrayVec<u16, 8>, word: &[u8]) -> Result<(), AddrFault>
     requires { length groups.old.items + (if has_dot word.now then 2 else 1) ≤ 8 }
     ensures ok { OnOk result (ReadsOnto groups.old.items (word_groups word.now) groups.new.items) }
@@ -109,7 +109,7 @@ fn push_word(groups: &mut ArrayVec<u16, 8>, word: &[u8]) -> Result<(), AddrFault
     Ok(())
 }
 
-/// Appends the groups that a text stands for.
+/// Appends the groups of a text.
 fn push_text(groups: &mut ArrayVec<u16, 8>, text: &[u8]) -> Result<(), AddrFault>
     requires { HasRoom (length groups.old.items) (words_of text.now) }
     ensures ok { OnOk result (ReadsOnto groups.old.items (groups_in (words_of text.now)) groups.new.items) }
@@ -159,7 +159,7 @@ fn whole(text: &[u8]) -> Result<u128, AddrFault>
     Ok(number_of(groups.as_slice()))
 }
 
-/// For how many zero groups two colons between two texts stand.
+/// How many zero groups two colons between two texts are.
 fn gap(front: &[u8], back: &[u8]) -> Option<usize>
     ensures { result ≡ gap_of (group_count false (words_of front.now)) (group_count true (words_of back.now)) }
 {
@@ -185,7 +185,7 @@ fn short(front: &[u8], back: &[u8]) -> Result<u128, AddrFault>
     Ok(number_of(groups.as_slice()))
 }
 
-/// The number of the address that a text with a colon stands for.
+/// The number of the address of a text with a colon.
 pub(crate) fn six(text: &[u8]) -> Result<u128, AddrFault>
     ensures { result ≡ six_of text.now }
 {

@@ -1,14 +1,14 @@
 //! Writing addresses and endpoints.
 ghost use Rattle.std.specs.Prelude.{◌≡◌, ◌+◌, ◌^◌, ◌<◌, ◌≤◌, ◌∷◌, ◌++◌, [], length, Ok};
-ghost use Rattle.addr_core.specs.Decimal.{decimal};
+ghost use Rattle.text_core.specs.Decimal.{decimal};
 ghost use Rattle.addr_core.specs.Dotted.{dotted_text};
 ghost use Rattle.addr_core.specs.Groups.{groups_of, groups_text};
 ghost use Rattle.addr_core.specs.Text.{addr_of, endpoint_of, endpoint_text, host_text, text_limit, text_of, IsAddr, IsEndpoint};
 
 use crate::addr::{Addr, Endpoint};
-use crate::decimal::push_decimal;
 use crate::groups::{groups_of, write_groups};
 use arrayvec::ArrayString;
+use text_core::decimal::push_decimal;
 
 fn push_octet(text: &mut ArrayString<39>, octet: u8)
     requires { length text.old.bytes + 3 ≤ 39 }
@@ -114,8 +114,8 @@ fn endpoint_text(endpoint: &Endpoint) -> ArrayString<47>
     text
 }
 
-/// The endpoint as text: the address, a colon and the port, as `127.0.0.1:80`. An IPv6 address stands
-/// in brackets, as in `[2001:db8::1]:80` (RFC 5952, section 6).
+/// The endpoint as text: the address, a colon and the port, as `127.0.0.1:80`. An IPv6 address is in
+/// brackets, as in `[2001:db8::1]:80` (RFC 5952, section 6).
 pub fn write_endpoint(endpoint: &Endpoint) -> ArrayString<47>
     ensures text { result.bytes ≡ endpoint_text endpoint.now }
 

@@ -5,7 +5,7 @@ use Rattle.list_core.specs.Each.{◌>>=◌}
 use Rattle.addr_core.specs.declared.addr.Addr.TheVariants.{V4}
 use Rattle.addr_core.specs.declared.addr.Endpoint.{Endpoint}
 use Rattle.addr_core.specs.declared.reading.AddrFault.{AddrFault}
-use Rattle.addr_core.specs.Decimal.{decimal_of, number_of}
+use Rattle.text_core.specs.Decimal.{decimal_of, number_of}
 use Rattle.addr_core.specs.Text.{endpoint_of}
 use Rattle.conf_line.specs.declared.fault.ConfKind.{ConfKind}
 use Rattle.conf_line.specs.declared.fault.ConfKind.TheVariants.{MissingWord, ExtraWord, BadNumber, BadAddress, Unsupported}

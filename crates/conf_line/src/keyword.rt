@@ -4,7 +4,7 @@ ghost use Rattle.conf_line.specs.Keywords.{keyword_of, check_keyword};
 
 use crate::fault::ConfKind;
 use crate::statement::SectionKind;
-use word_core::Word;
+use text_core::Word;
 
 /// The first word of a line.
 #[derive(Clone, Copy, Debug, PartialEq, Eq)]

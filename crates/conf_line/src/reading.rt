@@ -15,7 +15,7 @@ use crate::words::{bind_at, end_at, name_at, number_at, word_at};
 use list_core::Stop;
 use proxy_types::Method;
 use std::alloc::Global;
-use word_core::Word;
+use text_core::Word;
 
 fn global<'a>(words: &[Word<'a>]) -> Result<Statement<'a>, ConfKind>
     ensures { result ≡ global_of words.now }

@@ -11,7 +11,7 @@ use crate::words::{name_at, word_at};
 use acl_core::{AclFault, Cond, When, read_cond};
 use list_core::Stop;
 use std::alloc::Global;
-use word_core::Word;
+use text_core::Word;
 
 fn condition(alloc: Global, words: &[Word]) -> Result<Cond, Stop<ConfKind>>
     ensures { Gives result (acl_result (reading.condition_of words.now)) }

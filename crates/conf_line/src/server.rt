@@ -6,7 +6,7 @@ ghost use Rattle.conf_line.specs.Servers.{no_options, server_option, with_weight
 use crate::fault::ConfKind;
 use crate::statement::{LineReading, ServerWords, Statement};
 use crate::words::{address_at, name_at, number_at, word_at};
-use word_core::Word;
+use text_core::Word;
 
 /// What the next word of a server is.
 #[derive(Clone, Copy)]

@@ -2,7 +2,7 @@
 use acl_core::When;
 use addr_core::Endpoint;
 use proxy_types::{KeyType, Method, Stores};
-use word_core::Word;
+use text_core::Word;
 
 /// The kind of a section.
 #[derive(Clone, Copy, Debug, PartialEq, Eq)]

@@ -7,10 +7,9 @@ ghost use Rattle.conf_line.specs.Tables.{unit_of, digits_of, size_at, no_table, 
 use crate::fault::ConfKind;
 use crate::statement::{LineReading, Statement, TableWords};
 use crate::words::number_at;
-use addr_core::parts::cut_at;
 use list_core::newest;
 use proxy_types::{KeyType, Stores};
-use word_core::Word;
+use text_core::{Word, cut_at};
 
 /// What the next word of a table is.
 #[derive(Clone, Copy)]

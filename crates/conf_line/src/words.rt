@@ -3,12 +3,12 @@ ghost use Rattle.std.specs.Prelude.{◌≡◌};
 ghost use Rattle.std.specs.List.{list_all};
 ghost use Rattle.conf_line.specs.Words.{Sees, word_at, end_at, is_name_byte, name_at, number_at, address_at, wildcard_at, star_at, bind_at};
 ghost use Rattle.addr_core.specs.Text.{endpoint_of};
-ghost use Rattle.addr_core.specs.Decimal.{decimal_of};
+ghost use Rattle.text_core.specs.Decimal.{decimal_of};
 
 use crate::fault::ConfKind;
-use addr_core::decimal::{read_decimal, read_number};
 use addr_core::{Addr, Endpoint, read_endpoint};
-use word_core::Word;
+use text_core::Word;
+use text_core::decimal::{read_decimal, read_number};
 
 /// A word, and the words after it.
 pub fn word_at<'a, 'w>(words: &'w [Word<'a>]) -> Result<(&'w Word<'a>, &'w [Word<'a>]), ConfKind>

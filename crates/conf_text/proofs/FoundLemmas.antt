@@ -3,15 +3,16 @@ use Rattle.std.proofs.Common.{◌≡◌, ℕ, ◌≤◌, ◌<◌, Bool, true, fa
 use Rattle.std.proofs.lemmas.Bool.Decides.{nat_tests}
 use Rattle.list_core.specs.Each.{each, IsRead}
 use Rattle.list_core.proofs.EachLaws.{each_ok, each_err}
-use Rattle.conf_text.specs.Parts.{parts, is_line_feed}
+use Rattle.text_core.specs.Parts.{parts, is_line_feed}
+use Rattle.conf_text.specs.declared.line.TheConstants.{MOST_BYTES}
 use Rattle.conf_text.specs.Lines.{lines_of, next_line, text_too_long, AreLines, IsTextFault}
 use Rattle.conf_text.specs.declared.line.Line.{Line}
 use Rattle.conf_text.specs.declared.line.LineFault.{LineFault}
 
-long : (n : ℕ) → nat_lt 1048576 n ≡ true → 1048576 < n
+long : (n : ℕ) → nat_lt MOST_BYTES n ≡ true → MOST_BYTES < n
 long n test = grind (arith, nat_tests)
 
-short : (n : ℕ) → nat_lt 1048576 n ≡ false → n ≤ 1048576
+short : (n : ℕ) → nat_lt MOST_BYTES n ≡ false → n ≤ MOST_BYTES
 short n test = grind (arith, nat_tests)
 
 -- by whether the text is too long
@@ -19,9 +20,9 @@ read_by : List ℕ → Bool → Result (List Line) LineFault
 read_by text b = if b then Err text_too_long else each next_line [] (parts is_line_feed text)
 
 pub found : (text : List ℕ) (lines : List Line) → lines_of text ≡ Ok lines → AreLines text lines
-found text lines is = by (nat_lt 1048576 (length text)) refl
+found text lines is = by (nat_lt MOST_BYTES (length text)) refl
   where
-    by : (b : Bool) → nat_lt 1048576 (length text) ≡ b → AreLines text lines
+    by : (b : Bool) → nat_lt MOST_BYTES (length text) ≡ b → AreLines text lines
     by true test = let wrong : Err text_too_long ≡ Ok lines = rw test at is in absurd cc
     by false test =
         let reads : each next_line [] (parts is_line_feed text) ≡ Ok lines = rw test at is in
@@ -30,9 +31,9 @@ found text lines is = by (nat_lt 1048576 (length text)) refl
         (short (length text) test, subst P (sym more.1) more.2)
 
 pub fault_found : (text : List ℕ) (fault : LineFault) → lines_of text ≡ Err fault → IsTextFault text fault
-fault_found text fault is = by (nat_lt 1048576 (length text)) refl
+fault_found text fault is = by (nat_lt MOST_BYTES (length text)) refl
   where
-    by : (b : Bool) → nat_lt 1048576 (length text) ≡ b → IsTextFault text fault
+    by : (b : Bool) → nat_lt MOST_BYTES (length text) ≡ b → IsTextFault text fault
     by true test =
         let same : Err text_too_long ≡ Err fault = rw test at is in
         let f_is : fault ≡ text_too_long = cc in

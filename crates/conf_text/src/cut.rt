@@ -1,26 +1,27 @@
-//! Texts in parts.
+//! Lines of a text, and words of a line.
 ghost use Rattle.std.specs.Prelude.{◌≡◌, ◌<◌, ◌∷◌, length, IfOk};
-ghost use Rattle.conf_text.specs.Parts.{parts, before, is_line_feed, is_hash, is_blank, without_return, words_in};
+ghost use Rattle.text_core.specs.Parts.{parts, before, is_line_feed};
+ghost use Rattle.conf_text.specs.Parts.{is_hash, is_blank, without_return, words_in};
 
 use list_core::Seq;
 use memchr::{memchr, memchr2};
 use std::alloc::{AllocError, Global};
-use word_core::Word;
+use text_core::{Word, cut_line};
 
-/// The first line, and what stands after it.
-pub fn cut_line(text: &[u8]) -> (&[u8], &[u8])
+/// The first line, and the text after it. The last line may lack its LF.
+pub fn first_line(text: &[u8]) -> (&[u8], &[u8])
     requires { 0 < length text.now }
     ensures parts { parts is_line_feed text.now ≡ result.0.now ∷ parts is_line_feed result.1.now }
     ensures less { length result.1.now < length text.now }
 {
-    match memchr(b'\n', text) {
-        Some(at) => (&text[..at], &text[at + 1..]),
+    match cut_line(text) {
+        Some(cut) => cut,
         None => (text, &text[text.len()..]),
     }
 }
 
-/// The first part of a line before a blank, and what stands after it.
-fn cut_word(text: &[u8]) -> (&[u8], &[u8])
+/// The part of a line before its first blank, and the line after it.
+fn first_part(text: &[u8]) -> (&[u8], &[u8])
     requires { 0 < length text.now }
     ensures parts { parts is_blank text.now ≡ result.0.now ∷ parts is_blank result.1.now }
     ensures less { length result.1.now < length text.now }
@@ -31,7 +32,7 @@ fn cut_word(text: &[u8]) -> (&[u8], &[u8])
     }
 }
 
-/// What stands before a comment.
+/// The line before its comment.
 pub fn without_comment(line: &[u8]) -> &[u8]
     ensures { result.now ≡ before is_hash line.now }
 {
@@ -58,7 +59,7 @@ pub fn words(alloc: Global, code: &[u8]) -> Result<Seq<Word>, AllocError>
     let mut words = Seq::new(alloc);
     let mut rest = code;
     while !rest.is_empty() {
-        let (part, after) = cut_word(rest);
+        let (part, after) = first_part(rest);
         rest = after;
         if !part.is_empty() {
             words.push(Word::of(part))?;

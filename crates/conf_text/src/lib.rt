@@ -4,7 +4,7 @@
 //! line is words between blanks, and `#` begins a comment.
 #![tactic(auto)]
 
-pub use line::{Line, LineFault, LineKind};
+pub use line::{Line, LineFault, LineKind, MOST_BYTES, MOST_BYTES_OF_LINE, MOST_LINES, MOST_WORDS};
 pub use lines::Lines;
 
 mod cut;

@@ -2,10 +2,22 @@
 use list_core::Seq;
 use std::error::Error;
 use std::fmt;
-use word_core::Word;
+use text_core::Word;
+
+/// The most bytes that a text has.
+pub const MOST_BYTES: usize = 1_048_576;
+
+/// The most lines that a text has.
+pub const MOST_LINES: u32 = 65_535;
+
+/// The most bytes that a line has, its comment counted, its end not: HAProxy has 2,048 too.
+pub const MOST_BYTES_OF_LINE: usize = 2_048;
+
+/// The most words that a line has: HAProxy has 64 too.
+pub const MOST_WORDS: usize = 64;
 
 /// A line by its number, the first being 1, and its words. A line may have no word.
-#[derive(Debug, Drop)]
+#[derive(Drop)]
 pub struct Line<'a> {
     pub number: u32,
     pub words: Seq<Word<'a>>,
@@ -14,18 +26,17 @@ pub struct Line<'a> {
 /// What is wrong with a line. Where several hold of one line, it is the first of them in this order.
 #[derive(Clone, Copy, Debug, PartialEq, Eq)]
 pub enum LineKind {
-    /// More than 2,048 bytes, its comment counted, its line end not. On line 0: a text of more than
-    /// 1,048,576 bytes.
+    /// More than `MOST_BYTES_OF_LINE` bytes. On line 0: a text of more than `MOST_BYTES`.
     TooLong,
-    /// More than 64 words.
+    /// More than `MOST_WORDS` words.
     TooManyWords,
-    /// More than 65,535 lines.
+    /// More than `MOST_LINES` lines.
     TooManyLines,
     /// `"`, `'` or `\` outside a comment.
     Quoting,
     /// A character outside a comment that is neither a blank nor one of 0x21 to 0x7E.
     NotAscii,
-    /// There was no memory. This says nothing of the text, and stands on line 0.
+    /// There was no memory. This says nothing of the text, and is on line 0.
     NoMemory,
 }
 

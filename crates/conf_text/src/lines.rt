@@ -6,7 +6,7 @@ use std::alloc::Global;
 use std::marker::Model;
 
 /// The lines of a text in turn. Contracts see their list.
-#[derive(Debug, Drop)]
+#[derive(Drop)]
 pub struct Lines<'a> {
     items: Seq<Line<'a>>,
 }
@@ -35,7 +35,7 @@ impl<'a> Lines<'a> {
         // Each line is what its part of the text says by itself.
         ensures found { IfOk result (λ lines. AreLines text.now lines) }
 
-        // A fault is that of the least line that has one, or of the text's length.
+        // A fault is that of the first line that has one, or of the text's length.
         ensures fault { IfErr result (λ fault. (fault ≡ no_memory) ⊎ IsTextFault text.now fault) }
     {
         match read_lines(alloc, text) {

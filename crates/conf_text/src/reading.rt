@@ -4,18 +4,12 @@ ghost use Rattle.std.specs.List.{list_all, list_any};
 ghost use Rattle.list_core.specs.Each.{Gives};
 ghost use Rattle.conf_text.specs.Lines.{is_quoting, is_plain, judged_code, judged_line, lines_of};
 
-use crate::cut::{cut_line, without_comment, without_return, words};
-use crate::line::{Line, LineFault, LineKind};
+use crate::cut::{first_line, without_comment, without_return, words};
+use crate::line::{
+    Line, LineFault, LineKind, MOST_BYTES, MOST_BYTES_OF_LINE, MOST_LINES, MOST_WORDS,
+};
 use list_core::{Seq, Stop};
 use std::alloc::Global;
-
-const MOST_BYTES: usize = 1_048_576;
-
-const MOST_LINES: u32 = 65_535;
-
-const MOST_BYTES_OF_LINE: usize = 2_048;
-
-const MOST_WORDS: usize = 64;
 
 fn has_quoting(code: &[u8]) -> bool
     ensures { result ≡ list_any is_quoting code.now }
@@ -33,7 +27,7 @@ fn is_plain(code: &[u8]) -> bool
 
 fn read_code(alloc: Global, number: u32, code: &[u8]) -> Result<Line, Stop<LineKind>>
     ensures reads { Gives result (judged_code number code.now) }
-    ensures number { IfOk result (λ _. number ≤ 65535) }
+    ensures number { IfOk result (λ _. number ≤ MOST_LINES) }
 {
     let words = words(alloc, code)?;
     if words.len() > MOST_WORDS {
@@ -53,7 +47,7 @@ fn read_code(alloc: Global, number: u32, code: &[u8]) -> Result<Line, Stop<LineK
 
 fn read_line(alloc: Global, number: u32, line: &[u8]) -> Result<Line, Stop<LineKind>>
     ensures reads { Gives result (judged_line number line.now) }
-    ensures number { IfOk result (λ _. number ≤ 65535) }
+    ensures number { IfOk result (λ _. number ≤ MOST_LINES) }
 {
     if line.len() > MOST_BYTES_OF_LINE {
         return Err(Stop::Fault(LineKind::TooLong));
@@ -61,7 +55,7 @@ fn read_line(alloc: Global, number: u32, line: &[u8]) -> Result<Line, Stop<LineK
     read_code(alloc, number, without_comment(line))
 }
 
-/// The lines of a text, each with its words, or the first fault of the least faulty line.
+/// The lines of a text, each with its words, or the first fault of the first faulty line.
 pub fn read_lines(alloc: Global, text: &str) -> Result<Seq<Line>, Stop<LineFault>>
     ensures { Gives result (lines_of text.now) }
 {
@@ -75,7 +69,7 @@ pub fn read_lines(alloc: Global, text: &str) -> Result<Seq<Line>, Stop<LineFault
     let mut rest = text.as_bytes();
     let mut number = 1;
     while !rest.is_empty() {
-        let (line, after) = cut_line(rest);
+        let (line, after) = first_line(rest);
         rest = after;
         match read_line(alloc, number, without_return(line)) {
             Ok(line) => lines.push(line)?,

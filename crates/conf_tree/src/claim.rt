@@ -10,7 +10,7 @@ use conf_line::Statement;
 use list_core::Seq;
 use std::alloc::{AllocError, Global};
 use std::marker::Model;
-use word_core::Word;
+use text_core::Word;
 
 /// What a line claims for itself in the whole text.
 #[derive(Drop)]

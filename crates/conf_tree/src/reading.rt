@@ -13,7 +13,7 @@ use conf_line::{ConfFault, ConfKind, LineReading, SectionKind, Statement, read_l
 use conf_text::{Line, LineKind, Lines};
 use list_core::{Seq, Stop, newest};
 use std::alloc::{AllocError, Global};
-use word_core::Word;
+use text_core::Word;
 
 /// Before any section.
 fn outside<'a>() -> Place<'a>

@@ -2,7 +2,7 @@
 use conf_line::{SectionKind, Statement};
 use list_core::Seq;
 use std::marker::Model;
-use word_core::Word;
+use text_core::Word;
 
 /// The section in which a line stands. A line that opens a section stands in that section.
 #[derive(Debug, Drop)]

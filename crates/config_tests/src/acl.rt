@@ -7,7 +7,7 @@ use addr_core::{Addr, Net};
 use list_core::{Duplicate, Seq};
 use std::alloc::Global;
 use std::test::Fail;
-use word_core::Word;
+use text_core::Word;
 
 /// A connection of which no more is known than one value, if that.
 #[derive(Drop)]

@@ -12,7 +12,7 @@ use crate::proxies::{Proxy, is_frontend};
 use crate::tables::{action_of, number_of};
 use conf_tree::{ConfigLine, Statement};
 use plan_types::{Backend, Table};
-use word_core::Word;
+use text_core::Word;
 
 fn kind_number(kind: PlanKind) -> u8
     ensures { result ≡ kind_number kind }

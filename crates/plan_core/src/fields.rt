@@ -8,7 +8,7 @@ use list_core::Seq;
 use plan_types::{Bind, Server};
 use proxy_types::Method;
 use std::alloc::{AllocError, Global};
-use word_core::Word;
+use text_core::Word;
 
 /// A name, and the line that has it.
 #[derive(Drop)]

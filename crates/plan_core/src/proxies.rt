@@ -8,7 +8,7 @@ use list_core::Seq;
 use plan_types::Section;
 use std::alloc::{AllocError, Global};
 use std::marker::Model;
-use word_core::Word;
+use text_core::Word;
 
 /// Lines of a configuration, which borrow it. Contracts see their list.
 #[derive(Drop)]

@@ -10,7 +10,7 @@ use conf_tree::{ConfigLine, Ruleset, Statement};
 use list_core::{Duplicate, Seq};
 use plan_types::{Action, Rule, Section, Table};
 use std::alloc::{AllocError, Global};
-use word_core::Word;
+use text_core::Word;
 
 /// The table of a section.
 fn table_in(alloc: Global, proxy: &Proxy) -> Result<Option<Table>, AllocError>

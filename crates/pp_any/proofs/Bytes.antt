@@ -18,7 +18,7 @@ use Rattle.pp_any.specs.declared.fed.Fed.TheVariants as feds
 use Rattle.pp_any.specs.Faults.{of_head}
 use Rattle.pp_any.specs.Status.{status, said, early_fault, head_said, is_line, line_said}
 use Rattle.pp_any.specs.Rest.{IsInHead, IsInLine, IsRest, IsWholeHead, rest_of, rest_after, rest_in_block}
-use Rattle.pp_any.specs.Fed.{Answers, told_by, used_in}
+use Rattle.pp_any.specs.Fed.{Answers, answer_of, used_in}
 use Rattle.pp_any.proofs.Feeding.{answers_at, is_line-append, status-waits}
 
 -- one more byte of the piece
@@ -44,7 +44,7 @@ said_in_line bytes x now inside one =
     (ap is_line one ∙ line, rw line (ap line_said (sym one)))
 
 pub line_answers : (b piece : List ℕ) (k : ℕ) (bytes now : List ℕ) (s : Result Meaning HeaderFault) → bytes ≡ b ++ take k piece → k < length piece → IsInLine bytes
-    → now ≡ bytes ++ get_or piece k 0 ∷ [] → line_said now ≡ Some s → Answers b piece (told_by s (k + 1))
+    → now ≡ bytes ++ get_or piece k 0 ∷ [] → line_said now ≡ Some s → Answers b piece (answer_of s (k + 1))
 line_answers b piece k bytes now s is within inside one here =
     answers_at b piece k bytes s is within inside.waits ((said_in_line bytes (get_or piece k 0) now inside one).1 ∙ here)
 
@@ -102,7 +102,7 @@ head_is_whole b piece k bytes now is within inside one all =
 
 -- ---- bytes that are held themselves
 
-held_by : (b : List ℕ) (held : ArrayVec ℕ) → rest_of b ≡ Read held → b ≡ held.items
+pub held_by : (b : List ℕ) (held : ArrayVec ℕ) → rest_of b ≡ Read held → b ≡ held.items
 held_by b held is = by (is_line b || nat_lt (length b) 16) (head_of (take 16 b)) refl refl
   where
     same : (bytes : List ℕ) → Read (record { items = bytes }) ≡ Read held → bytes ≡ held.items
@@ -121,6 +121,6 @@ held_by b held is = by (is_line b || nat_lt (length b) 16) (head_of (take 16 b))
 
 -- a parser that holds bytes answers for them
 pub held_answers : (b bytes piece : List ℕ) (rest : Rest) (fed : Fed) → IsRest b rest → rest ≡ Read (record { items = bytes }) → Answers bytes piece fed → Answers b piece fed
-held_answers b bytes piece rest fed stands is answers =
+held_answers b bytes piece rest fed is_rest is answers =
     let P : List ℕ → Type 0 = λ e. Answers e piece fed in
-    subst P (sym (held_by b (record { items = bytes }) (stands.1 ∙ is))) answers
+    subst P (sym (held_by b (record { items = bytes }) (is_rest.1 ∙ is))) answers

@@ -6,17 +6,17 @@ use Rattle.pp_v1.specs.declared.meaning.Meaning.{Meaning}
 use Rattle.pp_any.specs.declared.fault.HeaderFault.{HeaderFault}
 use Rattle.pp_any.specs.declared.fed.Fed.{Fed}
 use Rattle.pp_any.specs.declared.fed.Fed.TheVariants as feds
-use Rattle.pp_any.specs.Status.{Whole, Fault, Wait, told, status_from, status, said, is_line}
+use Rattle.pp_any.specs.Status.{Whole, Fault, Wait, decided_at, status_from, status, said, is_line}
 use Rattle.pp_any.specs.Rest.{IsRest}
-use Rattle.pp_any.specs.Fed.{Answers, later, told_by}
+use Rattle.pp_any.specs.Fed.{Answers, later, answer_of}
 use Rattle.pp_any.proofs.Steps.{status_from-append}
 
 -- one more byte after bytes that wait
-pub status-step : (b : List ℕ) (x : ℕ) (c : List ℕ) → status b ≡ Wait → status (b ++ x ∷ c) ≡ told (length b + 1) (said (b ++ x ∷ [])) (status_from said (b ++ x ∷ []) c)
+pub status-step : (b : List ℕ) (x : ℕ) (c : List ℕ) → status b ≡ Wait → status (b ++ x ∷ c) ≡ decided_at (length b + 1) (said (b ++ x ∷ [])) (status_from said (b ++ x ∷ []) c)
 status-step b x c waits = status_from-append said [] b (x ∷ c) waits
 
 pub status-waits : (b : List ℕ) (x : ℕ) → status b ≡ Wait → said (b ++ x ∷ []) ≡ None → status (b ++ x ∷ []) ≡ Wait
-status-waits b x waits none = status-step b x [] waits ∙ ap (λ o. told (length b + 1) o Wait) none
+status-waits b x waits none = status-step b x [] waits ∙ ap (λ o. decided_at (length b + 1) o Wait) none
 
 -- bytes that are joined
 pub joined_at : (b piece : List ℕ) (k : ℕ) (bytes : List ℕ) → bytes ≡ b ++ take k piece → bytes ++ drop k piece ≡ b ++ piece
@@ -27,9 +27,9 @@ length_at b piece k bytes is within = ap length is ∙ length-append b (take k p
 
 -- what is said at a byte of the piece is the answer
 pub answers_at : (b piece : List ℕ) (k : ℕ) (bytes : List ℕ) (s : Result Meaning HeaderFault) → bytes ≡ b ++ take k piece → k < length piece
-    → status bytes ≡ Wait → said (bytes ++ get_or piece k 0 ∷ []) ≡ Some s → Answers b piece (told_by s (k + 1))
+    → status bytes ≡ Wait → said (bytes ++ get_or piece k 0 ∷ []) ≡ Some s → Answers b piece (answer_of s (k + 1))
 answers_at b piece k bytes s is within waits here =
-    by s (ap status whole ∙ status-step bytes (get_or piece k 0) (drop (k + 1) piece) waits ∙ ap (λ o. told (length bytes + 1) o (status_from said (bytes ++ get_or piece k 0 ∷ []) (drop (k + 1) piece))) here)
+    by s (ap status whole ∙ status-step bytes (get_or piece k 0) (drop (k + 1) piece) waits ∙ ap (λ o. decided_at (length bytes + 1) o (status_from said (bytes ++ get_or piece k 0 ∷ []) (drop (k + 1) piece))) here)
   where
     whole : b ++ piece ≡ bytes ++ get_or piece k 0 ∷ drop (k + 1) piece
     whole = sym (joined_at b piece k bytes is) ∙ ap (λ e. bytes ++ e) (drop_more piece k 0 within)
@@ -37,11 +37,11 @@ answers_at b piece k bytes s is within waits here =
     count : length bytes + 1 ≡ length b + (k + 1)
     count = let l = length_at b piece k bytes is (omega arith) in omega arith
 
-    by : (s : Result Meaning HeaderFault) → status (b ++ piece) ≡ told (length bytes + 1) (Some s) (status_from said (bytes ++ get_or piece k 0 ∷ []) (drop (k + 1) piece)) → Answers b piece (told_by s (k + 1))
+    by : (s : Result Meaning HeaderFault) → status (b ++ piece) ≡ decided_at (length bytes + 1) (Some s) (status_from said (bytes ++ get_or piece k 0 ∷ []) (drop (k + 1) piece)) → Answers b piece (answer_of s (k + 1))
     by (Ok meaning) found = (omega arith, found ∙ ap (λ n. Whole n meaning) count)
     by (Err fault) found = (omega arith, found ∙ ap (λ n. Fault fault n) count)
 
--- the answer to what is left of a piece, told of the whole piece
+-- the answer to the rest of a piece, as one to the whole piece
 pub answers_later : (b piece : List ℕ) (k : ℕ) (bytes : List ℕ) (fed : Fed) → bytes ≡ b ++ take k piece → k ≤ length piece
     → Answers bytes (drop k piece) fed → Answers b piece (later k fed)
 answers_later b piece k bytes (feds.More parser) is within answers = let P : List ℕ → Type 0 = λ e. IsRest e parser in subst P (joined_at b piece k bytes is) answers
@@ -58,7 +58,7 @@ answers_later b piece k bytes (feds.Bad fault used) is within answers =
     let count : length bytes + used ≡ length b + (used + k) = omega arith in
     (omega arith, ap status (sym (joined_at b piece k bytes is)) ∙ answers.1 ∙ ap (λ n. Fault fault n) count)
 
--- the version stands at the first byte
+-- the first byte says the version
 pub is_line-append : (b c : List ℕ) → 0 < length b → is_line (b ++ c) ≡ is_line b
 is_line-append [] c some = absurd (omega arith)
 is_line-append (x ∷ b) c some = refl

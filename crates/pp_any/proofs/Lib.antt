@@ -4,8 +4,9 @@ pub mod Blocks
 pub mod Rests
 pub mod Heads
 pub mod Bytes
-pub mod Least
+pub mod First
 pub mod Wholes
 pub mod Pieces
 pub mod Lines
 pub mod WrittenLines
+pub mod Same

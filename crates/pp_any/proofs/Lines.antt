@@ -3,20 +3,22 @@ use Rattle.std.proofs.Common.{◌≡◌, ◌⊎◌, ℕ, zero, suc, ◌+◌, ◌
 use Rattle.std.specs.Prelude.{Result, Ok, Err, codes, nat_le, not, ◌==◌, if◌then◌else◌}
 use Rattle.std.specs.Option.{option_map}
 use Rattle.std.proofs.lemmas.Bool.Decides.{nat_tests}
-use Rattle.std.proofs.lemmas.List.{append-nil, length-take-le, take-append-drop, take-append-le, take_all, take_at, get_or-take}
+use Rattle.std.proofs.lemmas.List.{append-nil, length-take-le, take-append-drop, take-append-le, take_all, take_at, take-take, get_or-take}
+use Rattle.pp_v1.specs.declared.TheConstants.{LINE_LIMIT}
 use Rattle.pp_v1.specs.declared.meaning.Meaning.{Meaning}
 use Rattle.pp_v1.specs.declared.reading.V1Fault.{V1Fault}
-use Rattle.pp_v1.specs.Line.{line_meaning}
+use Rattle.pp_v1.specs.Line.{ends_line, line_meaning, IsLine}
 use Rattle.pp_v2.specs.declared.head.Head.{Head}
 use Rattle.pp_v2.specs.declared.fault.V2Fault.{V2Fault}
 use Rattle.pp_v2.specs.Head.{head_of}
 use Rattle.pp_any.specs.declared.fault.HeaderFault.{HeaderFault}
 use Rattle.pp_any.specs.declared.fault.HeaderFault.TheVariants.{NotProxy, TooLong}
 use Rattle.pp_any.specs.Faults.{of_head, of_line}
-use Rattle.pp_any.specs.Status.{Whole, block_said, early_fault, ends_line, fault_in_line, is_line, last_differs, meaning_in, meaning_of_line, said, status}
-use Rattle.pp_any.specs.Header.{IsBlock, IsHeader, IsLine, StandsFirst}
+use Rattle.pp_any.specs.Status.{Whole, block_said, early_fault, fault_in_line, is_line, last_differs, meaning_in, meaning_of_line, said, status}
+use Rattle.pp_any.specs.Header.{IsBlock, IsDecidedAt, IsHeader, SaysInLine}
 use Rattle.pp_any.proofs.Steps.{Say}
-use Rattle.pp_any.proofs.Least.{first_of_status, status_first}
+use Rattle.pp_any.specs.Rest.{IsNextInLine}
+use Rattle.pp_any.proofs.First.{first_of_status, status_first, waits_nowhere}
 use Rattle.pp_any.proofs.Wholes.{block_is_whole}
 
 past_six : (n : ℕ) → 6 < n → nat_le n 6 ≡ false
@@ -62,8 +64,8 @@ longer : (rest : List ℕ) → ends_line (codes "PROXY " ++ rest) ≡ true → 6
 longer [] ends = absurd cc
 longer (x ∷ rest) ends = omega arith
 
-first_of_line : (b rest : List ℕ) (meaning : Meaning) → b ≡ codes "PROXY " ++ rest → IsLine b meaning → (k : ℕ) → 0 < k → k < length b → said (take k b) ≡ None
-first_of_line b rest meaning is line k some less = by (nat_le k 6) refl
+first_of_line : (b rest : List ℕ) → b ≡ codes "PROXY " ++ rest → IsLine b → (k : ℕ) → 0 < k → k < length b → said (take k b) ≡ None
+first_of_line b rest is line k some less = by (nat_le k 6) refl
   where
     by : (t : Bool) → nat_le k 6 ≡ t → said (take k b) ≡ None
     by true test = let few : k ≤ 6 = grind (arith, nat_tests) in ap (λ e. said (take k e)) is ∙ none_at_beginning rest k some few
@@ -73,13 +75,13 @@ first_of_line b rest meaning is line k some less = by (nat_le k 6) refl
         let l : length (take k b) ≡ k = length-take-le k b (omega arith) in
         none_past_six (take k b) (ap (λ e. is_line (take k e)) is ∙ line_at rest k some) (omega arith) (line.first k past less) (omega arith)
 
-pub line_is_whole : (b : List ℕ) (meaning : Meaning) → IsLine b meaning → (c : List ℕ) → status (b ++ c) ≡ Whole (length b) meaning
+pub line_is_whole : (b : List ℕ) (meaning : Meaning) → SaysInLine b meaning → (c : List ℕ) → status (b ++ c) ≡ Whole (length b) meaning
 line_is_whole b meaning line c =
-    let is : b ≡ codes "PROXY " ++ drop 6 b = sym (take-append-drop 6 b) ∙ ap (λ e. e ++ drop 6 b) line.begins in
-    let ends : ends_line (codes "PROXY " ++ drop 6 b) ≡ true = ap ends_line (sym is) ∙ line.ends in
+    let is : b ≡ codes "PROXY " ++ drop 6 b = sym (take-append-drop 6 b) ∙ ap (λ e. e ++ drop 6 b) line.line.begins in
+    let ends : ends_line (codes "PROXY " ++ drop 6 b) ≡ true = ap ends_line (sym is) ∙ line.line.ends in
     let past : 6 < length b = let more = longer (drop 6 b) ends in let l = ap length is in omega arith in
     let here : said b ≡ Some (Ok meaning) =
-    said_past_six b true (ap is_line is) past line.ends ∙ ap (λ r. Some r) (meaning_is b meaning line.says) in
+    said_past_six b true (ap is_line is) past line.line.ends ∙ ap (λ r. Some r) (meaning_is b meaning line.says) in
     let l = length-append b c in
     status_first (b ++ c) (length b) (Ok meaning) (record {
       some = omega arith;
@@ -87,7 +89,7 @@ line_is_whole b meaning line c =
       here = ap said (take_at b c (length b) refl) ∙ here;
       first = λ k some less.
           let fits : k ≤ length b = omega arith in
-          ap said (take-append-le k b c fits) ∙ first_of_line b (drop 6 b) meaning is line k some less;
+          ap said (take-append-le k b c fits) ∙ first_of_line b (drop 6 b) is line.line k some less;
     })
 
 -- ---- a header is a line or a block
@@ -111,7 +113,7 @@ few_bytes n few = grind (arith, nat_tests)
 same_byte : (m n : ℕ) → not (m == n) ≡ false → m ≡ n
 same_byte m n test = grind (arith, nat_tests)
 
--- a byte of the beginning at which nothing stands is that of PROXY and a space
+-- a byte of the beginning that decides nothing is that of PROXY and a space
 beginning_at : (b : List ℕ) (k : ℕ) → is_line b ≡ true → k < 6 → k < length b → said (take (k + 1) b) ≡ None → get_or b k 0 ≡ get_or (codes "PROXY ") k 0
 beginning_at [] k line few within none = absurd (omega arith)
 beginning_at (x ∷ b) k line few within none = by (last_differs (codes "PROXY ") (take (k + 1) (x ∷ b))) refl
@@ -160,6 +162,12 @@ line_front [] k line some = absurd cc
 line_front (x ∷ b) zero line some = absurd (omega arith)
 line_front (x ∷ b) (suc k) line some = line
 
+line_of_front : (b : List ℕ) (k : ℕ) → is_line (take k b) ≡ true → is_line b ≡ true
+line_of_front [] zero line = absurd cc
+line_of_front [] (suc k) line = absurd cc
+line_of_front (x ∷ b) zero line = absurd cc
+line_of_front (x ∷ b) (suc k) line = line
+
 no_end_before : (b : List ℕ) (k : ℕ) → is_line b ≡ true → 6 < k → k < length b → said (take k b) ≡ None → ends_line (take k b) ≡ false
 no_end_before b k line past less none = by (ends_line (take k b)) refl
   where
@@ -184,10 +192,27 @@ within_limit b line first = by (nat_le (length b) 107) refl
         sym (said_past_six (take 107 b) false (line_front b 107 line (omega arith)) (omega arith) (no_end_before b 107 line (omega arith) more none) ∙ rw full refl) ∙ none in
         absurd cc
 
-is_the_line : (b : List ℕ) (meaning : Meaning) → is_line b ≡ true → said b ≡ Some (Ok meaning) → ((k : ℕ) → 0 < k → k < length b → said (take k b) ≡ None) → IsLine b meaning
+-- bytes that end a line and are decided by no byte before are a line
+line_of : (b : List ℕ) → is_line b ≡ true → 6 < length b → ends_line b ≡ true → length b ≤ LINE_LIMIT → ((k : ℕ) → 0 < k → k < length b → said (take k b) ≡ None) → IsLine b
+line_of b line past ends short first = record {
+  begins = six_bytes b past (λ k few. beginning_at b k line few (omega arith) (first (k + 1) (omega arith) (omega arith)));
+  ends = ends;
+  first = λ k more less. no_end_before b k line more less (first k (omega arith) less);
+  short = short;
+}
+
+-- a byte that ends a line that waits
+pub next_is_line : (b : List ℕ) → IsNextInLine b → 6 < length b → ends_line b ≡ true → IsLine b
+next_is_line b next past ends =
+    let l : length (take (length b - 1) b) ≡ length b - 1 = length-take-le (length b - 1) b (omega arith) in
+    let room = next.front.room in
+    line_of b (line_of_front b (length b - 1) next.front.line) past ends (omega arith)
+    (λ k some less. ap said (sym (take-take k (length b - 1) b (omega arith))) ∙ waits_nowhere (take (length b - 1) b) next.front.waits k some (omega arith))
+
+is_the_line : (b : List ℕ) (meaning : Meaning) → is_line b ≡ true → said b ≡ Some (Ok meaning) → ((k : ℕ) → 0 < k → k < length b → said (take k b) ≡ None) → SaysInLine b meaning
 is_the_line b meaning line here first = by (nat_le (length b) 6) (ends_line b) refl refl
   where
-    by : (t e : Bool) → nat_le (length b) 6 ≡ t → ends_line b ≡ e → IsLine b meaning
+    by : (t e : Bool) → nat_le (length b) 6 ≡ t → ends_line b ≡ e → SaysInLine b meaning
     by true e test ends = absurd (early (last_differs (codes "PROXY ") b) refl)
       where
         early : (d : Bool) → last_differs (codes "PROXY ") b ≡ d → ⊥
@@ -202,13 +227,7 @@ is_the_line b meaning line here first = by (nat_le (length b) 6) (ends_line b) r
         let past : 6 < length b = six_past (length b) test in
         let same : ◌≡◌ {A = Say} (Some (meaning_of_line b)) (Some (Ok meaning)) = sym (said_past_six b true line past ends) ∙ here in
         let means : meaning_of_line b ≡ Ok meaning = cc in
-        record {
-          begins = six_bytes b past (λ k few. beginning_at b k line few (omega arith) (first (k + 1) (omega arith) (omega arith)));
-          ends = ends;
-          first = λ k more less. no_end_before b k line more less (first k (omega arith) less);
-          short = within_limit b line first;
-          says = says_meaning b meaning means;
-        }
+        record { line = line_of b line past ends (within_limit b line first) first; says = says_meaning b meaning means }
 
 is_the_block : (b : List ℕ) (meaning : Meaning) → is_line b ≡ false → said b ≡ Some (Ok meaning) → IsBlock b meaning
 is_the_block b meaning line here = by (nat_le 16 (length b)) (head_of (take 16 b)) refl refl
@@ -233,19 +252,19 @@ is_the_block b meaning line here = by (nat_le 16 (length b)) (head_of (take 16 b
             let means : meaning_in head.declares (drop 16 b) ≡ meaning = cc in
             record { head = head; past = grind (arith, nat_tests); says = says; all = grind (arith, nat_tests); means = sym means }
 
-pub header_is : (b : List ℕ) (meaning : Meaning) → IsHeader b meaning → IsLine b meaning ⊎ IsBlock b meaning
+pub header_is : (b : List ℕ) (meaning : Meaning) → IsHeader b meaning → SaysInLine b meaning ⊎ IsBlock b meaning
 header_is b meaning is = by (is_line b) refl
   where
-    f : StandsFirst b (length b) (Ok meaning)
+    f : IsDecidedAt b (length b) (Ok meaning)
     f = first_of_status b (length b) (Ok meaning) is
 
     here : said b ≡ Some (Ok meaning)
     here = ap said (sym (take_all (length b) b (omega arith))) ∙ f.here
 
-    by : (t : Bool) → is_line b ≡ t → IsLine b meaning ⊎ IsBlock b meaning
+    by : (t : Bool) → is_line b ≡ t → SaysInLine b meaning ⊎ IsBlock b meaning
     by true line = inl (is_the_line b meaning line here f.first)
     by false line = inr (is_the_block b meaning line here)
 
-pub header_of_either : (b : List ℕ) (meaning : Meaning) → IsLine b meaning ⊎ IsBlock b meaning → IsHeader b meaning
+pub header_of_either : (b : List ℕ) (meaning : Meaning) → SaysInLine b meaning ⊎ IsBlock b meaning → IsHeader b meaning
 header_of_either b meaning (inl line) = ap status (sym (append-nil b)) ∙ line_is_whole b meaning line []
 header_of_either b meaning (inr block) = ap status (sym (append-nil b)) ∙ block_is_whole b meaning block []

@@ -9,7 +9,7 @@ use Rattle.pp_any.specs.declared.rest.Rest.{Rest}
 use Rattle.pp_any.specs.Status.{status}
 use Rattle.pp_any.specs.Rest.{IsRest}
 use Rattle.pp_any.specs.Fed.{joined}
-use Rattle.pp_any.proofs.Least.{decided_once, given, given_no_wait}
+use Rattle.pp_any.proofs.First.{decided_once, given, given_no_wait}
 
 abbrev Piece : Type 0
 Piece = Bor (List ℕ)
@@ -44,12 +44,12 @@ decided_by b before piece after all read used s is count found =
     ∙ decided_once ((b ++ before) ++ piece) after (λ waits. given_no_wait (length (b ++ before) + used) s (sym found ∙ waits))
     ∙ found ∙ ap (λ n. given n s) number
 
-pub stands_after : (b before piece more : List ℕ) (rest : Rest) → more ≡ before ++ piece → IsRest ((b ++ before) ++ piece) rest → IsRest (b ++ more) rest
-stands_after b before piece more rest is stands =
+pub rest_after_piece : (b before piece more : List ℕ) (rest : Rest) → more ≡ before ++ piece → IsRest ((b ++ before) ++ piece) rest → IsRest (b ++ more) rest
+rest_after_piece b before piece more rest is is_rest =
     let P : List ℕ → Type 0 = λ e. IsRest e rest in
-    subst P (append_assoc b before piece ∙ ap (λ e. b ++ e) (sym is)) stands
+    subst P (append_assoc b before piece ∙ ap (λ e. b ++ e) (sym is)) is_rest
 
-pub stands_at_end : (b : List ℕ) (pieces : List Piece) (i : ℕ) (rest : Rest) → length pieces ≤ i → IsRest (b ++ joined (take i pieces)) rest → IsRest (b ++ joined pieces) rest
-stands_at_end b pieces i rest end stands =
+pub rest_at_end : (b : List ℕ) (pieces : List Piece) (i : ℕ) (rest : Rest) → length pieces ≤ i → IsRest (b ++ joined (take i pieces)) rest → IsRest (b ++ joined pieces) rest
+rest_at_end b pieces i rest end is_rest =
     let P : List Piece → Type 0 = λ e. IsRest (b ++ joined e) rest in
-    subst P (take_all i pieces end) stands
+    subst P (take_all i pieces end) is_rest

@@ -1,4 +1,4 @@
--- What a parser in a block stands for.
+-- The bytes that a parser in a block was fed.
 use Rattle.std.proofs.Common.{◌≡◌, ℕ, zero, suc, ◌+◌, ◌-◌, ◌<◌, ◌≤◌, min, Bool, true, false, List, [], ◌∷◌, ◌++◌, length, take, drop, Some, None, Option, refl, ◌∙◌, sym, ap, arith, length-append, nat_lt}
 use Rattle.std.specs.Prelude.{Result, Ok, Err}
 use Rattle.std.proofs.lemmas.Bool.Decides.{nat_tests}
@@ -29,14 +29,14 @@ pub rest_past : (b : List ℕ) (head : Head) → is_line b ≡ false → 16 ≤ 
 rest_past b head version past says = rw (version, below (length b) past) (ap (rest_after b) says)
 
 -- a rest of a block is of bytes past the first 16
-record PastHead (b : List ℕ) (rest : Rest) : Type 0 where
-  head : Head
-  version : is_line b ≡ false
-  past : 16 ≤ length b
-  says : head_of (take 16 b) ≡ Ok head
-  rest_is : rest_in_block head.declares head.len b ≡ rest
+pub record PastHead (b : List ℕ) (rest : Rest) : Type 0 where
+  pub head : Head
+  pub version : is_line b ≡ false
+  pub past : 16 ≤ length b
+  pub says : head_of (take 16 b) ≡ Ok head
+  pub rest_is : rest_in_block head.declares head.len b ≡ rest
 
-past_head : (b : List ℕ) (rest : Rest) → rest_of b ≡ rest → ((bytes : ArrayVec ℕ) → Read bytes ≡ rest → ⊥) → PastHead b rest
+pub past_head : (b : List ℕ) (rest : Rest) → rest_of b ≡ rest → ((bytes : ArrayVec ℕ) → Read bytes ≡ rest → ⊥) → PastHead b rest
 past_head b rest is never = by (is_line b) (nat_lt (length b) 16) (head_of (take 16 b)) refl refl refl
   where
     by : (l s : Bool) (h : Result Head V2Fault) → is_line b ≡ l → nat_lt (length b) 16 ≡ s → head_of (take 16 b) ≡ h → PastHead b rest
@@ -107,7 +107,7 @@ pub record Declares (b : List ℕ) (family : Family) (bytes : List ℕ) (m : ℕ
   pub declares : head.declares ≡ Some family
   pub bytes_are : bytes ≡ take (pair_length family) (drop 16 b)
 
-declares : (b : List ℕ) (family : Family) (bytes : ArrayVec ℕ) (m : ℕ) → rest_of b ≡ Block family bytes m → 0 < m → Declares b family bytes.items m
+pub declares : (b : List ℕ) (family : Family) (bytes : ArrayVec ℕ) (m : ℕ) → rest_of b ≡ Block family bytes m → 0 < m → Declares b family bytes.items m
 declares b family bytes m is some = let p = past_head b (Block family bytes m) is (λ held wrong. absurd cc) in by p.head p.version p.past p.says p.rest_is p.head.declares refl
   where
     by : (head : Head) → is_line b ≡ false → 16 ≤ length b → head_of (take 16 b) ≡ Ok head → rest_in_block head.declares head.len b ≡ Block family bytes m

@@ -4,13 +4,13 @@ use Rattle.std.specs.Prelude.{Result, Ok, Err}
 use Rattle.std.proofs.lemmas.List.{append-nil}
 use Rattle.pp_v1.specs.declared.meaning.Meaning.{Meaning}
 use Rattle.pp_any.specs.declared.fault.HeaderFault.{HeaderFault}
-use Rattle.pp_any.specs.Status.{Status, Wait, told, status_from}
+use Rattle.pp_any.specs.Status.{Status, Wait, decided_at, status_from}
 
 abbrev pub Say : Type 0
 Say = Option (Result Meaning HeaderFault)
 
--- what is told is no wait, unless nothing is said and what comes later waits
-later_waits : (n : ℕ) (o : Say) (s : Status) → told n o s ≡ Wait → (o ≡ None) × (s ≡ Wait)
+-- a decision is no wait, unless nothing is said and what comes later waits
+later_waits : (n : ℕ) (o : Say) (s : Status) → decided_at n o s ≡ Wait → (o ≡ None) × (s ≡ Wait)
 later_waits n None s is = (refl, is)
 later_waits n (Some (Ok meaning)) s is = absurd cc
 later_waits n (Some (Err fault)) s is = absurd cc
@@ -20,7 +20,7 @@ pub status_from-append : (says : List ℕ → Say) (d b c : List ℕ) → status
 status_from-append says d [] c waits = ap (λ e. status_from says e c) (sym (append-nil d))
 status_from-append says d (x ∷ b) c waits =
     let both = later_waits (length d + 1) (says (d ++ x ∷ [])) (status_from says (d ++ x ∷ []) b) waits in
-    ap (λ o. told (length d + 1) o (status_from says (d ++ x ∷ []) (b ++ c))) both.0
+    ap (λ o. decided_at (length d + 1) o (status_from says (d ++ x ∷ []) (b ++ c))) both.0
     ∙ status_from-append says (d ++ x ∷ []) b c both.1
     ∙ ap (λ e. status_from says e c) (append_assoc d (x ∷ []) b)
 

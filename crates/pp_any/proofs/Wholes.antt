@@ -6,7 +6,7 @@ use Rattle.std.specs.Cmp.Lexicographic.{same_text}
 use Rattle.std.proofs.lemmas.List.{length-take-le, length-drop, take-append-drop, take_at, take_all}
 use Rattle.pp_v1.specs.declared.meaning.Meaning.{Meaning}
 use Rattle.pp_v1.specs.declared.meaning.Meaning.TheVariants.{Real, Declared}
-use Rattle.addr_core.specs.Ends.{Ends}
+use Rattle.addr_core.specs.PairValue.{PairValue}
 use Rattle.pp_v2.specs.declared.head.Family.{Family}
 use Rattle.pp_v2.specs.declared.head.Head.{Head}
 use Rattle.pp_v2.specs.declared.fault.V2Fault.{V2Fault}
@@ -44,7 +44,7 @@ is_read b head is =
     read_by b (signature_fault b) (command_fault (slice_index b 12)) (family_fault (slice_index b 12) (slice_index b 13))
     (unless (length_fault (declared_in b) (block_length b)) (Ok (record { declares = declared_in b; len = block_length b }))) head refl refl refl is
 
--- nothing stands at the first 15 bytes
+-- the first 15 bytes decide nothing
 waits_literal : (c f h : ℕ) → command_fault c ≡ None → family_fault c f ≡ None → status (signature ++ c ∷ f ∷ h ∷ []) ≡ Wait
 waits_literal c f h command family = rw (command, family) refl
 
@@ -129,7 +129,7 @@ pair_fills : (family : Family) (block : List ℕ) → length block ≡ pair_leng
 pair_fills family block all = take_all (pair_length family) block (omega arith)
 
 -- the header of a pair
-pub v2_is_whole : (b : List ℕ) (pair : Ends) → length b ≡ 16 + pair_length (family_in pair.source.addr) → head_of (take 16 b) ≡ Ok (head_for pair)
+pub v2_is_whole : (b : List ℕ) (pair : PairValue) → length b ≡ 16 + pair_length (family_in pair.source.addr) → head_of (take 16 b) ≡ Ok (head_for pair)
     → pair_in (family_in pair.source.addr) (drop 16 b) ≡ pair → (c : List ℕ) → status (b ++ c) ≡ Whole (length b) (Declared pair)
 v2_is_whole b pair all says means c =
     let d = length-drop 16 b in

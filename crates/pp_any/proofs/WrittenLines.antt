@@ -5,8 +5,8 @@ use Rattle.std.specs.List.{All, join_with_byte}
 use Rattle.std.proofs.lemmas.Bool.Decides.{nat_tests}
 use Rattle.std.proofs.lemmas.List.{get_or-take, get_or_append_left, get_or-append-add, length-take-le}
 use Rattle.std.proofs.lemmas.List.Elements.{All-append, All-cons, All-from_recursion, All-get_or}
-use Rattle.addr_core.specs.Decimal.{decimal}
-use Rattle.addr_core.specs.Ends.{Ends}
+use Rattle.text_core.specs.Decimal.{decimal}
+use Rattle.addr_core.specs.PairValue.{PairValue}
 use Rattle.addr_core.specs.Groups.{groups_of}
 use Rattle.addr_core.specs.Text.{text_of}
 use Rattle.addr_core.specs.declared.addr.Addr.{Addr}
@@ -14,8 +14,8 @@ use Rattle.addr_core.specs.declared.addr.Addr.TheVariants.{V4, V6}
 use Rattle.addr_core.proofs.DottedLemmas.{decimal_all, dotted_text_all}
 use Rattle.addr_core.proofs.GroupLemmas.{groups_text_all}
 use Rattle.pp_v1.specs.declared.meaning.Meaning.TheVariants.{Declared}
-use Rattle.pp_v1.specs.Line.{line_meaning, line_of, line_words, protocol_text}
-use Rattle.pp_any.specs.Status.{Whole, ends_line, status}
+use Rattle.pp_v1.specs.Line.{ends_line, line_meaning, line_of, line_words, protocol_text}
+use Rattle.pp_any.specs.Status.{Whole, status}
 use Rattle.pp_any.proofs.Lines.{line_is_whole}
 
 -- no carriage return
@@ -43,7 +43,7 @@ plain_name = All-from_recursion IsPlain (codes "PROXY ") ((refl, (refl, (refl, (
 plain_both : (first rest : List ℕ) → All IsPlain first → All IsPlain rest → All IsPlain (first ++ 32 ∷ rest)
 plain_both first rest here there = All-append IsPlain first (32 ∷ rest) here (All-cons IsPlain 32 rest refl there)
 
-plain_body : (pair : Ends) → All IsPlain (codes "PROXY " ++ join_with_byte 32 (line_words pair))
+plain_body : (pair : PairValue) → All IsPlain (codes "PROXY " ++ join_with_byte 32 (line_words pair))
 plain_body pair =
     let ports = plain_both (decimal pair.source.port) (decimal pair.destination.port) (plain_decimal pair.source.port) (plain_decimal pair.destination.port) in
     let to = plain_both (text_of pair.destination.addr) (decimal pair.source.port ++ 32 ∷ decimal pair.destination.port) (plain_text pair.destination.addr) ports in
@@ -70,17 +70,19 @@ no_end_inside body k plain more less =
     let plain_byte : (get_or body (k - 2) 0 == 13) ≡ false = All-get_or IsPlain body (k - 2) 0 inside plain in
     rw (l, byte, plain_byte) refl
 
-pub v1_is_whole : (b : List ℕ) (pair : Ends) → b ≡ line_of pair → length b ≤ 107 → line_meaning b ≡ Ok (Declared pair)
+pub v1_is_whole : (b : List ℕ) (pair : PairValue) → b ≡ line_of pair → length b ≤ 107 → line_meaning b ≡ Ok (Declared pair)
     → (c : List ℕ) → status (b ++ c) ≡ Whole (length b) (Declared pair)
 v1_is_whole b pair is short says =
     let whole : b ≡ (codes "PROXY " ++ join_with_byte 32 (line_words pair)) ++ 13 ∷ 10 ∷ [] =
     is ∙ sym (append_assoc (codes "PROXY ") (join_with_byte 32 (line_words pair)) (13 ∷ 10 ∷ [])) in
     line_is_whole b (Declared pair) (record {
-      begins = ap (λ e. take 6 e) is;
-      ends = ap ends_line whole ∙ ends_at_end (codes "PROXY " ++ join_with_byte 32 (line_words pair));
-      first = λ k more less.
-          let l = ap length whole in
-          ap (λ e. ends_line (take k e)) whole ∙ no_end_inside (codes "PROXY " ++ join_with_byte 32 (line_words pair)) k (plain_body pair) (omega arith) (omega arith);
-      short = short;
+      line = record {
+        begins = ap (λ e. take 6 e) is;
+        ends = ap ends_line whole ∙ ends_at_end (codes "PROXY " ++ join_with_byte 32 (line_words pair));
+        first = λ k more less.
+            let l = ap length whole in
+            ap (λ e. ends_line (take k e)) whole ∙ no_end_inside (codes "PROXY " ++ join_with_byte 32 (line_words pair)) k (plain_body pair) (omega arith) (omega arith);
+        short = short;
+      };
       says = says;
     })

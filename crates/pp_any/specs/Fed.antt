@@ -16,9 +16,9 @@ Answers before piece (feds.More parser) = IsRest (before ++ piece) parser
 Answers before piece (feds.Whole meaning used) = (used ≤ length piece) × (status (before ++ piece) ≡ Whole (length before + used) meaning)
 Answers before piece (feds.Bad fault used) = (used ≤ length piece) × (status (before ++ piece) ≡ Fault fault (length before + used))
 
-abbrev pub told_by : Result Meaning HeaderFault → ℕ → Fed
-told_by (Ok meaning) used = feds.Whole meaning used
-told_by (Err fault) used = feds.Bad fault used
+abbrev pub answer_of : Result Meaning HeaderFault → ℕ → Fed
+answer_of (Ok meaning) used = feds.Whole meaning used
+answer_of (Err fault) used = feds.Bad fault used
 
 abbrev pub used_in : Fed → ℕ
 used_in (feds.More parser) = 0

@@ -1,5 +1,6 @@
 -- What a parser that waits holds of its bytes.
 use Rattle.std.specs.Prelude.{◌≡◌, ℕ, true, false, ◌+◌, ◌-◌, ◌<◌, ◌≤◌, ◌||◌, nat_lt, List, [], length, take, drop, Option, Some, None, Result, Ok, Err, if◌then◌else◌}
+use Rattle.pp_v1.specs.declared.TheConstants.{LINE_LIMIT}
 use Rattle.pp_v2.specs.declared.head.Family.{Family}
 use Rattle.pp_v2.specs.declared.head.Head.{Head}
 use Rattle.pp_v2.specs.declared.fault.V2Fault.{V2Fault}
@@ -23,7 +24,7 @@ rest_after bytes (Err fault) = Read (record { items = bytes })
 abbrev pub rest_of : List ℕ → Rest
 rest_of bytes = if is_line bytes || nat_lt (length bytes) 16 then Read (record { items = bytes }) else rest_after bytes (head_of (take 16 bytes))
 
--- a parser that holds the rest stands for the bytes
+-- the rest is what a parser holds that was fed the bytes and waits
 abbrev pub IsRest : List ℕ → Rest → Type 0
 IsRest bytes rest = (status bytes ≡ Wait) × (rest_of bytes ≡ rest)
 
@@ -39,7 +40,12 @@ rest_in (states.Skip skip) = Skip skip.missing
 pub record IsInLine (bytes : List ℕ) : Type 0 where
   pub waits : status bytes ≡ Wait
   pub line : is_line bytes ≡ true
-  pub room : length bytes < 107
+  pub room : length bytes < LINE_LIMIT
+
+-- one byte more than bytes of a line that wait
+pub record IsNextInLine (bytes : List ℕ) : Type 0 where
+  pub some : 0 < length bytes
+  pub front : IsInLine (take (length bytes - 1) bytes)
 
 pub record IsInHead (bytes : List ℕ) : Type 0 where
   pub waits : status bytes ≡ Wait
@@ -52,16 +58,16 @@ pub record IsInBlock (family : Family) (bytes : List ℕ) (missing : ℕ) : Type
   pub within : length bytes ≤ pair_length family
   pub enough : pair_length family ≤ length bytes + missing
 
-abbrev pub Stands : State → Type 0
-Stands states.Start = Unit {0}
-Stands (states.Line line) = IsInLine line.bytes.items
-Stands (states.Head head) = IsInHead head.bytes.items
-Stands (states.Block block) = IsInBlock block.family block.bytes.items block.missing
-Stands (states.Skip skip) = 0 < skip.missing
+abbrev pub IsState : State → Type 0
+IsState states.Start = Unit {0}
+IsState (states.Line line) = IsInLine line.bytes.items
+IsState (states.Head head) = IsInHead head.bytes.items
+IsState (states.Block block) = IsInBlock block.family block.bytes.items block.missing
+IsState (states.Skip skip) = 0 < skip.missing
 
 -- ---- the first 16 bytes
 
--- all 16 bytes, and nothing stood at the first 15
+-- all 16 bytes, of which the first 15 decide nothing
 pub record IsWholeHead (bytes : List ℕ) : Type 0 where
   pub waits : status (take 15 bytes) ≡ Wait
   pub head : is_line bytes ≡ false

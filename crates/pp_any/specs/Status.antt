@@ -1,10 +1,11 @@
 -- What the first bytes of a connection say as a header (proxy-protocol.txt, sections 2.1 and 2.2).
-use Rattle.std.specs.Prelude.{ℕ, Bool, not, ◌+◌, ◌-◌, ◌==◌, ◌&&◌, nat_le, slice_index, List, [], ◌∷◌, ◌++◌, length, take, drop, codes, Option, Some, None, Result, Ok, Err, if◌then◌else◌}
+use Rattle.std.specs.Prelude.{ℕ, Bool, not, ◌+◌, ◌-◌, ◌==◌, nat_le, slice_index, List, [], ◌∷◌, ◌++◌, length, take, drop, codes, Option, Some, None, Result, Ok, Err, if◌then◌else◌}
 use Rattle.std.specs.Option.{option_map}
 use Rattle.pp_v1.specs.declared.meaning.Meaning.{Meaning}
 use Rattle.pp_v1.specs.declared.meaning.Meaning.TheVariants.{Real, Declared}
 use Rattle.pp_v1.specs.declared.reading.V1Fault.{V1Fault}
-use Rattle.pp_v1.specs.Line.{line_meaning}
+use Rattle.pp_v1.specs.declared.TheConstants.{LINE_LIMIT}
+use Rattle.pp_v1.specs.Line.{ends_line, line_meaning}
 use Rattle.pp_v2.specs.declared.head.Family.{Family}
 use Rattle.pp_v2.specs.declared.head.Head.{Head}
 use Rattle.pp_v2.specs.declared.fault.V2Fault.{V2Fault}
@@ -15,14 +16,14 @@ use Rattle.pp_any.specs.declared.fault.HeaderFault.{HeaderFault}
 use Rattle.pp_any.specs.declared.fault.HeaderFault.TheVariants.{NotProxy, TooLong}
 use Rattle.pp_any.specs.Faults.{of_line, of_head}
 
--- so many bytes are a header with that meaning; at so many bytes a fault stands; or neither yet
+-- so many bytes are a header with that meaning; or so many have a fault; or neither yet
 pub data Status : Type 0 where
   Whole : ℕ → Meaning → Status
   Fault : HeaderFault → ℕ → Status
   Wait : Status
 
--- Each of the following says what stands at the last of some bytes, if nothing stood before it: that they are a
--- header, or a fault.
+-- Each of the following says what the last of some bytes decides, if none before it decided: that they are a
+-- header, or have a fault.
 
 -- a header that begins with P, 80, is of version 1, and any other of version 2
 abbrev pub is_line : List ℕ → Bool
@@ -32,10 +33,6 @@ is_line bytes = slice_index bytes 0 == 80
 abbrev pub last_differs : List ℕ → List ℕ → Bool
 last_differs text bytes = not (slice_index bytes (length bytes - 1) == slice_index text (length bytes - 1))
 
--- CR LF stands at the end
-abbrev pub ends_line : List ℕ → Bool
-ends_line bytes = (slice_index bytes (length bytes - 2) == 13) && (slice_index bytes (length bytes - 1) == 10)
-
 abbrev pub fault_in_line : Result Meaning V1Fault → Result Meaning HeaderFault
 fault_in_line (Ok meaning) = Ok meaning
 fault_in_line (Err fault) = Err (of_line fault)
@@ -43,12 +40,12 @@ fault_in_line (Err fault) = Err (of_line fault)
 unfoldable pub meaning_of_line : List ℕ → Result Meaning HeaderFault
 meaning_of_line line = fault_in_line (line_meaning line)
 
--- version 1: bytes 1 to 6 are PROXY and a space; CR LF ends the line, at byte 107 at the latest
+-- version 1: bytes 1 to 6 are PROXY and a space; CR LF ends the line, at the last byte of the longest line at the latest
 abbrev pub line_said : List ℕ → Option (Result Meaning HeaderFault)
 line_said bytes =
     if nat_le (length bytes) 6 then (if last_differs (codes "PROXY ") bytes then Some (Err NotProxy) else None)
     else if ends_line bytes then Some (meaning_of_line bytes)
-    else if nat_le 107 (length bytes) then Some (Err TooLong)
+    else if nat_le LINE_LIMIT (length bytes) then Some (Err TooLong)
     else None
 
 -- version 2, before byte 16: bytes 1 to 12 are the signature, 13 the command, 14 the family
@@ -59,7 +56,7 @@ early_fault bytes =
     else if length bytes == 14 then family_fault (slice_index bytes 12) (slice_index bytes 13)
     else None
 
--- the pair stands first in the block
+-- the block begins with the pair
 abbrev pub meaning_in : Option Family → List ℕ → Meaning
 meaning_in None block = Real
 meaning_in (Some family) block = Declared (pair_in family (take (pair_length family) block))
@@ -77,17 +74,17 @@ head_said bytes =
 abbrev pub said : List ℕ → Option (Result Meaning HeaderFault)
 said bytes = if is_line bytes then line_said bytes else head_said bytes
 
--- what stands at the least number of bytes
-abbrev pub told : ℕ → Option (Result Meaning HeaderFault) → Status → Status
-told count (Some (Ok meaning)) later = Whole count meaning
-told count (Some (Err fault)) later = Fault fault count
-told count None later = later
+-- what so many bytes decide, or else what later ones do
+abbrev pub decided_at : ℕ → Option (Result Meaning HeaderFault) → Status → Status
+decided_at count (Some (Ok meaning)) later = Whole count meaning
+decided_at count (Some (Err fault)) later = Fault fault count
+decided_at count None later = later
 
 abbrev pub status_from : (List ℕ → Option (Result Meaning HeaderFault)) → List ℕ → List ℕ → Status
 status_from says before [] = Wait
 status_from says before (byte ∷ more) =
-    told (length before + 1) (says (before ++ byte ∷ [])) (status_from says (before ++ byte ∷ []) more)
+    decided_at (length before + 1) (says (before ++ byte ∷ [])) (status_from says (before ++ byte ∷ []) more)
 
--- the status of some bytes: what stands at the least number of them at which something stands
+-- the status of some bytes: what the first byte decides that decides anything
 abbrev pub status : List ℕ → Status
 status bytes = status_from said [] bytes

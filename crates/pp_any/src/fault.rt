@@ -2,18 +2,20 @@
 use pp_v1::V1Fault;
 use pp_v2::V2Fault;
 
-/// What is wrong with a header. It is told as soon as the byte is there that makes it certain.
+/// What is wrong with a header (proxy-protocol.txt, sections 2.1 and 2.2). It is reported at the first byte that
+/// makes it certain.
 #[derive(Clone, Copy, Debug, PartialEq, Eq)]
 pub enum HeaderFault {
     /// The bytes begin neither with `PROXY` and a space nor with the signature of version 2.
     NotProxy,
     /// 107 bytes of version 1 without CR LF.
     TooLong,
-    /// A line of version 1 that is of neither form.
+    /// A line of version 1 with another protocol than `TCP4`, `TCP6` or `UNKNOWN`, or not four fields after `TCP4`
+    /// or `TCP6`, or an empty one.
     BadLine,
-    /// An address of a line that is none of the line's family.
+    /// One of the first two fields is no address of the line's family.
     BadAddress,
-    /// A port of a line that is no number of 0 to 65535 without leading zeros.
+    /// One of the last two fields is no decimal number from 0 to 65535 without leading zeros.
     BadPort,
     /// The high half of byte 13 of version 2 is not 2.
     BadVersion,

@@ -1,6 +1,6 @@
-//! What a feed gives.
+//! What a parser answers to a piece.
 ghost use Rattle.std.specs.Prelude.{◌≡◌, ◌+◌, ◌<◌, ◌^◌};
-ghost use Rattle.pp_any.specs.Fed.{later, told_by, used_in};
+ghost use Rattle.pp_any.specs.Fed.{later, answer_of, used_in};
 
 use crate::fault::HeaderFault;
 use crate::parser::Parser;
@@ -14,15 +14,15 @@ pub enum Fed {
     /// A header ends in the piece. So many bytes of the piece belong to it, and those after them are the
     /// connection's own.
     Whole(Meaning, usize),
-    /// A fault stands in the piece. So many bytes of the piece were judged, the last of them being the one that
-    /// makes it certain.
+    /// The header has a fault. So many bytes of the piece were judged, the last of them being the one that makes it
+    /// certain.
     Bad(HeaderFault, usize),
 }
 
 impl Fed {
-    /// What is said at the last of so many bytes.
+    /// The answer of a decision at the last of so many bytes.
     pub(crate) fn of(said: Result<Meaning, HeaderFault>, used: usize) -> Fed
-        ensures { result ≡ told_by said used }
+        ensures { result ≡ answer_of said used }
     {
         match said {
             Ok(meaning) => Fed::Whole(meaning, used),

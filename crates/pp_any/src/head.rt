@@ -20,7 +20,7 @@ pub struct Head {
     pub bytes: ArrayVec<u8, 16>,
 }
 
-/// The fault that stands at the last of these bytes, which are fewer than 16.
+/// The fault that the last of these bytes makes certain. They are fewer than 16.
 fn fault_at_last(bytes: &[u8]) -> Option<V2Fault>
     requires some { 0 < length bytes.now }
     requires few { length bytes.now < 16 }
@@ -40,7 +40,7 @@ fn fault_at_last(bytes: &[u8]) -> Option<V2Fault>
     }
 }
 
-/// What the bytes of the piece after the first 16 of the header are.
+/// The answer to a piece after the first 16 bytes of the header.
 fn feed_block(head: pp_v2::Head, piece: &[u8]) -> Fed
     requires { Fits head }
     ensures answers { (b : List ℕ) → IsAtBlock b head → Answers b piece.now result }

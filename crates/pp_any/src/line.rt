@@ -1,7 +1,8 @@
 //! A line of version 1.
 ghost use Rattle.std.specs.Prelude.{◌≡◌, ◌<◌, ◌≤◌, [], ◌∷◌, length, IsNone};
 ghost use Rattle.pp_any.specs.Status.{line_said, meaning_of_line};
-ghost use Rattle.pp_any.specs.Rest.{IsInLine};
+ghost use Rattle.pp_v1.specs.Line.{IsLine};
+ghost use Rattle.pp_any.specs.Rest.{IsInLine, IsNextInLine};
 ghost use Rattle.pp_any.specs.Fed.{Answers, used_in};
 
 use crate::fault::HeaderFault;
@@ -9,31 +10,30 @@ use crate::fed::Fed;
 use crate::parser::Parser;
 use crate::state::State;
 use arrayvec::ArrayVec;
-use pp_v1::{Meaning, read_line};
+use pp_v1::{LINE_LIMIT, Meaning, read_line};
 
 const BEGINNING: [u8; 6] = *b"PROXY ";
-
-const MOST_BYTES: usize = 107;
 
 /// The bytes of a line that has not ended.
 #[derive(Drop)]
 pub struct Line {
-    pub bytes: ArrayVec<u8, 107>,
+    pub bytes: ArrayVec<u8, LINE_LIMIT>,
 }
 
 #[tactic(auto, unfolding(crate::specs::Status::meaning_of_line))]
 fn meaning_of(line: &[u8]) -> Result<Meaning, HeaderFault>
+    requires { IsLine line.now }
     ensures { result ≡ meaning_of_line line.now }
 {
     let meaning = read_line(line)?;
     Ok(meaning)
 }
 
-/// What is said at the last of these bytes.
+/// What the last of these bytes decides.
 fn said_at_last(bytes: &[u8]) -> Option<Result<Meaning, HeaderFault>>
-    requires { 0 < length bytes.now }
+    requires { IsNextInLine bytes.now }
     ensures said { result ≡ line_said bytes.now }
-    ensures room { IsNone result → length bytes.now < 107 }
+    ensures room { IsNone result → length bytes.now < LINE_LIMIT }
 {
     let len = bytes.len();
     if len <= BEGINNING.len() {
@@ -45,7 +45,7 @@ fn said_at_last(bytes: &[u8]) -> Option<Result<Meaning, HeaderFault>>
     if bytes[len - 2] == b'\r' && bytes[len - 1] == b'\n' {
         return Some(meaning_of(bytes));
     }
-    if len >= MOST_BYTES {
+    if len >= LINE_LIMIT {
         return Some(Err(HeaderFault::TooLong));
     }
     None

@@ -1,6 +1,6 @@
 //! The parser.
 ghost use Rattle.std.specs.Prelude.{◌≡◌, ◌^◌, ◌<◌, ◌≤◌, ℕ, List, [], length};
-ghost use Rattle.pp_any.specs.Rest.{IsRest, Stands, rest_in};
+ghost use Rattle.pp_any.specs.Rest.{IsRest, IsState, rest_in};
 ghost use Rattle.pp_any.specs.Fed.{Answers, joined, used_in};
 
 use crate::block::Block;
@@ -14,8 +14,8 @@ use crate::state::State;
 use arrayvec::ArrayVec;
 use std::marker::Model;
 
-/// A parser that waits for more bytes of a header. A feed spends it. It holds at most 107 bytes, and takes no
-/// memory.
+/// A parser that waits for more bytes of a header. A feed spends it. It holds at most `pp_v1::LINE_LIMIT` bytes, and
+/// takes no memory.
 #[derive(Drop)]
 pub struct Parser {
     state: State,
@@ -26,14 +26,20 @@ impl Model for Parser {
 
     ghost Value = { Rest };
 
-    ghost use Rattle.pp_any.specs.Rest.{Stands, rest_in};
+    ghost use Rattle.pp_any.specs.Rest.{IsState, rest_in};
 
     ghost view = { λ p. rest_in p.state };
 
-    ghost invariant = { λ p. Stands p.state };
+    ghost invariant = { λ p. IsState p.state };
 }
 
+/// A parser that was fed nothing.
 impl Default for Parser {
+    ghost use Rattle.std.specs.Prelude.{[]};
+    ghost use Rattle.pp_any.specs.Rest.{IsRest};
+
+    ghost is_default = { λ parser. IsRest [] parser };
+
     fn default() -> Self {
         Parser::new()
     }
@@ -75,7 +81,7 @@ impl Parser {
     }
 
     pub(crate) fn at(state: State) -> Parser
-        requires { Stands state }
+        requires { IsState state }
         ensures { result ≡ rest_in state }
     {
         Parser { state }
@@ -83,10 +89,10 @@ impl Parser {
 
     /// Feeds a piece.
     pub fn feed(self, piece: &[u8]) -> Fed
-        // A parser that stands for some bytes answers the status of those bytes and the piece together.
+        // A parser that was fed some bytes answers the status of those bytes and the piece together.
         ensures answers { (b : List ℕ) → IsRest b self → Answers b piece.now result }
 
-        // What is told as used is of this piece.
+        // The bytes used are of this piece.
         ensures used { used_in result ≤ length piece.now }
     {
         match self.state {
@@ -98,8 +104,8 @@ impl Parser {
         }
     }
 
-    /// Feeds the pieces of a list in turn, until one of them decides. What is told as used counts the bytes of
-    /// all of them together.
+    /// Feeds the pieces of a list in turn, until one of them decides. The bytes used are counted over all of
+    /// them together.
     pub fn feed_all(self, pieces: &[&[u8]]) -> Fed
         requires { length (joined pieces.now) < 2 ^ 64 }
 

@@ -4,7 +4,7 @@ use crate::head::Head;
 use crate::line::Line;
 use crate::skip::Skip;
 
-/// Where a parser stands.
+/// How far a parser has come.
 #[derive(Drop)]
 pub enum State {
     /// No byte was read.

@@ -7,9 +7,10 @@ ghost use Rattle.pp_any.specs.Status.{Whole, status};
 
 use addr_core::Pair;
 use arrayvec::ArrayVec;
+use pp_v1::LINE_LIMIT;
 
 /// The line of version 1 that declares the pair, as `pp_v1::write_v1` writes it.
-pub fn write_v1(pair: &Pair) -> ArrayVec<u8, 107>
+pub fn write_v1(pair: &Pair) -> ArrayVec<u8, LINE_LIMIT>
     ensures line { result.items ≡ line_of pair.now }
 
     // Whatever follows it, it is a whole header that declares the pair.

@@ -3,7 +3,7 @@ use Rattle.std.proofs.Common.{◌≡◌, ℕ, refl, true, List, [], ◌∷◌, N
 use Rattle.std.specs.Prelude.{Result, Ok, Err}
 use Rattle.std.specs.List.{slice_split}
 use Rattle.std.proofs.lemmas.List.Splits.{length-slice_split}
-use Rattle.addr_core.specs.Ends.{pair_of}
+use Rattle.addr_core.specs.PairValue.{pair_of}
 use Rattle.addr_core.specs.Family.{same_family}
 use Rattle.addr_core.specs.declared.addr.Addr.{Addr}
 use Rattle.addr_core.specs.declared.addr.Addr.TheVariants.{V4, V6}

@@ -4,25 +4,25 @@ use Rattle.std.specs.Prelude.{◌==◌, codes, Ok}
 use Rattle.std.specs.List.{All, AllByRecursion, join_with_byte}
 use Rattle.std.proofs.lemmas.Bool.Decides.{nat_tests}
 use Rattle.std.proofs.lemmas.List.Elements.{All-from_recursion}
-use Rattle.addr_core.specs.Decimal.{decimal}
+use Rattle.text_core.specs.Decimal.{decimal}
 use Rattle.addr_core.specs.Dotted.{dotted_text, is_empty}
-use Rattle.addr_core.specs.Ends.{Ends}
+use Rattle.addr_core.specs.PairValue.{PairValue}
 use Rattle.addr_core.specs.Family.{same_family}
 use Rattle.addr_core.specs.Groups.{groups_of, groups_text}
 use Rattle.addr_core.specs.Text.{text_of, IsAddr}
 use Rattle.addr_core.specs.declared.addr.Addr.{Addr}
 use Rattle.addr_core.specs.declared.addr.Addr.TheVariants.{V4, V6}
 use Rattle.addr_core.proofs.AddrLemmas.{addr_of_written}
-use Rattle.addr_core.proofs.DecimalLemmas.{are_digits_decimal, decimal_of_written}
+use Rattle.text_core.proofs.DecimalLemmas.{are_digits_decimal, decimal_of_written}
 use Rattle.addr_core.proofs.DottedLemmas.{decimal_all, dotted_text_all, some_dotted}
 use Rattle.addr_core.proofs.GroupLemmas.{groups_text_all}
 use Rattle.addr_core.proofs.SixLemmas.{six_text_some}
 use Rattle.addr_core.proofs.SixWritten.{six_text_written}
-use Rattle.addr_core.proofs.TextLemmas.{split-join}
+use Rattle.text_core.proofs.CutLemmas.{split-join}
 use Rattle.pp_v1.specs.declared.meaning.Meaning.TheVariants.{Declared}
 use Rattle.pp_v1.specs.declared.reading.Protocol.{Protocol}
 use Rattle.pp_v1.specs.declared.reading.Protocol.TheVariants.{Tcp4, Tcp6}
-use Rattle.pp_v1.specs.Line.{address_of, after_name, before_end, fields_of, line_meaning, line_of, line_words, of_family, port_of, protocol_text, says, text_meaning, IsPair}
+use Rattle.pp_v1.specs.Line.{address_of, before_end, fields_of, line_meaning, line_of, line_words, of_family, port_of, protocol_text, says, text_meaning, IsPair}
 
 -- ---- fields
 
@@ -71,7 +71,7 @@ protocol_lacks : (addr : Addr) → All (λ b. (b == 32) ≡ false) (protocol_tex
 protocol_lacks (V4 n) = All-from_recursion (λ b. (b == 32) ≡ false) (codes "TCP4") ((refl, (refl, (refl, (refl, tt)))))
 protocol_lacks (V6 n) = All-from_recursion (λ b. (b == 32) ≡ false) (codes "TCP6") ((refl, (refl, (refl, (refl, tt)))))
 
-words_lack : (pair : Ends) → AllByRecursion (All (λ b. (b == 32) ≡ false)) (line_words pair)
+words_lack : (pair : PairValue) → AllByRecursion (All (λ b. (b == 32) ≡ false)) (line_words pair)
 words_lack pair = (protocol_lacks pair.source.addr, (text_lacks pair.source.addr, (text_lacks pair.destination.addr, (decimal_lacks pair.source.port, (decimal_lacks pair.destination.port, tt)))))
 
 -- ---- the line
@@ -92,7 +92,7 @@ before_end-end text =
 between_line : (text : List ℕ) → line_meaning (codes "PROXY " ++ (text ++ 13 ∷ 10 ∷ [])) ≡ text_meaning text
 between_line text = rw (before_end-end text) refl
 
-pub line_meaning-line_of : (pair : Ends) → IsPair pair → line_meaning (line_of pair) ≡ Ok (Declared pair)
+pub line_meaning-line_of : (pair : PairValue) → IsPair pair → line_meaning (line_of pair) ≡ Ok (Declared pair)
 line_meaning-line_of pair is =
     between_line (join_with_byte 32 (line_words pair))
     ∙ ap says (split-join 32 (protocol_text pair.source.addr) (text_of pair.source.addr ∷ text_of pair.destination.addr ∷ decimal pair.source.port ∷ decimal pair.destination.port ∷ []) (words_lack pair))

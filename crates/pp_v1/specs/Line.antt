@@ -1,23 +1,37 @@
 -- A header of version 1: one line (proxy-protocol.txt, section 2.1).
-use Rattle.std.specs.Prelude.{◌≡◌, ℕ, Bool, true, ◌-◌, ◌||◌, ◌==◌, List, [], ◌∷◌, ◌++◌, length, drop, take, codes, Result, Ok, Err, Option, Some, None, option_and_then, if◌then◌else◌}
+use Rattle.std.specs.Prelude.{◌≡◌, ℕ, Bool, true, false, ◌-◌, ◌<◌, ◌≤◌, ◌&&◌, ◌||◌, ◌==◌, slice_index, List, [], ◌∷◌, ◌++◌, length, drop, take, codes, Result, Ok, Err, Option, Some, None, option_and_then, if◌then◌else◌}
 use Rattle.std.specs.List.{join_with_byte, slice_split}
 use Rattle.std.specs.Option.{ok_or}
 use Rattle.std.specs.Str.{bytes_eq}
 use Rattle.list_core.specs.Each.{◌>>=◌}
-use Rattle.addr_core.specs.Decimal.{decimal, decimal_of}
+use Rattle.text_core.specs.Decimal.{decimal, decimal_of}
 use Rattle.addr_core.specs.Dotted.{is_empty}
-use Rattle.addr_core.specs.Ends.{Ends}
+use Rattle.addr_core.specs.PairValue.{PairValue}
 use Rattle.addr_core.specs.Family.{same_family}
 use Rattle.addr_core.specs.Text.{addr_of, text_of, IsEndpoint}
 use Rattle.addr_core.specs.declared.addr.Addr.{Addr}
 use Rattle.addr_core.specs.declared.addr.Addr.TheVariants.{V4, V6}
 use Rattle.addr_core.specs.declared.reading.AddrFault.{AddrFault}
+use Rattle.pp_v1.specs.declared.TheConstants.{LINE_LIMIT}
 use Rattle.pp_v1.specs.declared.meaning.Meaning.{Meaning}
 use Rattle.pp_v1.specs.declared.meaning.Meaning.TheVariants.{Real, Declared}
 use Rattle.pp_v1.specs.declared.reading.Protocol.{Protocol}
 use Rattle.pp_v1.specs.declared.reading.Protocol.TheVariants.{Tcp4, Tcp6}
 use Rattle.pp_v1.specs.declared.reading.V1Fault.{V1Fault}
 use Rattle.pp_v1.specs.declared.reading.V1Fault.TheVariants.{BadLine, BadAddress, BadPort}
+
+-- ---- which bytes are a line
+
+-- the last two bytes are 13 and 10, CR LF
+abbrev pub ends_line : List ℕ → Bool
+ends_line bytes = (slice_index bytes (length bytes - 2) == 13) && (slice_index bytes (length bytes - 1) == 10)
+
+-- one line: it begins with PROXY and a space, ends at its first CR LF, and is not too long
+pub record IsLine (bytes : List ℕ) : Type 0 where
+  pub begins : take 6 bytes ≡ codes "PROXY "
+  pub ends : ends_line bytes ≡ true
+  pub first : (k : ℕ) → 6 < k → k < length bytes → ends_line (take k bytes) ≡ false
+  pub short : length bytes ≤ LINE_LIMIT
 
 -- ---- what is read
 
@@ -63,7 +77,7 @@ says (word ∷ fields) =
     else if bytes_eq word (codes "TCP6") then fields_of Tcp6 fields
     else Err BadLine
 
--- what the text between `PROXY ` and the line's end says: its words follow one space each
+-- what the text between `PROXY ` and the end of the line says: its words are separated by one space each
 abbrev pub text_meaning : List ℕ → Result Meaning V1Fault
 text_meaning text = says (slice_split is_blank text)
 
@@ -71,7 +85,7 @@ text_meaning text = says (slice_split is_blank text)
 abbrev pub after_name : List ℕ → Option (List ℕ)
 after_name line = if bytes_eq (take 6 line) (codes "PROXY ") then Some (drop 6 line) else None
 
--- what stands before the line's end: 13 and 10 are CR and LF
+-- the text before the end of the line: 13 and 10 are CR and LF
 abbrev pub before_end : List ℕ → Option (List ℕ)
 before_end text = if bytes_eq (drop (length text - 2) text) (13 ∷ 10 ∷ []) then Some (take (length text - 2) text) else None
 
@@ -82,7 +96,7 @@ abbrev pub meaning_in : Option (List ℕ) → Result Meaning V1Fault
 meaning_in None = Err BadLine
 meaning_in (Some text) = text_meaning text
 
--- What a line says that begins with `PROXY ` and ends with CR LF. It should have no other CR LF before.
+-- what a line says
 abbrev pub line_meaning : List ℕ → Result Meaning V1Fault
 line_meaning line = meaning_in (between line)
 
@@ -92,16 +106,16 @@ abbrev pub protocol_text : Addr → List ℕ
 protocol_text (V4 number) = codes "TCP4"
 protocol_text (V6 number) = codes "TCP6"
 
-abbrev pub line_words : Ends → List (List ℕ)
+abbrev pub line_words : PairValue → List (List ℕ)
 line_words pair =
     protocol_text pair.source.addr ∷ text_of pair.source.addr ∷ text_of pair.destination.addr ∷ decimal pair.source.port ∷ decimal pair.destination.port ∷ []
 
 -- the line that declares a pair
-abbrev pub line_of : Ends → List ℕ
+abbrev pub line_of : PairValue → List ℕ
 line_of pair = codes "PROXY " ++ (join_with_byte 32 (line_words pair) ++ 13 ∷ 10 ∷ [])
 
--- what a pair is: both ends are of one family, and their numbers in range
-abbrev pub IsPair : Ends → Type 0
+-- what a pair is: both endpoints are of one family, and their numbers in range
+abbrev pub IsPair : PairValue → Type 0
 IsPair pair = IsEndpoint pair.source × IsEndpoint pair.destination × (same_family pair.source.addr pair.destination.addr ≡ true)
 
 -- the most bytes that the line of a pair of the family has

@@ -3,21 +3,23 @@ ghost use Rattle.std.specs.Prelude.{◌≡◌, ◌∷◌, []};
 ghost use Rattle.std.specs.List.{slice_split};
 ghost use Rattle.std.specs.Option.{option_copied};
 ghost use Rattle.std.specs.Str.{bytes_eq};
-ghost use Rattle.pp_v1.specs.Line.{address_of, between, declared, fields_of, is_blank, line_meaning, port_of, says, text_meaning};
+ghost use Rattle.pp_v1.specs.Line.{address_of, between, declared, fields_of, is_blank, line_meaning, port_of, says, text_meaning, IsLine};
 
 use crate::meaning::Meaning;
-use addr_core::decimal::read_decimal;
-use addr_core::parts::cut_at;
 use addr_core::{Addr, Endpoint, Pair, read_addr};
+use text_core::cut_at;
+use text_core::decimal::read_decimal;
 
-/// Why a line is no header of version 1.
-#[derive(Clone, Copy, Debug, PartialEq, Eq, PartialOrd, Ord, Hash)]
+/// Why a line is no header of version 1 (proxy-protocol.txt, section 2.1). Where several hold of one line, it is
+/// the first of them in this order.
+#[derive(Clone, Copy, Debug, PartialEq, Eq)]
 pub enum V1Fault {
-    /// It has not the form of a line: another protocol, not four fields, an empty field.
+    /// It has another protocol than `TCP4`, `TCP6` or `UNKNOWN`, or not four fields after `TCP4` or `TCP6`, or
+    /// an empty one.
     BadLine,
-    /// A field that should be an address is none of the family that the line names.
+    /// One of the first two fields is no address of the protocol's family.
     BadAddress,
-    /// A field that should be a port is no decimal number from 0 to 65535 without leading zeros.
+    /// One of the last two fields is no decimal number from 0 to 65535 without leading zeros.
     BadPort,
 }
 
@@ -45,7 +47,7 @@ fn address(protocol: Protocol, field: &[u8]) -> Result<Addr, V1Fault>
 fn port(field: &[u8]) -> Result<u16, V1Fault>
     ensures { result ≡ port_of field.now }
 {
-    match read_decimal(field, 65535) {
+    match read_decimal(field, u64::from(u16::MAX)) {
         Some(number) => Ok(number as u16),
         None => Err(V1Fault::BadPort),
     }
@@ -88,7 +90,7 @@ fn four_fields(
     declared(protocol, a, b, c, d)
 }
 
-/// What the fields behind the protocol declare.
+/// What the fields after the protocol declare.
 fn fields(protocol: Protocol, text: &[u8]) -> Result<Meaning, V1Fault>
     ensures { result ≡ fields_of protocol (slice_split is_blank text.now) }
 {
@@ -113,7 +115,7 @@ fn is(word: &[u8], name: &[u8]) -> bool
     word == name
 }
 
-/// What a word with nothing behind it says.
+/// What a word says that no other follows.
 fn alone(word: &[u8]) -> Result<Meaning, V1Fault>
     ensures { result ≡ says (word.now ∷ []) }
 {
@@ -123,7 +125,7 @@ fn alone(word: &[u8]) -> Result<Meaning, V1Fault>
     Err(V1Fault::BadLine)
 }
 
-/// What a word and the text behind it say.
+/// What a word and the text after it say.
 fn followed(word: &[u8], text: &[u8]) -> Result<Meaning, V1Fault>
     ensures { result ≡ says (word.now ∷ slice_split is_blank text.now) }
 {
@@ -148,17 +150,17 @@ fn text_meaning(text: &[u8]) -> Result<Meaning, V1Fault>
     }
 }
 
-/// What stands between `PROXY ` and the line's end.
+/// The text between `PROXY ` and the end of the line.
 fn between(line: &[u8]) -> Option<&[u8]>
     ensures { option_copied result ≡ between line.now }
 {
     line.strip_prefix(b"PROXY ")?.strip_suffix(b"\r\n")
 }
 
-/// What a line of version 1 says (proxy-protocol.txt, section 2.1), its CR LF included. The line is what
-/// ends at the first CR LF and has at most 107 bytes: both are the caller's to see to. `UNKNOWN` may be
-/// followed by anything behind a space.
+/// What a line of version 1 says (proxy-protocol.txt, section 2.1): all bytes up to the first CR LF, which
+/// belongs to it, and `LINE_LIMIT` of them at most. After `UNKNOWN` and a space anything may follow.
 pub fn read_line(line: &[u8]) -> Result<Meaning, V1Fault>
+    requires { IsLine line.now }
     ensures { result ≡ line_meaning line.now }
 {
     match between(line) {

@@ -3,7 +3,7 @@ use Rattle.std.proofs.Common.{◌≡◌, ℕ, ◌<◌, ◌^◌, List, drop, refl
 use Rattle.std.proofs.lemmas.Nat.{from_be_bytes-to_be_bytes_2, from_be_bytes-to_be_bytes_4}
 use Rattle.addr_core.specs.declared.addr.Addr.{Addr}
 use Rattle.addr_core.specs.declared.addr.Addr.TheVariants as addresses
-use Rattle.addr_core.specs.Ends.{Ends}
+use Rattle.addr_core.specs.PairValue.{PairValue}
 use Rattle.addr_core.specs.Family.{same_family}
 use Rattle.addr_core.specs.Text.{IsAddr, IsEndpoint}
 use Rattle.pp_v2.specs.Block.{family_in, header_of, pair_in}
@@ -19,7 +19,7 @@ read_again (addresses.V6 a) (addresses.V6 b) p q x y z w same =
 read_again (addresses.V4 a) (addresses.V6 b) p q x y z w same = absurd cc
 read_again (addresses.V6 a) (addresses.V4 b) p q x y z w same = absurd cc
 
-pub pair_in-header_of : (pair : Ends) (bytes : List ℕ) → bytes ≡ header_of pair → IsEndpoint pair.source → IsEndpoint pair.destination
+pub pair_in-header_of : (pair : PairValue) (bytes : List ℕ) → bytes ≡ header_of pair → IsEndpoint pair.source → IsEndpoint pair.destination
     → same_family pair.source.addr pair.destination.addr ≡ true → pair_in (family_in pair.source.addr) (drop 16 bytes) ≡ pair
 pair_in-header_of pair bytes is source destination same =
     ap (λ b. pair_in (family_in pair.source.addr) (drop 16 b)) is

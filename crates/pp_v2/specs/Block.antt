@@ -3,7 +3,7 @@ use Rattle.std.specs.Prelude.{ℕ, ◌+◌, ◌-◌, slice_index, List, [], ◌�
 use Rattle.std.specs.Int.{byte_worth, sum_through, to_be_bytes, w16, w32, w128}
 use Rattle.addr_core.specs.declared.addr.Addr.{Addr}
 use Rattle.addr_core.specs.declared.addr.Addr.TheVariants as addresses
-use Rattle.addr_core.specs.Ends.{Ends}
+use Rattle.addr_core.specs.PairValue.{PairValue}
 use Rattle.pp_v2.specs.declared.head.Family.{Family}
 use Rattle.pp_v2.specs.declared.head.Head.{Head}
 use Rattle.pp_v2.specs.declared.head.Family.TheVariants.{V4, V6}
@@ -23,7 +23,7 @@ abbrev pub port_at : ℕ → List ℕ → ℕ
 port_at place block = number_at place 2 block
 
 -- source address, destination address, source port, destination port
-abbrev pub pair_in : Family → List ℕ → Ends
+abbrev pub pair_in : Family → List ℕ → PairValue
 pair_in V4 block = record {
   source = record { addr = ipv4_at 0 block; port = port_at 8 block };
   destination = record { addr = ipv4_at 4 block; port = port_at 10 block };
@@ -47,11 +47,11 @@ family_in (addresses.V4 number) = V4
 family_in (addresses.V6 number) = V6
 
 -- the header of a pair: version 2, PROXY, and a block with nothing else
-abbrev pub header_of : Ends → List ℕ
+abbrev pub header_of : PairValue → List ℕ
 header_of pair =
     signature ++ 0x21 ∷ family_byte (family_in pair.source.addr) ∷ to_be_bytes w16 (pair_length (family_in pair.source.addr))
     ++ addresses_of pair.source.addr pair.destination.addr ++ to_be_bytes w16 pair.source.port ++ to_be_bytes w16 pair.destination.port
 
 -- its first 16 bytes
-abbrev pub head_for : Ends → Head
+abbrev pub head_for : PairValue → Head
 head_for pair = record { declares = Some (family_in pair.source.addr); len = pair_length (family_in pair.source.addr) }

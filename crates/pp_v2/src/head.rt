@@ -29,7 +29,7 @@ impl Family {
 /// What the first 16 bytes of a header say.
 #[derive(Clone, Copy, Debug, PartialEq, Eq)]
 pub struct Head {
-    /// The family of the pair that stands first in the block. Without one the block is skipped, and the
+    /// The family of the pair at the beginning of the block. Without one the block is skipped, and the
     /// connection's own addresses count: that is so under LOCAL, and under PROXY with a family or a transport
     /// other than TCP over IPv4 or IPv6.
     pub declares: Option<Family>,

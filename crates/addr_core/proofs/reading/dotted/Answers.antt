@@ -1,5 +1,5 @@
 use Rattle.std.proofs.Common.{sym}
-use Rattle.addr_core.proofs.TextLemmas.{dotted_of-more}
+use Rattle.addr_core.proofs.DottedLemmas.{dotted_of-more}
 use Rattle.addr_core.proofs.reading.dotted.Goals as goal
 
 pub returns-in-Some-cut_at-3 : goal.returns-in-Some-cut_at-3

@@ -1,6 +1,6 @@
 use Rattle.std.proofs.Common.{◌≤◌, [], ◌∷◌, arith, length, length-append, ap, ◌∙◌}
-use Rattle.addr_core.specs.Decimal.{decimal}
-use Rattle.addr_core.proofs.DecimalLemmas.{length-decimal-le}
+use Rattle.text_core.specs.Decimal.{decimal}
+use Rattle.text_core.proofs.DecimalLemmas.{length-decimal-le}
 use Rattle.addr_core.proofs.writing.push_port.Goals as goal
 
 pub push_decimal-requires : goal.push_decimal-requires

@@ -1,4 +1,4 @@
-use Rattle.pp_any.proofs.Least.{decided_once, header_alone}
+use Rattle.pp_any.proofs.First.{decided_once, header_alone}
 use Rattle.pp_any.proofs.laws.status_is_decided_once.Goals as goal
 
 pub returns-clause-decided : goal.returns-clause-decided

@@ -1,6 +1,6 @@
 use Rattle.std.proofs.Common.{[], ◌∷◌, ◌∙◌, ◌≤◌, ap, arith, length, length-append}
-use Rattle.addr_core.specs.Decimal.{decimal}
-use Rattle.addr_core.proofs.DecimalLemmas.{length-decimal-le}
+use Rattle.text_core.specs.Decimal.{decimal}
+use Rattle.text_core.proofs.DecimalLemmas.{length-decimal-le}
 use Rattle.pp_v1.proofs.writing.push_port.Goals as goal
 
 pub push-requires-2 : goal.push-requires-2

@@ -1,7 +1,7 @@
 use Rattle.std.proofs.Common.{◌+◌, ◌++◌, ℕ, List, [], Bor, length, take, drop, get_or, ap, arith, length-append}
 use Rattle.std.specs.Prelude.{Ok, Err}
 use Rattle.pp_any.specs.Fed.{joined}
-use Rattle.pp_any.proofs.Pieces.{decided_by, joined_around, joined_more, stands_after, stands_at_end, used_of_all}
+use Rattle.pp_any.proofs.Pieces.{decided_by, joined_around, joined_more, rest_after_piece, rest_at_end, used_of_all}
 use Rattle.pp_any.proofs.parser.Parser.feed_all.Goals as goal
 
 abbrev nothing : Bor (List ℕ)
@@ -17,7 +17,7 @@ returns-in-Whole c = record {
   answers = λ b rest. (
     used_of_all (joined (take c.loop-piece.piece-index c.args.pieces.now)) (get_or c.args.pieces.now c.loop-piece.piece-index nothing).now (joined (drop (c.loop-piece.piece-index + 1) c.args.pieces.now)) (joined c.args.pieces.now) c.loop-piece.read c.in-Whole.used (joined_around c.args.pieces.now c.loop-piece.piece-index nothing c.loop-piece-test.true) c.loop-piece.invariant.read c.in-Whole.ensures.used,
     decided_by b (joined (take c.loop-piece.piece-index c.args.pieces.now)) (get_or c.args.pieces.now c.loop-piece.piece-index nothing).now (joined (drop (c.loop-piece.piece-index + 1) c.args.pieces.now)) (joined c.args.pieces.now) c.loop-piece.read c.in-Whole.used (Ok c.in-Whole.meaning) (joined_around c.args.pieces.now c.loop-piece.piece-index nothing c.loop-piece-test.true) c.loop-piece.invariant.read
-        (c.in-Whole.ensures.answers (b ++ (joined (take c.loop-piece.piece-index c.args.pieces.now))) (c.loop-piece.invariant.stands b rest)).1,
+        (c.in-Whole.ensures.answers (b ++ (joined (take c.loop-piece.piece-index c.args.pieces.now))) (c.loop-piece.invariant.held b rest)).1,
   );
 }
 
@@ -31,7 +31,7 @@ returns-in-Bad c = record {
   answers = λ b rest. (
     used_of_all (joined (take c.loop-piece.piece-index c.args.pieces.now)) (get_or c.args.pieces.now c.loop-piece.piece-index nothing).now (joined (drop (c.loop-piece.piece-index + 1) c.args.pieces.now)) (joined c.args.pieces.now) c.loop-piece.read c.in-Bad.used (joined_around c.args.pieces.now c.loop-piece.piece-index nothing c.loop-piece-test.true) c.loop-piece.invariant.read c.in-Bad.ensures.used,
     decided_by b (joined (take c.loop-piece.piece-index c.args.pieces.now)) (get_or c.args.pieces.now c.loop-piece.piece-index nothing).now (joined (drop (c.loop-piece.piece-index + 1) c.args.pieces.now)) (joined c.args.pieces.now) c.loop-piece.read c.in-Bad.used (Err c.in-Bad.fault) (joined_around c.args.pieces.now c.loop-piece.piece-index nothing c.loop-piece-test.true) c.loop-piece.invariant.read
-        (c.in-Bad.ensures.answers (b ++ (joined (take c.loop-piece.piece-index c.args.pieces.now))) (c.loop-piece.invariant.stands b rest)).1,
+        (c.in-Bad.ensures.answers (b ++ (joined (take c.loop-piece.piece-index c.args.pieces.now))) (c.loop-piece.invariant.held b rest)).1,
   );
 }
 
@@ -47,13 +47,13 @@ loop-piece-preserved c = record {
       let both = length-append (joined (take c.loop-piece.piece-index c.args.pieces.now)) (get_or c.args.pieces.now c.loop-piece.piece-index nothing).now in
       let count = c.loop-piece.invariant.read in
       omega arith;
-  stands = λ b rest.
-      stands_after b (joined (take c.loop-piece.piece-index c.args.pieces.now)) (get_or c.args.pieces.now c.loop-piece.piece-index nothing).now (joined (take (c.loop-piece.piece-index + 1) c.args.pieces.now)) c.in-More.next
+  held = λ b rest.
+      rest_after_piece b (joined (take c.loop-piece.piece-index c.args.pieces.now)) (get_or c.args.pieces.now c.loop-piece.piece-index nothing).now (joined (take (c.loop-piece.piece-index + 1) c.args.pieces.now)) c.in-More.next
       (joined_more c.args.pieces.now c.loop-piece.piece-index nothing c.loop-piece-test.true)
-      (c.in-More.ensures.answers (b ++ (joined (take c.loop-piece.piece-index c.args.pieces.now))) (c.loop-piece.invariant.stands b rest));
+      (c.in-More.ensures.answers (b ++ (joined (take c.loop-piece.piece-index c.args.pieces.now))) (c.loop-piece.invariant.held b rest));
 }
 
 pub returns : goal.returns
 returns c = record {
-  answers = λ b rest. stands_at_end b c.args.pieces.now c.loop-piece.piece-index c.loop-piece.parser c.loop-piece-test.false (c.loop-piece.invariant.stands b rest);
+  answers = λ b rest. rest_at_end b c.args.pieces.now c.loop-piece.piece-index c.loop-piece.parser c.loop-piece-test.false (c.loop-piece.invariant.held b rest);
 }

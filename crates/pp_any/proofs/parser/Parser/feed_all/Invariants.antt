@@ -6,5 +6,5 @@ use Rattle.pp_any.proofs.parser.Parser.feed_all.Given as goal
 abbrev pub invariant-loop-piece : goal.invariant-loop-piece
 invariant-loop-piece l = record {
   read : l.read ≡ length (joined (take l.piece-index l.pieces));
-  stands : (b : List ℕ) → IsRest b l.initial.parser → IsRest (b ++ joined (take l.piece-index l.pieces)) l.parser;
+  held : (b : List ℕ) → IsRest b l.initial.parser → IsRest (b ++ joined (take l.piece-index l.pieces)) l.parser;
 }

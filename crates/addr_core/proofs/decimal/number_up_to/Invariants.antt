@@ -1,6 +1,0 @@
-use Rattle.std.proofs.Common.{◌≡◌, ◌≤◌, take}
-use Rattle.addr_core.specs.Decimal.{value_of}
-use Rattle.addr_core.proofs.decimal.number_up_to.Given as goal
-
-abbrev pub invariant-loop-digit : goal.invariant-loop-digit
-invariant-loop-digit l = (l.number ≡ value_of (take l.digit-index l.digits)) × (l.number ≤ l.most)

@@ -1,0 +1,151 @@
+//! Decimal numbers as text.
+ghost use Rattle.std.specs.Prelude.{◌≡◌, ◌+◌, ◌-◌, ◌*◌, ◌/◌, ◌%◌, ◌<◌, ◌≤◌, ◌↔◌, ◌++◌, ◌∷◌, [], ℕ, length, Some, IfSome, OnOk};
+ghost use Rattle.std.specs.List.{list_all};
+ghost use Rattle.std.specs.Char.{is_ascii_digit};
+ghost use Rattle.text_core.specs.Decimal.{decimal, decimal_of, has_leading_zero, is_decimal, number_of, up_to, value_of};
+
+use arrayvec::ArrayString;
+use std::alloc::AllocError;
+
+/// As many digits as `u64::MAX` has.
+pub const MOST_DIGITS: usize = 20;
+
+/// Whether each byte is a decimal digit.
+pub fn are_digits(text: &[u8]) -> bool
+    ensures { result ≡ list_all is_ascii_digit text.now }
+{
+    text.iter().all(|byte| byte.is_ascii_digit())
+}
+
+/// Whether it begins with a 0 before another digit.
+pub fn has_leading_zero(text: &[u8]) -> bool
+    ensures { result ≡ has_leading_zero text.now }
+{
+    text.len() > 1 && text[0] == b'0'
+}
+
+/// The number with one more digit.
+fn with_digit(number: u64, digit: u8, most: u64) -> Option<u64>
+    ensures { result ≡ up_to most (number * 10 + (digit - 48)) }
+{
+    let next = number
+        .checked_mul(10)?
+        .checked_add(u64::from(digit.saturating_sub(b'0')))?;
+    if next > most {
+        return None;
+    }
+    Some(next)
+}
+
+/// The number of these digits, leading zeros or not. There is none above `most`.
+pub fn number_up_to(digits: &[u8], most: u64) -> Option<u64>
+    ensures { result ≡ up_to most (value_of digits.now) }
+{
+    let mut number = 0;
+    for digit in digits {
+        number = with_digit(number, *digit, most)?;
+    }
+    Some(number)
+}
+
+/// The number of a text of decimal digits, leading zeros or not. There is none where the text is empty
+/// or has another character, and above `most`.
+pub fn read_number(text: &[u8], most: u64) -> Option<u64>
+    ensures { result ≡ number_of text.now most }
+{
+    if text.is_empty() || !are_digits(text) {
+        return None;
+    }
+    number_up_to(text, most)
+}
+
+fn is_decimal(text: &[u8]) -> bool
+    ensures { result ≡ is_decimal text.now }
+{
+    !text.is_empty() && are_digits(text) && !has_leading_zero(text)
+}
+
+fn number_of(text: &[u8], most: u64) -> Option<u64>
+    ensures { result ≡ decimal_of text.now most }
+{
+    if !is_decimal(text) {
+        return None;
+    }
+    number_up_to(text, most)
+}
+
+/// The number of a text of decimal digits. There is none where the text is empty or has another
+/// character, at a 0 before another digit, and above `most`.
+pub fn read_decimal(text: &[u8], most: u64) -> Option<u64>
+    ensures exact { result ≡ decimal_of text.now most }
+
+    // A number is read of its own text, and of no other.
+    ensures own_text { (number : ℕ) → number ≤ most → (result ≡ Some number) ↔ (text.now ≡ decimal number) }
+    ensures small { IfSome result (λ number. number ≤ most) }
+{
+    number_of(text, most)
+}
+
+fn push_digit(text: &mut ArrayString<MOST_DIGITS>, digit: u8)
+    requires digit { digit < 10 }
+    requires room { length text.old.bytes < MOST_DIGITS }
+    ensures { text.new.bytes ≡ text.old.bytes ++ (48 + digit) ∷ [] }
+{
+    text.push(char::from(b'0' + digit));
+}
+
+fn push_digits(text: &mut ArrayString<MOST_DIGITS>, number: u64)
+    requires { length text.old.bytes + length (decimal number) ≤ MOST_DIGITS }
+    ensures { text.new.bytes ≡ text.old.bytes ++ decimal number }
+{
+    if number < 10 {
+        push_digit(text, number as u8);
+        return;
+    }
+    push_digits(text, number / 10);
+    push_digit(text, (number % 10) as u8);
+}
+
+/// The number in decimal, with no leading zero.
+pub fn write_decimal(number: u64) -> ArrayString<MOST_DIGITS>
+    ensures text { result.bytes ≡ decimal number }
+
+    // What is written is read again.
+    ensures read_again { (most : ℕ) → number ≤ most → decimal_of result.bytes most ≡ Some number }
+{
+    let mut text = ArrayString::new();
+    push_digits(&mut text, number);
+    text
+}
+
+/// Appends the number in decimal. There must be room.
+pub fn push_decimal<const CAP: usize>(text: &mut ArrayString<CAP>, number: u64)
+    requires { length text.old.bytes + length (decimal number) ≤ CAP }
+    ensures { text.new.bytes ≡ text.old.bytes ++ decimal number }
+{
+    let digits = write_decimal(number);
+    text.push_str(digits.as_str());
+}
+
+/// Appends the two last digits of a number.
+fn append_pair(out: &mut Vec<u8>, pair: u8) -> Result<(), AllocError>
+    requires { pair < 100 }
+    ensures { OnOk result (out.new.items ≡ out.old.items ++ (48 + pair / 10) ∷ (48 + pair % 10) ∷ []) }
+{
+    out.extend_from_slice(&[b'0' + pair / 10, b'0' + pair % 10])
+}
+
+/// Appends the number in decimal. Where memory is short, some of its digits may have been appended.
+pub fn append_decimal(out: &mut Vec<u8>, number: u64) -> Result<(), AllocError>
+    ensures { OnOk result (out.new.items ≡ out.old.items ++ decimal number) }
+{
+    if number < 10 {
+        out.push(b'0' + number as u8)?;
+        return Ok(());
+    }
+    if number < 100 {
+        return append_pair(out, number as u8);
+    }
+    append_decimal(out, number / 100)?;
+    append_pair(out, (number % 100) as u8)
+}
