@@ -1,5 +1,5 @@
 //! Tests with outside values.
-use addr_core::decimal::{read_decimal, write_decimal};
+use text_core::decimal::{read_decimal, write_decimal};
 use addr_core::{
     Addr, AddrFault, Endpoint, Net, Pair, read_addr, read_endpoint, read_net, write_addr,
     write_endpoint,

@@ -16,3 +16,7 @@ one_read (Err e) = Err e
 -- The last million calls were blocked: all that were made, or those after a call that was not.
 abbrev pub IsWornOut : ℕ → ℕ → Type 0
 IsWornOut old new = (new ≡ raised_by 1000000 old) ⊎ (new ≡ 1000000)
+
+-- No call was made, or the last one was not blocked.
+abbrev pub IsUnblocked : ℕ → ℕ → Type 0
+IsUnblocked old new = (new ≡ old) ⊎ (new ≡ 0)

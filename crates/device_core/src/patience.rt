@@ -2,7 +2,7 @@
 ghost use Rattle.std.specs.Prelude.{◌≡◌, ◌⊎◌, ◌-◌, ◌<◌, ◌≤◌, ℕ, length, take, OnOk, OnErr};
 ghost use Rattle.std.specs.Io.KnownBytes.{Appends};
 ghost use Rattle.device_core.specs.Device.{Reads, raised, raised_by};
-ghost use Rattle.device_core.specs.Patience.{one_read, IsWornOut};
+ghost use Rattle.device_core.specs.Patience.{one_read, IsUnblocked, IsWornOut};
 
 use crate::device::{Failed, Got, Input, Output, Put};
 
@@ -29,6 +29,7 @@ pub fn read_on<I: Input>(input: &mut I, buffer: &mut [u8], reads: &mut u32) -> R
     // The bytes are moved as by one read, and an error moves none.
     ensures moved { Reads (one_read result) (I.left input.old) (I.left input.new) buffer.new }
     ensures ok { OnOk result (I.failures input.new ≡ I.failures input.old) }
+    ensures ok_stalls { OnOk result (I.stalls input.new ≡ 0) }
     ensures err { OnErr result ((I.failures input.new ≡ raised (I.failures input.old))
         ⊎ ((I.failures input.new ≡ I.failures input.old)
         × ((I.stalls input.new ≡ raised_by 1000000 (I.stalls input.old)) ⊎ (reads.new ≡ 0)))) }
@@ -57,6 +58,7 @@ pub fn read_on<I: Input>(input: &mut I, buffer: &mut [u8], reads: &mut u32) -> R
 pub fn write_all<O: Output>(output: &mut O, bytes: &[u8]) -> Result<(), Failed>
     ensures ok { OnOk result (Appends (O.held output.old) (O.held output.new) bytes.now) }
     ensures ok_failures { OnOk result (O.failures output.new ≡ O.failures output.old) }
+    ensures ok_stalls { OnOk result (IsUnblocked (O.stalls output.old) (O.stalls output.new)) }
 
     // After an error some of the bytes were written, the first ones, and not all.
     ensures err { OnErr result ((n : ℕ) × (n < length bytes.now) × Appends (O.held output.old) (O.held output.new) (take n bytes.now)) }

@@ -1,13 +1,22 @@
 -- How far a script was read and answered.
-use Rattle.std.proofs.Common.{◌≡◌, ◌⊎◌, ℕ, List, [], ◌++◌, Option, Some, None, refl, ap, subst, sym, ◌∙◌, append_assoc, inl, inr}
-use Rattle.std.proofs.lemmas.List.{append-nil}
-use Rattle.std.specs.Io.KnownBytes.{Keeps, Consumes, IsAtEnd}
-use Rattle.replay_core.specs.Replay.{ended}
-use Rattle.replay_core.specs.Standing.{Standing, Goes, Halts, IsLineFault, total, total_of}
+use Rattle.std.proofs.Common.{◌≡◌, ◌⊎◌, ◌<◌, ◌+◌, ℕ, true, List, [], ◌∷◌, ◌++◌, length, Option, Some, None, Err, refl, ap, subst, sym, ◌∙◌, append_assoc, append-nil, inl, inr, arith}
+use Rattle.std.specs.Prelude.{nat_lt}
+use Rattle.std.specs.Io.KnownBytes.{Consumes}
+use Rattle.std.proofs.lemmas.Bool.Decides.{nat_tests}
+use Rattle.conf_text.specs.Parts.{parts, is_line_feed}
+use Rattle.conn_model.specs.declared.plain.Plain.{Plain}
+use Rattle.line_reader.specs.Lines.{ConsumesAll, Gathers, GivesLastLine, GivesLine, GivesNothing, LineState}
+use Rattle.line_reader.specs.Unended.{BeginsTooLong}
+use Rattle.line_reader.specs.declared.lines.LineFault.{LineFault}
+use Rattle.line_reader.specs.declared.lines.LineFault.TheVariants as lines
+use Rattle.line_reader.specs.declared.lines.TheConstants.{MOST_LINE_BYTES}
+use Rattle.replay_core.specs.Replay.{asked, ended, script_fault}
+use Rattle.replay_core.specs.Turns.{outcome_in, replayed_in, turn}
+use Rattle.replay_core.specs.Standing.{Standing, Goes, IsFrontOf, IsLineFault, total, total_of, total_of_lines}
 use Rattle.replay_core.specs.Reading.{Reached, Done, Cut, Stopped, Stops}
 use Rattle.replay_core.specs.declared.fault.ReplayFault.{ReplayFault}
 use Rattle.replay_core.specs.declared.fault.ReplayFault.TheVariants.{Config, Format, TooLong, Read, Write, NoMemory}
-use Rattle.replay_core.proofs.GoesLemmas.{front_goes, goes_more, goes_on, goes_start, halts_on}
+use Rattle.replay_core.proofs.GoesLemmas.{front_goes, front_sent, goes_line, goes_more, goes_sent, goes_start}
 
 -- nothing read yet
 pub reached_start : (sent : List ℕ) (s : Standing) (script : List ℕ) (left held : Option (List ℕ)) (kept : List ℕ) → kept ≡ [] → left ≡ Some script → held ≡ Some sent
@@ -20,36 +29,51 @@ consumed : (rest : List ℕ) (new : Option (List ℕ)) (bytes : List ℕ) → Co
 consumed rest None bytes moved = absurd moved
 consumed rest (Some less) bytes moved = (less, refl, moved)
 
-kept_left : (rest : List ℕ) (new : Option (List ℕ)) → Keeps (Some rest) new → new ≡ Some rest
-kept_left rest None keeps = absurd keeps
-kept_left rest (Some less) keeps = ap Some keeps
-
 given : (rest : List ℕ) (left new : Option (List ℕ)) (bytes : List ℕ) → left ≡ Some rest → Consumes left new bytes → (less : List ℕ) × (new ≡ Some less) × (rest ≡ bytes ++ less)
 given rest left new bytes is moved = consumed rest new bytes (subst (λ l. Consumes l new bytes) is moved)
 
--- a block more
-pub reached_on : (sent : List ℕ) (s : Standing) (script : List ℕ) (left held : Option (List ℕ)) (t : Standing) (kept bytes : List ℕ) (less new : Option (List ℕ)) (u : Standing) (next : List ℕ)
-    → Reached sent s script left held t kept → Consumes left less bytes → ((now : List ℕ) → held ≡ Some now → Goes now t (kept ++ bytes) new u next)
-    → Reached sent s script less new u next
-reached_on sent s script left held t kept bytes less new u next reached moved step =
+-- more bytes
+reached_more : (sent : List ℕ) (s : Standing) (script : List ℕ) (left held : Option (List ℕ)) (t : Standing) (kept bytes : List ℕ) (less : Option (List ℕ))
+    → Reached sent s script left held t kept → Consumes left less bytes → Reached sent s script less held t (kept ++ bytes)
+reached_more sent s script left held t kept bytes less reached moved =
     let taken = given reached.rest left less bytes reached.is_left moved in
     record {
       got = reached.got ++ bytes;
       rest = taken.0;
       is_left = taken.1;
       is_read = reached.is_read ∙ ap (λ xs. reached.got ++ xs) taken.2 ∙ sym (append_assoc reached.got bytes taken.0);
-      goes = goes_on sent s (reached.got ++ bytes) held t (kept ++ bytes) new u next (goes_more sent s reached.got held t kept bytes reached.goes) step;
+      goes = goes_more sent s reached.got held t kept bytes reached.goes;
     }
 
--- a reader that gives nothing more
-pub reached_kept : (sent : List ℕ) (s : Standing) (script : List ℕ) (left held : Option (List ℕ)) (t : Standing) (kept : List ℕ) (new : Option (List ℕ))
-    → Reached sent s script left held t kept → Keeps left new → Reached sent s script new held t kept
-reached_kept sent s script left held t kept new reached keeps = record {
+-- the same bytes, in other places
+reached_gathered : (sent : List ℕ) (s : Standing) (script : List ℕ) (left held : Option (List ℕ)) (t : Standing) (old new : LineState) (less : Option (List ℕ))
+    → Reached sent s script left held t old.kept → Gathers old new left less → Reached sent s script less held t (new.line ++ new.kept)
+reached_gathered sent s script left held t old new less reached gathers =
+    subst (Reached sent s script less held t) gathers.same (reached_more sent s script left held t old.kept gathers.bytes less reached gathers.moved)
+
+-- a line more
+pub reached_line : (sent : List ℕ) (s : Standing) (script : List ℕ) (left held : Option (List ℕ)) (t u : Standing) (old new : LineState) (less : Option (List ℕ))
+    → Reached sent s script left held t old.kept → GivesLine old new left less
+    → ((now : List ℕ) (more : List (List ℕ)) → total_of_lines now u more ≡ total_of_lines now t (new.line ∷ more)) → Reached sent s script less held u new.kept
+reached_line sent s script left held t u old new less reached gives step =
+    let more : Reached sent s script less held t (old.kept ++ gives.bytes) = reached_more sent s script left held t old.kept gives.bytes less reached gives.moved in
+    record {
+      got = more.got;
+      rest = more.rest;
+      is_left = more.is_left;
+      is_read = more.is_read;
+      goes = goes_line sent s more.got held t u (old.kept ++ gives.bytes) new.line new.kept more.goes gives.begins step;
+    }
+
+-- answers written
+pub reached_sent : (sent : List ℕ) (s : Standing) (script : List ℕ) (left held : Option (List ℕ)) (t : Standing) (kept : List ℕ) (new : Option (List ℕ)) (u : Standing)
+    → Reached sent s script left held t kept → ((now more : List ℕ) → held ≡ Some now → Goes now t more new u more) → Reached sent s script left new u kept
+reached_sent sent s script left held t kept new u reached step = record {
   got = reached.got;
   rest = reached.rest;
-  is_left = kept_left reached.rest new (subst (λ l. Keeps l new) reached.is_left keeps);
+  is_left = reached.is_left;
   is_read = reached.is_read;
-  goes = reached.goes;
+  goes = goes_sent sent s reached.got held t kept new u reached.goes step;
 }
 
 pub cut_reached : (sent : List ℕ) (s : Standing) (script : List ℕ) (left held : Option (List ℕ)) (t : Standing) (kept : List ℕ) → Reached sent s script left held t kept
@@ -62,78 +86,149 @@ cut_reached sent s script left held t kept reached = record {
   front = front_goes sent s reached.got held t kept reached.goes;
 }
 
--- a fault in a block
-pub stops_block : (sent : List ℕ) (s : Standing) (script : List ℕ) (left held : Option (List ℕ)) (t : Standing) (kept bytes : List ℕ) (less new : Option (List ℕ)) (u : Standing) (fault : ReplayFault)
-    → Reached sent s script left held t kept → Consumes left less bytes → ((now : List ℕ) → held ≡ Some now → Halts now t (kept ++ bytes) new u fault)
-    → Stops sent s script less new u fault
-stops_block sent s script left held t kept bytes less new u fault reached moved step =
-    let taken = given reached.rest left less bytes reached.is_left moved in
-    let read : script ≡ reached.got ++ bytes ++ taken.0 = reached.is_read ∙ ap (λ xs. reached.got ++ xs) taken.2 ∙ sym (append_assoc reached.got bytes taken.0) in
-    by fault (reached.got ++ bytes) taken.0 taken.1 read
-    (halts_on sent s (reached.got ++ bytes) held t (kept ++ bytes) new u fault (goes_more sent s reached.got held t kept bytes reached.goes) step)
-  where
-    by : (f : ReplayFault) (got rest : List ℕ) → less ≡ Some rest → script ≡ got ++ rest → Halts sent s got new u f → Stops sent s script less new u f
-    by (Config f) got rest is read halts = halts
-    by (Format line) got rest is read halts =
-        record { got = got; rest = rest; now = halts.now; is_left = is; is_read = read; is_held = halts.is_held; same = λ more only. halts.same more }
-    by (TooLong line) got rest is read halts =
-        record { got = got; rest = rest; now = halts.now; is_left = is; is_read = read; is_held = halts.is_held; same = λ more only. halts.same more }
-    by Read got rest is read halts = absurd halts
-    by Write got rest is read halts = record { got = got; rest = rest; is_left = is; is_read = read; front = halts }
-    by NoMemory got rest is read halts = record { got = got; rest = rest; is_left = is; is_read = read; front = halts }
+-- a write that failed
+pub stops_write : (sent : List ℕ) (s : Standing) (script : List ℕ) (left held : Option (List ℕ)) (t u : Standing) (kept : List ℕ) (new : Option (List ℕ)) (fault : ReplayFault) → fault ≡ Write
+    → Reached sent s script left held t kept → ((now more : List ℕ) → held ≡ Some now → IsFrontOf now t more new) → Stops sent s script left new u fault
+stops_write sent s script left held t u kept new fault is reached front =
+    subst (Stops sent s script left new u) (sym is)
+    (record {
+      got = reached.got;
+      rest = reached.rest;
+      is_left = reached.is_left;
+      is_read = reached.is_read;
+      front = front_sent sent s reached.got held t kept new reached.goes front;
+    })
 
-at_end : (rest : List ℕ) (left : Option (List ℕ)) → left ≡ Some rest → IsAtEnd left → rest ≡ []
-at_end rest None is end = cc
-at_end rest (Some xs) is end = let same : xs ≡ rest = cc in sym same ∙ end
+stops_by : (sent : List ℕ) (s : Standing) (script : List ℕ) (left held : Option (List ℕ)) (u : Standing) (fault : ReplayFault) → IsLineFault fault
+    → Stopped sent s script left held u (Some fault) → Stops sent s script left held u fault
+stops_by sent s script left held u (Config f) kind stopped = absurd kind
+stops_by sent s script left held u (Format line) kind stopped = stopped
+stops_by sent s script left held u (TooLong line) kind stopped = stopped
+stops_by sent s script left held u Read kind stopped = absurd kind
+stops_by sent s script left held u Write kind stopped = absurd kind
+stops_by sent s script left held u NoMemory kind stopped = absurd kind
 
--- nothing is left
-pub left_last : (sent : List ℕ) (s : Standing) (script : List ℕ) (left held : Option (List ℕ)) (t : Standing) (kept : List ℕ) (less : Option (List ℕ))
-    → Reached sent s script left held t kept → IsAtEnd left → Keeps left less → less ≡ Some []
-left_last sent s script left held t kept less reached end keeps =
-    kept_left reached.rest less (subst (λ l. Keeps l less) reached.is_left keeps) ∙ ap Some (at_end reached.rest left reached.is_left end)
+-- a line that ends it
+pub stops_line : (sent : List ℕ) (s : Standing) (script : List ℕ) (left held : Option (List ℕ)) (t u : Standing) (old new : LineState) (less : Option (List ℕ)) (fault : ReplayFault)
+    → Reached sent s script left held t old.kept → GivesLine old new left less
+    → ((fault ≡ NoMemory) ⊎ (IsLineFault fault × ((now : List ℕ) (more : List (List ℕ)) → total now u (ended (Some fault)) ≡ total_of_lines now t (new.line ∷ more))))
+    → Stops sent s script less held u fault
+stops_line sent s script left held t u old new less fault reached gives (inl is) =
+    subst (Stops sent s script less held u) (sym is)
+    (cut_reached sent s script less held t (old.kept ++ gives.bytes) (reached_more sent s script left held t old.kept gives.bytes less reached gives.moved))
+stops_line sent s script left held t u old new less fault reached gives (inr stop) =
+    let more : Reached sent s script less held t (old.kept ++ gives.bytes) = reached_more sent s script left held t old.kept gives.bytes less reached gives.moved in
+    stops_by sent s script less held u fault stop.0
+    (record {
+      got = more.got;
+      rest = more.rest;
+      now = more.goes.now;
+      is_left = more.is_left;
+      is_read = more.is_read;
+      is_held = more.goes.is_held;
+      same = λ next only. stop.1 more.goes.now (parts is_line_feed (new.kept ++ next)) ∙ ap (total_of_lines more.goes.now t) (sym (gives.begins next)) ∙ more.goes.same next;
+    })
 
--- all of it
-pub done_last : (sent : List ℕ) (s : Standing) (script : List ℕ) (left held : Option (List ℕ)) (t u : Standing) (kept : List ℕ) (fault : Option ReplayFault)
-    → Reached sent s script left held t kept → IsAtEnd left → ((now : List ℕ) → total now u (ended fault) ≡ total_of now t kept) → Done sent s script held u fault
-done_last sent s script left held t u kept fault reached end step =
-    let none : reached.rest ≡ [] = at_end reached.rest left reached.is_left end in
-    let read : script ≡ reached.got ++ [] = reached.is_read ∙ ap (λ xs. reached.got ++ xs) none in
-    record {
-      now = reached.goes.now;
-      is_held = reached.goes.is_held;
-      same = step reached.goes.now ∙ ap (total_of reached.goes.now t) (sym (append-nil kept)) ∙ reached.goes.same [] ∙ ap (total_of sent s) (sym read);
-    }
+all_left : (rest : List ℕ) (left less : Option (List ℕ)) (bytes : List ℕ) → left ≡ Some rest → ConsumesAll left less bytes → (rest ≡ bytes) × (less ≡ Some [])
+all_left rest None less bytes is moved = cc
+all_left rest (Some xs) less bytes is moved = let same : xs ≡ rest = cc in (sym same ∙ moved.0, moved.1)
 
-stopped_last : (sent : List ℕ) (s : Standing) (script : List ℕ) (left held : Option (List ℕ)) (t u : Standing) (kept : List ℕ) (less : Option (List ℕ)) (fault : Option ReplayFault)
-    → Reached sent s script left held t kept → IsAtEnd left → Keeps left less → Done sent s script held u fault → Stopped sent s script less held u fault
-stopped_last sent s script left held t u kept less fault reached end keeps done =
-    let none : reached.rest ≡ [] = at_end reached.rest left reached.is_left end in
-    record {
+-- all bytes
+all_read : (sent : List ℕ) (s : Standing) (script : List ℕ) (left held : Option (List ℕ)) (t : Standing) (kept bytes : List ℕ) (less : Option (List ℕ))
+    → (reached : Reached sent s script left held t kept) → ConsumesAll left less bytes → total_of reached.goes.now t (kept ++ bytes) ≡ total_of sent s script
+all_read sent s script left held t kept bytes less reached moved =
+    let all = all_left reached.rest left less bytes reached.is_left moved in
+    reached.goes.same bytes ∙ ap (total_of sent s) (sym (reached.is_read ∙ ap (λ xs. reached.got ++ xs) all.0))
+
+-- the end after the last line feed
+pub done_end : (sent : List ℕ) (s : Standing) (script : List ℕ) (left held : Option (List ℕ)) (t : Standing) (old new : LineState) (less : Option (List ℕ))
+    → Reached sent s script left held t old.kept → GivesNothing old new left less → (less ≡ Some []) × Done sent s script held t None
+done_end sent s script left held t old new less reached gives = (
+  (all_left reached.rest left less gives.bytes reached.is_left gives.moved).1,
+  record {
+    now = reached.goes.now;
+    is_held = reached.goes.is_held;
+    same = ap (total_of reached.goes.now t) (sym gives.is_empty) ∙ all_read sent s script left held t old.kept gives.bytes less reached gives.moved;
+  },
+)
+
+done_by : (sent : List ℕ) (s : Standing) (script : List ℕ) (left held : Option (List ℕ)) (t u : Standing) (old new : LineState) (less : Option (List ℕ)) (fault : Option ReplayFault)
+    → Reached sent s script left held t old.kept → GivesLastLine old new left less
+    → ((now : List ℕ) → total now u (ended fault) ≡ total_of_lines now t (new.line ∷ [])) → Done sent s script held u fault
+done_by sent s script left held t u old new less fault reached gives step = record {
+  now = reached.goes.now;
+  is_held = reached.goes.is_held;
+  same = step reached.goes.now ∙ ap (total_of_lines reached.goes.now t) (sym gives.is_line) ∙ all_read sent s script left held t old.kept gives.bytes less reached gives.moved;
+}
+
+-- the last line
+pub done_last : (sent : List ℕ) (s : Standing) (script : List ℕ) (left held : Option (List ℕ)) (t u : Standing) (old new : LineState) (less : Option (List ℕ))
+    → Reached sent s script left held t old.kept → GivesLastLine old new left less
+    → ((now : List ℕ) (more : List (List ℕ)) → total_of_lines now u more ≡ total_of_lines now t (new.line ∷ more)) → (less ≡ Some []) × Done sent s script held u None
+done_last sent s script left held t u old new less reached gives step = (
+  (all_left reached.rest left less gives.bytes reached.is_left gives.moved).1,
+  done_by sent s script left held t u old new less None reached gives (λ now. step now []),
+)
+
+-- a fault in the last line
+pub stops_last : (sent : List ℕ) (s : Standing) (script : List ℕ) (left held : Option (List ℕ)) (t u : Standing) (old new : LineState) (less : Option (List ℕ)) (fault : ReplayFault)
+    → Reached sent s script left held t old.kept → GivesLastLine old new left less
+    → ((fault ≡ NoMemory) ⊎ (IsLineFault fault × ((now : List ℕ) (more : List (List ℕ)) → total now u (ended (Some fault)) ≡ total_of_lines now t (new.line ∷ more))))
+    → Stops sent s script less held u fault
+stops_last sent s script left held t u old new less fault reached gives (inl is) =
+    let all = all_left reached.rest left less gives.bytes reached.is_left gives.moved in
+    let read : script ≡ reached.got ++ gives.bytes = reached.is_read ∙ ap (λ xs. reached.got ++ xs) all.0 in
+    subst (Stops sent s script less held u) (sym is)
+    (record {
+      got = reached.got ++ gives.bytes;
+      rest = [];
+      is_left = all.1;
+      is_read = read ∙ sym (append-nil (reached.got ++ gives.bytes));
+      front = front_goes sent s (reached.got ++ gives.bytes) held t (old.kept ++ gives.bytes) (goes_more sent s reached.got held t old.kept gives.bytes reached.goes);
+    })
+stops_last sent s script left held t u old new less fault reached gives (inr stop) =
+    let done : Done sent s script held u (Some fault) = done_by sent s script left held t u old new less (Some fault) reached gives (λ now. stop.1 now []) in
+    stops_by sent s script less held u fault stop.0
+    (record {
       got = script;
       rest = [];
       now = done.now;
-      is_left = kept_left reached.rest less (subst (λ l. Keeps l less) reached.is_left keeps) ∙ ap Some none;
+      is_left = (all_left reached.rest left less gives.bytes reached.is_left gives.moved).1;
       is_read = sym (append-nil script);
       is_held = done.is_held;
       same = λ more only. done.same ∙ ap (total_of sent s) (sym (ap (λ xs. script ++ xs) (only refl) ∙ append-nil script));
-    }
+    })
 
--- a fault in the last line
-pub stops_last : (sent : List ℕ) (s : Standing) (script : List ℕ) (left held : Option (List ℕ)) (t u : Standing) (kept : List ℕ) (less : Option (List ℕ)) (fault : ReplayFault)
-    → Reached sent s script left held t kept → IsAtEnd left → Keeps left less
-    → ((fault ≡ NoMemory) ⊎ (IsLineFault fault × ((now : List ℕ) → total now u (ended (Some fault)) ≡ total_of now t kept)))
-    → Stops sent s script less held u fault
-stops_last sent s script left held t u kept less fault reached end keeps (inl is) =
-    subst (Stops sent s script less held u) (sym is) (cut_reached sent s script less held t kept (reached_kept sent s script left held t kept less reached keeps))
-stops_last sent s script left held t u kept less fault reached end keeps (inr stop) =
-    by fault stop.0
-    (stopped_last sent s script left held t u kept less (Some fault) reached end keeps
-    (done_last sent s script left held t u kept (Some fault) reached end stop.1))
-  where
-    by : (f : ReplayFault) → IsLineFault f → Stopped sent s script less held u (Some f) → Stops sent s script less held u f
-    by (Config f) kind stopped = absurd kind
-    by (Format line) kind stopped = stopped
-    by (TooLong line) kind stopped = stopped
-    by Read kind stopped = absurd kind
-    by Write kind stopped = absurd kind
-    by NoMemory kind stopped = absurd kind
+long_test : (n : ℕ) → MOST_LINE_BYTES < n → nat_lt MOST_LINE_BYTES n ≡ true
+long_test n long = grind (arith, nat_tests)
+
+asked_long : (number : ℕ) (line : List ℕ) → nat_lt MOST_LINE_BYTES (length line) ≡ true → asked number line ≡ Err (TooLong number)
+asked_long number line long = rw long refl
+
+-- a line that is too long
+too_long : (p : Plain) (before : ℕ) (bytes : List ℕ) → BeginsTooLong bytes → (more : List ℕ) → ended (Some (TooLong (before + 1))) ≡ replayed_in p before (bytes ++ more)
+too_long p before bytes begins more =
+    let first = begins more in
+    let turned : turn p (asked (before + 1) first.0) (λ q. outcome_in q (before + 1) first.1) ≡ ended (Some (TooLong (before + 1))) =
+    ap (λ a. turn p a (λ q. outcome_in q (before + 1) first.1)) (asked_long (before + 1) first.0 (long_test (length first.0) first.3)) in
+    sym (ap (outcome_in p before) first.2 ∙ turned)
+
+-- no next line
+pub stops_reading : (sent : List ℕ) (s : Standing) (script : List ℕ) (left held : Option (List ℕ)) (t : Standing) (old new : LineState) (less : Option (List ℕ)) (fault : LineFault)
+    → Reached sent s script left held t old.kept → Gathers old new left less → (fault ≡ lines.TooLong → BeginsTooLong (new.line ++ new.kept))
+    → Stops sent s script less held t (script_fault (t.before + 1) fault)
+stops_reading sent s script left held t old new less lines.TooLong reached gathers long =
+    let more : Reached sent s script less held t (new.line ++ new.kept) = reached_gathered sent s script left held t old new less reached gathers in
+    record {
+      got = more.got;
+      rest = more.rest;
+      now = more.goes.now;
+      is_left = more.is_left;
+      is_read = more.is_read;
+      is_held = more.goes.is_held;
+      same = λ next only. ap (total more.goes.now t) (too_long t.plain t.before (new.line ++ new.kept) (long refl) next) ∙ more.goes.same next;
+    }
+stops_reading sent s script left held t old new less lines.Read reached gathers long =
+    (new.line ++ new.kept, reached_gathered sent s script left held t old new less reached gathers)
+stops_reading sent s script left held t old new less lines.NoMemory reached gathers long =
+    cut_reached sent s script less held t (new.line ++ new.kept) (reached_gathered sent s script left held t old new less reached gathers)

@@ -1,6 +1,8 @@
 -- How a script is read.
 use Rattle.std.specs.Prelude.{◌≡◌, ◌⊎◌, ℕ, Bool, true, false, ◌≤◌, List, [], ◌++◌, Option, Some}
 use Rattle.device_core.specs.Device.{raised, raised_by}
+use Rattle.device_core.specs.Patience.{IsWornOut}
+use Rattle.device_core.specs.declared.patience.TheConstants.{MOST_READS}
 use Rattle.replay_core.specs.Standing.{Standing, Goes, IsFrontOf, total, total_of}
 use Rattle.replay_core.specs.Replay.{IsFront, ended}
 use Rattle.replay_core.specs.declared.fault.ReplayFault.{ReplayFault}
@@ -76,7 +78,7 @@ Ended sent s script left held lines Read = Cut sent s script left held
 Ended sent s script left held lines Write = Cut sent s script left held ⊎ CutAtEnd sent s script left held
 Ended sent s script left held lines NoMemory = Cut sent s script left held
 
--- a reader gave up: it failed in the call, its last million calls were blocked, or it was asked a thousand million times
-abbrev pub IsSpent : ℕ → ℕ → ℕ → ℕ → ℕ → Type 0
-IsSpent before failures stalls called calls =
-    (failures ≡ raised before) ⊎ ((failures ≡ before) × ((1000000 ≤ stalls) ⊎ (calls ≡ raised_by 1000000000 called)))
+-- A reader gave up: it failed once in the call, or it did not and its patience ran out, or it was asked as often as it may be.
+abbrev pub IsSpent : ℕ → ℕ → ℕ → ℕ → ℕ → ℕ → Type 0
+IsSpent before failures blocked stalls called calls =
+    (failures ≡ raised before) ⊎ ((failures ≡ before) × (IsWornOut blocked stalls ⊎ (calls ≡ raised_by MOST_READS called)))

@@ -11,6 +11,10 @@ use Rattle.config_core.specs.Meaning.{meaning}
 use Rattle.event_text.specs.Script.{Wanted, wanted, wanted_of, words_of}
 use Rattle.event_text.specs.Replies.{count_line, fault_line, reply_line}
 use Rattle.event_text.specs.declared.script.Request.{Request}
+use Rattle.line_reader.specs.declared.lines.LineFault.{LineFault}
+use Rattle.line_reader.specs.declared.lines.LineFault.TheVariants as lines
+use Rattle.line_reader.specs.declared.lines.TheConstants.{MOST_LINE_BYTES}
+use Rattle.replay_core.specs.declared.session.TheConstants.{MOST_LINES}
 use Rattle.replay_core.specs.declared.fault.ReplayFault.{ReplayFault}
 use Rattle.replay_core.specs.declared.fault.ReplayFault.TheVariants.{Config, Format, TooLong, Read, Write, NoMemory}
 
@@ -40,9 +44,15 @@ wanted_at number (Some wants) = Ok (Some wants)
 -- what the line of that number asks for: an answer to an event, counts, or nothing; else what is wrong with it
 abbrev pub asked : ℕ → List ℕ → Result (Option Wanted) ReplayFault
 asked number line =
-    if nat_lt 131200 (length line) || nat_lt 1000000 number then Err (TooLong number)
+    if nat_lt MOST_LINE_BYTES (length line) || nat_lt MOST_LINES number then Err (TooLong number)
     else if is_skipped line then Ok None
     else wanted_at number (wanted_of (words_of line))
+
+-- what ends a replay where no line of that number comes
+abbrev pub script_fault : ℕ → LineFault → ReplayFault
+script_fault number lines.TooLong = TooLong number
+script_fault number lines.Read = Read
+script_fault number lines.NoMemory = NoMemory
 
 -- what was read of a line
 abbrev pub asked_for : Result (Option Request) ReplayFault → Result (Option Wanted) ReplayFault

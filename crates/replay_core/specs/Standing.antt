@@ -1,7 +1,8 @@
 -- How far a replay has come.
 use Rattle.std.specs.Prelude.{◌≡◌, ◌⊎◌, ℕ, ◌≤◌, List, [], ◌∷◌, ◌++◌, Option, Some}
-use Rattle.conf_text.specs.Parts.{parts, is_line_feed, onto_first}
+use Rattle.conf_text.specs.Parts.{parts, is_line_feed}
 use Rattle.device_core.specs.Device.{raised}
+use Rattle.device_core.specs.Patience.{IsWornOut}
 use Rattle.conn_model.specs.declared.plain.Plain.{Plain}
 use Rattle.replay_core.specs.Replay.{IsFront, Outcome, before_rest, ended}
 use Rattle.replay_core.specs.Turns.{outcome_in, replayed_in}
@@ -33,12 +34,6 @@ pub record Goes (sent : List ℕ) (s : Standing) (bytes : List ℕ) (held : Opti
   pub is_held : held ≡ Some now
   pub same : (more : List ℕ) → total_of now t (rest ++ more) ≡ total_of sent s (bytes ++ more)
 
--- Whatever follows, bytes behind a standing come to an end by a fault.
-pub record Ends (sent : List ℕ) (s : Standing) (bytes : List ℕ) (held : Option (List ℕ)) (t : Standing) (fault : Option ReplayFault) : Type 0 where
-  pub now : List ℕ
-  pub is_held : held ≡ Some now
-  pub same : (more : List ℕ) → total now t (ended fault) ≡ total_of sent s (bytes ++ more)
-
 -- the fault is one of a line
 abbrev pub IsLineFault : ReplayFault → Type 0
 IsLineFault (Config fault) = ⊥
@@ -48,28 +43,10 @@ IsLineFault Read = ⊥
 IsLineFault Write = ⊥
 IsLineFault NoMemory = ⊥
 
--- a writer gave up: it failed in the call, or its last million calls were blocked
-abbrev pub GaveUp : ℕ → ℕ → ℕ → Type 0
-GaveUp before failures stalls = (failures ≡ raised before) ⊎ ((failures ≡ before) × (1000000 ≤ stalls))
-
--- bytes in front of the first part
-abbrev pub onto : List ℕ → List (List ℕ) → List (List ℕ)
-onto [] lines = lines
-onto (b ∷ bytes) lines = onto_first b (onto bytes lines)
-
--- whatever follows, the bytes do not end a line
-abbrev pub IsUnended : List ℕ → Type 0
-IsUnended bytes = (more : List ℕ) → parts is_line_feed (bytes ++ more) ≡ onto bytes (parts is_line_feed more)
+-- A writer gave up: it failed once in the call, or it did not and its patience ran out.
+abbrev pub GaveUp : ℕ → ℕ → ℕ → ℕ → Type 0
+GaveUp before failures blocked stalls = (failures ≡ raised before) ⊎ ((failures ≡ before) × IsWornOut blocked stalls)
 
 -- whatever follows, what is held is the front of what is written of bytes behind a standing
 abbrev pub IsFrontOf : List ℕ → Standing → List ℕ → Option (List ℕ) → Type 0
 IsFrontOf sent s bytes held = (more : List ℕ) → IsFront held (total_of sent s (bytes ++ more)).text
-
--- how a replay stands that a fault ended
-abbrev pub Halts : List ℕ → Standing → List ℕ → Option (List ℕ) → Standing → ReplayFault → Type 0
-Halts sent s bytes held t (Config fault) = ⊥
-Halts sent s bytes held t (Format line) = Ends sent s bytes held t (Some (Format line))
-Halts sent s bytes held t (TooLong line) = Ends sent s bytes held t (Some (TooLong line))
-Halts sent s bytes held t Read = ⊥
-Halts sent s bytes held t Write = IsFrontOf sent s bytes held
-Halts sent s bytes held t NoMemory = IsFrontOf sent s bytes held

@@ -51,7 +51,7 @@ fn write_line<O: Output>(line: &[u8], writer: &mut O) -> Result<(), PrintFault>
     ensures failures { OnOk result (O.failures writer.new ≡ O.failures writer.old) }
     ensures fault { IfErr result (λ f. f ≡ PrintFault.Write) }
     ensures front { OnErr result ((sent : List ℕ) → O.held writer.old ≡ Some sent → IsFront (O.held writer.new) (sent ++ line.now)) }
-    ensures gave_up { OnErr result (GaveUp (O.failures writer.old) (O.failures writer.new) (O.stalls writer.new)) }
+    ensures gave_up { OnErr result (GaveUp (O.failures writer.old) (O.failures writer.new) (O.stalls writer.old) (O.stalls writer.new)) }
 {
     match write_all(writer, line) {
         Ok(()) => Ok(()),
@@ -70,7 +70,7 @@ fn write_fault<O: Output>(
     ensures not_read { result ≢ Err PrintFault.Read }
     ensures no_memory { result ≡ Err PrintFault.NoMemory → writer.new ≡ writer.old }
     ensures front { result ≡ Err PrintFault.Write → (sent : List ℕ) → O.held writer.old ≡ Some sent → IsFront (O.held writer.new) (sent ++ refused_line fault.now) }
-    ensures gave_up { result ≡ Err PrintFault.Write → GaveUp (O.failures writer.old) (O.failures writer.new) (O.stalls writer.new) }
+    ensures gave_up { result ≡ Err PrintFault.Write → GaveUp (O.failures writer.old) (O.failures writer.new) (O.stalls writer.old) (O.stalls writer.new) }
 {
     let Ok(line) = format!(in alloc; "{}\n", *fault) else {
         return Err(PrintFault::NoMemory);
@@ -91,7 +91,7 @@ pub fn run_check<O: Output>(alloc: Global, config: &str, writer: &mut O) -> Resu
 
     // The device gives up before the call does, and what was written is a front of the line.
     ensures front { result ≡ Err PrintFault.Write → (sent : List ℕ) → O.held writer.old ≡ Some sent → IsFront (O.held writer.new) (sent ++ check_output config.now) }
-    ensures gave_up { result ≡ Err PrintFault.Write → GaveUp (O.failures writer.old) (O.failures writer.new) (O.stalls writer.new) }
+    ensures gave_up { result ≡ Err PrintFault.Write → GaveUp (O.failures writer.old) (O.failures writer.new) (O.stalls writer.old) (O.stalls writer.new) }
 
     // Nothing is read.
     ensures not_read { result ≢ Err PrintFault.Read }

@@ -1,6 +1,7 @@
 //! Replays of scripts.
 ghost use Rattle.std.specs.Prelude.{◌≡◌, ◌≢◌, ◌⊎◌, ◌≤◌, ◌<◌, ◌++◌, ℕ, List, [], length, Option, Some, None, Ok, Err, IfOk, IfErr, OnOk, true, false};
 ghost use Rattle.device_core.specs.Device.{raised_by};
+ghost use Rattle.device_core.specs.declared.patience.TheConstants.{MOST_READS};
 ghost use Rattle.plan_types.specs.declared.plan.Plan.{Plan};
 ghost use Rattle.conn_model.specs.History.{IsWell};
 ghost use Rattle.config_core.specs.Meaning.{meaning};
@@ -15,10 +16,8 @@ use crate::reading::answer_all;
 use crate::session::Session;
 use conn_core::{Core, OpenFault};
 use device_core::{Input, Output};
+use line_reader::LineReader;
 use std::alloc::Global;
-
-/// How many bytes of a script are read at a time.
-const BLOCK: usize = 131_072;
 
 /// What a replay did.
 #[derive(Clone, Copy, Debug, PartialEq, Eq)]
@@ -42,7 +41,7 @@ fn tell<O: Output>(session: &mut Session, fault: ReplayFault, writer: &mut O) ->
     ensures ended { (sent : List ℕ) (s : Standing) (script : List ℕ) (left : Option (List ℕ)) →
         Stops sent s script left (O.held writer.old) session.old fault → Ended sent s script left (O.held writer.new) session.new.answered result }
     ensures gave_up { result ≡ ReplayFault.Write →
-        ((fault ≡ ReplayFault.Write) × (writer.new ≡ writer.old)) ⊎ ((fault ≢ ReplayFault.Write) × GaveUp (O.failures writer.old) (O.failures writer.new) (O.stalls writer.new)) }
+        ((fault ≡ ReplayFault.Write) × (writer.new ≡ writer.old)) ⊎ ((fault ≢ ReplayFault.Write) × GaveUp (O.failures writer.old) (O.failures writer.new) (O.stalls writer.old) (O.stalls writer.new)) }
     ensures read { result ≡ ReplayFault.Read → fault ≡ ReplayFault.Read }
     ensures config { (o : OpenFault) → result ≡ ReplayFault.Config o → fault ≡ ReplayFault.Config o }
 {
@@ -56,35 +55,7 @@ fn tell<O: Output>(session: &mut Session, fault: ReplayFault, writer: &mut O) ->
 }
 
 /// Answers all of a script, and writes all answers.
-fn replay<I: Input, O: Output>(
-    session: &mut Session,
-    carry: &mut Vec<u8>,
-    block: &mut [u8],
-    reader: &mut I,
-    writer: &mut O,
-) -> Result<(), ReplayFault>
-    requires some { 0 < length block.old }
-    requires nothing { carry.old.items ≡ [] }
-    ensures ok { OnOk result ((script sent : List ℕ) → I.left reader.old ≡ Some script → O.held writer.old ≡ Some sent →
-        Wrote sent session.old script (O.held writer.new) session.new.answered None) }
-    ensures ended { IfErr result (λ f. (script sent : List ℕ) → I.left reader.old ≡ Some script → O.held writer.old ≡ Some sent →
-        Ended sent session.old script (I.left reader.new) (O.held writer.new) session.new.answered f) }
-    ensures calls { (n : ℕ) × (n ≤ 1000000000) × (I.calls reader.new ≡ raised_by n (I.calls reader.old)) }
-    ensures spent { result ≡ Err ReplayFault.Read → IsSpent (I.failures reader.old) (I.failures reader.new) (I.stalls reader.new) (I.calls reader.old) (I.calls reader.new) }
-    ensures gave_up { result ≡ Err ReplayFault.Write → GaveUp (O.failures writer.old) (O.failures writer.new) (O.stalls writer.new) }
-    ensures not_config { (o : OpenFault) → result ≢ Err (ReplayFault.Config o) }
-{
-    match answer_all(session, carry, block, reader, writer) {
-        Ok(()) => {
-            session.send(writer)?;
-            Ok(())
-        }
-        Err(fault) => Err(tell(session, fault, writer)),
-    }
-}
-
-/// Answers all of a script, and writes all answers, with room of its own.
-fn run<I: Input, O: Output>(
+fn answer_and_send<I: Input, O: Output>(
     alloc: Global,
     session: &mut Session,
     reader: &mut I,
@@ -94,16 +65,21 @@ fn run<I: Input, O: Output>(
         Wrote sent session.old script (O.held writer.new) session.new.answered None) }
     ensures ended { IfErr result (λ f. (script sent : List ℕ) → I.left reader.old ≡ Some script → O.held writer.old ≡ Some sent →
         Ended sent session.old script (I.left reader.new) (O.held writer.new) session.new.answered f) }
-    ensures calls { (n : ℕ) × (n ≤ 1000000000) × (I.calls reader.new ≡ raised_by n (I.calls reader.old)) }
-    ensures spent { result ≡ Err ReplayFault.Read → IsSpent (I.failures reader.old) (I.failures reader.new) (I.stalls reader.new) (I.calls reader.old) (I.calls reader.new) }
-    ensures gave_up { result ≡ Err ReplayFault.Write → GaveUp (O.failures writer.old) (O.failures writer.new) (O.stalls writer.new) }
+    ensures calls { (n : ℕ) × (n ≤ MOST_READS) × (I.calls reader.new ≡ raised_by n (I.calls reader.old)) }
+    ensures spent { result ≡ Err ReplayFault.Read → IsSpent (I.failures reader.old) (I.failures reader.new) (I.stalls reader.old) (I.stalls reader.new) (I.calls reader.old) (I.calls reader.new) }
+    ensures gave_up { result ≡ Err ReplayFault.Write → GaveUp (O.failures writer.old) (O.failures writer.new) (O.stalls writer.old) (O.stalls writer.new) }
     ensures not_config { (o : OpenFault) → result ≢ Err (ReplayFault.Config o) }
 {
-    let Ok(mut block) = vec![in alloc; 0u8; BLOCK] else {
+    let Ok(mut lines) = LineReader::new(alloc) else {
         return Err(ReplayFault::NoMemory);
     };
-    let mut carry = Vec::new(alloc);
-    replay(session, &mut carry, block.as_mut_slice(), reader, writer)
+    match answer_all(session, &mut lines, reader, writer) {
+        Ok(()) => {
+            session.send(writer)?;
+            Ok(())
+        }
+        Err(fault) => Err(tell(session, fault, writer)),
+    }
 }
 
 /// A core on the configuration.
@@ -139,16 +115,16 @@ pub fn run_replay<I: Input, O: Output>(
     ensures refused { (o : OpenFault) → result ≡ Err (ReplayFault.Config o) → (meaning config.now ≡ Err o) × (writer.new ≡ writer.old) }
 
     // The devices give up before the replay does.
-    ensures calls { (n : ℕ) × (n ≤ 1000000000) × (I.calls reader.new ≡ raised_by n (I.calls reader.old)) }
-    ensures spent { result ≡ Err ReplayFault.Read → IsSpent (I.failures reader.old) (I.failures reader.new) (I.stalls reader.new) (I.calls reader.old) (I.calls reader.new) }
-    ensures gave_up { result ≡ Err ReplayFault.Write → GaveUp (O.failures writer.old) (O.failures writer.new) (O.stalls writer.new) }
+    ensures calls { (n : ℕ) × (n ≤ MOST_READS) × (I.calls reader.new ≡ raised_by n (I.calls reader.old)) }
+    ensures spent { result ≡ Err ReplayFault.Read → IsSpent (I.failures reader.old) (I.failures reader.new) (I.stalls reader.old) (I.stalls reader.new) (I.calls reader.old) (I.calls reader.new) }
+    ensures gave_up { result ≡ Err ReplayFault.Write → GaveUp (O.failures writer.old) (O.failures writer.new) (O.stalls writer.old) (O.stalls writer.new) }
 {
     let core = match open_core(alloc, config) {
         Ok(core) => core,
         Err(fault) => return Err(fault),
     };
     let mut session = Session::new(alloc, core);
-    match run(alloc, &mut session, reader, writer) {
+    match answer_and_send(alloc, &mut session, reader, writer) {
         Ok(()) => Ok(Replayed {
             lines: session.answered(),
         }),

@@ -1,14 +1,14 @@
 //! A replay as far as it has come.
 ghost use Rattle.std.specs.Prelude.{◌≡◌, ◌≢◌, ◌⊎◌, ◌+◌, ◌-◌, ◌<◌, ◌≤◌, ◌++◌, ◌∷◌, ℕ, List, [], length, drop, Some, None, Ok, Err, OnOk, OnErr, IfOk, IfErr, IfSome, IfNone};
-ghost use Rattle.conf_text.specs.Parts.{parts, is_line_feed};
+ghost use Rattle.device_core.specs.Patience.{IsUnblocked};
+ghost use Rattle.line_reader.specs.declared.lines.TheConstants.{MOST_LINE_BYTES};
 ghost use Rattle.conn_model.specs.Answer.{answer_in};
 ghost use Rattle.conn_model.specs.Counts.{counts_in};
 ghost use Rattle.event_text.specs.Replies.{count_line};
 ghost use Rattle.conn_model.specs.History.{happening};
-ghost use Rattle.config_core.specs.declared.fault.OpenFault.{OpenFault};
-ghost use Rattle.replay_core.specs.Replay.{answer_text, asked, asked_for, ended};
+ghost use Rattle.replay_core.specs.Replay.{answer_text, asked, asked_for, ended, script_fault};
 ghost use Rattle.replay_core.specs.Turns.{plain_after};
-ghost use Rattle.replay_core.specs.Standing.{total, total_of_lines, Ends, GaveUp, Goes, Halts, IsFrontOf, IsLineFault, IsUnended};
+ghost use Rattle.replay_core.specs.Standing.{total, total_of_lines, GaveUp, Goes, IsFrontOf, IsLineFault};
 
 use crate::fault::ReplayFault;
 use event_text::{Request, read_request, write_counts, write_fault, write_reply};
@@ -17,12 +17,15 @@ use conn_model::ask::Ask;
 use conn_model::event::Event;
 use conn_model::reply::StepFault;
 use device_core::{Failed, Output, write_all};
-use memchr::memchr;
+use line_reader::LineFault;
 use std::alloc::Global;
 use std::marker::Model;
 
+/// How many lines a script has at most.
+pub const MOST_LINES: u64 = 1_000_000;
+
 /// How many bytes of answers are collected before they are written.
-const MANY: usize = 65_536;
+const MOST_UNSENT: usize = 65_536;
 
 /// A core between two lines of a script, with the answers that were not yet written.
 #[derive(Drop)]
@@ -36,21 +39,23 @@ pub struct Session {
 impl Model for Session {
     ghost use Rattle.std.specs.Prelude.{◌≤◌};
     ghost use Rattle.replay_core.specs.Standing.{Standing};
+    ghost use Rattle.replay_core.specs.declared.session.TheConstants.{MOST_LINES};
 
     ghost Value = { Standing };
 
     ghost view = { λ s. record { plain = s.core; before = s.before; answered = s.answered; unsent = s.unsent.items } };
 
-    ghost invariant = { λ s. (s.before ≤ 1000000) × (s.answered ≤ s.before) };
+    ghost invariant = { λ s. (s.before ≤ MOST_LINES) × (s.answered ≤ s.before) };
 }
 
 /// What a line asks for.
 fn read_line(number: u64, line: &[u8]) -> Result<Option<Request>, ReplayFault>
+    requires { length line.now ≤ MOST_LINE_BYTES }
     ensures exact { asked_for result ≡ asked number line.now }
-    ensures small { IfOk result (λ _. number ≤ 1000000) }
+    ensures small { IfOk result (λ _. number ≤ MOST_LINES) }
     ensures kind { IfErr result IsLineFault }
 {
-    if line.len() > 131_200 || number > 1_000_000 {
+    if number > MOST_LINES {
         return Err(ReplayFault::TooLong(number));
     }
     if line.is_empty() || line[0] == b'#' {
@@ -95,19 +100,6 @@ fn count(core: &Core, unsent: &mut Vec<u8>, ask: &Ask) -> Result<(), ReplayFault
     Ok(())
 }
 
-/// The first line that ends in the text, and what stands after it.
-pub fn cut_line(text: &[u8]) -> Option<(&[u8], &[u8])>
-    ensures line { IfSome result (λ cut. (more : List ℕ) → parts is_line_feed (text.now ++ more) ≡ cut.0.now ∷ parts is_line_feed (cut.1.now ++ more)) }
-    ensures rest { IfSome result (λ cut. cut.1.now ≡ drop (length text.now - length cut.1.now) text.now) }
-    ensures less { IfSome result (λ cut. length cut.1.now < length text.now) }
-    ensures none { IfNone result (IsUnended text.now) }
-{
-    match memchr(b'\n', text) {
-        Some(at) => Some((&text[..at], &text[at + 1..])),
-        None => None,
-    }
-}
-
 impl Session {
     ghost use Rattle.replay_core.specs.declared.fault.ReplayFault.TheVariants.{NoMemory};
 
@@ -122,11 +114,15 @@ impl Session {
         }
     }
 
-    /// The number of the next line.
-    pub fn next_line(&self) -> u64
-        ensures { result ≡ self.now.before + 1 }
+    /// The fault that ends the replay where no next line comes.
+    pub fn script_fault(&self, fault: LineFault) -> ReplayFault
+        ensures { result ≡ script_fault (self.now.before + 1) fault }
     {
-        self.before + 1
+        match fault {
+            LineFault::TooLong => ReplayFault::TooLong(self.before + 1),
+            LineFault::Read => ReplayFault::Read,
+            LineFault::NoMemory => ReplayFault::NoMemory,
+        }
     }
 
     /// How many events and questions were answered.
@@ -138,7 +134,9 @@ impl Session {
 
     /// Answers one line.
     pub fn answer_line(&mut self, line: &[u8]) -> Result<(), ReplayFault>
+        requires { length line.now ≤ MOST_LINE_BYTES }
         ensures ok { OnOk result ((sent : List ℕ) (more : List (List ℕ)) → total_of_lines sent self.new more ≡ total_of_lines sent self.old (line.now ∷ more)) }
+        ensures before { OnOk result ((self.new.before ≡ self.old.before + 1) × (self.new.before ≤ MOST_LINES)) }
         ensures err { IfErr result (λ f. (f ≡ ReplayFault.NoMemory) ⊎ (IsLineFault f
             × ((sent : List ℕ) (more : List (List ℕ)) → total sent self.new (ended (Some f)) ≡ total_of_lines sent self.old (line.now ∷ more)))) }
     {
@@ -163,9 +161,10 @@ impl Session {
         ensures wrote { OnOk result ((sent : List ℕ) → O.held writer.old ≡ Some sent → O.held writer.new ≡ Some (sent ++ self.old.unsent)) }
         ensures empty { OnOk result (self.new ≡ record self.old { unsent = [] }) }
         ensures failures { OnOk result (O.failures writer.new ≡ O.failures writer.old) }
+        ensures stalls { OnOk result (IsUnblocked (O.stalls writer.old) (O.stalls writer.new)) }
         ensures err { IfErr result (λ f. f ≡ ReplayFault.Write) }
         ensures front { OnErr result ((sent bytes : List ℕ) → O.held writer.old ≡ Some sent → IsFrontOf sent self.old bytes (O.held writer.new)) }
-        ensures gave_up { OnErr result (GaveUp (O.failures writer.old) (O.failures writer.new) (O.stalls writer.new)) }
+        ensures gave_up { OnErr result (GaveUp (O.failures writer.old) (O.failures writer.new) (O.stalls writer.old) (O.stalls writer.new)) }
     {
         match write_all(writer, self.unsent.as_slice()) {
             Ok(()) => {
@@ -177,42 +176,19 @@ impl Session {
     }
 
     /// Writes the answers that were collected once they are many.
-    fn send_many<O: Output>(&mut self, writer: &mut O) -> Result<(), ReplayFault>
+    pub fn send_many<O: Output>(&mut self, writer: &mut O) -> Result<(), ReplayFault>
         ensures ok { OnOk result ((sent bytes : List ℕ) → O.held writer.old ≡ Some sent → Goes sent self.old bytes (O.held writer.new) self.new bytes) }
-        ensures few { OnOk result (length self.new.unsent < 65536) }
+        ensures before { OnOk result (self.new.before ≡ self.old.before) }
+        ensures few { OnOk result (length self.new.unsent < MOST_UNSENT) }
         ensures failures { OnOk result (O.failures writer.new ≡ O.failures writer.old) }
+        ensures stalls { OnOk result (IsUnblocked (O.stalls writer.old) (O.stalls writer.new)) }
         ensures err { IfErr result (λ f. f ≡ ReplayFault.Write) }
         ensures front { OnErr result ((sent bytes : List ℕ) → O.held writer.old ≡ Some sent → IsFrontOf sent self.old bytes (O.held writer.new)) }
-        ensures gave_up { OnErr result (GaveUp (O.failures writer.old) (O.failures writer.new) (O.stalls writer.new)) }
+        ensures gave_up { OnErr result (GaveUp (O.failures writer.old) (O.failures writer.new) (O.stalls writer.old) (O.stalls writer.new)) }
     {
-        if self.unsent.len() < MANY {
+        if self.unsent.len() < MOST_UNSENT {
             return Ok(());
         }
         self.send(writer)
-    }
-
-    /// Answers the lines that end in the text, and says how many bytes these are.
-    pub fn answer_lines<O: Output>(
-        &mut self,
-        text: &[u8],
-        writer: &mut O,
-    ) -> Result<usize, ReplayFault>
-        ensures ok { IfOk result (λ done. (sent : List ℕ) → O.held writer.old ≡ Some sent → Goes sent self.old text.now (O.held writer.new) self.new (drop done text.now)) }
-        ensures within { IfOk result (λ done. done ≤ length text.now) }
-        ensures unended { IfOk result (λ done. IsUnended (drop done text.now)) }
-        ensures failures { OnOk result (O.failures writer.new ≡ O.failures writer.old) }
-        ensures halts { IfErr result (λ f. (sent : List ℕ) → O.held writer.old ≡ Some sent → Halts sent self.old text.now (O.held writer.new) self.new f) }
-        ensures gave_up { result ≡ Err ReplayFault.Write → GaveUp (O.failures writer.old) (O.failures writer.new) (O.stalls writer.new) }
-        ensures unfailed { result ≢ Err ReplayFault.Write → O.failures writer.new ≡ O.failures writer.old }
-        ensures not_read { result ≢ Err ReplayFault.Read }
-        ensures not_config { (o : OpenFault) → result ≢ Err (ReplayFault.Config o) }
-    {
-        let mut rest = text;
-        while let Some((line, more)) = cut_line(rest) {
-            self.answer_line(line)?;
-            self.send_many(writer)?;
-            rest = more;
-        }
-        Ok(text.len() - rest.len())
     }
 }

@@ -1,4 +1,4 @@
-use Rattle.std.proofs.Common.{◌≡◌, ◌⊎◌, ◌+◌, ◌*◌, ◌-◌, ◌≤◌, length, take}
+use Rattle.std.proofs.Common.{◌≡◌, ◌⊎◌, ◌+◌, ◌*◌, ◌-◌, ◌<◌, ◌≤◌, length, take}
 use Rattle.std.specs.Io.KnownBytes.{Appends}
 use Rattle.device_core.specs.Device.{raised_by}
 use Rattle.device_core.proofs.patience.write_all.Given as goal
@@ -10,6 +10,7 @@ invariant-loop-written g l = record {
   failures : g.O.Output.failures l.output ≡ g.O.Output.failures l.initial.output;
   stalls : (g.O.Output.stalls l.output ≡ raised_by l.stalls (g.O.Output.stalls l.initial.output)) ⊎ (g.O.Output.stalls l.output ≡ l.stalls);
   few : l.stalls ≤ 1000000;
+  waits : (l.stalls ≡ 0) ⊎ (l.written < length l.bytes);
 }
 
 abbrev pub decreases-loop-written : goal.decreases-loop-written

@@ -1,8 +1,8 @@
 use Rattle.std.proofs.Common.{◌+◌, ◌++◌, ◌∷◌, ◌/◌, ◌%◌, [], ap, sym, ◌∙◌, append_assoc, arith}
 use Rattle.std.proofs.lemmas.Grind.{common_steps}
 use Rattle.std.proofs.lemmas.Result.{on_ok_weaker}
-use Rattle.addr_core.specs.Decimal.{decimal}
-use Rattle.addr_core.proofs.DecimalLemmas.{decimal_small}
+use Rattle.text_core.specs.Decimal.{decimal}
+use Rattle.text_core.proofs.DecimalLemmas.{decimal_small}
 use Rattle.event_text.proofs.NumberLemmas.{decimal_pair, decimal_pairs}
 use Rattle.event_text.proofs.replies.+write_number.Goals as goal
 

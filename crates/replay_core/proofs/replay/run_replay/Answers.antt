@@ -10,16 +10,16 @@ use Rattle.replay_core.proofs.replay.run_replay.Goals as goal
 begun : Plain → Standing
 begun p = record { plain = p; before = 0; answered = 0; unsent = [] }
 
-pub returns-in-Ok-run-clause-ok : goal.returns-in-Ok-run-clause-ok
+pub returns-in-Ok-answer_and_send-clause-ok : goal.returns-in-Ok-answer_and_send-clause-ok
 unfolding begun
-returns-in-Ok-run-clause-ok g c = λ script sent left held.
+returns-in-Ok-answer_and_send-clause-ok g c = λ script sent left held.
     let opened = c.in-Ok.ensures.ok in
     let well : IsWell (opening opened.0 0) = subst IsWell opened.2 c.in-Ok.ensures.well in
     let is : c.new-session.result ≡ start opened.0 = c.new-session.ensures ∙ ap begun opened.2 in
-    let wrote : Wrote sent c.new-session.result script (g.O.Output.held c.run.new.writer) c.run.new.session.answered None = c.in-Ok-run.ensures.ok script sent left held in
+    let wrote : Wrote sent c.new-session.result script (g.O.Output.held c.answer_and_send.new.writer) c.answer_and_send.new.session.answered None = c.in-Ok-answer_and_send.ensures.ok script sent left held in
     rw c.answered.ensures
-    (wrote_replayed c.args.config.now script sent (g.O.Output.held c.run.new.writer) c.run.new.session.answered opened.0 opened.1 well
-    (subst (λ s. Wrote sent s script (g.O.Output.held c.run.new.writer) c.run.new.session.answered None) is wrote))
+    (wrote_replayed c.args.config.now script sent (g.O.Output.held c.answer_and_send.new.writer) c.answer_and_send.new.session.answered opened.0 opened.1 well
+    (subst (λ s. Wrote sent s script (g.O.Output.held c.answer_and_send.new.writer) c.answer_and_send.new.session.answered None) is wrote))
 
 pub returns-clause-ended : goal.returns-clause-ended
 unfolding begun
@@ -27,6 +27,6 @@ returns-clause-ended g c = λ script sent left held.
     let opened = c.in-Ok.ensures.ok in
     let well : IsWell (opening opened.0 0) = subst IsWell opened.2 c.in-Ok.ensures.well in
     let is : c.new-session.result ≡ start opened.0 = c.new-session.ensures ∙ ap begun opened.2 in
-    let ended = c.in-Err-run.ensures.ended script sent left held in
-    ended_by c.args.config.now script sent (g.I.Input.left c.run.new.reader) (g.O.Output.held c.run.new.writer) c.run.new.session.answered c.in-Err-run.fault opened.0 opened.1 well
-    (subst (λ s. Ended sent s script (g.I.Input.left c.run.new.reader) (g.O.Output.held c.run.new.writer) c.run.new.session.answered c.in-Err-run.fault) is ended)
+    let ended = c.in-Err-answer_and_send.ensures.ended script sent left held in
+    ended_by c.args.config.now script sent (g.I.Input.left c.answer_and_send.new.reader) (g.O.Output.held c.answer_and_send.new.writer) c.answer_and_send.new.session.answered c.in-Err-answer_and_send.fault opened.0 opened.1 well
+    (subst (λ s. Ended sent s script (g.I.Input.left c.answer_and_send.new.reader) (g.O.Output.held c.answer_and_send.new.writer) c.answer_and_send.new.session.answered c.in-Err-answer_and_send.fault) is ended)

@@ -1,0 +1,2 @@
+pub mod Unended
+pub mod Lines
