@@ -141,8 +141,8 @@ fn keeps_what_is_open(rt: HostRuntime) -> Result<(), Fail> {
     assert_eq!(rt; plain.clock, 9);
     assert_eq!(rt; plain.listeners.len(), 1);
     assert_eq!(rt; plain.versions.len(), 1);
-    assert_eq!(rt; plain.lanes.len(), 1);
-    for lane in plain.lanes.as_slice() {
+    assert_eq!(rt; plain.frontends.len(), 1);
+    for lane in plain.frontends.as_slice() {
         assert_eq!(rt; lane.name.as_slice(), b"f".as_slice());
         assert_eq!(rt; lane.serial, 2);
         assert_eq!(rt; lane.rows.len(), 1);

@@ -143,8 +143,8 @@ fn a_copy_of_a_state(rt: HostRuntime) -> Result<(), Fail> {
     let copy = state.duplicate(rt.alloc())?;
     assert_eq!(rt; copy.clock, 99);
     assert_eq!(rt; copy.listeners.as_slice(), [listener].as_slice());
-    assert_eq!(rt; copy.lanes.len(), 1);
-    assert_eq!(rt; copy.lanes.as_slice()[0].rows.len(), 1);
+    assert_eq!(rt; copy.frontends.len(), 1);
+    assert_eq!(rt; copy.frontends.as_slice()[0].rows.len(), 1);
     assert_eq!(rt; copy.versions.len(), 1);
     let version = &copy.versions.as_slice()[0];
     assert_eq!(rt; version.number, 3);

@@ -91,7 +91,7 @@ fn judges_by_the_frontend_of_the_listener(rt: HostRuntime) -> Result<(), Fail> {
     }
     let plain = core.plain()?;
     assert_eq!(rt; plain.listeners.len(), 3);
-    assert_eq!(rt; plain.lanes.len(), 2);
+    assert_eq!(rt; plain.frontends.len(), 2);
     Ok(())
 }
 

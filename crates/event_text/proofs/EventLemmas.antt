@@ -19,8 +19,8 @@ use Rattle.addr_core.proofs.AddrLemmas.{endpoint_of_written}
 use Rattle.addr_core.proofs.GroupLemmas.{groups_text_all}
 use Rattle.text_core.proofs.DecimalLemmas.{are_digits_decimal, decimal_of_written}
 use Rattle.conn_model.specs.declared.event.ConnId.{ConnId}
-use Rattle.conn_model.specs.declared.event.Happening.{Happening}
-use Rattle.conn_model.specs.declared.event.Happening.TheVariants.{Accepted, Closing}
+use Rattle.conn_model.specs.declared.event.OwnedEvent.{OwnedEvent}
+use Rattle.conn_model.specs.declared.event.OwnedEvent.TheVariants.{Accept, Close}
 use Rattle.conn_model.specs.declared.event.Why.{Why}
 use Rattle.conn_model.specs.declared.event.Why.TheVariants.{Done, Fault, Stopped, Failed}
 use Rattle.event_text.specs.Script.{ends_of, event_line, event_of, event_words, id_of, id_in, id_text, is_mark, why_of, why_text, wanted_of, words_of, IsHandedIn, Wanted}
@@ -114,8 +114,8 @@ ends_of-written real first second same =
     let destination : endpoint_of (endpoint_text real.destination) ≡ Ok real.destination = endpoint_of_written (endpoint_text real.destination) real.destination second refl in
     rw (source, destination, same) refl
 
-words_lack : (moment : ℕ) (event : Happening) → (word : List ℕ) × (words : List (List ℕ)) × (event_words moment event ≡ word ∷ words) × AllByRecursion (Lacks 0x20) (word ∷ words)
-words_lack moment (Accepted listener real) = (
+words_lack : (moment : ℕ) (event : OwnedEvent) → (word : List ℕ) × (words : List (List ℕ)) × (event_words moment event ≡ word ∷ words) × AllByRecursion (Lacks 0x20) (word ∷ words)
+words_lack moment (Accept listener real) = (
   _,
   _,
   refl,
@@ -124,25 +124,25 @@ words_lack moment (Accepted listener real) = (
     (word_lacks (codes "accept") refl, (decimal_lacks 0x20 listener (omega arith), (endpoint_lacks real.source, (endpoint_lacks real.destination, tt)))),
   ),
 )
-words_lack moment (Closing id why) =
+words_lack moment (Close id why) =
     (_, _, refl, (decimal_lacks 0x20 moment (omega arith), (word_lacks (codes "close") refl, (id_lacks id, (why_lacks why, tt)))))
 
-words_of-line : (moment : ℕ) (event : Happening) → words_of (event_line moment event) ≡ event_words moment event
+words_of-line : (moment : ℕ) (event : OwnedEvent) → words_of (event_line moment event) ≡ event_words moment event
 words_of-line moment event =
     let parts = words_lack moment event in
     ap (λ ws. words_of (join_with_byte 0x20 ws)) parts.2 ∙ words_of-joined parts.0 parts.1 parts.3 ∙ sym parts.2
 
-event_of-words : (moment : ℕ) (event : Happening) → moment < 2 ^ 64 → IsHandedIn event → event_of (event_words moment event) ≡ Some (moment, event)
-event_of-words moment (Accepted listener real) short given =
+event_of-words : (moment : ℕ) (event : OwnedEvent) → moment < 2 ^ 64 → IsHandedIn event → event_of (event_words moment event) ≡ Some (moment, event)
+event_of-words moment (Accept listener real) short given =
     let at : decimal_of (decimal moment) 0xFFFF_FFFF_FFFF_FFFF ≡ Some moment = decimal_of_written (decimal moment) 0xFFFF_FFFF_FFFF_FFFF moment (omega arith) refl in
     let number : decimal_of (decimal listener) 0xFFFF ≡ Some listener = decimal_of_written (decimal listener) 0xFFFF listener (omega (arith, given.0)) refl in
     rw (at, number, ends_of-written real given.1 given.2 given.3) refl
-event_of-words moment (Closing id why) short given =
+event_of-words moment (Close id why) short given =
     let at : decimal_of (decimal moment) 0xFFFF_FFFF_FFFF_FFFF ≡ Some moment = decimal_of_written (decimal moment) 0xFFFF_FFFF_FFFF_FFFF moment (omega arith) refl in
     rw (at, id_of-written id given.0 given.1, why_of-written why) refl
 
 -- the line that writes an event hands it in
-pub event_of-line : (line : List ℕ) (moment : ℕ) (event : Happening) → moment < 2 ^ 64 → IsHandedIn event → line ≡ event_line moment event → event_of (words_of line) ≡ Some (moment, event)
+pub event_of-line : (line : List ℕ) (moment : ℕ) (event : OwnedEvent) → moment < 2 ^ 64 → IsHandedIn event → line ≡ event_line moment event → event_of (words_of line) ≡ Some (moment, event)
 event_of-line line moment event short given is =
     ap (λ l. event_of (words_of l)) is ∙ ap event_of (words_of-line moment event) ∙ event_of-words moment event short given
 
@@ -155,14 +155,14 @@ digits_differ (b ∷ text) all = by (is_ascii_digit b) refl
     by true is = let differs : eqb b 97 ≡ false = grind (arith, nat_tests) in rw differs refl
     by false is = let wrong = rw is at all in absurd cc
 
-wanted_of-words : (moment : ℕ) (event : Happening) → moment < 2 ^ 64 → IsHandedIn event → wanted_of (event_words moment event) ≡ Some (Wanted.reply (moment, event))
-wanted_of-words moment (Accepted listener real) short given =
-    rw (digits_differ (decimal moment) (are_digits_decimal moment).digits) (ap (option_map (λ timed. Wanted.reply timed)) (event_of-words moment (Accepted listener real) short given))
-wanted_of-words moment (Closing id why) short given =
-    rw (digits_differ (decimal moment) (are_digits_decimal moment).digits) (ap (option_map (λ timed. Wanted.reply timed)) (event_of-words moment (Closing id why) short given))
+wanted_of-words : (moment : ℕ) (event : OwnedEvent) → moment < 2 ^ 64 → IsHandedIn event → wanted_of (event_words moment event) ≡ Some (Wanted.reply (moment, event))
+wanted_of-words moment (Accept listener real) short given =
+    rw (digits_differ (decimal moment) (are_digits_decimal moment).digits) (ap (option_map (λ timed. Wanted.reply timed)) (event_of-words moment (Accept listener real) short given))
+wanted_of-words moment (Close id why) short given =
+    rw (digits_differ (decimal moment) (are_digits_decimal moment).digits) (ap (option_map (λ timed. Wanted.reply timed)) (event_of-words moment (Close id why) short given))
 
 -- and wants an answer to it
-pub wanted_of-line : (line : List ℕ) (moment : ℕ) (event : Happening) → moment < 2 ^ 64 → IsHandedIn event → line ≡ event_line moment event
+pub wanted_of-line : (line : List ℕ) (moment : ℕ) (event : OwnedEvent) → moment < 2 ^ 64 → IsHandedIn event → line ≡ event_line moment event
     → wanted_of (words_of line) ≡ Some (Wanted.reply (moment, event))
 wanted_of-line line moment event short given is =
     ap (λ l. wanted_of (words_of l)) is ∙ ap wanted_of (words_of-line moment event) ∙ wanted_of-words moment event short given

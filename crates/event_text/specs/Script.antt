@@ -11,11 +11,11 @@ use Rattle.conn_model.specs.declared.ask.Ask.{Ask}
 use Rattle.conn_model.specs.declared.ask.Ask.TheVariants as asks
 use Rattle.conn_model.specs.declared.event.ConnId.{ConnId}
 use Rattle.conn_model.specs.declared.event.Event.{Event}
-use Rattle.conn_model.specs.declared.event.Happening.{Happening}
-use Rattle.conn_model.specs.declared.event.Happening.TheVariants.{Accepted, Closing}
+use Rattle.conn_model.specs.declared.event.OwnedEvent.{OwnedEvent}
+use Rattle.conn_model.specs.declared.event.OwnedEvent.TheVariants.{Accept, Close}
 use Rattle.conn_model.specs.declared.event.Why.{Why}
 use Rattle.conn_model.specs.declared.event.Why.TheVariants.{Done, Fault, Stopped, Failed}
-use Rattle.conn_model.specs.History.{happening}
+use Rattle.conn_model.specs.History.{owned_event}
 use Rattle.event_text.specs.declared.script.Request.{Request}
 use Rattle.event_text.specs.declared.script.Request.TheVariants as requests
 
@@ -32,13 +32,13 @@ why_text Stopped = codes "stopped"
 why_text Failed = codes "failed"
 
 -- the words of the line that hands in an event at a moment
-abbrev pub event_words : ℕ → Happening → List (List ℕ)
-event_words moment (Accepted listener real) =
+abbrev pub event_words : ℕ → OwnedEvent → List (List ℕ)
+event_words moment (Accept listener real) =
     decimal moment ∷ codes "accept" ∷ decimal listener ∷ endpoint_text real.source ∷ endpoint_text real.destination ∷ []
-event_words moment (Closing id why) = decimal moment ∷ codes "close" ∷ id_text id ∷ why_text why ∷ []
+event_words moment (Close id why) = decimal moment ∷ codes "close" ∷ id_text id ∷ why_text why ∷ []
 
 -- the line, with one space between each two words
-abbrev pub event_line : ℕ → Happening → List ℕ
+abbrev pub event_line : ℕ → OwnedEvent → List ℕ
 event_line moment event = join_with_byte 0x20 (event_words moment event)
 
 -- ---- what is read
@@ -81,38 +81,38 @@ ends_of peer local = do
   destination ← result_ok (endpoint_of local)
   pair_of source destination
 
-abbrev pub accept_of : List (List ℕ) → Option Happening
+abbrev pub accept_of : List (List ℕ) → Option OwnedEvent
 accept_of (listener ∷ peer ∷ local ∷ []) = do
   number ← decimal_of listener 0xFFFF
   real ← ends_of peer local
-  Some (Accepted number real)
+  Some (Accept number real)
 accept_of words = None
 
-abbrev pub close_of : List (List ℕ) → Option Happening
+abbrev pub close_of : List (List ℕ) → Option OwnedEvent
 close_of (name ∷ note ∷ []) = do
   id ← id_of name
   why ← why_of note
-  Some (Closing id why)
+  Some (Close id why)
 close_of words = None
 
 -- the event of a verb and the words after it
-abbrev pub happening_of : List ℕ → List (List ℕ) → Option Happening
-happening_of verb words =
+abbrev pub event_by_verb : List ℕ → List (List ℕ) → Option OwnedEvent
+event_by_verb verb words =
     if bytes_eq verb (codes "accept") then accept_of words
     else if bytes_eq verb (codes "close") then close_of words
     else None
 
-abbrev pub at_moment : ℕ → Option Happening → Option (ℕ × Happening)
-at_moment moment event = option_map (λ happening. (moment, happening)) event
+abbrev pub at_moment : ℕ → Option OwnedEvent → Option (ℕ × OwnedEvent)
+at_moment moment event = option_map (λ owned. (moment, owned)) event
 
 -- the moment and the event of the words of a line
-abbrev pub event_of : List (List ℕ) → Option (ℕ × Happening)
-event_of (moment ∷ verb ∷ words) = decimal_of moment 0xFFFF_FFFF_FFFF_FFFF >>= λ number. at_moment number (happening_of verb words)
+abbrev pub event_of : List (List ℕ) → Option (ℕ × OwnedEvent)
+event_of (moment ∷ verb ∷ words) = decimal_of moment 0xFFFF_FFFF_FFFF_FFFF >>= λ number. at_moment number (event_by_verb verb words)
 event_of words = None
 
 -- the same of an event that was read
-abbrev pub timed_event : ℕ × Event → ℕ × Happening
-timed_event timed = (timed.0, happening timed.1)
+abbrev pub timed_event : ℕ × Event → ℕ × OwnedEvent
+timed_event timed = (timed.0, owned_event timed.1)
 
 -- what is asked for by the words behind `ask`
 abbrev pub ask_of : List (List ℕ) → Option Ask
@@ -121,7 +121,7 @@ ask_of words = None
 
 -- What a line wants: an answer to an event at a moment, or counts.
 pub data Wanted : Type 0 where
-  reply : ℕ × Happening → Wanted
+  reply : ℕ × OwnedEvent → Wanted
   count : Ask → Wanted
 
 -- what the words of a line want
@@ -133,11 +133,11 @@ wanted_of (word ∷ words) =
 
 -- the same of a request that was read
 abbrev pub wanted : Request → Wanted
-wanted (requests.Event moment event) = Wanted.reply (moment, happening event)
+wanted (requests.Event moment event) = Wanted.reply (moment, owned_event event)
 wanted (requests.Ask ask) = Wanted.count ask
 
 -- the numbers of an event are in range, and its pair is of one family
-abbrev pub IsHandedIn : Happening → Type 0
-IsHandedIn (Accepted listener real) =
+abbrev pub IsHandedIn : OwnedEvent → Type 0
+IsHandedIn (Accept listener real) =
     (listener < 2 ^ 16) × IsEndpoint real.source × IsEndpoint real.destination × (same_family real.source.addr real.destination.addr ≡ true)
-IsHandedIn (Closing id why) = (id.frontend < 2 ^ 16) × (id.serial < 2 ^ 64)
+IsHandedIn (Close id why) = (id.frontend < 2 ^ 16) × (id.serial < 2 ^ 64)

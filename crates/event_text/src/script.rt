@@ -2,9 +2,9 @@
 ghost use Rattle.std.specs.Prelude.{◌≡◌, ◌==◌, ◌∷◌, ◌<◌, ◌^◌, ℕ, [], IfSome, IfNone, option_map};
 ghost use Rattle.std.specs.List.{slice_split};
 ghost use Rattle.std.specs.Str.{bytes_eq};
-ghost use Rattle.conn_model.specs.declared.event.Happening.{Happening};
-ghost use Rattle.conn_model.specs.History.{happening};
-ghost use Rattle.event_text.specs.Script.{accept_of, ask_of, close_of, ends_of, event_line, event_of, happening_of, id_of, is_mark, timed_event, wanted, wanted_of, why_of, words_of, Wanted, IsHandedIn};
+ghost use Rattle.conn_model.specs.declared.event.OwnedEvent.{OwnedEvent};
+ghost use Rattle.conn_model.specs.History.{owned_event};
+ghost use Rattle.event_text.specs.Script.{accept_of, ask_of, close_of, ends_of, event_line, event_of, event_by_verb, id_of, is_mark, timed_event, wanted, wanted_of, why_of, words_of, Wanted, IsHandedIn};
 
 use text_core::decimal::read_decimal;
 use addr_core::{Pair, read_endpoint};
@@ -87,7 +87,7 @@ fn read_ends(peer: &[u8], local: &[u8]) -> Option<Pair>
 }
 
 fn read_accept(rest: &[u8]) -> Option<Event>
-    ensures { option_map happening result ≡ accept_of (words_of rest.now) }
+    ensures { option_map owned_event result ≡ accept_of (words_of rest.now) }
 {
     let (listener, rest) = cut_word(rest)?;
     let (peer, local) = cut_word(rest)?;
@@ -100,7 +100,7 @@ fn read_accept(rest: &[u8]) -> Option<Event>
 }
 
 fn read_close(rest: &[u8]) -> Option<Event>
-    ensures { option_map happening result ≡ close_of (words_of rest.now) }
+    ensures { option_map owned_event result ≡ close_of (words_of rest.now) }
 {
     let (name, note) = cut_word(rest)?;
     if let Some((_last, _more)) = cut_word(note) {
@@ -111,8 +111,8 @@ fn read_close(rest: &[u8]) -> Option<Event>
     Some(Event::Close(id, why))
 }
 
-fn read_happening(verb: &[u8], rest: &[u8]) -> Option<Event>
-    ensures { option_map happening result ≡ happening_of verb.now (words_of rest.now) }
+fn read_event_words(verb: &[u8], rest: &[u8]) -> Option<Event>
+    ensures { option_map owned_event result ≡ event_by_verb verb.now (words_of rest.now) }
 {
     if is(verb, b"accept") {
         return read_accept(rest);
@@ -129,7 +129,7 @@ fn event_in(line: &[u8]) -> Option<(u64, Event)>
     let (moment, rest) = cut_word(line)?;
     let (verb, rest) = cut_word(rest)?;
     let moment = read_decimal(moment, u64::MAX)?;
-    let event = read_happening(verb, rest)?;
+    let event = read_event_words(verb, rest)?;
     Some((moment, event))
 }
 
@@ -181,7 +181,7 @@ pub fn read_request(line: &[u8]) -> Option<Request>
     ensures exact { option_map wanted result ≡ wanted_of (words_of line.now) }
 
     // The line that writes an event hands it in.
-    ensures again { (moment : ℕ) (event : Happening) → moment < 2 ^ 64 → IsHandedIn event →
+    ensures again { (moment : ℕ) (event : OwnedEvent) → moment < 2 ^ 64 → IsHandedIn event →
         line.now ≡ event_line moment event → option_map wanted result ≡ Some (Wanted.reply (moment, event)) }
 {
     request_in(line)

@@ -3,7 +3,7 @@ use Rattle.std.proofs.Common.{◌≡◌, ℕ, ◌+◌, List, [], ◌∷◌, Opti
 use Rattle.std.proofs.lemmas.List.{append-nil}
 use Rattle.conf_text.specs.Parts.{parts, is_line_feed}
 use Rattle.plan_types.specs.declared.plan.Plan.{Plan}
-use Rattle.conn_model.specs.declared.event.Happening.{Happening}
+use Rattle.conn_model.specs.declared.event.OwnedEvent.{OwnedEvent}
 use Rattle.conn_model.specs.declared.plain.Plain.{Plain}
 use Rattle.conn_model.specs.declared.reply.Reply.{Reply}
 use Rattle.conn_model.specs.declared.reply.StepFault.{StepFault}
@@ -17,7 +17,7 @@ use Rattle.replay_core.specs.Standing.{Standing, total_of}
 use Rattle.replay_core.specs.declared.fault.ReplayFault.{ReplayFault}
 
 -- an answer leaves the state after the history that it leaves
-same_after : (p : Plain) (h : List Entry) (moment : ℕ) (event : Happening) (answered : Result Reply StepFault) (rest : List Entry → Outcome) (rest_in : Plain → Outcome)
+same_after : (p : Plain) (h : List Entry) (moment : ℕ) (event : OwnedEvent) (answered : Result Reply StepFault) (rest : List Entry → Outcome) (rest_in : Plain → Outcome)
     → IsWell p → IsLegal p h → ((g : List Entry) → IsLegal p g → rest g ≡ rest_in (after p g)) → answer p h moment event ≡ answered
     → rest (history_after h moment event answered) ≡ rest_in (plain_after (after p h) moment event answered)
 same_after p h moment event (Ok reply) rest rest_in well legal next is =

@@ -2,7 +2,7 @@
 use Rattle.std.specs.Prelude.{◌≡◌, ◌⊎◌, ℕ, Bool, ◌+◌, ◌==◌, ◌||◌, nat_lt, List, [], ◌∷◌, ◌++◌, length, slice_index, Option, Some, None, option_map, Result, Ok, Err, if◌then◌else◌}
 use Rattle.conf_text.specs.Parts.{parts, is_line_feed}
 use Rattle.plan_types.specs.declared.plan.Plan.{Plan}
-use Rattle.conn_model.specs.declared.event.Happening.{Happening}
+use Rattle.conn_model.specs.declared.event.OwnedEvent.{OwnedEvent}
 use Rattle.conn_model.specs.declared.plain.Plain.{Plain}
 use Rattle.conn_model.specs.declared.reply.Reply.{Reply}
 use Rattle.conn_model.specs.declared.reply.StepFault.{StepFault}
@@ -67,7 +67,7 @@ answer_text (Ok reply) = reply_line reply
 answer_text (Err fault) = fault_line fault
 
 -- the history after an answer: a fault leaves it as it was
-abbrev pub history_after : List Entry → ℕ → Happening → Result Reply StepFault → List Entry
+abbrev pub history_after : List Entry → ℕ → OwnedEvent → Result Reply StepFault → List Entry
 history_after h moment event (Ok reply) = entry moment event reply ∷ h
 history_after h moment event (Err fault) = h
 

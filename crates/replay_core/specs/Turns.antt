@@ -1,7 +1,7 @@
 -- What a script is answered, by the plain state alone.
 use Rattle.std.specs.Prelude.{ℕ, ◌+◌, List, [], ◌∷◌, Option, Some, None, Result, Ok, Err}
 use Rattle.conf_text.specs.Parts.{parts, is_line_feed}
-use Rattle.conn_model.specs.declared.event.Happening.{Happening}
+use Rattle.conn_model.specs.declared.event.OwnedEvent.{OwnedEvent}
 use Rattle.conn_model.specs.declared.plain.Plain.{Plain}
 use Rattle.conn_model.specs.declared.reply.Reply.{Reply}
 use Rattle.conn_model.specs.declared.reply.StepFault.{StepFault}
@@ -14,7 +14,7 @@ use Rattle.replay_core.specs.Replay.{Outcome, answer_text, asked, before_rest, e
 use Rattle.replay_core.specs.declared.fault.ReplayFault.{ReplayFault}
 
 -- the state after an answer
-abbrev pub plain_after : Plain → ℕ → Happening → Result Reply StepFault → Plain
+abbrev pub plain_after : Plain → ℕ → OwnedEvent → Result Reply StepFault → Plain
 plain_after p moment event (Ok reply) = after p (entry moment event reply ∷ [])
 plain_after p moment event (Err fault) = p
 

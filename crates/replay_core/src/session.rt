@@ -5,7 +5,7 @@ ghost use Rattle.line_reader.specs.declared.lines.TheConstants.{MOST_LINE_BYTES}
 ghost use Rattle.conn_model.specs.Answer.{answer_in};
 ghost use Rattle.conn_model.specs.Counts.{counts_in};
 ghost use Rattle.event_text.specs.Replies.{count_line};
-ghost use Rattle.conn_model.specs.History.{happening};
+ghost use Rattle.conn_model.specs.History.{owned_event};
 ghost use Rattle.replay_core.specs.Replay.{answer_text, asked, asked_for, ended, script_fault};
 ghost use Rattle.replay_core.specs.Turns.{plain_after};
 ghost use Rattle.replay_core.specs.Standing.{total, total_of_lines, GaveUp, Goes, IsFrontOf, IsLineFault};
@@ -74,8 +74,8 @@ fn answer(
     moment: u64,
     event: &Event,
 ) -> Result<(), ReplayFault>
-    ensures text { OnOk result (unsent.new.items ≡ unsent.old.items ++ answer_text (answer_in core.old moment (happening event.now))) }
-    ensures plain { OnOk result (core.new ≡ plain_after core.old moment (happening event.now) (answer_in core.old moment (happening event.now))) }
+    ensures text { OnOk result (unsent.new.items ≡ unsent.old.items ++ answer_text (answer_in core.old moment (owned_event event.now))) }
+    ensures plain { OnOk result (core.new ≡ plain_after core.old moment (owned_event event.now) (answer_in core.old moment (owned_event event.now))) }
     ensures err { IfErr result (λ f. f ≡ ReplayFault.NoMemory) }
 {
     let written = match core.step(moment, event) {
