@@ -23,7 +23,7 @@ pub enum Ruleset {
 }
 
 /// What a rule does once it applies (HAProxy manual, `tcp-request connection`).
-#[derive(Debug, Drop)]
+#[derive(Drop)]
 pub enum Action<'a> {
     Accept,
     Reject,
@@ -31,7 +31,7 @@ pub enum Action<'a> {
 }
 
 /// A source address is tracked (HAProxy manual, `track-sc0`).
-#[derive(Debug, Drop)]
+#[derive(Drop)]
 pub struct TrackWords<'a> {
     /// The counter, 0 to 2.
     pub counter: u8,
@@ -49,7 +49,7 @@ pub struct TableWords {
 }
 
 /// The words of a `server` line.
-#[derive(Debug, Drop)]
+#[derive(Drop)]
 pub struct ServerWords<'a> {
     pub name: Word<'a>,
     pub to: Endpoint,
@@ -63,7 +63,7 @@ pub struct ServerWords<'a> {
 }
 
 /// What a line says.
-#[derive(Debug, Drop)]
+#[derive(Drop)]
 pub enum Statement<'a> {
     /// It has no word, or is read and has no effect. A tree has no such item.
     Nothing,
