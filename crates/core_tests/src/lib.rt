@@ -1,11 +1,5 @@
-//! Tests of `conn_model` and `conn_core`, by worked examples.
+//! Tests of `conn_core`, of what no run of the program shows.
 #![tactic(auto)]
 
 #[cfg(test)]
-mod answers;
-#[cfg(test)]
-mod model;
-#[cfg(test)]
-mod refusals;
-#[cfg(test)]
-mod several;
+mod states;

@@ -124,10 +124,10 @@ pub fn run_replay<I: Input, O: Output>(
         Err(fault) => return Err(fault),
     };
     let mut session = Session::new(alloc, core);
-    match answer_and_send(alloc, &mut session, reader, writer) {
-        Ok(()) => Ok(Replayed {
-            lines: session.answered(),
-        }),
+    let replayed = answer_and_send(alloc, &mut session, reader, writer);
+    let lines = session.end();
+    match replayed {
+        Ok(()) => Ok(Replayed { lines }),
         Err(fault) => Err(fault),
     }
 }

@@ -27,8 +27,8 @@ pub const MOST_LINES: u64 = 1_000_000;
 /// How many bytes of answers are collected before they are written.
 const MOST_UNSENT: usize = 65_536;
 
-/// A core between two lines of a script, with the answers that were not yet written.
-#[derive(Drop)]
+/// A core between two lines of a script, with the answers that were not yet written. It cannot be dropped: it ends by
+/// `end`.
 pub struct Session {
     core: Core,
     before: u64,
@@ -125,11 +125,18 @@ impl Session {
         }
     }
 
-    /// How many events and questions were answered.
-    pub fn answered(&self) -> u64
-        ensures { result ≡ self.now.answered }
+    /// Ends the session with its core, and says how many events and questions were answered.
+    pub fn end(self) -> u64
+        ensures { result ≡ self.answered }
     {
-        self.answered
+        let Session {
+            core,
+            before: _,
+            answered,
+            unsent: _unsent,
+        } = self;
+        core.end();
+        answered
     }
 
     /// Answers one line.

@@ -1,0 +1,89 @@
+//! The state of a core after some events, and serials that come to an end.
+use addr_core::{Addr, Endpoint, Pair};
+use conn_core::Core;
+use conn_model::ask::{Ask, Counts};
+use conn_model::event::{ConnId, Event, Why};
+use conn_model::plain::Phase;
+use conn_model::reply::{Said, StepFault};
+use std::test::Fail;
+
+const EXAMPLE: &str =
+    "frontend f\nbind 127.0.0.1:9000\nmaxconn 2\ndefault_backend b\nbackend b\nserver s 10.0.0.20:80\n";
+
+/// An accept from 192.0.2.5 at 127.0.0.1:9000.
+fn accept_from(port: u16) -> Result<Event, Fail> {
+    let source = Endpoint {
+        addr: Addr::V4(0xc000_0205),
+        port,
+    };
+    let destination = Endpoint {
+        addr: Addr::V4(0x7f00_0001),
+        port: 9000,
+    };
+    let pair = Pair::of(source, destination).ok_or("two families")?;
+    Ok(Event::Accept(0, pair))
+}
+
+/// The serial that an accept is offered a server with.
+fn offer(core: &mut Core, moment: u64, event: &Event) -> Option<u64> {
+    match core.step(moment, event) {
+        Ok(reply) => match &reply.said {
+            Said::Offer { id, .. } => Some(id.serial),
+            _ => None,
+        },
+        Err(_) => None,
+    }
+}
+
+#[test]
+fn state_of_a_core(rt: HostRuntime) -> Result<(), Fail> {
+    let (first, second) = (accept_from(4000)?, accept_from(4001)?);
+    let mut core = Core::open(rt.alloc(), EXAMPLE).expect(&rt, "the example opens");
+    assert_eq!(rt; offer(&mut core, 7, &first), Some(1));
+    assert_eq!(rt; offer(&mut core, 5, &second), Some(2));
+    let id = ConnId {
+        frontend: 0,
+        serial: 1,
+    };
+    assert!(rt; core.step(9, &Event::Close(id, Why::Failed)).is_ok());
+    assert_eq!(rt;
+        core.counts(&Ask::Frontend(0)),
+        Some(Counts { cur: 1, cnt: 0 })
+    );
+    let plain = core.plain();
+    core.end();
+    let plain = plain?;
+    assert_eq!(rt;
+        (plain.clock, plain.listeners.len(), plain.versions.len()),
+        (9, 1, 1)
+    );
+    assert_eq!(rt; plain.frontends.len(), 1);
+    let own = &plain.frontends.as_slice()[0];
+    assert_eq!(rt; own.name.as_slice(), b"f".as_slice());
+    assert_eq!(rt; (own.serial, own.rows.len()), (2, 1));
+    let row = &own.rows.as_slice()[0];
+    assert_eq!(rt;
+        (row.serial, row.version, row.accepted),
+        (2, 1, 7),
+        "a moment never falls"
+    );
+    match &row.phase {
+        Phase::Offered(assignment) => {
+            assert_eq!(rt; assignment.line, 6);
+            assert_eq!(rt; assignment.server.backend.as_slice(), b"b".as_slice());
+            assert_eq!(rt; assignment.server.name.as_slice(), b"s".as_slice());
+        }
+        Phase::Waiting => assert!(rt; false, "the row has a server"),
+    }
+    Ok(())
+}
+
+#[test]
+fn last_serial(rt: HostRuntime) -> Result<(), Fail> {
+    let accept = accept_from(4000)?;
+    let mut core = Core::open_at(rt.alloc(), EXAMPLE, u64::MAX).expect(&rt, "the example opens");
+    assert_eq!(rt; offer(&mut core, 0, &accept), Some(u64::MAX));
+    assert!(rt; matches!(core.step(0, &accept), Err(StepFault::Exhausted)));
+    core.end();
+    Ok(())
+}
