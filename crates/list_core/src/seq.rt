@@ -1,5 +1,5 @@
 //! A growing list.
-ghost use Rattle.std.specs.Prelude.{◌≡◌, ◌↔◌, [], ◌∷◌, ◌++◌, length, IfOk, IsTrue, OnOk, OnErr};
+ghost use Rattle.std.specs.Prelude.{◌≡◌, ◌↔◌, [], ◌∷◌, ◌++◌, length, IfOk, IfErr, IsTrue, OnOk, OnErr};
 
 use crate::duplicate::Duplicate;
 use std::alloc::{AllocError, AllocFailed, Global};
@@ -70,6 +70,7 @@ impl<T> Seq<T> {
     pub fn push(&mut self, item: T) -> Result<(), AllocFailed<T>>
         ensures ok { OnOk result (self.new ≡ self.old ++ item ∷ []) }
         ensures err { OnErr result (self.new ≡ self.old) }
+        ensures value_returned { IfErr result (λ failed. failed.value ≡ item) }
     {
         self.items.push(item)
     }

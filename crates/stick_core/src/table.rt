@@ -138,12 +138,12 @@ impl Table {
         listed(alloc, self.entries.as_slice())
     }
 
-    /// Makes room so that the next so many trackings do not lack memory.
+    /// Makes room so that the next so many trackings do not lack memory. It may have made some also where it lacks
+    /// memory for all.
     pub fn reserve(&mut self, more: usize) -> Result<(), AllocError>
         ensures room { OnOk result (more ≤ self.new.spare) }
         ensures same { self.new ≡ record self.old { spare = self.new.spare } }
         ensures spare { self.old.spare ≤ self.new.spare }
-        ensures err { OnErr result (self.new ≡ self.old) }
     {
         self.entries.reserve(more)
     }
@@ -159,7 +159,7 @@ impl Table {
         // Only here memory is taken, for one entry.
         ensures spare { self.old.spare ≤ self.new.spare + 1 }
         ensures reserved { 0 < self.old.spare → IsOk result }
-        ensures err { OnErr result (self.new ≡ self.old) }
+        ensures err { OnErr result ((self.new.entries ≡ self.old.entries) × (self.old.spare ≤ self.new.spare)) }
     {
         let Some(key) = key_of(self.kind, addr) else {
             return Ok(None);

@@ -54,7 +54,7 @@ fn assert_cycle(
 }
 
 #[test]
-fn turns_of_a_server_are_spread(rt: HostRuntime) -> Result<(), Fail> {
+fn turns_of_a_cycle(rt: HostRuntime) -> Result<(), Fail> {
     assert_cycle(&rt, rt.alloc(), &[2, 1], &[0, 1, 0])?;
     assert_cycle(&rt, rt.alloc(), &[3, 1], &[0, 0, 1, 0])?;
     assert_cycle(&rt, rt.alloc(), &[4, 2, 1], &[0, 1, 0, 2, 0, 1, 0])?;
@@ -97,14 +97,9 @@ fn assert_round(
 }
 
 #[test]
-fn a_round_goes_on_where_it_stood(rt: HostRuntime) -> Result<(), Fail> {
+fn round_robin(rt: HostRuntime) -> Result<(), Fail> {
     assert_round(&rt, rt.alloc(), [2, 1, 0], &[0, 1, 0, 0, 1, 0])?;
-    assert_round(&rt, rt.alloc(), [3, 1, 0], &[0, 0, 1, 0, 0])?;
-    assert_round(&rt, rt.alloc(), [4, 2, 1], &[0, 1, 0, 2, 0, 1, 0, 0])
-}
-
-#[test]
-fn a_full_server_is_passed_over(rt: HostRuntime) -> Result<(), Fail> {
+    assert_round(&rt, rt.alloc(), [4, 2, 1], &[0, 1, 0, 2, 0, 1, 0, 0])?;
     let cycle = Cycle::of(rt.alloc(), &[2, 1, 0])?;
     let mut load = servers_of([2, 1, 0]);
     load.servers[0].has_room = false;
@@ -115,7 +110,7 @@ fn a_full_server_is_passed_over(rt: HostRuntime) -> Result<(), Fail> {
     assert_eq!(rt; pick_round(&cycle, Some(1), &load), Some(placed));
     assert_eq!(rt; pick_round(&cycle, Some(usize::MAX), &load), Some(placed));
     load.servers[0].has_room = true;
-    // The round goes on behind the place last used.
+    // The round goes on after the place last used.
     let next = pick_round(&cycle, Some(1), &load).expect(&rt, "a server");
     assert_eq!(rt; next.place, 2);
     assert_eq!(rt; next.server, 0);
@@ -126,7 +121,7 @@ fn a_full_server_is_passed_over(rt: HostRuntime) -> Result<(), Fail> {
 }
 
 #[test]
-fn the_fewest_connections_for_the_weight(rt: HostRuntime) -> Result<(), Fail> {
+fn least_connections(rt: HostRuntime) -> Result<(), Fail> {
     let mut load = servers_of([2, 1, 0]);
     let mut last = None;
     for wanted in [0u16, 1, 0, 1, 0] {
@@ -141,12 +136,7 @@ fn the_fewest_connections_for_the_weight(rt: HostRuntime) -> Result<(), Fail> {
     assert_eq!(rt; pick_least(Some(0), &level), Some(1));
     assert_eq!(rt; pick_least(Some(2), &level), Some(0));
     assert_eq!(rt; pick_least(Some(u16::MAX), &level), Some(0));
-    Ok(())
-}
-
-#[test]
-fn a_full_server_has_not_the_fewest(rt: HostRuntime) -> Result<(), Fail> {
-    let mut load = servers_of([2, 1, 0]);
+    // A full server is passed over.
     load.servers[0].connections = 2;
     load.servers[1].connections = 1;
     load.servers[1].has_room = false;
@@ -164,7 +154,7 @@ fn a_full_server_has_not_the_fewest(rt: HostRuntime) -> Result<(), Fail> {
 }
 
 #[test]
-fn a_source_has_one_server(rt: HostRuntime) -> Result<(), Fail> {
+fn source_and_no_server(rt: HostRuntime) -> Result<(), Fail> {
     let mut load = servers_of([2, 1, 0]);
     // 3405803783 modulo 3 is 2.
     let four = Addr::V4(3_405_803_783);
@@ -178,11 +168,7 @@ fn a_source_has_one_server(rt: HostRuntime) -> Result<(), Fail> {
     load.servers[1].has_room = false;
     assert_eq!(rt; pick_source(&four, &load), None);
     assert_eq!(rt; pick_source(&six, &load), Some(0));
-    Ok(())
-}
-
-#[test]
-fn where_no_server_is_usable_none_is_picked(rt: HostRuntime) -> Result<(), Fail> {
+    // Where no server is usable, none is picked.
     let load = servers_of([0, 0, 0]);
     let cycle = Cycle::of(rt.alloc(), &[0, 0, 0])?;
     assert!(rt; pick_round(&cycle, None, &load).is_none());

@@ -36,7 +36,7 @@ fn give_back(rt: &impl Abort, slots: &mut Slots, slot: Slot) {
 }
 
 #[test]
-fn an_identity_that_is_there_gives_its_index(rt: HostRuntime) -> Result<(), Fail> {
+fn counts_of_servers(rt: HostRuntime) -> Result<(), Fail> {
     let alloc = rt.alloc();
     let mut slots = Slots::new(alloc);
     assert!(rt; slots.is_empty());
@@ -51,30 +51,20 @@ fn an_identity_that_is_there_gives_its_index(rt: HostRuntime) -> Result<(), Fail
     assert_eq!(rt; slots.add(&server(alloc, b'b', b't', 80)?)?, by_name);
     assert_eq!(rt; slots.add(&server(alloc, b'c', b's', 80)?)?, by_backend);
     assert_eq!(rt; slots.len(), 4);
-    Ok(())
-}
-
-#[test]
-fn a_slot_counts_for_its_server_alone(rt: HostRuntime) -> Result<(), Fail> {
-    let alloc = rt.alloc();
-    let mut slots = Slots::new(alloc);
-    let a = slots.add(&server(alloc, b'b', b'a', 80)?)?;
-    let b = slots.add(&server(alloc, b'b', b'b', 80)?)?;
-    let first = take(&rt, &mut slots, a);
-    let second = take(&rt, &mut slots, a);
-    let third = take(&rt, &mut slots, b);
+    let (a, b) = (first, by_port);
+    let one = take(&rt, &mut slots, a);
+    let another = take(&rt, &mut slots, a);
+    let other = take(&rt, &mut slots, b);
     assert_eq!(rt; count(&rt, &slots, a), 2);
     assert_eq!(rt; count(&rt, &slots, b), 1);
-    assert_eq!(rt; first.ix(), a);
-    assert_eq!(rt; third.ix(), b);
-    give_back(&rt, &mut slots, first);
+    assert_eq!(rt; one.ix(), a);
+    assert_eq!(rt; other.ix(), b);
+    give_back(&rt, &mut slots, one);
     assert_eq!(rt; count(&rt, &slots, a), 1);
     assert_eq!(rt; count(&rt, &slots, b), 1);
-    give_back(&rt, &mut slots, third);
-    give_back(&rt, &mut slots, second);
+    give_back(&rt, &mut slots, other);
+    give_back(&rt, &mut slots, another);
     assert_eq!(rt; count(&rt, &slots, a), 0);
     assert_eq!(rt; count(&rt, &slots, b), 0);
-    // The count of a server stays where it is.
-    assert_eq!(rt; slots.add(&server(alloc, b'b', b'b', 80)?)?, b);
     Ok(())
 }
