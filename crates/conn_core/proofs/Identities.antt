@@ -7,7 +7,7 @@ use Rattle.std.proofs.lemmas.Bool.Decides.{nat_tests}
 use Rattle.plan_types.specs.declared.plan.Server.{Server}
 use Rattle.plan_types.specs.declared.plan.Backend.{Backend}
 use Rattle.plan_types.specs.declared.plan.Plan.{Plan}
-use Rattle.addr_core.specs.Ends.{Ends}
+use Rattle.addr_core.specs.PairValue.{PairValue as Ends}
 use Rattle.conn_model.specs.declared.plain.Phase.TheVariants.{Offered}
 use Rattle.conn_model.specs.Answer.{saying}
 use Rattle.conn_model.specs.History.{identity_of, identity_at, nobody, kept}

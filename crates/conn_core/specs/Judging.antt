@@ -1,6 +1,6 @@
 -- What the code judges by, in the words of the definitions.
 use Rattle.std.specs.Prelude.{ℕ, [], slice_get, Some, ◌≡◌}
-use Rattle.addr_core.specs.Ends.{Ends}
+use Rattle.addr_core.specs.PairValue.{PairValue as Ends}
 use Rattle.plan_types.specs.declared.plan.Plan.{Plan}
 use Rattle.conn_model.specs.declared.event.ConnId.{ConnId}
 use Rattle.conn_model.specs.declared.reply.Said.{Said}

@@ -1,7 +1,7 @@
 -- What a step decides before anything changes.
 use Rattle.std.specs.Prelude.{ℕ, List, [], ◌∷◌, Option, Some, slice_get, option_to_list, ◌≡◌, ◌+◌, ◌<◌, ◌^◌, Ok}
 use Rattle.std.specs.List.{AllByRecursion}
-use Rattle.addr_core.specs.Ends.{Ends}
+use Rattle.addr_core.specs.PairValue.{PairValue as Ends}
 use Rattle.plan_types.specs.declared.plan.Server.{Server}
 use Rattle.plan_types.specs.declared.plan.Backend.{Backend}
 use Rattle.conn_model.specs.declared.plain.Phase.TheVariants.{Offered}

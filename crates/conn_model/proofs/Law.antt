@@ -4,7 +4,7 @@ use Rattle.std.specs.Prelude.{slice_get, filter, Option, Result, IfOk, IfErr}
 use Rattle.std.specs.List.{AllByRecursion}
 use Rattle.std.proofs.lemmas.List.Elements.{filter-append}
 use Rattle.std.proofs.lemmas.List.{append-nil}
-use Rattle.addr_core.specs.Ends.{Ends}
+use Rattle.addr_core.specs.PairValue.{PairValue as Ends}
 use Rattle.conn_model.specs.declared.plain.Row.{Row}
 use Rattle.conn_model.specs.declared.plain.Lane.{Lane}
 use Rattle.conn_model.specs.declared.plain.Version.{Version}

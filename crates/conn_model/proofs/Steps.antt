@@ -4,7 +4,7 @@ use Rattle.std.proofs.lemmas.List.Elements.{filter-append, filter_agree}
 use Rattle.std.proofs.lemmas.List.{append-nil}
 use Rattle.std.specs.Prelude.{slice_get, slice_set, ◌==◌, filter, is_some, Option, option_to_list, IfSome}
 use Rattle.std.proofs.lemmas.Bool.Decides.{nat_tests}
-use Rattle.addr_core.specs.Ends.{Ends}
+use Rattle.addr_core.specs.PairValue.{PairValue as Ends}
 use Rattle.conn_model.specs.declared.plain.Row.{Row}
 use Rattle.conn_model.specs.declared.plain.Lane.{Lane}
 use Rattle.conn_model.specs.declared.plain.Version.{Version}

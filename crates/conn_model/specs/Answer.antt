@@ -1,7 +1,7 @@
 -- What a balancer in a plain state answers to an event.
 use Rattle.std.specs.Prelude.{ℕ, List, [], find, slice_get, Option, Some, None, Result, Ok, Err, ◌+◌, ◌==◌, nat_le, nat_lt, if◌then◌else◌}
 use Rattle.std.specs.Str.{bytes_eq}
-use Rattle.addr_core.specs.Ends.{Ends}
+use Rattle.addr_core.specs.PairValue.{PairValue as Ends}
 use Rattle.plan_types.specs.declared.plan.Server.{Server}
 use Rattle.plan_types.specs.declared.plan.Backend.{Backend}
 use Rattle.plan_types.specs.declared.plan.Frontend.{Frontend}

@@ -3,7 +3,7 @@ use Rattle.std.specs.Prelude.{ℕ, false, List, [], Option, Some, Result, Ok, Er
 use Rattle.addr_core.specs.declared.addr.Addr.{Addr}
 use Rattle.addr_core.specs.declared.addr.Addr.TheVariants.{V4}
 use Rattle.addr_core.specs.declared.addr.Endpoint.{Endpoint}
-use Rattle.addr_core.specs.Ends.{Ends}
+use Rattle.addr_core.specs.PairValue.{PairValue as Ends}
 use Rattle.acl_core.specs.declared.criterion.Criterion.TheVariants as criteria
 use Rattle.acl_core.specs.declared.criterion.Operator.TheVariants.{Above}
 use Rattle.acl_core.specs.declared.criterion.Pattern.TheVariants.{Compared, Network}
