@@ -30,12 +30,12 @@ abbrev pub network_of : Result Prefix AddrFault → Result Pattern AclFault
 network_of (Err fault) = Err BadPattern
 network_of (Ok net) = Ok (patterns.Network net)
 
-abbrev pub counted : Option ℕ → Result ℕ AclFault
-counted None = Err BadPattern
-counted (Some n) = Ok n
+abbrev pub number_or_fault : Option ℕ → Result ℕ AclFault
+number_or_fault None = Err BadPattern
+number_or_fault (Some n) = Ok n
 
 abbrev pub number_in : List ℕ → Result ℕ AclFault
-number_in word = counted (number_of word greatest)
+number_in word = number_or_fault (number_of word greatest)
 
 -- one end of a range, where it is not left out
 abbrev pub end_in : ℕ → List ℕ → Result ℕ AclFault
@@ -118,32 +118,32 @@ test_of (word ∷ rest) = do
 -- Conditions: one test in braces.
 
 -- the words between braces
-abbrev pub braced : List (List ℕ) → Result Test AclFault
-braced [] = Err BadBraces
-braced (word ∷ rest) = test_of (word ∷ rest)
+abbrev pub inner_test : List (List ℕ) → Result Test AclFault
+inner_test [] = Err BadBraces
+inner_test (word ∷ rest) = test_of (word ∷ rest)
 
 -- where there is no closing brace, a wrong word before that is reported first
-abbrev pub unclosed : Result Test AclFault → Result Test AclFault
-unclosed (Err UnknownCriterion) = Err UnknownCriterion
-unclosed (Err BadPattern) = Err BadPattern
-unclosed other = Err BadBraces
+abbrev pub open_brace_fault : Result Test AclFault → Result Test AclFault
+open_brace_fault (Err UnknownCriterion) = Err UnknownCriterion
+open_brace_fault (Err BadPattern) = Err BadPattern
+open_brace_fault other = Err BadBraces
 
 -- after the closing brace
-abbrev pub ended : Test → List (List ℕ) → Result Test AclFault
-ended test [] = Ok test
-ended test (word ∷ rest) = Err UnknownName
+abbrev pub test_alone : Test → List (List ℕ) → Result Test AclFault
+test_alone test [] = Ok test
+test_alone test (word ∷ rest) = Err UnknownName
 
 -- after the opening brace, where the closing one is at that place
-abbrev pub closed_at : List (List ℕ) → Option ℕ → Result Test AclFault
-closed_at words None = unclosed (braced words)
-closed_at words (Some closing) = do
-  test ← braced (take closing words)
-  ended test (drop (closing + 1) words)
+abbrev pub test_to_brace : List (List ℕ) → Option ℕ → Result Test AclFault
+test_to_brace words None = open_brace_fault (inner_test words)
+test_to_brace words (Some closing_brace) = do
+  test ← inner_test (take closing_brace words)
+  test_alone test (drop (closing_brace + 1) words)
 
 abbrev pub in_braces : List (List ℕ) → Result Test AclFault
 in_braces [] = Err EmptyGroup
 in_braces (word ∷ rest) =
-    if bytes_eq word (codes "{") then closed_at rest (position (λ w. bytes_eq w (codes "}")) rest)
+    if bytes_eq word (codes "{") then test_to_brace rest (position (λ w. bytes_eq w (codes "}")) rest)
     else Err UnknownName
 
 -- one group of one term, which is one test

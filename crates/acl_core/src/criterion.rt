@@ -42,8 +42,8 @@ pub enum Pattern {
     Compared(Operator, u64),
 }
 
-/// What a criterion is worth of one connection.
-#[derive(Clone, Copy, Debug, PartialEq, Eq)]
+/// The value of a criterion for one connection.
+#[derive(Clone, Copy, Debug)]
 pub enum Value {
     /// Nothing: it matches no pattern.
     Absent,

@@ -2,10 +2,10 @@
 use std::fmt;
 
 /// Why the words of a test or a condition are refused (HAProxy manual, "using ACLs to form
-/// conditions").
+/// conditions"). Of the words, read from the left, the first wrong one decides.
 #[derive(Clone, Copy, Debug, PartialEq, Eq)]
 pub enum AclFault {
-    /// A word in a criterion's place that is none.
+    /// A word in the place of a criterion that is none.
     UnknownCriterion,
     /// A word that is no pattern of its criterion.
     BadPattern,
@@ -19,6 +19,7 @@ pub enum AclFault {
     EmptyGroup,
     /// A name with another character, or a reserved one.
     BadName,
+    /// There was no memory. This says nothing of the words.
     NoMemory,
 }
 

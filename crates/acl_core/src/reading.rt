@@ -3,7 +3,7 @@ ghost use Rattle.std.specs.Prelude.{◌≡◌, ◌⊎◌, ◌<◌, [], length, p
 ghost use Rattle.std.specs.Str.{bytes_eq};
 ghost use Rattle.list_core.specs.Each.{Gives, each};
 ghost use Rattle.addr_core.specs.Text.{net_of};
-ghost use Rattle.acl_core.specs.Reading.{network_of, number_in, end_in, range_between, range_in, range_of, bound_of, value_of, values_of, criterion_of, operator_of, numbers_of, patterns_of, test_of, braced, unclosed, ended, closed_at, in_braces, groups_of, condition_of};
+ghost use Rattle.acl_core.specs.Reading.{network_of, number_in, end_in, range_between, range_in, range_of, bound_of, value_of, values_of, criterion_of, operator_of, numbers_of, patterns_of, test_of, inner_test, open_brace_fault, test_alone, test_to_brace, in_braces, groups_of, condition_of};
 
 use crate::condition::{Cond, Term, Test};
 use crate::criterion::{Criterion, Operator, Pattern};
@@ -195,8 +195,8 @@ fn test(alloc: Global, words: &[Word]) -> Result<Test, Stop<AclFault>>
 }
 
 /// The words between braces.
-fn braced(alloc: Global, words: &[Word]) -> Result<Test, Stop<AclFault>>
-    ensures { Gives result (braced words.now) }
+fn inner_test(alloc: Global, words: &[Word]) -> Result<Test, Stop<AclFault>>
+    ensures { Gives result (inner_test words.now) }
 {
     if words.is_empty() {
         return Err(Stop::Fault(AclFault::BadBraces));
@@ -205,10 +205,10 @@ fn braced(alloc: Global, words: &[Word]) -> Result<Test, Stop<AclFault>>
 }
 
 /// The fault of words without their closing brace.
-fn unclosed(alloc: Global, words: &[Word]) -> Stop<AclFault>
-    ensures { Gives (Err result) (unclosed (braced words.now)) }
+fn open_brace_fault(alloc: Global, words: &[Word]) -> Stop<AclFault>
+    ensures { Gives (Err result) (open_brace_fault (inner_test words.now)) }
 {
-    match braced(alloc, words) {
+    match inner_test(alloc, words) {
         Err(Stop::Memory) => Stop::Memory,
         Err(Stop::Fault(AclFault::UnknownCriterion)) => Stop::Fault(AclFault::UnknownCriterion),
         Err(Stop::Fault(AclFault::BadPattern)) => Stop::Fault(AclFault::BadPattern),
@@ -217,8 +217,8 @@ fn unclosed(alloc: Global, words: &[Word]) -> Stop<AclFault>
 }
 
 /// After the closing brace no word is left.
-fn ended(words: &[Word], test: Test) -> Result<Test, Stop<AclFault>>
-    ensures { Gives result (ended test words.now) }
+fn test_alone(words: &[Word], test: Test) -> Result<Test, Stop<AclFault>>
+    ensures { Gives result (test_alone test words.now) }
 {
     match words {
         [] => Ok(test),
@@ -227,23 +227,23 @@ fn ended(words: &[Word], test: Test) -> Result<Test, Stop<AclFault>>
 }
 
 /// The place of the closing brace.
-fn closing(words: &[Word]) -> Option<usize>
+fn closing_brace(words: &[Word]) -> Option<usize>
     ensures place { result ≡ position (λ w. bytes_eq w (codes "}")) words.now }
-    ensures inside { IfSome result (λ closing. closing < length words.now) }
+    ensures inside { IfSome result (λ closing_brace. closing_brace < length words.now) }
 {
     words.iter().position(|word| word.is(b"}"))
 }
 
 /// The words after the opening brace.
-fn closed(alloc: Global, words: &[Word]) -> Result<Test, Stop<AclFault>>
-    ensures { Gives result (closed_at words.now (position (λ w. bytes_eq w (codes "}")) words.now)) }
+fn test_to_brace(alloc: Global, words: &[Word]) -> Result<Test, Stop<AclFault>>
+    ensures { Gives result (test_to_brace words.now (position (λ w. bytes_eq w (codes "}")) words.now)) }
 {
-    match closing(words) {
-        Some(closing) => {
-            let test = braced(alloc, &words[..closing])?;
-            ended(&words[closing + 1..], test)
+    match closing_brace(words) {
+        Some(closing_brace) => {
+            let test = inner_test(alloc, &words[..closing_brace])?;
+            test_alone(&words[closing_brace + 1..], test)
         }
-        None => Err(unclosed(alloc, words)),
+        None => Err(open_brace_fault(alloc, words)),
     }
 }
 
@@ -255,7 +255,7 @@ fn in_braces(alloc: Global, words: &[Word]) -> Result<Test, Stop<AclFault>>
         [] => Err(Stop::Fault(AclFault::EmptyGroup)),
         [word, rest @ ..] => {
             if word.is(b"{") {
-                closed(alloc, rest)
+                test_to_brace(alloc, rest)
             } else {
                 Err(Stop::Fault(AclFault::UnknownName))
             }

@@ -1,5 +1,5 @@
-//! Tests of `list_core`, `text_core`, `addr_core`, `pp_v1`, `pp_v2` and `pp_any` with outside values: those of RFC 4291,
-//! RFC 5952 and proxy-protocol.txt where a test names them.
+//! Tests of `list_core`, `text_core`, `addr_core`, `pp_v1`, `pp_v2` and `pp_any` with outside values: those of RFC
+//! 4291, RFC 5952 and proxy-protocol.txt where a test names them.
 #![tactic(auto)]
 
 #[cfg(test)]
@@ -7,12 +7,6 @@ mod addr;
 #[cfg(test)]
 mod header;
 #[cfg(test)]
-mod header_v1;
-#[cfg(test)]
-mod header_v2;
-#[cfg(test)]
-mod list;
-#[cfg(test)]
 mod pairs;
 #[cfg(test)]
-mod word;
+mod text;

@@ -1,15 +1,10 @@
 //! Pairs that several tests start from.
-use addr_core::{Addr, Endpoint, Pair};
+use addr_core::{Pair, read_endpoint};
 use std::test::Fail;
 
-pub fn pair(source: Addr, from: u16, destination: Addr, to: u16) -> Result<Pair, Fail> {
-    let source = Endpoint {
-        addr: source,
-        port: from,
-    };
-    let destination = Endpoint {
-        addr: destination,
-        port: to,
-    };
+/// The pair of two endpoints, each as text.
+pub fn pair(source: &[u8], destination: &[u8]) -> Result<Pair, Fail> {
+    let source = read_endpoint(source).ok().ok_or("source")?;
+    let destination = read_endpoint(destination).ok().ok_or("destination")?;
     Ok(Pair::of(source, destination).ok_or("two families")?)
 }

@@ -10,10 +10,10 @@ pub const MOST_BYTES: usize = 1_048_576;
 /// The most lines that a text has.
 pub const MOST_LINES: u32 = 65_535;
 
-/// The most bytes that a line has, its comment counted, its end not: HAProxy has 2,048 too.
+/// The most bytes that a line has, its comment counted, its end not.
 pub const MOST_BYTES_OF_LINE: usize = 2_048;
 
-/// The most words that a line has: HAProxy has 64 too.
+/// The most words that a line has.
 pub const MOST_WORDS: usize = 64;
 
 /// A line by its number, the first being 1, and its words. A line may have no word.
@@ -23,7 +23,8 @@ pub struct Line<'a> {
     pub words: Seq<Word<'a>>,
 }
 
-/// What is wrong with a line. Where several hold of one line, it is the first of them in this order.
+/// What is wrong with a line. Where several hold of one line, it is the first of them in this order; of a text, it
+/// is that of the first faulty line.
 #[derive(Clone, Copy, Debug, PartialEq, Eq)]
 pub enum LineKind {
     /// More than `MOST_BYTES_OF_LINE` bytes. On line 0: a text of more than `MOST_BYTES`.

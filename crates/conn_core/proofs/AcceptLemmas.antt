@@ -8,7 +8,7 @@ use Rattle.std.proofs.lemmas.List.{length_push}
 use Rattle.acl_core.specs.declared.criterion.Criterion.{Criterion}
 use Rattle.acl_core.specs.declared.criterion.Criterion.TheVariants as criteria
 use Rattle.acl_core.specs.declared.criterion.Value.TheVariants as values
-use Rattle.addr_core.specs.Ends.{Ends}
+use Rattle.addr_core.specs.PairValue.{PairValue}
 use Rattle.plan_types.specs.declared.plan.Frontend.{Frontend}
 use Rattle.plan_types.specs.declared.plan.Server.{Server}
 use Rattle.conn_model.specs.declared.reply.Cause.{Cause}
@@ -28,7 +28,7 @@ slice_get-set (z ∷ xs) zero x y there = refl
 slice_get-set (z ∷ xs) (suc n) x y there = slice_get-set xs n x y there
 
 -- the candidate is one of the open connections of its frontend
-worth_is : (p : Plain) (clock number : ℕ) (real : Ends) (own : FrontendRows) (version : Version) (frontend : Frontend) → slice_get p.frontends number ≡ Some own →
+worth_is : (p : Plain) (clock number : ℕ) (real : PairValue) (own : FrontendRows) (version : Version) (frontend : Frontend) → slice_get p.frontends number ≡ Some own →
     worth_of real.source.addr (length own.rows + 1) ≡ worth (rule_view (candidate_at p clock number real own version frontend) real.source.addr)
 worth_is p clock number real own version frontend there = fun_ext by
   where
@@ -47,7 +47,7 @@ pub record Found (p : Plain) (listener : ℕ) (at : Listener) (own : FrontendRow
   pub newest_is : newest p.versions ≡ Some version
   pub named : frontend_in version.plan own.name ≡ Some frontend
 
-pub answer_is : (p : Plain) (clock listener : ℕ) (real : Ends) (at : Listener) (own : FrontendRows) (version : Version) (frontend : Frontend) → Found p listener at own version frontend →
+pub answer_is : (p : Plain) (clock listener : ℕ) (real : PairValue) (at : Listener) (own : FrontendRows) (version : Version) (frontend : Frontend) → Found p listener at own version frontend →
     own.serial + 1 < 2 ^ 64 → (result : Result Server Cause) → result ≡ verdict_by (worth_of real.source.addr (length own.rows + 1)) version frontend (length own.rows) →
     accept_answer p clock listener real ≡ Ok (reply_of (said_of (record { frontend = at.frontend; serial = own.serial + 1 }) real result))
 answer_is p clock listener real at own version frontend found fits result is =
@@ -57,21 +57,21 @@ answer_is p clock listener real at own version frontend found fits result is =
     rw (found.listens, found.there, found.newest_is, found.named, below)
     (ap (λ r. Ok (reply_of (said_of (record { frontend = at.frontend; serial = own.serial + 1 }) real r))) judged)
 
-pub no_listener : (p : Plain) (clock listener : ℕ) (real : Ends) → slice_get p.listeners listener ≡ None → accept_answer p clock listener real ≡ Err NoListener
+pub no_listener : (p : Plain) (clock listener : ℕ) (real : PairValue) → slice_get p.listeners listener ≡ None → accept_answer p clock listener real ≡ Err NoListener
 no_listener p clock listener real none = rw none refl
 
-pub no_frontend : (p : Plain) (clock listener : ℕ) (real : Ends) (at : Listener) → slice_get p.listeners listener ≡ Some at → slice_get p.frontends at.frontend ≡ None → accept_answer p clock listener real ≡ Err NoListener
+pub no_frontend : (p : Plain) (clock listener : ℕ) (real : PairValue) (at : Listener) → slice_get p.listeners listener ≡ Some at → slice_get p.frontends at.frontend ≡ None → accept_answer p clock listener real ≡ Err NoListener
 no_frontend p clock listener real at listens none = rw (listens, none) refl
 
-pub no_version : (p : Plain) (clock listener : ℕ) (real : Ends) (at : Listener) (own : FrontendRows) → slice_get p.listeners listener ≡ Some at → slice_get p.frontends at.frontend ≡ Some own → newest p.versions ≡ None →
+pub no_version : (p : Plain) (clock listener : ℕ) (real : PairValue) (at : Listener) (own : FrontendRows) → slice_get p.listeners listener ≡ Some at → slice_get p.frontends at.frontend ≡ Some own → newest p.versions ≡ None →
     accept_answer p clock listener real ≡ Err NoListener
 no_version p clock listener real at own listens there none = rw (listens, there, none) refl
 
-pub no_name : (p : Plain) (clock listener : ℕ) (real : Ends) (at : Listener) (own : FrontendRows) (version : Version) → slice_get p.listeners listener ≡ Some at → slice_get p.frontends at.frontend ≡ Some own → newest p.versions ≡ Some version →
+pub no_name : (p : Plain) (clock listener : ℕ) (real : PairValue) (at : Listener) (own : FrontendRows) (version : Version) → slice_get p.listeners listener ≡ Some at → slice_get p.frontends at.frontend ≡ Some own → newest p.versions ≡ Some version →
     frontend_in version.plan own.name ≡ None → accept_answer p clock listener real ≡ Err NoListener
 no_name p clock listener real at own version listens there newest_is none = rw (listens, there, newest_is, none) refl
 
-pub exhausted : (p : Plain) (clock listener : ℕ) (real : Ends) (at : Listener) (own : FrontendRows) (version : Version) (frontend : Frontend) → Found p listener at own version frontend →
+pub exhausted : (p : Plain) (clock listener : ℕ) (real : PairValue) (at : Listener) (own : FrontendRows) (version : Version) (frontend : Frontend) → Found p listener at own version frontend →
     own.serial ≡ 0xFFFF_FFFF_FFFF_FFFF → accept_answer p clock listener real ≡ Err Exhausted
 exhausted p clock listener real at own version frontend found last =
     let above : nat_lt own.serial 0xFFFF_FFFF_FFFF_FFFF ≡ false = rw last refl in

@@ -1,7 +1,7 @@
 -- The state of a core after one event.
 use Rattle.std.proofs.Common.{◌≡◌, ℕ, ◌+◌, ◌++◌, [], ◌∷◌, List, Option, Some, None, Ok, true, false, refl, max, sym, ap, subst, ◌∙◌}
 use Rattle.std.specs.Prelude.{slice_get, slice_set, filter, not, ◌==◌, option_to_list, is_some}
-use Rattle.addr_core.specs.Ends.{Ends}
+use Rattle.addr_core.specs.PairValue.{PairValue}
 use Rattle.conn_model.specs.declared.event.ConnId.{ConnId}
 use Rattle.conn_model.specs.declared.event.Why.{Why}
 use Rattle.conn_model.specs.declared.event.OwnedEvent.TheVariants.{Accept, Close}
@@ -32,7 +32,7 @@ pub record IsAfter (q : Plain) (e : Entry) (new' : Plain) : Type 0 where
 is_after : (q : Plain) → IsCoreState q → (e : Entry) (new' : Plain) → answer_in q e.moment e.event ≡ Ok e.reply → new' ≡ after q (e ∷ []) → IsAfter q e new'
 is_after q known e new' is same = record { same = same; known = subst IsCoreState (sym same) (kept q known e is) }
 
-pub accepted : (q : Plain) → IsCoreState q → (moment listener : ℕ) (real : Ends) (id : ConnId) (said : Said) (row : Option Row) (own : FrontendRows) → Next q (max q.clock moment) real id said row own →
+pub accepted : (q : Plain) → IsCoreState q → (moment listener : ℕ) (real : PairValue) (id : ConnId) (said : Said) (row : Option Row) (own : FrontendRows) → Next q (max q.clock moment) real id said row own →
     accept_answer q (max q.clock moment) listener real ≡ Ok (reply_of said) →
     IsAfter q (entry moment (Accept listener real) (reply_of said)) (record {
       clock = max q.clock moment;

@@ -1,7 +1,7 @@
 -- What a step decides before anything changes.
 use Rattle.std.specs.Prelude.{ℕ, List, [], ◌∷◌, Option, Some, slice_get, option_to_list, ◌≡◌, ◌+◌, ◌<◌, ◌^◌, Ok}
 use Rattle.std.specs.List.{AllByRecursion}
-use Rattle.addr_core.specs.Ends.{Ends}
+use Rattle.addr_core.specs.PairValue.{PairValue}
 use Rattle.plan_types.specs.Lines.{LinesDiffer}
 use Rattle.plan_types.specs.declared.plan.Plan.{Plan}
 use Rattle.plan_types.specs.declared.plan.Server.{Server}
@@ -30,7 +30,7 @@ pub record IsCoreState (p : Plain) : Type 0 where
   pub lines : HaveLines p.versions
 
 -- the id is the next of its frontend, what is said is said to it, and the row is the one that it leaves
-pub record Next (p : Plain) (clock : ℕ) (real : Ends) (id : ConnId) (said : Said) (row : Option Row) (own : FrontendRows) : Type 0 where
+pub record Next (p : Plain) (clock : ℕ) (real : PairValue) (id : ConnId) (said : Said) (row : Option Row) (own : FrontendRows) : Type 0 where
   pub there : slice_get p.frontends id.frontend ≡ Some own
   pub serial : id.serial ≡ own.serial + 1
   pub fits : own.serial + 1 < 2 ^ 64

@@ -52,7 +52,7 @@ impl OpenRow {
         })
     }
 
-    /// Ends the row.
+    /// PairValue the row.
     pub fn end(self) {
         let OpenRow {
             serial: _,
@@ -143,7 +143,7 @@ impl FrontendState {
         }
     }
 
-    /// Ends a connection.
+    /// PairValue a connection.
     pub fn close(&mut self, serial: u64)
         ensures { self.new ≡ record self.old { rows = filter (λ row. not (row.serial == serial)) self.old.rows } }
     {
@@ -163,7 +163,7 @@ impl FrontendState {
         })
     }
 
-    /// Ends the frontend with its rows.
+    /// PairValue the frontend with its rows.
     pub fn end(self) {
         let FrontendState {
             name: _name,
@@ -177,7 +177,7 @@ impl FrontendState {
     }
 }
 
-/// Ends all frontends with their rows.
+/// PairValue all frontends with their rows.
 pub fn end_all(mut frontends: Vec<FrontendState>) {
     while let Some(own) = frontends.pop() {
         own.end();

@@ -2,7 +2,7 @@
 use Rattle.std.specs.Prelude.{ℕ, Bool, true, false, max, List, length, slice_get, Option, Some, None, Result, Ok, Err, refl, ◌+◌, ◌≡◌, nat_lt, if◌then◌else◌}
 use Rattle.std.proofs.Common.{sym, ap, ◌∙◌}
 use Rattle.list_core.specs.Each.{◌>>=◌}
-use Rattle.addr_core.specs.Ends.{Ends}
+use Rattle.addr_core.specs.PairValue.{PairValue}
 use Rattle.plan_types.specs.declared.plan.Server.{Server}
 use Rattle.plan_types.specs.declared.plan.Frontend.{Frontend}
 use Rattle.conn_model.specs.declared.event.ConnId.{ConnId}
@@ -41,7 +41,7 @@ chosen false x y fault is = absurd (let wrong : Err fault ≡ Ok y = is in cc)
 
 -- Whom a reply speaks to.
 
-pub said_of-id : (id : ConnId) (judged : Ends) (result : Result Server Cause) → id_of (said_of id judged result) ≡ Some id
+pub said_of-id : (id : ConnId) (judged : PairValue) (result : Result Server Cause) → id_of (said_of id judged result) ≡ Some id
 said_of-id id judged (Ok server) = refl
 said_of-id id judged (Err cause) = refl
 
@@ -66,7 +66,7 @@ Says q (Accept listener real) said = IsNew q said
 Says q (Close id why) said = IsOld q id said
 
 -- what the answer to an accept looked up, and the reply that it gave
-pub record Accepted (q : Plain) (clock listener : ℕ) (real : Ends) (reply : Reply) : Type 0 where
+pub record Accepted (q : Plain) (clock listener : ℕ) (real : PairValue) (reply : Reply) : Type 0 where
   pub at : Listener
   pub own : FrontendRows
   pub version : Version
@@ -78,7 +78,7 @@ pub record Accepted (q : Plain) (clock listener : ℕ) (real : Ends) (reply : Re
   pub fits : nat_lt own.serial 0xFFFF_FFFF_FFFF_FFFF ≡ true
   pub reply_is : admission (candidate_at q clock at.frontend real own version frontend) real (length own.rows) ≡ reply
 
-pub accepted : (q : Plain) (clock listener : ℕ) (real : Ends) (reply : Reply) → accept_answer q clock listener real ≡ Ok reply → Accepted q clock listener real reply
+pub accepted : (q : Plain) (clock listener : ℕ) (real : PairValue) (reply : Reply) → accept_answer q clock listener real ≡ Ok reply → Accepted q clock listener real reply
 accepted q clock listener real reply is =
     let one = bind-ok (or_fault NoListener (slice_get q.listeners listener)) _ reply is in
     let at : Listener = one.0 in
@@ -103,7 +103,7 @@ accepted q clock listener real reply is =
       reply_is = last.1;
     }
 
-new_at : (q : Plain) (clock listener : ℕ) (real : Ends) (reply : Reply) → Accepted q clock listener real reply → IsNew q reply.said
+new_at : (q : Plain) (clock listener : ℕ) (real : PairValue) (reply : Reply) → Accepted q clock listener real reply → IsNew q reply.said
 new_at q clock listener real reply got =
     let candidate : Candidate = candidate_at q clock got.at.frontend real got.own got.version got.frontend in
     record {

@@ -9,7 +9,7 @@ use Rattle.conn_model.specs.declared.event.OwnedEvent.{OwnedEvent}
 use Rattle.conn_model.specs.declared.plain.Row.{Row}
 use Rattle.conn_model.specs.declared.plain.FrontendRows.{FrontendRows}
 use Rattle.conn_model.specs.declared.plain.Plain.{Plain}
-use Rattle.addr_core.specs.Ends.{Ends}
+use Rattle.addr_core.specs.PairValue.{PairValue}
 use Rattle.conn_model.specs.declared.event.OwnedEvent.TheVariants.{Accept, Close}
 use Rattle.conn_model.specs.Words.{is_conn, Rise}
 use Rattle.conn_model.specs.Answer.{row_in, new_row}
@@ -20,7 +20,7 @@ use Rattle.conn_model.proofs.Replies.{IsNew, IsOld, Says, answered}
 
 -- Rows that an entry opens.
 
-arrival_of-all : (P : Row → Type 0) (q : Plain) (number clock version : ℕ) (real : Ends) (said : Said) (new : IsNew q said) →
+arrival_of-all : (P : Row → Type 0) (q : Plain) (number clock version : ℕ) (real : PairValue) (said : Said) (new : IsNew q said) →
     (new.id.frontend ≡ number → P (new_row new.id.serial version real clock)) → AllByRecursion P (arrival_of number clock version real said (id_of said))
 arrival_of-all P q number clock version real said new each = rw new.speaks (by (leaves_open said) (new.id.frontend == number) refl)
   where
@@ -31,7 +31,7 @@ arrival_of-all P q number clock version real said new each = rw new.speaks (by (
 
 -- what holds of a new row in the frontend holds of what an entry opens there
 pub arrival-all : (P : Row → Type 0) (q : Plain) (number clock version : ℕ) (event : OwnedEvent) (said : Said) → Says q event said →
-    ((new : IsNew q said) (real : Ends) → new.id.frontend ≡ number → is_accept_at number event said ≡ true → P (new_row new.id.serial version real clock)) →
+    ((new : IsNew q said) (real : PairValue) → new.id.frontend ≡ number → is_accept_at number event said ≡ true → P (new_row new.id.serial version real clock)) →
     AllByRecursion P (arrival number clock version event said)
 arrival-all P q number clock version (Accept listener real) said new each =
     arrival_of-all P q number clock version real said new (λ here. each new real here (rw (new.speaks, here) (same_number number)))
@@ -42,16 +42,16 @@ arrival-all P q number clock version (Close id why) said says each = tt
 
 -- an entry opens one row at most
 pub arrival-one : (number clock version : ℕ) (event : OwnedEvent) (said : Said) →
-    (arrival number clock version event said ≡ []) ⊎ ((id : ConnId) × (real : Ends) × (arrival number clock version event said ≡ new_row id.serial version real clock ∷ []))
+    (arrival number clock version event said ≡ []) ⊎ ((id : ConnId) × (real : PairValue) × (arrival number clock version event said ≡ new_row id.serial version real clock ∷ []))
 arrival-one number clock version (Accept listener real) said = by (id_of said)
   where
     one : (id : ConnId) (b : Bool) → ((if b then new_row id.serial version real clock ∷ [] else []) ≡ []) ⊎
-        ((id' : ConnId) × (real' : Ends) × ((if b then new_row id.serial version real clock ∷ [] else []) ≡ new_row id'.serial version real' clock ∷ []))
+        ((id' : ConnId) × (real' : PairValue) × ((if b then new_row id.serial version real clock ∷ [] else []) ≡ new_row id'.serial version real' clock ∷ []))
     one id true = inr (id, real, refl)
     one id false = inl refl
 
     by : (id : Option ConnId) → (arrival_of number clock version real said id ≡ []) ⊎
-        ((id' : ConnId) × (real' : Ends) × (arrival_of number clock version real said id ≡ new_row id'.serial version real' clock ∷ []))
+        ((id' : ConnId) × (real' : PairValue) × (arrival_of number clock version real said id ≡ new_row id'.serial version real' clock ∷ []))
     by None = inl refl
     by (Some id) = one id (leaves_open said && (id.frontend == number))
 arrival-one number clock version (Close id why) said = inl refl
@@ -112,7 +112,7 @@ speaks_that number serial said id whom is =
 abbrev here_now : ℕ → OwnedEvent → Said → ℕ
 here_now number event said = if is_accept_at number event said then 1 else 0
 
-accept_counts : (number : ℕ) (listener : ℕ) (real : Ends) (said : Said) (id : ConnId) → id_of said ≡ Some id → id.frontend ≡ number →
+accept_counts : (number : ℕ) (listener : ℕ) (real : PairValue) (said : Said) (id : ConnId) → id_of said ≡ Some id → id.frontend ≡ number →
     here_now number (Accept listener real) said ≡ 1
 accept_counts number listener real said id whom here = rw (whom, here, eq-eqb number number refl) refl
 

@@ -7,7 +7,7 @@ use Rattle.std.proofs.lemmas.Bool.{false≢true, eq-eqb, eqb-true}
 use Rattle.std.proofs.lemmas.Bool.Decides.{nat_tests}
 use Rattle.std.proofs.lemmas.List.{map-append}
 use Rattle.std.proofs.lemmas.List.Elements.{filter-append}
-use Rattle.addr_core.specs.Ends.{Ends}
+use Rattle.addr_core.specs.PairValue.{PairValue}
 use Rattle.plan_types.specs.declared.plan.Plan.{Plan}
 use Rattle.conn_model.specs.declared.event.ConnId.{ConnId}
 use Rattle.conn_model.specs.declared.event.Why.{Why}
@@ -106,7 +106,7 @@ other_conn number serial said id whom differs =
 -- An accept.
 
 -- what an accept leaves of the new connection, where this is said to it
-abbrev pub rows_left : Plain → ℕ → Ends → Said → List Row
+abbrev pub rows_left : Plain → ℕ → PairValue → Said → List Row
 rows_left p clock real (Offer id used line server to judged send) =
     record {
       serial = id.serial;
@@ -123,7 +123,7 @@ same_number : (n : ℕ) → (n == n) ≡ true
 same_number n = eq-eqb n n refl
 
 -- the row that the entry itself opens
-new_rows_left : (p : Plain) (moment listener : ℕ) (real : Ends) (said : Said) (id : ConnId) → id_of said ≡ Some id →
+new_rows_left : (p : Plain) (moment listener : ℕ) (real : PairValue) (said : Said) (id : ConnId) → id_of said ≡ Some id →
     let e : Entry = entry moment (Accept listener real) (reply_of said) in
     map (row_after p id.frontend (e ∷ [])) (filter (λ row. not (has_ended id.frontend (e ∷ []) row.serial)) (arrival id.frontend (max p.clock moment) (newest_number p) (Accept listener real) said))
     ≡ rows_left p (max p.clock moment) real said
@@ -134,7 +134,7 @@ new_rows_left p moment listener real (Offer id' used line server to judged send)
 new_rows_left p moment listener real (Refuse id' used cause) id whom = refl
 new_rows_left p moment listener real (Closed id' why) id whom = refl
 
-accept-here : (p : Plain) (moment listener : ℕ) (real : Ends) (said : Said) (id : ConnId) (own : FrontendRows) → IsFrontendWell p.versions own → id_of said ≡ Some id → id.serial ≡ own.serial + 1 →
+accept-here : (p : Plain) (moment listener : ℕ) (real : PairValue) (said : Said) (id : ConnId) (own : FrontendRows) → IsFrontendWell p.versions own → id_of said ≡ Some id → id.serial ≡ own.serial + 1 →
     frontend_after p (entry moment (Accept listener real) (reply_of said) ∷ []) id.frontend own
     ≡ record own { serial = own.serial + 1; rows = own.rows ++ rows_left p (max p.clock moment) real said }
 accept-here p moment listener real said id own well whom next =
@@ -153,7 +153,7 @@ accept-here p moment listener real said id own well whom next =
     ap (λ b. record own { serial = own.serial + (0 + (if b then 1 else 0)); rows = map f (filter g (own.rows ++ more)) }) on
     ∙ ap (λ rs. record own { serial = own.serial + 1; rows = rs }) rows
 
-accept-elsewhere : (p : Plain) (moment listener : ℕ) (real : Ends) (said : Said) (id : ConnId) (number : ℕ) (own : FrontendRows) → IsFrontendWell p.versions own → id_of said ≡ Some id → number ≢ id.frontend →
+accept-elsewhere : (p : Plain) (moment listener : ℕ) (real : PairValue) (said : Said) (id : ConnId) (number : ℕ) (own : FrontendRows) → IsFrontendWell p.versions own → id_of said ≡ Some id → number ≢ id.frontend →
     frontend_after p (entry moment (Accept listener real) (reply_of said) ∷ []) number own ≡ own
 accept-elsewhere p moment listener real said id number own well whom differs =
     let other : (id.frontend == number) ≡ false = grind (arith, nat_tests, differs) in
@@ -161,7 +161,7 @@ accept-elsewhere p moment listener real said id number own well whom differs =
     (rw (whom, other) refl) (rw (whom, other, and_false _) refl)
 
 -- the state after an accept alone
-pub after-accept : (p : Plain) → IsWell p → (moment listener : ℕ) (real : Ends) (said : Said) (id : ConnId) (own : FrontendRows) →
+pub after-accept : (p : Plain) → IsWell p → (moment listener : ℕ) (real : PairValue) (said : Said) (id : ConnId) (own : FrontendRows) →
     slice_get p.frontends id.frontend ≡ Some own → id_of said ≡ Some id → id.serial ≡ own.serial + 1 →
     after p (entry moment (Accept listener real) (reply_of said) ∷ []) ≡ record {
       clock = max p.clock moment;

@@ -2,7 +2,7 @@
 use Rattle.std.specs.Prelude.{ℕ, List, [], ◌∷◌, ◌++◌, length, max, find, slice_get, slice_set, Option, Some, None, Result, Ok, Err, ◌+◌, ◌==◌, nat_le, nat_lt, if◌then◌else◌}
 use Rattle.std.specs.Str.{bytes_eq}
 use Rattle.list_core.specs.Each.{◌>>=◌}
-use Rattle.addr_core.specs.Ends.{Ends}
+use Rattle.addr_core.specs.PairValue.{PairValue}
 use Rattle.plan_types.specs.declared.plan.Server.{Server}
 use Rattle.plan_types.specs.declared.plan.Frontend.{Frontend}
 use Rattle.plan_types.specs.declared.plan.Plan.{Plan}
@@ -60,20 +60,20 @@ server_unless version frontend None = server_for version frontend
 
 -- at the accept, where so many other connections of the frontend are open: the limit of the frontend
 -- first, then the connection rules on the real source, then a server
-abbrev pub verdict : Candidate → Ends → ℕ → Result Server Cause
+abbrev pub verdict : Candidate → PairValue → ℕ → Result Server Cause
 verdict candidate real others =
     if nat_le candidate.frontend.limit others then Err (Line candidate.frontend.limit_line)
     else server_unless candidate.version candidate.frontend (rejection (rule_view candidate real.source.addr) candidate.frontend.connection_rules)
 
 -- an offer of the server, with nothing to send before the stream, or a refusal
-abbrev pub said_of : ConnId → Ends → Result Server Cause → Said
+abbrev pub said_of : ConnId → PairValue → Result Server Cause → Said
 said_of id judged (Ok server) = Offer id 0 server.line 0 server.to judged (record { items = [] })
 said_of id judged (Err cause) = Refuse id 0 cause
 
 -- An accept.
 
 -- a connection that was accepted, and has no server yet
-abbrev pub new_row : ℕ → ℕ → Ends → ℕ → Row
+abbrev pub new_row : ℕ → ℕ → PairValue → ℕ → Row
 new_row serial version real clock = record { serial = serial; version = version; real = real; accepted = clock; phase = Waiting; tracks = [] }
 
 -- the state with one more row of the frontend of that number, which has these rows
@@ -81,7 +81,7 @@ abbrev pub with_row : Plain → ℕ → FrontendRows → Row → Plain
 with_row p number own row = record p { frontends = slice_set p.frontends number (record own { serial = row.serial; rows = own.rows ++ row ∷ [] }) }
 
 -- where a connection is judged at its accept: it is one of the rows
-abbrev pub candidate_at : Plain → ℕ → ℕ → Ends → FrontendRows → Version → Frontend → Candidate
+abbrev pub candidate_at : Plain → ℕ → ℕ → PairValue → FrontendRows → Version → Frontend → Candidate
 candidate_at p clock number real own version frontend = record {
   state = with_row p number own (new_row (own.serial + 1) version.number real clock);
   version = version;
@@ -90,11 +90,11 @@ candidate_at p clock number real own version frontend = record {
 }
 
 -- the reply to a candidate, where so many other connections of its frontend are open
-abbrev pub admission : Candidate → Ends → ℕ → Reply
+abbrev pub admission : Candidate → PairValue → ℕ → Reply
 admission candidate real others = reply_of (said_of candidate.id real (verdict candidate real others))
 
 -- an accept is judged by the newest version, in the frontend of its listener
-abbrev pub accept_answer : Plain → ℕ → ℕ → Ends → Result Reply StepFault
+abbrev pub accept_answer : Plain → ℕ → ℕ → PairValue → Result Reply StepFault
 accept_answer p clock listener real = do
   at ← or_fault NoListener (slice_get p.listeners listener)
   own ← or_fault NoListener (slice_get p.frontends at.frontend)

@@ -3,7 +3,7 @@ use Rattle.std.specs.Prelude.{ℕ, Bool, true, false, not, max, List, [], map, f
 use Rattle.std.specs.List.{list_any, AllByRecursion, enumerate_from}
 use Rattle.std.specs.Option.{option_map_or}
 use Rattle.addr_core.specs.declared.addr.Endpoint.{Endpoint}
-use Rattle.addr_core.specs.Ends.{Ends}
+use Rattle.addr_core.specs.PairValue.{PairValue}
 use Rattle.proxy_types.specs.declared.server.ServerIdentity.{ServerIdentity}
 use Rattle.plan_types.specs.declared.plan.Frontend.{Frontend}
 use Rattle.plan_types.specs.declared.plan.Backend.{Backend}
@@ -132,7 +132,7 @@ leaves_open (Offer id used line server to judged send) = true
 leaves_open (Refuse id used cause) = false
 leaves_open (Closed id why) = false
 
-abbrev pub arrival_of : ℕ → ℕ → ℕ → Ends → Said → Option ConnId → List Row
+abbrev pub arrival_of : ℕ → ℕ → ℕ → PairValue → Said → Option ConnId → List Row
 arrival_of number clock version real said None = []
 arrival_of number clock version real said (Some id) = if leaves_open said && (id.frontend == number) then new_row id.serial version real clock ∷ [] else []
 

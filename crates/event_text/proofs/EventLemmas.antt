@@ -8,7 +8,7 @@ use Rattle.std.proofs.lemmas.Bool.Decides.{nat_tests}
 use Rattle.std.proofs.lemmas.List.Splits.{slice_split_at, slice_split_none}
 use Rattle.std.proofs.lemmas.List.Elements.{All-nil, All-cons, All-append}
 use Rattle.text_core.specs.Decimal.{decimal, decimal_of}
-use Rattle.addr_core.specs.Ends.{Ends}
+use Rattle.addr_core.specs.PairValue.{PairValue}
 use Rattle.addr_core.specs.Family.{same_family}
 use Rattle.addr_core.specs.Text.{endpoint_of, endpoint_text, host_text, text_of, IsEndpoint}
 use Rattle.addr_core.specs.declared.addr.Addr.{Addr}

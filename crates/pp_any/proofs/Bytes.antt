@@ -16,7 +16,7 @@ use Rattle.pp_any.specs.declared.rest.Rest.TheVariants.{Read}
 use Rattle.pp_any.specs.declared.fed.Fed.{Fed}
 use Rattle.pp_any.specs.declared.fed.Fed.TheVariants as feds
 use Rattle.pp_any.specs.Faults.{of_head}
-use Rattle.pp_any.specs.Status.{status, said, early_fault, head_said, is_line, line_said}
+use Rattle.pp_any.specs.Status.{status, decision, early_fault, head_decision, is_line, line_decision}
 use Rattle.pp_any.specs.Rest.{IsInHead, IsInLine, IsRest, IsWholeHead, rest_of, rest_after, rest_in_block}
 use Rattle.pp_any.specs.Fed.{Answers, answer_of, used_in}
 use Rattle.pp_any.proofs.Feeding.{answers_at, is_line-append, status-waits}
@@ -37,19 +37,19 @@ line_begun : (bytes : List ℕ) → is_line bytes ≡ true → 0 < length bytes
 line_begun [] line = absurd cc
 line_begun (x ∷ bytes) line = omega arith
 
-said_in_line : (bytes : List ℕ) (x : ℕ) (now : List ℕ) → IsInLine bytes → now ≡ bytes ++ x ∷ [] → (is_line now ≡ true) × (said (bytes ++ x ∷ []) ≡ line_said now)
+said_in_line : (bytes : List ℕ) (x : ℕ) (now : List ℕ) → IsInLine bytes → now ≡ bytes ++ x ∷ [] → (is_line now ≡ true) × (decision (bytes ++ x ∷ []) ≡ line_decision now)
 said_in_line bytes x now inside one =
     let begun = line_begun bytes inside.line in
     let line : is_line (bytes ++ x ∷ []) ≡ true = is_line-append bytes (x ∷ []) begun ∙ inside.line in
-    (ap is_line one ∙ line, rw line (ap line_said (sym one)))
+    (ap is_line one ∙ line, rw line (ap line_decision (sym one)))
 
 pub line_answers : (b piece : List ℕ) (k : ℕ) (bytes now : List ℕ) (s : Result Meaning HeaderFault) → bytes ≡ b ++ take k piece → k < length piece → IsInLine bytes
-    → now ≡ bytes ++ get_or piece k 0 ∷ [] → line_said now ≡ Some s → Answers b piece (answer_of s (k + 1))
+    → now ≡ bytes ++ get_or piece k 0 ∷ [] → line_decision now ≡ Some s → Answers b piece (answer_of s (k + 1))
 line_answers b piece k bytes now s is within inside one here =
     answers_at b piece k bytes s is within inside.waits ((said_in_line bytes (get_or piece k 0) now inside one).1 ∙ here)
 
 pub line_goes_on : (b piece : List ℕ) (k : ℕ) (bytes now : List ℕ) → bytes ≡ b ++ take k piece → k < length piece → IsInLine bytes
-    → now ≡ bytes ++ get_or piece k 0 ∷ [] → line_said now ≡ None → length now < 107 → (now ≡ b ++ take (k + 1) piece) × IsInLine now
+    → now ≡ bytes ++ get_or piece k 0 ∷ [] → line_decision now ≡ None → length now < 107 → (now ≡ b ++ take (k + 1) piece) × IsInLine now
 line_goes_on b piece k bytes now is within inside one none room =
     let both = said_in_line bytes (get_or piece k 0) now inside one in (
       more_joined b piece k bytes now is within one,
@@ -61,18 +61,18 @@ line_goes_on b piece k bytes now is within inside one none room =
 short : (n : ℕ) → n < 16 → nat_le 16 n ≡ false
 short n less = grind (arith, nat_tests)
 
-said_in_head : (bytes : List ℕ) (x : ℕ) (now : List ℕ) → IsInHead bytes → now ≡ bytes ++ x ∷ [] → (is_line now ≡ false) × (said (bytes ++ x ∷ []) ≡ head_said now)
+said_in_head : (bytes : List ℕ) (x : ℕ) (now : List ℕ) → IsInHead bytes → now ≡ bytes ++ x ∷ [] → (is_line now ≡ false) × (decision (bytes ++ x ∷ []) ≡ head_decision now)
 said_in_head bytes x now inside one =
     let line : is_line (bytes ++ x ∷ []) ≡ false = is_line-append bytes (x ∷ []) inside.some ∙ inside.head in
-    (ap is_line one ∙ line, rw line (ap head_said (sym one)))
+    (ap is_line one ∙ line, rw line (ap head_decision (sym one)))
 
-head_said-short : (now : List ℕ) (o : Option V2Fault) → length now < 16 → early_fault now ≡ o → head_said now ≡ option_map (λ fault. Err (of_head fault)) o
-head_said-short now o less is = rw (short (length now) less) (ap (option_map (λ fault. Err (of_head fault))) is)
+head_decision-short : (now : List ℕ) (o : Option V2Fault) → length now < 16 → early_fault now ≡ o → head_decision now ≡ option_map (λ fault. Err (of_head fault)) o
+head_decision-short now o less is = rw (short (length now) less) (ap (option_map (λ fault. Err (of_head fault))) is)
 
 pub head_answers : (b piece : List ℕ) (k : ℕ) (bytes now : List ℕ) (fault : V2Fault) → bytes ≡ b ++ take k piece → k < length piece → IsInHead bytes
     → now ≡ bytes ++ get_or piece k 0 ∷ [] → length now < 16 → early_fault now ≡ Some fault → Answers b piece (feds.Bad (of_head fault) (k + 1))
 head_answers b piece k bytes now fault is within inside one less here =
-    answers_at b piece k bytes (Err (of_head fault)) is within inside.waits ((said_in_head bytes (get_or piece k 0) now inside one).1 ∙ head_said-short now (Some fault) less here)
+    answers_at b piece k bytes (Err (of_head fault)) is within inside.waits ((said_in_head bytes (get_or piece k 0) now inside one).1 ∙ head_decision-short now (Some fault) less here)
 
 pub head_goes_on : (b piece : List ℕ) (k : ℕ) (bytes now : List ℕ) → bytes ≡ b ++ take k piece → k < length piece → IsInHead bytes
     → now ≡ bytes ++ get_or piece k 0 ∷ [] → length now < 16 → early_fault now ≡ None → (now ≡ b ++ take (k + 1) piece) × IsInHead now
@@ -81,7 +81,7 @@ head_goes_on b piece k bytes now is within inside one less none =
     let l = ap length one ∙ length-append bytes (get_or piece k 0 ∷ []) in (
       more_joined b piece k bytes now is within one,
       record {
-        waits = ap status one ∙ status-waits bytes (get_or piece k 0) inside.waits (both.1 ∙ head_said-short now None less none);
+        waits = ap status one ∙ status-waits bytes (get_or piece k 0) inside.waits (both.1 ∙ head_decision-short now None less none);
         head = both.0;
         some = omega arith;
         room = less;

@@ -1,4 +1,4 @@
--- Answers to a piece, by what is said at its bytes.
+-- Answers to a piece, by what its bytes decide.
 use Rattle.std.proofs.Common.{◌≡◌, ℕ, ◌+◌, ◌<◌, ◌≤◌, List, [], ◌∷◌, ◌++◌, length, take, drop, get_or, Some, None, refl, ◌∙◌, sym, ap, subst, arith, append_assoc, length-append}
 use Rattle.std.specs.Prelude.{Result, Ok, Err}
 use Rattle.std.proofs.lemmas.List.{length-take-le, length-drop, take-append-drop, drop_more}
@@ -6,16 +6,16 @@ use Rattle.pp_v1.specs.declared.meaning.Meaning.{Meaning}
 use Rattle.pp_any.specs.declared.fault.HeaderFault.{HeaderFault}
 use Rattle.pp_any.specs.declared.fed.Fed.{Fed}
 use Rattle.pp_any.specs.declared.fed.Fed.TheVariants as feds
-use Rattle.pp_any.specs.Status.{Whole, Fault, Wait, decided_at, status_from, status, said, is_line}
+use Rattle.pp_any.specs.Status.{Whole, Fault, Wait, decided_at, status_from, status, decision, is_line}
 use Rattle.pp_any.specs.Rest.{IsRest}
 use Rattle.pp_any.specs.Fed.{Answers, later, answer_of}
 use Rattle.pp_any.proofs.Steps.{status_from-append}
 
 -- one more byte after bytes that wait
-pub status-step : (b : List ℕ) (x : ℕ) (c : List ℕ) → status b ≡ Wait → status (b ++ x ∷ c) ≡ decided_at (length b + 1) (said (b ++ x ∷ [])) (status_from said (b ++ x ∷ []) c)
-status-step b x c waits = status_from-append said [] b (x ∷ c) waits
+pub status-step : (b : List ℕ) (x : ℕ) (c : List ℕ) → status b ≡ Wait → status (b ++ x ∷ c) ≡ decided_at (length b + 1) (decision (b ++ x ∷ [])) (status_from decision (b ++ x ∷ []) c)
+status-step b x c waits = status_from-append decision [] b (x ∷ c) waits
 
-pub status-waits : (b : List ℕ) (x : ℕ) → status b ≡ Wait → said (b ++ x ∷ []) ≡ None → status (b ++ x ∷ []) ≡ Wait
+pub status-waits : (b : List ℕ) (x : ℕ) → status b ≡ Wait → decision (b ++ x ∷ []) ≡ None → status (b ++ x ∷ []) ≡ Wait
 status-waits b x waits none = status-step b x [] waits ∙ ap (λ o. decided_at (length b + 1) o Wait) none
 
 -- bytes that are joined
@@ -25,11 +25,11 @@ joined_at b piece k bytes is = ap (λ e. e ++ drop k piece) is ∙ append_assoc 
 pub length_at : (b piece : List ℕ) (k : ℕ) (bytes : List ℕ) → bytes ≡ b ++ take k piece → k ≤ length piece → length bytes ≡ length b + k
 length_at b piece k bytes is within = ap length is ∙ length-append b (take k piece) ∙ ap (λ n. length b + n) (length-take-le k piece within)
 
--- what is said at a byte of the piece is the answer
+-- what a byte of the piece decides is the answer
 pub answers_at : (b piece : List ℕ) (k : ℕ) (bytes : List ℕ) (s : Result Meaning HeaderFault) → bytes ≡ b ++ take k piece → k < length piece
-    → status bytes ≡ Wait → said (bytes ++ get_or piece k 0 ∷ []) ≡ Some s → Answers b piece (answer_of s (k + 1))
+    → status bytes ≡ Wait → decision (bytes ++ get_or piece k 0 ∷ []) ≡ Some s → Answers b piece (answer_of s (k + 1))
 answers_at b piece k bytes s is within waits here =
-    by s (ap status whole ∙ status-step bytes (get_or piece k 0) (drop (k + 1) piece) waits ∙ ap (λ o. decided_at (length bytes + 1) o (status_from said (bytes ++ get_or piece k 0 ∷ []) (drop (k + 1) piece))) here)
+    by s (ap status whole ∙ status-step bytes (get_or piece k 0) (drop (k + 1) piece) waits ∙ ap (λ o. decided_at (length bytes + 1) o (status_from decision (bytes ++ get_or piece k 0 ∷ []) (drop (k + 1) piece))) here)
   where
     whole : b ++ piece ≡ bytes ++ get_or piece k 0 ∷ drop (k + 1) piece
     whole = sym (joined_at b piece k bytes is) ∙ ap (λ e. bytes ++ e) (drop_more piece k 0 within)
@@ -37,7 +37,7 @@ answers_at b piece k bytes s is within waits here =
     count : length bytes + 1 ≡ length b + (k + 1)
     count = let l = length_at b piece k bytes is (omega arith) in omega arith
 
-    by : (s : Result Meaning HeaderFault) → status (b ++ piece) ≡ decided_at (length bytes + 1) (Some s) (status_from said (bytes ++ get_or piece k 0 ∷ []) (drop (k + 1) piece)) → Answers b piece (answer_of s (k + 1))
+    by : (s : Result Meaning HeaderFault) → status (b ++ piece) ≡ decided_at (length bytes + 1) (Some s) (status_from decision (bytes ++ get_or piece k 0 ∷ []) (drop (k + 1) piece)) → Answers b piece (answer_of s (k + 1))
     by (Ok meaning) found = (omega arith, found ∙ ap (λ n. Whole n meaning) count)
     by (Err fault) found = (omega arith, found ∙ ap (λ n. Fault fault n) count)
 

@@ -3,7 +3,7 @@ use Rattle.std.proofs.Common.{◌≡◌, ◌≢◌, ℕ, zero, suc, ◌+◌, ◌
 use Rattle.std.specs.Prelude.{Result, Ok, Err}
 use Rattle.pp_v1.specs.declared.meaning.Meaning.{Meaning}
 use Rattle.pp_any.specs.declared.fault.HeaderFault.{HeaderFault}
-use Rattle.pp_any.specs.Status.{Status, Whole, Fault, Wait, decided_at, said, status, status_from}
+use Rattle.pp_any.specs.Status.{Status, Whole, Fault, Wait, decided_at, decision, status, status_from}
 use Rattle.pp_any.specs.Header.{IsHeader, IsDecidedAt}
 use Rattle.pp_any.proofs.Steps.{Say, status_from-decided}
 
@@ -97,32 +97,32 @@ given_no_wait n (Err v) is = absurd cc
 pub status_first : (b : List ℕ) (count : ℕ) (s : Result Meaning HeaderFault) → IsDecidedAt b count s → status b ≡ given count s
 status_first b count s f =
     let zero_more : 0 + count ≡ count = omega arith in
-    status_at said [] b count s (record { some = f.some; within = f.within; here = f.here; first = f.first }) ∙ ap (λ n. given n s) zero_more
+    status_at decision [] b count s (record { some = f.some; within = f.within; here = f.here; first = f.first }) ∙ ap (λ n. given n s) zero_more
 
 pub first_of_status : (b : List ℕ) (count : ℕ) (s : Result Meaning HeaderFault) → status b ≡ given count s → IsDecidedAt b count s
-first_of_status b count s is = by (tells said [] b)
+first_of_status b count s is = by (tells decision [] b)
   where
-    by : Tells said [] b (status b) → IsDecidedAt b count s
+    by : Tells decision [] b (status b) → IsDecidedAt b count s
     by (Nowhere waits never) = absurd (given_no_wait count s (sym is ∙ waits))
     by (At j t found f) = at_same j t (given_same (0 + j) count t s (sym found ∙ is)) f
       where
-        at_same : (j : ℕ) (t : Result Meaning HeaderFault) → (0 + j ≡ count) × (t ≡ s) → FirstAfter said [] b j t → IsDecidedAt b count s
+        at_same : (j : ℕ) (t : Result Meaning HeaderFault) → (0 + j ≡ count) × (t ≡ s) → FirstAfter decision [] b j t → IsDecidedAt b count s
         at_same j t same f =
             let count_is : j ≡ count = let e = same.0 in omega arith in
             let P : ℕ → Type 0 = λ n. IsDecidedAt b n s in
             subst P count_is (record { some = f.some; within = f.within; here = f.here ∙ ap (λ t. Some t) same.1; first = f.first })
 
-pub waits_nowhere : (b : List ℕ) → status b ≡ Wait → (k : ℕ) → 0 < k → k ≤ length b → said (take k b) ≡ None
-waits_nowhere b waits = by (tells said [] b)
+pub waits_nowhere : (b : List ℕ) → status b ≡ Wait → (k : ℕ) → 0 < k → k ≤ length b → decision (take k b) ≡ None
+waits_nowhere b waits = by (tells decision [] b)
   where
-    by : Tells said [] b (status b) → (k : ℕ) → 0 < k → k ≤ length b → said (take k b) ≡ None
+    by : Tells decision [] b (status b) → (k : ℕ) → 0 < k → k ≤ length b → decision (take k b) ≡ None
     by (Nowhere is never) = never
     by (At j t found f) = absurd (given_no_wait (0 + j) t (sym found ∙ waits))
 
-pub nowhere_waits : (b : List ℕ) → ((k : ℕ) → 0 < k → k ≤ length b → said (take k b) ≡ None) → status b ≡ Wait
-nowhere_waits b never = by (tells said [] b)
+pub nowhere_waits : (b : List ℕ) → ((k : ℕ) → 0 < k → k ≤ length b → decision (take k b) ≡ None) → status b ≡ Wait
+nowhere_waits b never = by (tells decision [] b)
   where
-    by : Tells said [] b (status b) → status b ≡ Wait
+    by : Tells decision [] b (status b) → status b ≡ Wait
     by (Nowhere is none) = is
     by (At j t found f) = absurd (apart (sym (never j f.some f.within) ∙ f.here))
       where
@@ -130,7 +130,7 @@ nowhere_waits b never = by (tells said [] b)
         apart wrong = absurd cc
 
 pub decided_once : (b c : List ℕ) → status b ≢ Wait → status (b ++ c) ≡ status b
-decided_once b c decided = status_from-decided said [] b c decided
+decided_once b c decided = status_from-decided decision [] b c decided
 
 -- no header is a proper prefix of another
 pub header_alone : (b c : List ℕ) (meaning other : Meaning) → IsHeader b meaning → IsHeader (b ++ c) other → c ≡ []

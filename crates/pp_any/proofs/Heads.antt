@@ -12,7 +12,7 @@ use Rattle.pp_v2.specs.declared.fault.V2Fault.{V2Fault}
 use Rattle.pp_v2.specs.Head.{block_length, command_fault, declared_in, family_fault, head_of, length_fault, pair_length, signature_fault, unless}
 use Rattle.pp_any.specs.declared.rest.Rest.TheVariants.{Block, Skip}
 use Rattle.pp_any.specs.Faults.{of_head}
-use Rattle.pp_any.specs.Status.{Fault, Whole, Wait, decided_at, status_from, status, said, block_said, meaning_in}
+use Rattle.pp_any.specs.Status.{Fault, Whole, Wait, decided_at, status_from, status, decision, block_decision, meaning_in}
 use Rattle.pp_any.specs.Rest.{Fits, IsAtBlock, IsRest, IsWholeHead, has_room, rest_in_block}
 use Rattle.pp_any.proofs.Feeding.{status-step}
 use Rattle.pp_any.proofs.Blocks.{at_least, equal, unequal}
@@ -22,26 +22,26 @@ use Rattle.pp_any.proofs.Rests.{rest_past}
 last_apart : (b : List ℕ) → length b ≡ 16 → take 15 b ++ get_or b 15 0 ∷ [] ≡ b
 last_apart b all = sym (take_more b 15 0 (omega arith)) ∙ take_all 16 b (omega arith)
 
-said_whole : (b : List ℕ) → IsWholeHead b → said b ≡ block_said b (head_of b)
+said_whole : (b : List ℕ) → IsWholeHead b → decision b ≡ block_decision b (head_of b)
 said_whole b whole =
     let all = whole.all in
-    rw (whole.head, at_least (length b) (omega arith)) (ap (λ e. block_said b (head_of e)) (take_all 16 b (omega arith)))
+    rw (whole.head, at_least (length b) (omega arith)) (ap (λ e. block_decision b (head_of e)) (take_all 16 b (omega arith)))
 
 -- the status is decided at byte 16
-status-whole : (b c : List ℕ) → IsWholeHead b → status (b ++ c) ≡ decided_at 16 (block_said b (head_of b)) (status_from said b c)
+status-whole : (b c : List ℕ) → IsWholeHead b → status (b ++ c) ≡ decided_at 16 (block_decision b (head_of b)) (status_from decision b c)
 status-whole b c whole =
     let all = whole.all in
     let apart = last_apart b all in
     let l : length (take 15 b) ≡ 15 = length-take-le 15 b (omega arith) in
     let joined : b ++ c ≡ take 15 b ++ get_or b 15 0 ∷ c = ap (λ e. e ++ c) (sym apart) ∙ append_assoc (take 15 b) (get_or b 15 0 ∷ []) c in
     ap status joined ∙ status-step (take 15 b) (get_or b 15 0) c whole.waits
-    ∙ ap (λ n. decided_at (n + 1) (said (take 15 b ++ get_or b 15 0 ∷ [])) (status_from said (take 15 b ++ get_or b 15 0 ∷ []) c)) l
-    ∙ ap (λ e. decided_at 16 (said e) (status_from said e c)) apart
-    ∙ ap (λ o. decided_at 16 o (status_from said b c)) (said_whole b whole)
+    ∙ ap (λ n. decided_at (n + 1) (decision (take 15 b ++ get_or b 15 0 ∷ [])) (status_from decision (take 15 b ++ get_or b 15 0 ∷ []) c)) l
+    ∙ ap (λ e. decided_at 16 (decision e) (status_from decision e c)) apart
+    ∙ ap (λ o. decided_at 16 o (status_from decision b c)) (said_whole b whole)
 
 pub head_faulty : (b c : List ℕ) (fault : V2Fault) → IsWholeHead b → head_of b ≡ Err fault → status (b ++ c) ≡ Fault (of_head fault) (length b)
 head_faulty b c fault whole says =
-    status-whole b c whole ∙ ap (λ r. decided_at 16 (block_said b r) (status_from said b c)) says ∙ ap (λ n. Fault (of_head fault) n) (sym whole.all)
+    status-whole b c whole ∙ ap (λ r. decided_at 16 (block_decision b r) (status_from decision b c)) says ∙ ap (λ n. Fault (of_head fault) n) (sym whole.all)
 
 pub none_fits : (d : Option Family) → has_room d 0 → d ≡ None
 none_fits None room = refl
@@ -49,15 +49,15 @@ none_fits (Some V4) room = absurd (omega arith)
 none_fits (Some V6) room = absurd (omega arith)
 
 said_at_head : (b : List ℕ) (head : Head) (t : Bool) → head_of b ≡ Ok head → (length b == 16 + head.len) ≡ t
-    → block_said b (head_of b) ≡ (if t then Some (Ok (meaning_in head.declares (drop 16 b))) else None)
-said_at_head b head t says test = ap (block_said b) says ∙ rw test refl
+    → block_decision b (head_of b) ≡ (if t then Some (Ok (meaning_in head.declares (drop 16 b))) else None)
+said_at_head b head t says test = ap (block_decision b) says ∙ rw test refl
 
 pub head_alone : (b c : List ℕ) (head : Head) → IsAtBlock b head → Fits head → head.len ≡ 0 → status (b ++ c) ≡ Whole (length b) Real
 head_alone b c head there fits empty =
     let all = there.whole.all in
     let none : head.declares ≡ None = none_fits head.declares (rw empty at fits) in
     status-whole b c there.whole
-    ∙ ap (λ o. decided_at 16 o (status_from said b c)) (said_at_head b head true there.says (equal (length b) (16 + head.len) (omega arith)))
+    ∙ ap (λ o. decided_at 16 o (status_from decision b c)) (said_at_head b head true there.says (equal (length b) (16 + head.len) (omega arith)))
     ∙ ap (λ d. Whole 16 (meaning_in d (drop 16 b))) none
     ∙ ap (λ n. Whole n Real) (sym all)
 

@@ -14,7 +14,7 @@ use Rattle.pp_v2.specs.Head.{head_of}
 use Rattle.pp_any.specs.declared.fault.HeaderFault.{HeaderFault}
 use Rattle.pp_any.specs.declared.fault.HeaderFault.TheVariants.{NotProxy, TooLong}
 use Rattle.pp_any.specs.Faults.{of_head, of_line}
-use Rattle.pp_any.specs.Status.{Whole, block_said, early_fault, fault_in_line, is_line, last_differs, meaning_in, meaning_of_line, said, status}
+use Rattle.pp_any.specs.Status.{Whole, block_decision, early_fault, fault_in_line, is_line, last_differs, meaning_in, meaning_of_line, decision, status}
 use Rattle.pp_any.specs.Header.{IsBlock, IsDecidedAt, IsHeader, SaysInLine}
 use Rattle.pp_any.proofs.Steps.{Say}
 use Rattle.pp_any.specs.Rest.{IsNextInLine}
@@ -33,12 +33,12 @@ before_limit n less = grind (arith, nat_tests)
 limit_before : (n : ℕ) → nat_le 107 n ≡ false → n < 107
 limit_before n test = grind (arith, nat_tests)
 
--- what is said past the sixth byte of a line
+-- what a byte past the sixth of a line decides
 said_past_six : (b : List ℕ) (t : Bool) → is_line b ≡ true → 6 < length b → ends_line b ≡ t
-    → said b ≡ (if t then Some (meaning_of_line b) else (if nat_le 107 (length b) then Some (Err TooLong) else None))
+    → decision b ≡ (if t then Some (meaning_of_line b) else (if nat_le 107 (length b) then Some (Err TooLong) else None))
 said_past_six b t line past test = rw (line, past_six (length b) past, test) refl
 
-none_past_six : (b : List ℕ) → is_line b ≡ true → 6 < length b → ends_line b ≡ false → length b < 107 → said b ≡ None
+none_past_six : (b : List ℕ) → is_line b ≡ true → 6 < length b → ends_line b ≡ false → length b < 107 → decision b ≡ None
 none_past_six b line past test less = said_past_six b false line past test ∙ rw (before_limit (length b) less) refl
 
 meaning_is : (b : List ℕ) (meaning : Meaning) → line_meaning b ≡ Ok meaning → meaning_of_line b ≡ Ok meaning
@@ -46,7 +46,7 @@ unfolding meaning_of_line
 meaning_is b meaning says = ap fault_in_line says
 
 -- the bytes of PROXY and a space, one by one
-none_at_beginning : (rest : List ℕ) (k : ℕ) → 0 < k → k ≤ 6 → said (take k (codes "PROXY " ++ rest)) ≡ None
+none_at_beginning : (rest : List ℕ) (k : ℕ) → 0 < k → k ≤ 6 → decision (take k (codes "PROXY " ++ rest)) ≡ None
 none_at_beginning rest zero some few = absurd (omega arith)
 none_at_beginning rest (suc zero) some few = refl
 none_at_beginning rest (suc (suc zero)) some few = refl
@@ -64,11 +64,11 @@ longer : (rest : List ℕ) → ends_line (codes "PROXY " ++ rest) ≡ true → 6
 longer [] ends = absurd cc
 longer (x ∷ rest) ends = omega arith
 
-first_of_line : (b rest : List ℕ) → b ≡ codes "PROXY " ++ rest → IsLine b → (k : ℕ) → 0 < k → k < length b → said (take k b) ≡ None
+first_of_line : (b rest : List ℕ) → b ≡ codes "PROXY " ++ rest → IsLine b → (k : ℕ) → 0 < k → k < length b → decision (take k b) ≡ None
 first_of_line b rest is line k some less = by (nat_le k 6) refl
   where
-    by : (t : Bool) → nat_le k 6 ≡ t → said (take k b) ≡ None
-    by true test = let few : k ≤ 6 = grind (arith, nat_tests) in ap (λ e. said (take k e)) is ∙ none_at_beginning rest k some few
+    by : (t : Bool) → nat_le k 6 ≡ t → decision (take k b) ≡ None
+    by true test = let few : k ≤ 6 = grind (arith, nat_tests) in ap (λ e. decision (take k e)) is ∙ none_at_beginning rest k some few
     by false test =
         let past : 6 < k = six_past k test in
         let short = line.short in
@@ -80,16 +80,16 @@ line_is_whole b meaning line c =
     let is : b ≡ codes "PROXY " ++ drop 6 b = sym (take-append-drop 6 b) ∙ ap (λ e. e ++ drop 6 b) line.line.begins in
     let ends : ends_line (codes "PROXY " ++ drop 6 b) ≡ true = ap ends_line (sym is) ∙ line.line.ends in
     let past : 6 < length b = let more = longer (drop 6 b) ends in let l = ap length is in omega arith in
-    let here : said b ≡ Some (Ok meaning) =
+    let here : decision b ≡ Some (Ok meaning) =
     said_past_six b true (ap is_line is) past line.line.ends ∙ ap (λ r. Some r) (meaning_is b meaning line.says) in
     let l = length-append b c in
     status_first (b ++ c) (length b) (Ok meaning) (record {
       some = omega arith;
       within = omega arith;
-      here = ap said (take_at b c (length b) refl) ∙ here;
+      here = ap decision (take_at b c (length b) refl) ∙ here;
       first = λ k some less.
           let fits : k ≤ length b = omega arith in
-          ap said (take-append-le k b c fits) ∙ first_of_line b (drop 6 b) is line.line k some less;
+          ap decision (take-append-le k b c fits) ∙ first_of_line b (drop 6 b) is line.line k some less;
     })
 
 -- ---- a header is a line or a block
@@ -114,7 +114,7 @@ same_byte : (m n : ℕ) → not (m == n) ≡ false → m ≡ n
 same_byte m n test = grind (arith, nat_tests)
 
 -- a byte of the beginning that decides nothing is that of PROXY and a space
-beginning_at : (b : List ℕ) (k : ℕ) → is_line b ≡ true → k < 6 → k < length b → said (take (k + 1) b) ≡ None → get_or b k 0 ≡ get_or (codes "PROXY ") k 0
+beginning_at : (b : List ℕ) (k : ℕ) → is_line b ≡ true → k < 6 → k < length b → decision (take (k + 1) b) ≡ None → get_or b k 0 ≡ get_or (codes "PROXY ") k 0
 beginning_at [] k line few within none = absurd (omega arith)
 beginning_at (x ∷ b) k line few within none = by (last_differs (codes "PROXY ") (take (k + 1) (x ∷ b))) refl
   where
@@ -130,7 +130,7 @@ beginning_at (x ∷ b) k line few within none = by (last_differs (codes "PROXY "
     place : length (take (k + 1) (x ∷ b)) - 1 ≡ k
     place = let len = l in omega arith
 
-    said_is : (t : Bool) → last_differs (codes "PROXY ") (take (k + 1) (x ∷ b)) ≡ t → said (take (k + 1) (x ∷ b)) ≡ (if t then Some (Err NotProxy) else None)
+    said_is : (t : Bool) → last_differs (codes "PROXY ") (take (k + 1) (x ∷ b)) ≡ t → decision (take (k + 1) (x ∷ b)) ≡ (if t then Some (Err NotProxy) else None)
     said_is t test = rw (front k, short_one, test) refl
 
     by : (t : Bool) → last_differs (codes "PROXY ") (take (k + 1) (x ∷ b)) ≡ t → get_or (x ∷ b) k 0 ≡ get_or (codes "PROXY ") k 0
@@ -168,7 +168,7 @@ line_of_front [] (suc k) line = absurd cc
 line_of_front (x ∷ b) zero line = absurd cc
 line_of_front (x ∷ b) (suc k) line = line
 
-no_end_before : (b : List ℕ) (k : ℕ) → is_line b ≡ true → 6 < k → k < length b → said (take k b) ≡ None → ends_line (take k b) ≡ false
+no_end_before : (b : List ℕ) (k : ℕ) → is_line b ≡ true → 6 < k → k < length b → decision (take k b) ≡ None → ends_line (take k b) ≡ false
 no_end_before b k line past less none = by (ends_line (take k b)) refl
   where
     by : (t : Bool) → ends_line (take k b) ≡ t → ends_line (take k b) ≡ false
@@ -178,7 +178,7 @@ no_end_before b k line past less none = by (ends_line (take k b)) refl
         let wrong : ◌≡◌ {A = Say} (Some (meaning_of_line (take k b))) None = sym (said_past_six (take k b) true (line_front b k line (omega arith)) (omega arith) test) ∙ none in
         absurd cc
 
-within_limit : (b : List ℕ) → is_line b ≡ true → ((k : ℕ) → 0 < k → k < length b → said (take k b) ≡ None) → length b ≤ 107
+within_limit : (b : List ℕ) → is_line b ≡ true → ((k : ℕ) → 0 < k → k < length b → decision (take k b) ≡ None) → length b ≤ 107
 within_limit b line first = by (nat_le (length b) 107) refl
   where
     by : (t : Bool) → nat_le (length b) 107 ≡ t → length b ≤ 107
@@ -193,7 +193,7 @@ within_limit b line first = by (nat_le (length b) 107) refl
         absurd cc
 
 -- bytes that end a line and are decided by no byte before are a line
-line_of : (b : List ℕ) → is_line b ≡ true → 6 < length b → ends_line b ≡ true → length b ≤ LINE_LIMIT → ((k : ℕ) → 0 < k → k < length b → said (take k b) ≡ None) → IsLine b
+line_of : (b : List ℕ) → is_line b ≡ true → 6 < length b → ends_line b ≡ true → length b ≤ LINE_LIMIT → ((k : ℕ) → 0 < k → k < length b → decision (take k b) ≡ None) → IsLine b
 line_of b line past ends short first = record {
   begins = six_bytes b past (λ k few. beginning_at b k line few (omega arith) (first (k + 1) (omega arith) (omega arith)));
   ends = ends;
@@ -207,9 +207,9 @@ next_is_line b next past ends =
     let l : length (take (length b - 1) b) ≡ length b - 1 = length-take-le (length b - 1) b (omega arith) in
     let room = next.front.room in
     line_of b (line_of_front b (length b - 1) next.front.line) past ends (omega arith)
-    (λ k some less. ap said (sym (take-take k (length b - 1) b (omega arith))) ∙ waits_nowhere (take (length b - 1) b) next.front.waits k some (omega arith))
+    (λ k some less. ap decision (sym (take-take k (length b - 1) b (omega arith))) ∙ waits_nowhere (take (length b - 1) b) next.front.waits k some (omega arith))
 
-is_the_line : (b : List ℕ) (meaning : Meaning) → is_line b ≡ true → said b ≡ Some (Ok meaning) → ((k : ℕ) → 0 < k → k < length b → said (take k b) ≡ None) → SaysInLine b meaning
+is_the_line : (b : List ℕ) (meaning : Meaning) → is_line b ≡ true → decision b ≡ Some (Ok meaning) → ((k : ℕ) → 0 < k → k < length b → decision (take k b) ≡ None) → SaysInLine b meaning
 is_the_line b meaning line here first = by (nat_le (length b) 6) (ends_line b) refl refl
   where
     by : (t e : Bool) → nat_le (length b) 6 ≡ t → ends_line b ≡ e → SaysInLine b meaning
@@ -229,7 +229,7 @@ is_the_line b meaning line here first = by (nat_le (length b) 6) (ends_line b) r
         let means : meaning_of_line b ≡ Ok meaning = cc in
         record { line = line_of b line past ends (within_limit b line first) first; says = says_meaning b meaning means }
 
-is_the_block : (b : List ℕ) (meaning : Meaning) → is_line b ≡ false → said b ≡ Some (Ok meaning) → IsBlock b meaning
+is_the_block : (b : List ℕ) (meaning : Meaning) → is_line b ≡ false → decision b ≡ Some (Ok meaning) → IsBlock b meaning
 is_the_block b meaning line here = by (nat_le 16 (length b)) (head_of (take 16 b)) refl refl
   where
     by : (t : Bool) (r : Result Head V2Fault) → nat_le 16 (length b) ≡ t → head_of (take 16 b) ≡ r → IsBlock b meaning
@@ -239,11 +239,11 @@ is_the_block b meaning line here = by (nat_le 16 (length b)) (head_of (take 16 b
         early None fault = let wrong : ◌≡◌ {A = Say} None (Some (Ok meaning)) = sym (rw (line, test) (ap (option_map (λ fault. Err (of_head fault))) fault)) ∙ here in absurd cc
         early (Some f) fault = let wrong : ◌≡◌ {A = Say} (Some (Err (of_head f))) (Some (Ok meaning)) = sym (rw (line, test) (ap (option_map (λ fault. Err (of_head fault))) fault)) ∙ here in absurd cc
     by true (Err fault) test says =
-        let wrong : ◌≡◌ {A = Say} (Some (Err (of_head fault))) (Some (Ok meaning)) = sym (rw (line, test) (ap (block_said b) says)) ∙ here in absurd cc
+        let wrong : ◌≡◌ {A = Say} (Some (Err (of_head fault))) (Some (Ok meaning)) = sym (rw (line, test) (ap (block_decision b) says)) ∙ here in absurd cc
     by true (Ok head) test says = at_end (length b == 16 + head.len) refl
       where
-        found : block_said b (Ok head) ≡ Some (Ok meaning)
-        found = sym (rw (line, test) (ap (block_said b) says)) ∙ here
+        found : block_decision b (Ok head) ≡ Some (Ok meaning)
+        found = sym (rw (line, test) (ap (block_decision b) says)) ∙ here
 
         at_end : (e : Bool) → (length b == 16 + head.len) ≡ e → IsBlock b meaning
         at_end false ends = let wrong : ◌≡◌ {A = Say} None (Some (Ok meaning)) = rw ends at found in absurd cc
@@ -258,8 +258,8 @@ header_is b meaning is = by (is_line b) refl
     f : IsDecidedAt b (length b) (Ok meaning)
     f = first_of_status b (length b) (Ok meaning) is
 
-    here : said b ≡ Some (Ok meaning)
-    here = ap said (sym (take_all (length b) b (omega arith))) ∙ f.here
+    here : decision b ≡ Some (Ok meaning)
+    here = ap decision (sym (take_all (length b) b (omega arith))) ∙ f.here
 
     by : (t : Bool) → is_line b ≡ t → SaysInLine b meaning ⊎ IsBlock b meaning
     by true line = inl (is_the_line b meaning line here f.first)

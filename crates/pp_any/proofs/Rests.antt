@@ -12,7 +12,7 @@ use Rattle.pp_v2.specs.Head.{head_of, pair_length}
 use Rattle.pp_v2.specs.Block.{pair_in}
 use Rattle.pp_any.specs.declared.rest.Rest.{Rest}
 use Rattle.pp_any.specs.declared.rest.Rest.TheVariants.{Read, Block, Skip}
-use Rattle.pp_any.specs.Status.{Whole, status, said, is_line, meaning_in}
+use Rattle.pp_any.specs.Status.{Whole, status, decision, is_line, meaning_in}
 use Rattle.pp_any.specs.Rest.{IsInBlock, IsRest, rest_of, rest_after, rest_in_block}
 use Rattle.pp_any.proofs.Steps.{status_from-append}
 use Rattle.pp_any.proofs.Feeding.{is_line-append}
@@ -70,7 +70,7 @@ skips b m is some = let p = past_head b (Skip m) is (λ bytes wrong. absurd cc) 
 pub skip_ends : (b c : List ℕ) (m : ℕ) → IsRest b (Skip m) → 0 < m → m ≤ length c → status (b ++ c) ≡ Whole (length b + m) Real
 skip_ends b c m rest some within =
     let s = skips b m rest.1 some in
-    status_from-append said [] b c rest.0 ∙ block_ends b c s.head m s.lacks some within
+    status_from-append decision [] b c rest.0 ∙ block_ends b c s.head m s.lacks some within
     ∙ ap (λ d. Whole (length b + m) (meaning_in d (drop 16 (b ++ take m c)))) s.none
 
 -- bytes that go on in a block
@@ -93,7 +93,7 @@ pub skip_goes_on : (b c : List ℕ) (m : ℕ) → IsRest b (Skip m) → length c
 skip_goes_on b c m rest less =
     let s = skips b m rest.1 (omega arith) in
     let more = lacks-append b c s.head m s.lacks less in (
-      status_from-append said [] b c rest.0 ∙ block_waits b c s.head m s.lacks less,
+      status_from-append decision [] b c rest.0 ∙ block_waits b c s.head m s.lacks less,
       rest_past (b ++ c) s.head more.version more.past more.says
           ∙ ap (λ d. rest_in_block d s.head.len (b ++ c)) s.none
           ∙ ap (λ n. Skip n) (missing_is (b ++ c) s.head (m - length c) more),
@@ -160,7 +160,7 @@ pair_ends b c family bytes m rest inside within =
     ap (λ e. take (pair_length family) e) (drop-append-le 16 b (take m c) past)
     ∙ take-append_take (pair_length family) m (drop 16 b) c room
     ∙ sym (held b c bytes.items family past d.bytes_are) in
-    status_from-append said [] b c rest.0 ∙ block_ends b c d.head m d.lacks inside.some within
+    status_from-append decision [] b c rest.0 ∙ block_ends b c d.head m d.lacks inside.some within
     ∙ ap (λ o. Whole (length b + m) (meaning_in o (drop 16 (b ++ take m c)))) d.declares
     ∙ ap (λ e. Whole (length b + m) (Declared (pair_in family e))) same
 
@@ -172,7 +172,7 @@ pair_goes_on b c family bytes m rest less =
     let more = lacks-append b c d.head m d.lacks less in
     let same : take (pair_length family) (drop 16 (b ++ c)) ≡ take (pair_length family) (bytes.items ++ c) =
     ap (λ e. take (pair_length family) e) (drop-append-le 16 b c past) ∙ sym (held b c bytes.items family past d.bytes_are) in (
-      status_from-append said [] b c rest.0 ∙ block_waits b c d.head m d.lacks less,
+      status_from-append decision [] b c rest.0 ∙ block_waits b c d.head m d.lacks less,
       rest_past (b ++ c) d.head more.version more.past more.says
           ∙ ap (λ o. rest_in_block o d.head.len (b ++ c)) d.declares
           ∙ ap (λ n. Block family (record { items = take (pair_length family) (drop 16 (b ++ c)) }) n) (missing_is (b ++ c) d.head (m - length c) more)

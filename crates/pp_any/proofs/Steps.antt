@@ -9,7 +9,7 @@ use Rattle.pp_any.specs.Status.{Status, Wait, decided_at, status_from}
 abbrev pub Say : Type 0
 Say = Option (Result Meaning HeaderFault)
 
--- a decision is no wait, unless nothing is said and what comes later waits
+-- a decision is no wait, unless nothing is decided and what comes later waits
 later_waits : (n : ℕ) (o : Say) (s : Status) → decided_at n o s ≡ Wait → (o ≡ None) × (s ≡ Wait)
 later_waits n None s is = (refl, is)
 later_waits n (Some (Ok meaning)) s is = absurd cc

@@ -12,7 +12,7 @@ use Rattle.pp_v2.specs.declared.head.Head.{Head}
 use Rattle.pp_v2.specs.declared.fault.V2Fault.{V2Fault}
 use Rattle.pp_v2.specs.Head.{block_length, command_fault, declared_in, family_fault, head_of, length_fault, pair_length, signature, signature_fault, unless}
 use Rattle.pp_v2.specs.Block.{family_in, head_for, pair_in}
-use Rattle.pp_any.specs.Status.{Wait, Whole, is_line, meaning_in, said, status}
+use Rattle.pp_any.specs.Status.{Wait, Whole, is_line, meaning_in, decision, status}
 use Rattle.pp_any.specs.Rest.{IsAtBlock, IsWholeHead}
 use Rattle.pp_any.specs.Header.{IsBlock}
 use Rattle.pp_any.proofs.Steps.{status_from-append}
@@ -119,7 +119,7 @@ block_is_whole b meaning block c = by block.head.len refl
         let whole : front ++ take block.head.len (drop 16 b ++ c) ≡ b =
         ap (λ e. front ++ e) (take_at (drop 16 b) c block.head.len (omega arith)) ∙ take-append-drop 16 b in
         ap status apart
-        ∙ status_from-append said [] front (drop 16 b ++ c) (head_rest front block.head there above).0
+        ∙ status_from-append decision [] front (drop 16 b ++ c) (head_rest front block.head there above).0
         ∙ block_ends front (drop 16 b ++ c) block.head block.head.len lacks above (omega arith)
         ∙ ap (λ n. Whole n (meaning_in block.head.declares (drop 16 (front ++ take block.head.len (drop 16 b ++ c))))) count
         ∙ ap (λ e. Whole (length b) (meaning_in block.head.declares (drop 16 e))) whole

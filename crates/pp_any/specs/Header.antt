@@ -5,14 +5,14 @@ use Rattle.pp_v1.specs.Line.{line_meaning, IsLine}
 use Rattle.pp_v2.specs.declared.head.Head.{Head}
 use Rattle.pp_v2.specs.Head.{head_of}
 use Rattle.pp_any.specs.declared.fault.HeaderFault.{HeaderFault}
-use Rattle.pp_any.specs.Status.{Status, Fault, Wait, Whole, meaning_in, said, status}
+use Rattle.pp_any.specs.Status.{Status, Fault, Wait, Whole, meaning_in, decision, status}
 
 -- the last of so many bytes decides it, and none before decides anything
 pub record IsDecidedAt (bytes : List ℕ) (count : ℕ) (what : Result Meaning HeaderFault) : Type 0 where
   pub some : 0 < count
   pub within : count ≤ length bytes
-  pub here : said (take count bytes) ≡ Some what
-  pub first : (k : ℕ) → 0 < k → k < count → said (take k bytes) ≡ None
+  pub here : decision (take count bytes) ≡ Some what
+  pub first : (k : ℕ) → 0 < k → k < count → decision (take k bytes) ≡ None
 
 -- the bytes are a header, no more and no less
 abbrev pub IsHeader : List ℕ → Meaning → Type 0

@@ -41,8 +41,8 @@ unfoldable pub meaning_of_line : List ℕ → Result Meaning HeaderFault
 meaning_of_line line = fault_in_line (line_meaning line)
 
 -- version 1: bytes 1 to 6 are PROXY and a space; CR LF ends the line, at the last byte of the longest line at the latest
-abbrev pub line_said : List ℕ → Option (Result Meaning HeaderFault)
-line_said bytes =
+abbrev pub line_decision : List ℕ → Option (Result Meaning HeaderFault)
+line_decision bytes =
     if nat_le (length bytes) 6 then (if last_differs (codes "PROXY ") bytes then Some (Err NotProxy) else None)
     else if ends_line bytes then Some (meaning_of_line bytes)
     else if nat_le LINE_LIMIT (length bytes) then Some (Err TooLong)
@@ -62,17 +62,17 @@ meaning_in None block = Real
 meaning_in (Some family) block = Declared (pair_in family (take (pair_length family) block))
 
 -- version 2, from byte 16 on: the header has 16 bytes and its block
-abbrev pub block_said : List ℕ → Result Head V2Fault → Option (Result Meaning HeaderFault)
-block_said bytes (Err fault) = Some (Err (of_head fault))
-block_said bytes (Ok head) = if length bytes == 16 + head.len then Some (Ok (meaning_in head.declares (drop 16 bytes))) else None
+abbrev pub block_decision : List ℕ → Result Head V2Fault → Option (Result Meaning HeaderFault)
+block_decision bytes (Err fault) = Some (Err (of_head fault))
+block_decision bytes (Ok head) = if length bytes == 16 + head.len then Some (Ok (meaning_in head.declares (drop 16 bytes))) else None
 
-abbrev pub head_said : List ℕ → Option (Result Meaning HeaderFault)
-head_said bytes =
-    if nat_le 16 (length bytes) then block_said bytes (head_of (take 16 bytes))
+abbrev pub head_decision : List ℕ → Option (Result Meaning HeaderFault)
+head_decision bytes =
+    if nat_le 16 (length bytes) then block_decision bytes (head_of (take 16 bytes))
     else option_map (λ fault. Err (of_head fault)) (early_fault bytes)
 
-abbrev pub said : List ℕ → Option (Result Meaning HeaderFault)
-said bytes = if is_line bytes then line_said bytes else head_said bytes
+abbrev pub decision : List ℕ → Option (Result Meaning HeaderFault)
+decision bytes = if is_line bytes then line_decision bytes else head_decision bytes
 
 -- what so many bytes decide, or else what later ones do
 abbrev pub decided_at : ℕ → Option (Result Meaning HeaderFault) → Status → Status
@@ -87,4 +87,4 @@ status_from says before (byte ∷ more) =
 
 -- the status of some bytes: what the first byte decides that decides anything
 abbrev pub status : List ℕ → Status
-status bytes = status_from said [] bytes
+status bytes = status_from decision [] bytes

@@ -21,10 +21,10 @@ pub enum Fed {
 
 impl Fed {
     /// The answer of a decision at the last of so many bytes.
-    pub(crate) fn of(said: Result<Meaning, HeaderFault>, used: usize) -> Fed
-        ensures { result ≡ answer_of said used }
+    pub(crate) fn of(decision: Result<Meaning, HeaderFault>, used: usize) -> Fed
+        ensures { result ≡ answer_of decision used }
     {
-        match said {
+        match decision {
             Ok(meaning) => Fed::Whole(meaning, used),
             Err(fault) => Fed::Bad(fault, used),
         }

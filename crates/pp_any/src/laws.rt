@@ -2,7 +2,7 @@
 ghost use Rattle.std.specs.Prelude.{◌≡◌, ◌≢◌, ◌⊎◌, ◌↔◌, ◌<◌, ◌≤◌, ◌++◌, ℕ, List, [], length, take, None, Ok, Err};
 ghost use Rattle.pp_v1.specs.declared.meaning.Meaning.{Meaning};
 ghost use Rattle.pp_any.specs.declared.fault.HeaderFault.{HeaderFault};
-ghost use Rattle.pp_any.specs.Status.{Fault, Wait, Whole, said, status};
+ghost use Rattle.pp_any.specs.Status.{Fault, Wait, Whole, decision, status};
 ghost use Rattle.pp_any.specs.declared.rest.Rest.{Rest};
 ghost use Rattle.pp_any.specs.Rest.{IsRest};
 ghost use Rattle.pp_any.specs.Header.{IsBlock, IsDecidedAt, IsHeader, SaysInLine, shifted};
@@ -11,7 +11,7 @@ ghost use Rattle.pp_any.specs.Header.{IsBlock, IsDecidedAt, IsHeader, SaysInLine
 pub fn status_is_decided_first()
     ensures whole { (b : List ℕ) (count : ℕ) (meaning : Meaning) → (status b ≡ Whole count meaning) ↔ IsDecidedAt b count (Ok meaning) }
     ensures fault { (b : List ℕ) (count : ℕ) (fault : HeaderFault) → (status b ≡ Fault fault count) ↔ IsDecidedAt b count (Err fault) }
-    ensures wait { (b : List ℕ) → (status b ≡ Wait) ↔ ((k : ℕ) → 0 < k → k ≤ length b → said (take k b) ≡ None) }
+    ensures wait { (b : List ℕ) → (status b ≡ Wait) ↔ ((k : ℕ) → 0 < k → k ≤ length b → decision (take k b) ≡ None) }
 {}
 
 /// A header is a line of version 1, or 16 bytes and a block of version 2, in the forms of proxy-protocol.txt; and

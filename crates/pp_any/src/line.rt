@@ -1,6 +1,6 @@
 //! A line of version 1.
 ghost use Rattle.std.specs.Prelude.{◌≡◌, ◌<◌, ◌≤◌, [], ◌∷◌, length, IsNone};
-ghost use Rattle.pp_any.specs.Status.{line_said, meaning_of_line};
+ghost use Rattle.pp_any.specs.Status.{line_decision, meaning_of_line};
 ghost use Rattle.pp_v1.specs.Line.{IsLine};
 ghost use Rattle.pp_any.specs.Rest.{IsInLine, IsNextInLine};
 ghost use Rattle.pp_any.specs.Fed.{Answers, used_in};
@@ -30,9 +30,9 @@ fn meaning_of(line: &[u8]) -> Result<Meaning, HeaderFault>
 }
 
 /// What the last of these bytes decides.
-fn said_at_last(bytes: &[u8]) -> Option<Result<Meaning, HeaderFault>>
+fn last_decision(bytes: &[u8]) -> Option<Result<Meaning, HeaderFault>>
     requires { IsNextInLine bytes.now }
-    ensures said { result ≡ line_said bytes.now }
+    ensures decision { result ≡ line_decision bytes.now }
     ensures room { IsNone result → length bytes.now < LINE_LIMIT }
 {
     let len = bytes.len();
@@ -69,8 +69,8 @@ impl Line {
         let Line { mut bytes } = self;
         for (at, byte) in piece.iter().enumerate() {
             bytes.push(*byte);
-            if let Some(said) = said_at_last(bytes.as_slice()) {
-                return Fed::of(said, at + 1);
+            if let Some(decision) = last_decision(bytes.as_slice()) {
+                return Fed::of(decision, at + 1);
             }
         }
         Fed::More(Parser::at(State::Line(Line { bytes })))

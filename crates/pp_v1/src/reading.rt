@@ -12,7 +12,7 @@ use text_core::decimal::read_decimal;
 
 /// Why a line is no header of version 1 (proxy-protocol.txt, section 2.1). Where several hold of one line, it is
 /// the first of them in this order.
-#[derive(Clone, Copy, Debug, PartialEq, Eq)]
+#[derive(Clone, Copy)]
 pub enum V1Fault {
     /// It has another protocol than `TCP4`, `TCP6` or `UNKNOWN`, or not four fields after `TCP4` or `TCP6`, or
     /// an empty one.

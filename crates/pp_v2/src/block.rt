@@ -1,5 +1,6 @@
 //! The pair at the beginning of a block.
-ghost use Rattle.std.specs.Prelude.{◌≡◌, ◌+◌, ◌≤◌, length};
+ghost use Rattle.std.specs.Prelude.{◌≡◌, ◌+◌, ◌≤◌, length, true};
+ghost use Rattle.addr_core.specs.Family.{same_family};
 ghost use Rattle.pp_v2.specs.Head.{pair_length};
 ghost use Rattle.pp_v2.specs.Block.{ipv4_at, ipv6_at, number_at, pair_in, port_at};
 
@@ -43,36 +44,11 @@ fn ipv6_at(block: &[u8], at: usize) -> Addr
     Addr::V6(u128::from(half_at(block, at)) << 64 | u128::from(half_at(block, at + 8)))
 }
 
-fn ipv4_pair(block: &[u8]) -> Pair
-    requires { length block.now ≡ 12 }
-    ensures { result ≡ pair_in Family.V4 block.now }
+fn pair_of(source: Endpoint, destination: Endpoint) -> Pair
+    requires { same_family source.addr destination.addr ≡ true }
+    ensures source { result.source ≡ source }
+    ensures destination { result.destination ≡ destination }
 {
-    let source = Endpoint {
-        addr: ipv4_at(block, 0),
-        port: port_at(block, 8),
-    };
-    let destination = Endpoint {
-        addr: ipv4_at(block, 4),
-        port: port_at(block, 10),
-    };
-    match Pair::of(source, destination) {
-        Some(pair) => pair,
-        None => unreachable!(),
-    }
-}
-
-fn ipv6_pair(block: &[u8]) -> Pair
-    requires { length block.now ≡ 36 }
-    ensures { result ≡ pair_in Family.V6 block.now }
-{
-    let source = Endpoint {
-        addr: ipv6_at(block, 0),
-        port: port_at(block, 32),
-    };
-    let destination = Endpoint {
-        addr: ipv6_at(block, 16),
-        port: port_at(block, 34),
-    };
     match Pair::of(source, destination) {
         Some(pair) => pair,
         None => unreachable!(),
@@ -85,7 +61,25 @@ pub fn read_block(family: Family, block: &[u8]) -> Pair
     ensures { result ≡ pair_in family block.now }
 {
     match family {
-        Family::V4 => ipv4_pair(block),
-        Family::V6 => ipv6_pair(block),
+        Family::V4 => pair_of(
+            Endpoint {
+                addr: ipv4_at(block, 0),
+                port: port_at(block, 8),
+            },
+            Endpoint {
+                addr: ipv4_at(block, 4),
+                port: port_at(block, 10),
+            },
+        ),
+        Family::V6 => pair_of(
+            Endpoint {
+                addr: ipv6_at(block, 0),
+                port: port_at(block, 32),
+            },
+            Endpoint {
+                addr: ipv6_at(block, 16),
+                port: port_at(block, 34),
+            },
+        ),
     }
 }

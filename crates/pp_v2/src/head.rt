@@ -27,7 +27,7 @@ impl Family {
 }
 
 /// What the first 16 bytes of a header say.
-#[derive(Clone, Copy, Debug, PartialEq, Eq)]
+#[derive(Clone, Copy)]
 pub struct Head {
     /// The family of the pair at the beginning of the block. Without one the block is skipped, and the
     /// connection's own addresses count: that is so under LOCAL, and under PROXY with a family or a transport
