@@ -2,7 +2,7 @@
 ghost use Rattle.std.specs.Prelude.{◌≡◌, ℕ, ◌<◌, List, Option, length};
 
 /// What a read gave.
-#[derive(Clone, Copy, Debug, PartialEq, Eq)]
+#[derive(Clone, Copy, PartialEq, Eq)]
 pub enum Got {
     /// So many bytes, at the front of the buffer.
     Bytes(usize),
@@ -13,7 +13,7 @@ pub enum Got {
 }
 
 /// What a write took.
-#[derive(Clone, Copy, Debug, PartialEq, Eq)]
+#[derive(Clone, Copy, PartialEq, Eq)]
 pub enum Put {
     /// So many bytes, the first of those that were handed in.
     Bytes(usize),
@@ -22,7 +22,7 @@ pub enum Put {
 }
 
 /// The device failed.
-#[derive(Clone, Copy, Debug, PartialEq, Eq)]
+#[derive(Clone, Copy, PartialEq, Eq)]
 pub struct Failed;
 
 /// A reader. What a call leaves in the buffer behind the bytes that it gave is not said.

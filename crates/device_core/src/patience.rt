@@ -13,7 +13,7 @@ pub const MOST_STALLS: u32 = 1_000_000;
 pub const MOST_READS: u32 = 1_000_000_000;
 
 /// What a reader gave that was asked until it gave something.
-#[derive(Clone, Copy, Debug, PartialEq, Eq)]
+#[derive(Clone, Copy, PartialEq, Eq)]
 pub enum Moved {
     /// So many bytes, at the front of the buffer.
     Bytes(usize),

@@ -6,14 +6,14 @@ use std::alloc::{AllocError, Global};
 use std::marker::Model;
 
 /// Calls by their numbers, the first call of a device being 0: from `from` on, and below `to`.
-#[derive(Clone, Copy, Debug, PartialEq, Eq)]
+#[derive(Clone, Copy)]
 pub struct Calls {
     pub from: u64,
     pub to: u64,
 }
 
 /// How one call goes.
-#[derive(Clone, Copy, Debug, PartialEq, Eq)]
+#[derive(Clone, Copy)]
 pub(crate) enum Turn {
     Fails,
     Blocks,
@@ -22,7 +22,7 @@ pub(crate) enum Turn {
 
 /// How the calls of a device in memory go: which of them fail, which others are blocked, and how many
 /// bytes one of the rest moves at most.
-#[derive(Debug, Drop)]
+#[derive(Drop)]
 pub struct Schedule {
     per_call: usize,
     blocked: Vec<Calls>,

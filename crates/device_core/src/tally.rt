@@ -6,7 +6,7 @@ use crate::device::{Failed, Got, Put};
 
 /// How often a device failed, how many calls were made, and how many of the last in a row were
 /// blocked. Each count stays at the greatest `u64`.
-#[derive(Clone, Copy, Debug)]
+#[derive(Clone, Copy)]
 pub struct Tally {
     pub failures: u64,
     pub calls: u64,

@@ -1,13 +1,12 @@
+use crate::pair::{NONE, Plan, make_devices};
 use device_core::{
-    Calls, Failed, FromRead, Got, Input, MOST_READS, MOST_STALLS, MemoryInput, MemoryOutput, Moved,
-    Output, Put, Schedule, ToWrite, read_on, write_all,
+    Calls, Failed, FromRead, Got, Input, MOST_READS, MemoryInput, MemoryOutput, Moved, Output, Put,
+    Schedule, ToWrite, read_on, write_all,
 };
 use std::alloc::Global;
 use std::io;
 use std::io::{ErrorKind, Read, Write};
 use std::test::Fail;
-
-const NONE: [Calls; 0] = [];
 
 /// Reads to the end, three bytes at a time at most.
 fn read_all<I: Input>(alloc: Global, input: &mut I) -> Result<(Vec<u8>, bool), Fail> {
@@ -24,53 +23,39 @@ fn read_all<I: Input>(alloc: Global, input: &mut I) -> Result<(Vec<u8>, bool), F
     Err("no end")?
 }
 
-#[test]
-fn bytes_come_in_turn(rt: HostRuntime) -> Result<(), Fail> {
-    let blocked = [Calls { from: 0, to: 2 }, Calls { from: 3, to: 9 }];
-    for per_call in [1, 2, 3, 7] {
-        let schedule = Schedule::new(rt.alloc(), per_call, &blocked, &NONE)?;
-        let mut input = MemoryInput::new(rt.alloc(), b"PROXY TCP4", schedule)?;
-        let (bytes, ended) = read_all(rt.alloc(), &mut input)?;
-        assert_eq!(rt; bytes.as_slice(), b"PROXY TCP4".as_slice());
-        assert!(rt; ended);
-        let schedule = Schedule::new(rt.alloc(), per_call, &blocked, &NONE)?;
-        let mut output = MemoryOutput::new(rt.alloc(), 10, schedule)?;
-        assert_eq!(rt; write_all(&mut output, b"PROXY TCP4"), Ok(()));
-        assert_eq!(rt; output.as_slice(), b"PROXY TCP4".as_slice());
-    }
-    Ok(())
-}
-
+/// Each call fails in turn, between short and blocked ones: what was moved before it is the front of the text, and the
+/// rest comes after it.
 #[test]
 fn each_call_fails_in_turn(rt: HostRuntime) -> Result<(), Fail> {
-    let text = b"abcdef";
-    for at in 0..6u64 {
-        let failing = [Calls {
-            from: at,
-            to: at + 1,
-        }];
-        let (front, back) = text.split_at_checked(at as usize).ok_or("split")?;
-        let schedule = Schedule::new(rt.alloc(), 1, &NONE, &failing)?;
-        let mut input = MemoryInput::new(rt.alloc(), text, schedule)?;
-        let (bytes, ended) = read_all(rt.alloc(), &mut input)?;
-        assert!(rt; !ended);
-        assert_eq!(rt; bytes.as_slice(), front);
-        assert_eq!(rt; input.left(), back);
-        let (bytes, ended) = read_all(rt.alloc(), &mut input)?;
-        assert!(rt; ended);
-        assert_eq!(rt; bytes.as_slice(), back);
-        let schedule = Schedule::new(rt.alloc(), 1, &NONE, &failing)?;
-        let mut output = MemoryOutput::new(rt.alloc(), 12, schedule)?;
-        assert_eq!(rt; write_all(&mut output, text), Err(Failed));
-        assert_eq!(rt; output.as_slice(), front);
-        assert_eq!(rt; write_all(&mut output, back), Ok(()));
-        assert_eq!(rt; output.as_slice(), text.as_slice());
+    let text = b"PROXY TCP4";
+    for (at, count) in [(0, 0), (3, 2), (5, 4), (6, 5)] {
+        let (front, back) = text.split_at_checked(count).ok_or("split")?;
+        let plan = Plan {
+            reads: 1,
+            writes: 1,
+            blocked: &[Calls { from: 1, to: 2 }, Calls { from: 7, to: 9 }],
+            failing: &[Calls {
+                from: at,
+                to: at + 1,
+            }],
+        };
+        let mut ends = make_devices(rt.alloc(), text, 10, &plan)?;
+        for (moved, done) in [(front, false), (back, true)] {
+            let (bytes, ended) = read_all(rt.alloc(), &mut ends.input)?;
+            assert_eq!(rt; bytes.as_slice(), moved, "at {at}");
+            assert_eq!(rt; ended, done);
+        }
+        for (rest, held, done) in [(&text[..], front, false), (back, &text[..], true)] {
+            assert_eq!(rt; write_all(&mut ends.output, rest).is_ok(), done);
+            assert_eq!(rt; ends.output.as_slice(), held, "at {at}");
+        }
+        assert!(rt; write_all(&mut ends.output, b"x").is_err());
     }
     Ok(())
 }
 
 #[test]
-fn patience_ends(rt: HostRuntime) -> Result<(), Fail> {
+fn patience_of_a_read_ends(rt: HostRuntime) -> Result<(), Fail> {
     let mut buffer = [0u8; 4];
     for (to, reads, want, reads_left) in [
         (999_999, MOST_READS, Ok(Moved::Bytes(2)), 999_000_000),
@@ -82,13 +67,17 @@ fn patience_ends(rt: HostRuntime) -> Result<(), Fail> {
         let schedule = Schedule::new(rt.alloc(), 9, &[Calls { from: 0, to }], &NONE)?;
         let mut input = MemoryInput::new(rt.alloc(), b"ab", schedule)?;
         let mut left = reads;
-        assert_eq!(rt;
-            read_on(&mut input, &mut buffer, &mut left),
-            want,
+        assert!(rt;
+            read_on(&mut input, &mut buffer, &mut left) == want,
             "at {to}"
         );
         assert_eq!(rt; left, reads_left, "at {to}");
     }
+    Ok(())
+}
+
+#[test]
+fn patience_of_a_write_ends(rt: HostRuntime) -> Result<(), Fail> {
     for (from, to, want, held) in [
         (0, 999_999, Ok(()), b"ab".as_slice()),
         (0, 1_000_000, Err(Failed), b"".as_slice()),
@@ -97,23 +86,8 @@ fn patience_ends(rt: HostRuntime) -> Result<(), Fail> {
     ] {
         let schedule = Schedule::new(rt.alloc(), 1, &[Calls { from, to }], &NONE)?;
         let mut output = MemoryOutput::new(rt.alloc(), 2, schedule)?;
-        assert_eq!(rt; write_all(&mut output, b"ab"), want, "at {from} to {to}");
+        assert!(rt; write_all(&mut output, b"ab") == want, "at {from} to {to}");
         assert_eq!(rt; output.as_slice(), held, "at {from} to {to}");
-    }
-    assert_eq!(rt; MOST_STALLS, 1_000_000);
-    Ok(())
-}
-
-#[test]
-fn room_ends(rt: HostRuntime) -> Result<(), Fail> {
-    for (room, want, held) in [
-        (4, Ok(()), b"abcd".as_slice()),
-        (3, Err(Failed), b"abc".as_slice()),
-        (0, Err(Failed), b"".as_slice()),
-    ] {
-        let mut output = MemoryOutput::new(rt.alloc(), room, Schedule::plain(rt.alloc()))?;
-        assert_eq!(rt; write_all(&mut output, b"abcd"), want);
-        assert_eq!(rt; output.as_slice(), held);
     }
     Ok(())
 }
@@ -167,8 +141,8 @@ fn errors_of_std(rt: HostRuntime) {
         (Err(Failed), Err(Failed)),
     ] {
         let mut buffer = [0u8; 2];
-        assert_eq!(rt; input.read(&mut buffer), got);
-        assert_eq!(rt; output.write(b"yz"), put);
+        assert!(rt; input.read(&mut buffer) == got);
+        assert!(rt; output.write(b"yz") == put);
     }
 }
 
@@ -177,15 +151,12 @@ fn memory_of_std(rt: HostRuntime) -> Result<(), Fail> {
     let mut input = FromRead::of(b"one two".as_slice());
     let (bytes, ended) = read_all(rt.alloc(), &mut input)?;
     assert_eq!(rt; bytes.as_slice(), b"one two".as_slice());
-    assert!(rt; ended);
-    assert!(rt; input.into_inner().is_empty());
-    let mut output = ToWrite::of(Vec::new(rt.alloc()));
-    assert_eq!(rt; write_all(&mut output, b"one two"), Ok(()));
-    assert_eq!(rt; output.into_inner().as_slice(), b"one two".as_slice());
-    let mut room = [0u8; 4];
-    let mut output = ToWrite::of(room.as_mut_slice());
-    assert_eq!(rt; write_all(&mut output, b"one two"), Err(Failed));
-    let _ = output;
-    assert_eq!(rt; room.as_slice(), b"one ".as_slice());
+    assert!(rt; ended && input.into_inner().is_empty());
+    let mut output = ToWrite::of(bytes);
+    assert!(rt; write_all(&mut output, b", three").is_ok());
+    assert_eq!(rt;
+        output.into_inner().as_slice(),
+        b"one two, three".as_slice()
+    );
     Ok(())
 }

@@ -4,4 +4,6 @@
 #[cfg(test)]
 mod device;
 #[cfg(test)]
+mod pair;
+#[cfg(test)]
 mod relay;

@@ -11,7 +11,7 @@ use std::alloc::{AllocError, Global};
 use std::marker::Model;
 
 /// What a fill did.
-#[derive(Clone, Copy, Debug, PartialEq, Eq)]
+#[derive(Clone, Copy, PartialEq, Eq)]
 pub enum Filled {
     /// So many bytes came in. Fewer than were asked for, which is the least of the piece's length and
     /// the room, is a short read.
@@ -25,7 +25,7 @@ pub enum Filled {
 }
 
 /// What a drain did.
-#[derive(Clone, Copy, Debug, PartialEq, Eq)]
+#[derive(Clone, Copy, PartialEq, Eq)]
 pub enum Drained {
     /// So many bytes went out.
     Bytes(usize),
@@ -36,7 +36,7 @@ pub enum Drained {
 }
 
 /// Which of the two devices failed.
-#[derive(Clone, Copy, Debug, PartialEq, Eq)]
+#[derive(Clone, Copy, PartialEq, Eq)]
 pub enum FlowFault {
     Read,
     Write,

@@ -11,7 +11,7 @@ use crate::once::{read_front, write_once};
 use device_core::{Input, Output};
 
 /// What a pass did: its fill, and its drain.
-#[derive(Clone, Copy, Debug, PartialEq, Eq)]
+#[derive(Clone, Copy)]
 pub struct Moved {
     pub filled: Filled,
     pub drained: Drained,

@@ -20,7 +20,7 @@ use line_reader::LineReader;
 use std::alloc::Global;
 
 /// What a replay did.
-#[derive(Clone, Copy, Debug, PartialEq, Eq)]
+#[derive(Clone, Copy)]
 pub struct Replayed {
     /// How many events were answered.
     pub lines: u64,
