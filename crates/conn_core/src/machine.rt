@@ -154,7 +154,7 @@ impl Core {
         })
     }
 
-    /// PairValue the core with all that it holds.
+    /// Ends the core with all that it holds.
     pub fn end(self) {
         let Core {
             alloc: _,

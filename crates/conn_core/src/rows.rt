@@ -52,7 +52,7 @@ impl OpenRow {
         })
     }
 
-    /// PairValue the row.
+    /// Ends the row.
     pub fn end(self) {
         let OpenRow {
             serial: _,
@@ -143,7 +143,7 @@ impl FrontendState {
         }
     }
 
-    /// PairValue a connection.
+    /// Ends a connection.
     pub fn close(&mut self, serial: u64)
         ensures { self.new ≡ record self.old { rows = filter (λ row. not (row.serial == serial)) self.old.rows } }
     {
@@ -163,7 +163,7 @@ impl FrontendState {
         })
     }
 
-    /// PairValue the frontend with its rows.
+    /// Ends the frontend with its rows.
     pub fn end(self) {
         let FrontendState {
             name: _name,
@@ -177,7 +177,7 @@ impl FrontendState {
     }
 }
 
-/// PairValue all frontends with their rows.
+/// Ends all frontends with their rows.
 pub fn end_all(mut frontends: Vec<FrontendState>) {
     while let Some(own) = frontends.pop() {
         own.end();

@@ -107,7 +107,7 @@ why_of-written Fault = refl
 why_of-written Stopped = refl
 why_of-written Failed = refl
 
-ends_of-written : (real : Ends) → IsEndpoint real.source → IsEndpoint real.destination → same_family real.source.addr real.destination.addr ≡ true
+ends_of-written : (real : PairValue) → IsEndpoint real.source → IsEndpoint real.destination → same_family real.source.addr real.destination.addr ≡ true
     → ends_of (endpoint_text real.source) (endpoint_text real.destination) ≡ Some real
 ends_of-written real first second same =
     let source : endpoint_of (endpoint_text real.source) ≡ Ok real.source = endpoint_of_written (endpoint_text real.source) real.source first refl in

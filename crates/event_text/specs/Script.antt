@@ -4,7 +4,7 @@ use Rattle.std.specs.List.{join_with_byte, slice_split}
 use Rattle.std.specs.Result.{result_ok}
 use Rattle.std.specs.Str.{bytes_eq}
 use Rattle.text_core.specs.Decimal.{decimal, decimal_of}
-use Rattle.addr_core.specs.Ends.{Ends, pair_of}
+use Rattle.addr_core.specs.PairValue.{PairValue, pair_of}
 use Rattle.addr_core.specs.Text.{endpoint_of, endpoint_text, IsEndpoint}
 use Rattle.addr_core.specs.Family.{same_family}
 use Rattle.conn_model.specs.declared.ask.Ask.{Ask}
@@ -75,7 +75,7 @@ why_of word =
     else None
 
 -- the pair of the endpoints that two words stand for, if they are of one family
-abbrev pub ends_of : List ℕ → List ℕ → Option Ends
+abbrev pub ends_of : List ℕ → List ℕ → Option PairValue
 ends_of peer local = do
   source ← result_ok (endpoint_of peer)
   destination ← result_ok (endpoint_of local)
