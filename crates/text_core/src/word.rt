@@ -2,7 +2,7 @@
 use std::marker::Model;
 
 /// A word, which borrows the text. Contracts see its bytes.
-#[derive(Drop)]
+#[derive(Debug, Drop)]
 pub struct Word<'a> {
     bytes: &'a [u8],
 }
