@@ -4,6 +4,7 @@ use Rattle.device_core.specs.Device.{raised_by}
 use Rattle.device_core.specs.declared.device.Got.{Got}
 use Rattle.device_core.specs.declared.device.Got.TheVariants as got
 use Rattle.device_core.specs.declared.device.Failed.{Failed}
+use Rattle.device_core.specs.declared.patience.TheConstants.{MOST_STALLS}
 use Rattle.device_core.specs.declared.patience.Moved.{Moved}
 use Rattle.device_core.specs.declared.patience.Moved.TheVariants.{Bytes, End}
 
@@ -13,9 +14,9 @@ one_read (Ok (Bytes n)) = Ok (got.Bytes n)
 one_read (Ok End) = Ok got.End
 one_read (Err e) = Err e
 
--- The last million calls were blocked: all that were made, or those after a call that was not.
+-- The last `MOST_STALLS` calls were blocked: all that were made, or those after a call that was not.
 abbrev pub IsWornOut : ℕ → ℕ → Type 0
-IsWornOut old new = (new ≡ raised_by 1000000 old) ⊎ (new ≡ 1000000)
+IsWornOut old new = (new ≡ raised_by MOST_STALLS old) ⊎ (new ≡ MOST_STALLS)
 
 -- No call was made, or the last one was not blocked.
 abbrev pub IsUnblocked : ℕ → ℕ → Type 0

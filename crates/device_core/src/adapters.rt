@@ -8,50 +8,57 @@ use std::io;
 use std::io::{Error, ErrorKind, Read, Write};
 use std::marker::Model;
 
-/// A reader of `std`. An interrupted read and one that would block are blocked; any other error is a
-/// failure.
+/// A reader or a writer of `std`, with the counts of its calls.
 #[derive(Drop)]
-pub struct FromRead<R> {
-    inner: R,
+pub struct StdDevice<D> {
+    inner: D,
     tally: Tally,
 }
 
-impl<R> Model for FromRead<R> {
+/// A reader of `std`. An interrupted read and one that would block are blocked; any other error is a
+/// failure.
+pub type FromRead<R> = StdDevice<R>;
+
+/// A writer of `std`. An interrupted write and one that would block are blocked; any other error and a
+/// write of nothing are failures.
+pub type ToWrite<W> = StdDevice<W>;
+
+impl<D> Model for StdDevice<D> {
     ghost use Rattle.device_core.specs.Adapters.{Counted};
 
-    ghost Value = { Counted R };
+    ghost Value = { Counted D };
 
-    ghost view = { λ f. record { device = f.inner; failures = f.tally.failures; calls = f.tally.calls; stalls = f.tally.stalls } };
+    ghost view = { λ d. record { device = d.inner; failures = d.tally.failures; calls = d.tally.calls; stalls = d.tally.stalls } };
 }
 
-impl<R> FromRead<R> {
+impl<D> StdDevice<D> {
     ghost use Rattle.device_core.specs.Adapters.{fresh};
 
-    pub fn of(inner: R) -> Self
+    pub fn of(inner: D) -> Self
         ensures { result ≡ fresh inner }
     {
-        FromRead {
+        StdDevice {
             inner,
             tally: Tally::new(),
         }
     }
 
-    pub fn into_inner(self) -> R
+    pub fn into_inner(self) -> D
         ensures { result ≡ self.device }
     {
-        let FromRead { inner, tally: _ } = self;
+        let StdDevice { inner, tally: _ } = self;
         inner
     }
 }
 
-impl<R: Read> Input for FromRead<R> {
-    ghost left = { λ f. R.remaining f.device };
+impl<R: Read> Input for StdDevice<R> {
+    ghost left = { λ d. R.remaining d.device };
 
-    ghost failures = { λ f. f.failures };
+    ghost failures = { λ d. d.failures };
 
-    ghost calls = { λ f. f.calls };
+    ghost calls = { λ d. d.calls };
 
-    ghost stalls = { λ f. f.stalls };
+    ghost stalls = { λ d. d.stalls };
 
     fn read(&mut self, buffer: &mut [u8]) -> Result<Got, Failed> {
         let answer = read_answer(self.inner.read(buffer));
@@ -60,50 +67,14 @@ impl<R: Read> Input for FromRead<R> {
     }
 }
 
-/// A writer of `std`. An interrupted write and one that would block are blocked; any other error and a
-/// write of nothing are failures.
-#[derive(Drop)]
-pub struct ToWrite<W> {
-    inner: W,
-    tally: Tally,
-}
+impl<W: Write> Output for StdDevice<W> {
+    ghost held = { λ d. W.contents d.device };
 
-impl<W> Model for ToWrite<W> {
-    ghost use Rattle.device_core.specs.Adapters.{Counted};
+    ghost failures = { λ d. d.failures };
 
-    ghost Value = { Counted W };
+    ghost calls = { λ d. d.calls };
 
-    ghost view = { λ t. record { device = t.inner; failures = t.tally.failures; calls = t.tally.calls; stalls = t.tally.stalls } };
-}
-
-impl<W> ToWrite<W> {
-    ghost use Rattle.device_core.specs.Adapters.{fresh};
-
-    pub fn of(inner: W) -> Self
-        ensures { result ≡ fresh inner }
-    {
-        ToWrite {
-            inner,
-            tally: Tally::new(),
-        }
-    }
-
-    pub fn into_inner(self) -> W
-        ensures { result ≡ self.device }
-    {
-        let ToWrite { inner, tally: _ } = self;
-        inner
-    }
-}
-
-impl<W: Write> Output for ToWrite<W> {
-    ghost held = { λ t. W.contents t.device };
-
-    ghost failures = { λ t. t.failures };
-
-    ghost calls = { λ t. t.calls };
-
-    ghost stalls = { λ t. t.stalls };
+    ghost stalls = { λ d. d.stalls };
 
     fn write(&mut self, bytes: &[u8]) -> Result<Put, Failed> {
         let answer = write_answer(self.inner.write(bytes));

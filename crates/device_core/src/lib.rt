@@ -3,7 +3,7 @@
 //! No other crate talks to the readers and writers of `std`.
 #![tactic(auto)]
 
-pub use adapters::{FromRead, ToWrite};
+pub use adapters::{FromRead, StdDevice, ToWrite};
 pub use device::{Failed, Got, Input, Output, Put};
 pub use memory::{MemoryInput, MemoryOutput};
 pub use patience::{MOST_READS, MOST_STALLS, Moved, read_on, write_all};

@@ -32,7 +32,7 @@ pub fn read_on<I: Input>(input: &mut I, buffer: &mut [u8], reads: &mut u32) -> R
     ensures ok_stalls { OnOk result (I.stalls input.new ≡ 0) }
     ensures err { OnErr result ((I.failures input.new ≡ raised (I.failures input.old))
         ⊎ ((I.failures input.new ≡ I.failures input.old)
-        × ((I.stalls input.new ≡ raised_by 1000000 (I.stalls input.old)) ⊎ (reads.new ≡ 0)))) }
+        × ((I.stalls input.new ≡ raised_by MOST_STALLS (I.stalls input.old)) ⊎ (reads.new ≡ 0)))) }
 
     // Each read is counted, and none is made beyond those that are left.
     ensures calls { I.calls input.new ≡ raised_by (reads.old - reads.new) (I.calls input.old) }

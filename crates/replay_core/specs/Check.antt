@@ -1,14 +1,11 @@
 -- What `check` writes of a configuration.
-use Rattle.std.specs.Prelude.{ℕ, Bool, List, ◌++◌, codes, Option, Some, None, Result, Ok, Err, is_ok}
+use Rattle.std.specs.Prelude.{ℕ, List, ◌++◌, codes, Option, Some, None, Result, Ok, Err}
 use Rattle.plan_types.specs.declared.plan.Plan.{Plan}
 use Rattle.config_core.specs.Meaning.{compiled}
 use Rattle.config_core.specs.Names.{open_text}
 use Rattle.config_core.specs.declared.fault.OpenFault.{OpenFault}
 
--- the text has a plan
-abbrev pub is_right : List ℕ → Bool
-is_right config = is_ok (compiled config)
-
+-- the fault of a text that has no plan
 abbrev pub fault_in : Result Plan OpenFault → Option OpenFault
 fault_in (Ok plan) = None
 fault_in (Err fault) = Some fault
@@ -21,6 +18,6 @@ abbrev pub verdict_line : Result Plan OpenFault → List ℕ
 verdict_line (Ok plan) = codes "ok\n"
 verdict_line (Err fault) = refused_line fault
 
--- one line: that the text has a plan, or the fault that stands against it
+-- one line: that the text has a plan, or its fault
 abbrev pub check_output : List ℕ → List ℕ
 check_output config = verdict_line (compiled config)

@@ -2,7 +2,7 @@
 ghost use Rattle.std.specs.Prelude.{◌≡◌, ◌≢◌, ◌++◌, ℕ, List, Some, Err, IfOk, IfErr, OnOk, OnErr};
 ghost use Rattle.config_core.specs.Meaning.{compiled, opened};
 ghost use Rattle.plan_core.specs.Compiled.{plan_of};
-ghost use Rattle.replay_core.specs.Check.{check_output, fault_in, is_right, refused_line};
+ghost use Rattle.replay_core.specs.Check.{check_output, fault_in, refused_line};
 ghost use Rattle.replay_core.specs.Replay.{IsFront};
 ghost use Rattle.replay_core.specs.Standing.{GaveUp};
 
@@ -29,8 +29,8 @@ fn fault_of_plan(alloc: Global, tree: &Tree<'_>) -> Result<Option<OpenFault>, Pr
     }
 }
 
-/// The fault that stands against a configuration, if there is one. It names the least faulty line.
-pub fn fault_of(alloc: Global, config: &str) -> Result<Option<OpenFault>, PrintFault>
+/// The fault of a configuration, if it has one, on the first faulty line.
+fn fault_of(alloc: Global, config: &str) -> Result<Option<OpenFault>, PrintFault>
     ensures found { IfOk result (λ found. found ≡ fault_in (compiled config.now)) }
     ensures no_memory { IfErr result (λ f. f ≡ PrintFault.NoMemory) }
 {
@@ -78,12 +78,16 @@ fn write_fault<O: Output>(
     write_line(line.as_str().as_bytes(), writer)
 }
 
-/// Writes one line: `ok` where a configuration is right, else its fault. Whether it is right is told
-/// by its lines and its plan alone: it may be right and ask for what is not served yet.
-pub fn run_check<O: Output>(alloc: Global, config: &str, writer: &mut O) -> Result<bool, PrintFault>
+/// Writes one line: `ok` where a configuration is right, else its fault, which it also answers. Whether it is right
+/// is a matter of its lines and its plan alone: it may be right and ask for what `replay` does not serve yet.
+pub fn run_check<O: Output>(
+    alloc: Global,
+    config: &str,
+    writer: &mut O,
+) -> Result<Option<OpenFault>, PrintFault>
     // What was written is the line of the text, by the definition of its plan.
     ensures ok { OnOk result ((sent : List ℕ) → O.held writer.old ≡ Some sent → O.held writer.new ≡ Some (sent ++ check_output config.now)) }
-    ensures right { IfOk result (λ right. right ≡ is_right config.now) }
+    ensures found { IfOk result (λ found. found ≡ fault_in (compiled config.now)) }
     ensures failures { OnOk result (O.failures writer.new ≡ O.failures writer.old) }
 
     // Without memory nothing was written.
@@ -96,14 +100,10 @@ pub fn run_check<O: Output>(alloc: Global, config: &str, writer: &mut O) -> Resu
     // Nothing is read.
     ensures not_read { result ≢ Err PrintFault.Read }
 {
-    match fault_of(alloc, config)? {
-        None => {
-            write_line(b"ok\n", writer)?;
-            Ok(true)
-        }
-        Some(fault) => {
-            write_fault(alloc, &fault, writer)?;
-            Ok(false)
-        }
+    let found = fault_of(alloc, config)?;
+    match &found {
+        None => write_line(b"ok\n", writer)?,
+        Some(fault) => write_fault(alloc, fault, writer)?,
     }
+    Ok(found)
 }

@@ -6,7 +6,7 @@ use conn_core::OpenFault;
 use thiserror::Error;
 
 /// Why a replay ends early. Lines are counted from 1.
-#[derive(Clone, Copy, Debug, PartialEq, Eq, Error)]
+#[derive(Clone, Copy, Debug, Error)]
 pub enum ReplayFault {
     /// The configuration is refused.
     #[error(transparent)]
@@ -38,7 +38,7 @@ impl ReplayFault {
 }
 
 /// Why a command that prints what it finds ends early.
-#[derive(Clone, Copy, Debug, PartialEq, Eq, Error)]
+#[derive(Clone, Copy, Debug, Error)]
 pub enum PrintFault {
     #[error("cannot be read")]
     Read,

@@ -1,7 +1,7 @@
 //! The engines of the commands: a script is replayed, a configuration is checked.
 #![tactic(auto)]
 
-pub use check::{fault_of, run_check};
+pub use check::run_check;
 pub use fault::{PrintFault, ReplayFault};
 pub use replay::{Replayed, run_replay};
 
