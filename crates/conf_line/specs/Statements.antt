@@ -12,6 +12,7 @@ use Rattle.conf_line.specs.declared.statement.Statement.TheVariants as statement
 use Rattle.conf_line.specs.declared.keyword.Keyword.{Keyword}
 use Rattle.conf_line.specs.declared.keyword.Keyword.TheVariants as k
 use Rattle.conf_line.specs.declared.statement.LineReading.{LineReading}
+use Rattle.conf_line.specs.declared.limits.TheConstants.{MOST_CONNECTIONS}
 use Rattle.conf_line.specs.Keywords.{keyword_of, check_keyword}
 use Rattle.conf_line.specs.Words.{word_at, end_at, name_at, number_at, bind_at}
 use Rattle.conf_line.specs.Rules.{rule_of}
@@ -89,7 +90,7 @@ max_conn_of words = do
   limit ← number_at word.0
   if limit == 0 then Err BadNumber else do
     _ ← end_at word.1
-    Ok (record { statement = statements.MaxConn limit; repeats = false; exceeds = nat_lt 1048576 limit })
+    Ok (record { statement = statements.MaxConn limit; repeats = false; exceeds = nat_lt MOST_CONNECTIONS limit })
 
 -- Lines that are read and have no effect; the words behind those offered are not read.
 

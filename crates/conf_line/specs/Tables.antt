@@ -1,19 +1,20 @@
 -- What a `stick-table` line says.
-use Rattle.std.specs.Prelude.{ℕ, true, false, is_some, ◌||◌, ◌==◌, ◌*◌, ◌-◌, min, nat_lt, take, length, List, Option, Some, None, Result, Ok, Err, codes, if◌then◌else◌}
+use Rattle.std.specs.Prelude.{◌≡◌, ℕ, Bool, true, false, ◌||◌, ◌==◌, ◌*◌, ◌-◌, ◌∷◌, min, nat_lt, take, length, filter, List, [], Option, Some, None, Result, Ok, Err, codes, if◌then◌else◌}
 use Rattle.std.specs.Str.{bytes_eq}
-use Rattle.std.specs.List.{slice_split}
+use Rattle.std.specs.List.{slice_split, list_any}
 use Rattle.list_core.specs.Each.{◌>>=◌, run}
 use Rattle.list_core.specs.Newest.{newest}
 use Rattle.proxy_types.specs.declared.table.KeyType.{KeyType}
 use Rattle.proxy_types.specs.declared.table.KeyType.TheVariants.{Ip, Ipv6}
-use Rattle.conf_line.specs.declared.statement.Statement.TheVariants as statements
+use Rattle.proxy_types.specs.declared.table.Stores.{Stores}
 use Rattle.conf_line.specs.declared.statement.LineReading.{LineReading}
-use Rattle.conf_line.specs.declared.table.TableOptions.{TableOptions}
-use Rattle.conf_line.specs.declared.table.TableWord.{TableWord}
-use Rattle.conf_line.specs.declared.table.TableWord.TheVariants as next
+use Rattle.conf_line.specs.declared.statement.Statement.TheVariants as statements
+use Rattle.conf_line.specs.declared.statement.TableOption.{TableOption}
+use Rattle.conf_line.specs.declared.statement.TableOption.TheVariants as options
+use Rattle.conf_line.specs.declared.limits.TheConstants.{MOST_ENTRIES}
 use Rattle.conf_line.specs.declared.fault.ConfKind.{ConfKind}
 use Rattle.conf_line.specs.declared.fault.ConfKind.TheVariants.{MissingWord, BadNumber, Unsupported}
-use Rattle.conf_line.specs.Words.{number_at}
+use Rattle.conf_line.specs.Words.{number_at, last_of, onto}
 
 -- Sizes: k is 1,024, and m is 1,048,576.
 
@@ -28,27 +29,13 @@ unit_of word = unit_by (newest word)
 abbrev pub digits_of : List ℕ → List ℕ
 digits_of word = if unit_of word == 1 then word else take (length word - 1) word
 
--- a number of entries from 1 on; what 64 bits do not hold is told as the greatest that they hold
+-- a number of entries from 1 on; what 64 bits do not hold is the greatest that they hold
 abbrev pub size_at : List ℕ → Result ℕ ConfKind
 size_at word = do
   number ← number_at (digits_of word)
   if number == 0 then Err BadNumber else Ok (min (number * unit_of word) 0xFFFF_FFFF_FFFF_FFFF)
 
--- The words.
-
-abbrev pub no_table : TableOptions
-no_table = record { keys = None; size = None; stores_cur = false; stores_cnt = false; repeats = false; next = next.Option }
-
--- a word in an option's place
-abbrev pub table_option : TableOptions → List ℕ → Result TableOptions ConfKind
-table_option options word =
-    if bytes_eq word (codes "type") then Ok (record options { next = next.Keys })
-    else if bytes_eq word (codes "size") then Ok (record options { next = next.Size })
-    else if bytes_eq word (codes "store") then Ok (record options { next = next.Store })
-    else Err Unsupported
-
-abbrev pub with_keys : TableOptions → KeyType → TableOptions
-with_keys options keys = record options { keys = Some keys; repeats = options.repeats || is_some options.keys; next = next.Option }
+-- The other values.
 
 abbrev pub keys_of : List ℕ → Result KeyType ConfKind
 keys_of word =
@@ -56,49 +43,96 @@ keys_of word =
     else if bytes_eq word (codes "ipv6") then Ok Ipv6
     else Err Unsupported
 
-abbrev pub with_size : TableOptions → ℕ → TableOptions
-with_size options size = record options { size = Some size; repeats = options.repeats || is_some options.size; next = next.Option }
+abbrev pub no_stores : Stores
+no_stores = record { cur = false; cnt = false }
 
--- one of the kinds that are stored
-abbrev pub with_kind : TableOptions → List ℕ → Result TableOptions ConfKind
-with_kind options kind =
-    if bytes_eq kind (codes "conn_cur") then Ok (record options { stores_cur = true; next = next.Option })
-    else if bytes_eq kind (codes "conn_cnt") then Ok (record options { stores_cnt = true; next = next.Option })
+-- one more kind that is stored
+abbrev pub stores_with : Stores → List ℕ → Result Stores ConfKind
+stores_with stores kind =
+    if bytes_eq kind (codes "conn_cur") then Ok (record stores { cur = true })
+    else if bytes_eq kind (codes "conn_cnt") then Ok (record stores { cnt = true })
     else Err Unsupported
 
 -- kinds between commas
-abbrev pub with_kinds : TableOptions → List ℕ → Result TableOptions ConfKind
-with_kinds options word = run with_kind options (slice_split (λ byte. byte == 44) word)
+abbrev pub stores_of : List ℕ → Result Stores ConfKind
+stores_of word = run stores_with no_stores (slice_split (λ byte. byte == 44) word)
 
--- a word by what is awaited
-abbrev pub table_word_as : TableWord → TableOptions → List ℕ → Result TableOptions ConfKind
-table_word_as next.Option options word = table_option options word
-table_word_as next.Keys options word = keys_of word >>= λ keys. Ok (with_keys options keys)
-table_word_as next.Size options word = size_at word >>= λ size. Ok (with_size options size)
-table_word_as next.Store options word = with_kinds options word
+-- Options: a name, and its value.
 
-abbrev pub next_table_word : TableOptions → List ℕ → Result TableOptions ConfKind
-next_table_word options word = table_word_as options.next options word
+abbrev pub is_table_option : List ℕ → Bool
+is_table_option name = bytes_eq name (codes "type") || bytes_eq name (codes "size") || bytes_eq name (codes "store")
 
--- nothing is awaited any more
-abbrev pub table_end : TableWord → Result (Unit {0}) ConfKind
-table_end next.Option = Ok tt
-table_end next.Keys = Err MissingWord
-table_end next.Size = Err MissingWord
-table_end next.Store = Err MissingWord
+-- a name with no word after it
+abbrev pub without_value : List ℕ → ConfKind
+without_value name = if is_table_option name then MissingWord else Unsupported
 
-abbrev pub table_by : TableOptions → Option KeyType → Option ℕ → Result LineReading ConfKind
-table_by options None size = Err MissingWord
-table_by options (Some keys) None = Err MissingWord
-table_by options (Some keys) (Some size) = Ok (record {
-  statement = statements.StickTable (record { keys = keys; size = size; stores = record { cur = options.stores_cur; cnt = options.stores_cnt } });
-  repeats = options.repeats;
-  exceeds = nat_lt 1048576 size;
-})
+abbrev pub table_option : List ℕ → List ℕ → Result TableOption ConfKind
+table_option name value =
+    if bytes_eq name (codes "type") then (keys_of value >>= λ keys. Ok (options.Keys keys))
+    else if bytes_eq name (codes "size") then (size_at value >>= λ size. Ok (options.Size size))
+    else if bytes_eq name (codes "store") then (stores_of value >>= λ stores. Ok (options.Store stores))
+    else Err Unsupported
 
--- `type` and `size` once each, and `store` as often as one likes, in any order
+-- the words are options in any order, each a name and its value
+abbrev pub table_options : List (List ℕ) → Result (List TableOption) ConfKind
+table_options [] = Ok []
+table_options (name ∷ []) = Err (without_value name)
+table_options (name ∷ value ∷ rest) = table_option name value >>= λ option. onto option (table_options rest)
+
+-- What the options say together.
+
+abbrev pub option_keys : TableOption → Option KeyType
+option_keys (options.Keys keys) = Some keys
+option_keys (options.Size size) = None
+option_keys (options.Store stores) = None
+
+abbrev pub option_size : TableOption → Option ℕ
+option_size (options.Keys keys) = None
+option_size (options.Size size) = Some size
+option_size (options.Store stores) = None
+
+abbrev pub is_keys : TableOption → Bool
+is_keys (options.Keys keys) = true
+is_keys (options.Size size) = false
+is_keys (options.Store stores) = false
+
+abbrev pub is_size : TableOption → Bool
+is_size (options.Keys keys) = false
+is_size (options.Size size) = true
+is_size (options.Store stores) = false
+
+abbrev pub stores_cur : TableOption → Bool
+stores_cur (options.Keys keys) = false
+stores_cur (options.Size size) = false
+stores_cur (options.Store stores) = stores.cur
+
+abbrev pub stores_cnt : TableOption → Bool
+stores_cnt (options.Keys keys) = false
+stores_cnt (options.Size size) = false
+stores_cnt (options.Store stores) = stores.cnt
+
+-- `type` or `size` is given twice
+abbrev pub has_repeat : List TableOption → Bool
+has_repeat all = nat_lt 1 (length (filter is_keys all)) || nat_lt 1 (length (filter is_size all))
+
+abbrev pub table_reading : List TableOption → KeyType → ℕ → LineReading
+table_reading all keys size = record {
+  statement = statements.StickTable (record { keys = keys; size = size; stores = record { cur = list_any stores_cur all; cnt = list_any stores_cnt all } });
+  repeats = has_repeat all;
+  exceeds = nat_lt MOST_ENTRIES size;
+}
+
+-- `type` and `size` have to be given
+abbrev pub table_by : List TableOption → Option KeyType → Option ℕ → Result LineReading ConfKind
+table_by all None size = Err MissingWord
+table_by all (Some keys) None = Err MissingWord
+table_by all (Some keys) (Some size) = Ok (table_reading all keys size)
+
 abbrev pub table_of : List (List ℕ) → Result LineReading ConfKind
-table_of words = do
-  options ← run next_table_word no_table words
-  _ ← table_end options.next
-  table_by options options.keys options.size
+table_of words = table_options words >>= λ all. table_by all (last_of option_keys all) (last_of option_size all)
+
+-- the words are options that say this together
+abbrev pub IsTable : List (List ℕ) → Option KeyType → Option ℕ → Stores → Bool → Type 0
+IsTable words keys size stores repeats =
+    (all : List TableOption) × (table_options words ≡ Ok all) × (keys ≡ last_of option_keys all) × (size ≡ last_of option_size all) ×
+    (stores ≡ record { cur = list_any stores_cur all; cnt = list_any stores_cnt all }) × (repeats ≡ has_repeat all)

@@ -1,6 +1,7 @@
 -- The words of a line, read from the left: the first that cannot stand decides.
-use Rattle.std.specs.Prelude.{ℕ, Bool, ◌≡◌, ◌||◌, ◌&&◌, ◌==◌, ◌∷◌, nat_le, List, [], Option, Some, None, Result, Ok, Err, if◌then◌else◌}
+use Rattle.std.specs.Prelude.{ℕ, Bool, ◌≡◌, ◌||◌, ◌&&◌, ◌==◌, ◌∷◌, ◌++◌, nat_le, List, [], Option, Some, None, Result, Ok, Err, if◌then◌else◌}
 use Rattle.std.specs.List.{list_all}
+use Rattle.std.specs.Option.{option_or}
 use Rattle.list_core.specs.Each.{◌>>=◌}
 use Rattle.addr_core.specs.declared.addr.Addr.TheVariants.{V4}
 use Rattle.addr_core.specs.declared.addr.Endpoint.{Endpoint}
@@ -44,6 +45,23 @@ number_in (Some n) = Ok n
 -- a number of 64 bits, leading zeros or not
 abbrev pub number_at : List ℕ → Result ℕ ConfKind
 number_at word = number_in (number_of word 0xFFFF_FFFF_FFFF_FFFF)
+
+-- Options.
+
+-- the last of the values that items of a list have
+abbrev pub last_of : {X Y : Type 0} → (X → Option Y) → List X → Option Y
+last_of value [] = None
+last_of value (x ∷ xs) = option_or (last_of value xs) (value x)
+
+-- an item, and those after it
+abbrev pub onto : {X F : Type 0} → X → Result (List X) F → Result (List X) F
+onto x (Err fault) = Err fault
+onto x (Ok more) = Ok (x ∷ more)
+
+-- items that follow those that were read
+abbrev pub after : {X F : Type 0} → List X → Result (List X) F → Result (List X) F
+after done (Err fault) = Err fault
+after done (Ok more) = Ok (done ++ more)
 
 -- Endpoints.
 

@@ -2,14 +2,17 @@
 #![tactic(auto)]
 
 pub use fault::{ConfFault, ConfKind};
+pub use limits::{GREATEST_WEIGHT, MOST_CONNECTIONS, MOST_ENTRIES};
 pub use proxy_types::{KeyType, Method, Stores};
 pub use reading::read_line;
 pub use statement::{
-    Action, LineReading, Ruleset, SectionKind, ServerWords, Statement, TableWords, TrackWords,
+    Action, LineReading, Ruleset, SectionKind, ServerOption, ServerWords, Statement, TableOption,
+    TableWords, TrackWords,
 };
 
 mod fault;
 mod keyword;
+mod limits;
 mod reading;
 mod rule;
 mod server;

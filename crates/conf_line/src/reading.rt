@@ -7,6 +7,7 @@ ghost use Rattle.conf_line.specs.Rules.{rule_of};
 
 use crate::fault::ConfKind;
 use crate::keyword::{Keyword, check_keyword, keyword_of};
+use crate::limits::MOST_CONNECTIONS;
 use crate::rule::rule;
 use crate::server::server;
 use crate::statement::{LineReading, SectionKind, Statement};
@@ -130,7 +131,7 @@ fn max_conn<'a>(words: &[Word<'a>]) -> Result<LineReading<'a>, ConfKind>
     Ok(LineReading {
         statement: Statement::MaxConn(limit),
         repeats: false,
-        exceeds: limit > 1_048_576,
+        exceeds: limit > MOST_CONNECTIONS,
     })
 }
 

@@ -48,6 +48,24 @@ pub struct TableWords {
     pub stores: Stores,
 }
 
+/// An option of a `stick-table` line.
+#[derive(Drop)]
+pub enum TableOption {
+    Keys(KeyType),
+    Size(u64),
+    Store(Stores),
+}
+
+/// An option of a `server` line.
+#[derive(Drop)]
+pub enum ServerOption {
+    Weight(u16),
+    MaxConn(u64),
+    Disabled,
+    SendProxy,
+    SendProxyV2,
+}
+
 /// The words of a `server` line.
 #[derive(Drop)]
 pub struct ServerWords<'a> {

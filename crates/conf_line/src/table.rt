@@ -1,36 +1,19 @@
 //! Stick tables.
-ghost use Rattle.std.specs.Prelude.{◌≡◌, ◌==◌};
+ghost use Rattle.std.specs.Prelude.{◌≡◌, ◌==◌, ◌∷◌, ◌||◌, ◌&&◌, is_some, drop, IfOk, IfErr, Err};
 ghost use Rattle.std.specs.List.{slice_split};
+ghost use Rattle.std.specs.Option.{option_or};
 ghost use Rattle.list_core.specs.Each.{run};
-ghost use Rattle.conf_line.specs.Tables.{unit_of, digits_of, size_at, no_table, table_option, with_keys, keys_of, with_size, with_kind, with_kinds, next_table_word, table_end, table_by, table_of};
+ghost use Rattle.conf_line.specs.Words.{onto};
+ghost use Rattle.conf_line.specs.Tables.{unit_of, digits_of, size_at, keys_of, stores_with, stores_of, without_value, table_option, table_options, option_keys, option_size, is_keys, is_size, stores_cur, stores_cnt, IsTable, table_of};
 
 use crate::fault::ConfKind;
-use crate::statement::{LineReading, Statement, TableWords};
-use crate::words::number_at;
+use crate::limits::MOST_ENTRIES;
+use crate::statement::{LineReading, Statement, TableOption, TableWords};
+use crate::words::{after_first, number_at};
+use addr_core::parts::cut_at;
 use list_core::newest;
 use proxy_types::{KeyType, Stores};
-use text_core::{Word, cut_at};
-
-/// What the next word of a table is.
-#[derive(Clone, Copy)]
-enum TableWord {
-    Option,
-    Keys,
-    Size,
-    Store,
-}
-
-/// The options that were read.
-#[derive(Clone, Copy)]
-struct TableOptions {
-    keys: Option<KeyType>,
-    size: Option<u64>,
-    stores_cur: bool,
-    stores_cnt: bool,
-    /// `type` or `size` stands twice.
-    repeats: bool,
-    next: TableWord,
-}
+use text_core::Word;
 
 /// How much the word's unit stands for.
 fn unit_of(word: &[u8]) -> u64
@@ -70,34 +53,6 @@ fn size_at(word: &[u8]) -> Result<u64, ConfKind>
     Ok(number.saturating_mul(unit_of(word)))
 }
 
-fn no_table() -> TableOptions
-    ensures { result ≡ no_table }
-{
-    TableOptions {
-        keys: None,
-        size: None,
-        stores_cur: false,
-        stores_cnt: false,
-        repeats: false,
-        next: TableWord::Option,
-    }
-}
-
-fn table_option(options: TableOptions, word: &Word) -> Result<TableOptions, ConfKind>
-    ensures { result ≡ table_option options word.now }
-{
-    let next = if word.is(b"type") {
-        TableWord::Keys
-    } else if word.is(b"size") {
-        TableWord::Size
-    } else if word.is(b"store") {
-        TableWord::Store
-    } else {
-        return Err(ConfKind::Unsupported);
-    };
-    Ok(TableOptions { next, ..options })
-}
-
 fn keys_of(word: &Word) -> Result<KeyType, ConfKind>
     ensures { result ≡ keys_of word.now }
 {
@@ -110,124 +65,154 @@ fn keys_of(word: &Word) -> Result<KeyType, ConfKind>
     }
 }
 
-fn with_keys(options: TableOptions, keys: KeyType) -> TableOptions
-    ensures { result ≡ with_keys options keys }
-{
-    TableOptions {
-        keys: Some(keys),
-        repeats: options.repeats || options.keys.is_some(),
-        next: TableWord::Option,
-        ..options
-    }
-}
-
-fn with_size(options: TableOptions, size: u64) -> TableOptions
-    ensures { result ≡ with_size options size }
-{
-    TableOptions {
-        size: Some(size),
-        repeats: options.repeats || options.size.is_some(),
-        next: TableWord::Option,
-        ..options
-    }
-}
-
-fn with_kind(options: TableOptions, kind: &[u8]) -> Result<TableOptions, ConfKind>
-    ensures { result ≡ with_kind options kind.now }
+/// One more kind that is stored.
+fn stores_with(stores: Stores, kind: &[u8]) -> Result<Stores, ConfKind>
+    ensures { result ≡ stores_with stores kind.now }
 {
     if kind == b"conn_cur".as_slice() {
-        Ok(TableOptions {
-            stores_cur: true,
-            next: TableWord::Option,
-            ..options
+        Ok(Stores {
+            cur: true,
+            ..stores
         })
     } else if kind == b"conn_cnt".as_slice() {
-        Ok(TableOptions {
-            stores_cnt: true,
-            next: TableWord::Option,
-            ..options
+        Ok(Stores {
+            cnt: true,
+            ..stores
         })
     } else {
         Err(ConfKind::Unsupported)
     }
 }
 
-fn with_kinds(options: TableOptions, word: &[u8]) -> Result<TableOptions, ConfKind>
-    ensures { result ≡ with_kinds options word.now }
+/// Kinds between commas.
+fn stores_of(word: &[u8]) -> Result<Stores, ConfKind>
+    ensures { result ≡ stores_of word.now }
 {
-    let mut options = options;
+    let mut stores = Stores {
+        cur: false,
+        cnt: false,
+    };
     let mut rest = word;
     while let Some((kind, more)) = cut_at(rest, b',') {
-        options = with_kind(options, kind)?;
+        stores = stores_with(stores, kind)?;
         rest = more;
     }
-    with_kind(options, rest)
+    stores_with(stores, rest)
 }
 
-fn next_table_word(options: TableOptions, word: &Word) -> Result<TableOptions, ConfKind>
-    ensures { result ≡ next_table_word options word.now }
+fn without_value(name: &Word) -> ConfKind
+    ensures { result ≡ without_value name.now }
 {
-    match options.next {
-        TableWord::Option => table_option(options, word),
-        TableWord::Keys => {
-            let keys = keys_of(word)?;
-            Ok(with_keys(options, keys))
-        }
-        TableWord::Size => {
-            let size = size_at(word.bytes())?;
-            Ok(with_size(options, size))
-        }
-        TableWord::Store => with_kinds(options, word.bytes()),
+    if name.is(b"type") || name.is(b"size") || name.is(b"store") {
+        ConfKind::MissingWord
+    } else {
+        ConfKind::Unsupported
     }
 }
 
-fn table_end(next: TableWord) -> Result<(), ConfKind>
-    ensures { result ≡ table_end next }
+/// An option, by its name and its value.
+fn option(name: &Word, value: &Word) -> Result<TableOption, ConfKind>
+    ensures { result ≡ table_option name.now value.now }
 {
-    match next {
-        TableWord::Option => Ok(()),
-        TableWord::Keys | TableWord::Size | TableWord::Store => Err(ConfKind::MissingWord),
+    if name.is(b"type") {
+        Ok(TableOption::Keys(keys_of(value)?))
+    } else if name.is(b"size") {
+        Ok(TableOption::Size(size_at(value.bytes())?))
+    } else if name.is(b"store") {
+        Ok(TableOption::Store(stores_of(value.bytes())?))
+    } else {
+        Err(ConfKind::Unsupported)
     }
 }
 
-fn all_words(words: &[Word]) -> Result<TableOptions, ConfKind>
-    ensures { result ≡ run next_table_word no_table words.now }
+/// The option that begins with a word.
+fn option_at(name: &Word, after: &[Word]) -> Result<TableOption, ConfKind>
+    ensures ok { IfOk result (λ option. table_options (name.now ∷ after.now) ≡ onto option (table_options (drop 1 after.now))) }
+    ensures err { IfErr result (λ kind. table_options (name.now ∷ after.now) ≡ Err kind) }
 {
-    let mut options = no_table();
-    for word in words {
-        options = next_table_word(options, word)?;
+    match after {
+        [] => Err(without_value(name)),
+        [value, ..] => option(name, value),
+    }
+}
+
+/// What the options say together.
+#[derive(Clone, Copy)]
+struct Options {
+    keys: Option<KeyType>,
+    size: Option<u64>,
+    stores: Stores,
+    /// `type` or `size` is given twice.
+    repeats: bool,
+}
+
+/// The same with one option more, which counts before those.
+fn with_option(options: Options, option: &TableOption) -> Options
+    ensures keys { result.keys ≡ option_or (option_keys option.now) options.keys }
+    ensures size { result.size ≡ option_or (option_size option.now) options.size }
+    ensures cur { result.stores.cur ≡ (options.stores.cur || stores_cur option.now) }
+    ensures cnt { result.stores.cnt ≡ (options.stores.cnt || stores_cnt option.now) }
+    ensures repeats { result.repeats ≡ (options.repeats || ((is_keys option.now && is_some options.keys) || (is_size option.now && is_some options.size))) }
+{
+    match option {
+        TableOption::Keys(keys) => Options {
+            keys: Some(*keys),
+            repeats: options.repeats || options.keys.is_some(),
+            ..options
+        },
+        TableOption::Size(size) => Options {
+            size: Some(*size),
+            repeats: options.repeats || options.size.is_some(),
+            ..options
+        },
+        TableOption::Store(stores) => Options {
+            stores: Stores {
+                cur: options.stores.cur || stores.cur,
+                cnt: options.stores.cnt || stores.cnt,
+            },
+            ..options
+        },
+    }
+}
+
+/// What all options of the words say together.
+fn all_options<'a, 'w>(words: &'w [Word<'a>]) -> Result<Options, ConfKind>
+    ensures ok { IfOk result (λ o. IsTable words.now o.keys o.size o.stores o.repeats) }
+    ensures err { IfErr result (λ kind. table_options words.now ≡ Err kind) }
+{
+    let mut options = Options {
+        keys: None,
+        size: None,
+        stores: Stores {
+            cur: false,
+            cnt: false,
+        },
+        repeats: false,
+    };
+    let mut rest: &'w [Word<'a>] = words;
+    while let [name, after @ ..] = rest {
+        let option = option_at(name, after)?;
+        options = with_option(options, &option);
+        rest = after_first(after);
     }
     Ok(options)
-}
-
-fn table_by<'a>(options: TableOptions) -> Result<LineReading<'a>, ConfKind>
-    ensures { result ≡ table_by options options.keys options.size }
-{
-    let Some(keys) = options.keys else {
-        return Err(ConfKind::MissingWord);
-    };
-    let Some(size) = options.size else {
-        return Err(ConfKind::MissingWord);
-    };
-    Ok(LineReading {
-        statement: Statement::StickTable(TableWords {
-            keys,
-            size,
-            stores: Stores {
-                cur: options.stores_cur,
-                cnt: options.stores_cnt,
-            },
-        }),
-        repeats: options.repeats,
-        exceeds: size > 1_048_576,
-    })
 }
 
 /// A table.
 pub fn table<'a>(words: &[Word<'a>]) -> Result<LineReading<'a>, ConfKind>
     ensures { result ≡ table_of words.now }
 {
-    let options = all_words(words)?;
-    table_end(options.next)?;
-    table_by(options)
+    let options = all_options(words)?;
+    let (Some(keys), Some(size)) = (options.keys, options.size) else {
+        return Err(ConfKind::MissingWord);
+    };
+    Ok(LineReading {
+        statement: Statement::StickTable(TableWords {
+            keys,
+            size,
+            stores: options.stores,
+        }),
+        repeats: options.repeats,
+        exceeds: size > MOST_ENTRIES,
+    })
 }

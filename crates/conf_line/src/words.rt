@@ -1,5 +1,5 @@
 //! The words of a line, read from the left.
-ghost use Rattle.std.specs.Prelude.{◌≡◌};
+ghost use Rattle.std.specs.Prelude.{◌≡◌, ◌≤◌, drop, length};
 ghost use Rattle.std.specs.List.{list_all};
 ghost use Rattle.conf_line.specs.Words.{Sees, word_at, end_at, is_name_byte, name_at, number_at, address_at, wildcard_at, star_at, bind_at};
 ghost use Rattle.addr_core.specs.Text.{endpoint_of};
@@ -17,6 +17,17 @@ pub fn word_at<'a, 'w>(words: &'w [Word<'a>]) -> Result<(&'w Word<'a>, &'w [Word
     match words {
         [] => Err(ConfKind::MissingWord),
         [word, rest @ ..] => Ok((word, rest)),
+    }
+}
+
+/// The words after the first, if there is one.
+pub fn after_first<'a, 'w>(words: &'w [Word<'a>]) -> &'w [Word<'a>]
+    ensures after { result.now ≡ drop 1 words.now }
+    ensures shorter { length result.now ≤ length words.now }
+{
+    match words {
+        [] => words,
+        [_, rest @ ..] => rest,
     }
 }
 

@@ -19,6 +19,7 @@ use Rattle.conf_line.specs.declared.statement.Statement.TheVariants as statement
 use Rattle.conf_tree.specs.declared.claim.Claim.{Claim}
 use Rattle.conf_tree.specs.declared.claim.Claim.TheVariants as claims
 use Rattle.conf_line.specs.declared.statement.LineReading.{LineReading}
+use Rattle.conf_tree.specs.declared.limits.TheConstants.{MOST_SECTIONS, MOST_BINDS, MOST_RULES, MOST_SERVERS}
 use Rattle.conf_line.specs.Statements.{line_reading}
 
 -- Sections.
@@ -41,13 +42,20 @@ place_of place number statements.Global = record { kind = sections.Global; name 
 place_of place number statements.Defaults = record { kind = sections.Defaults; name = []; first = number }
 place_of place number (statements.Frontend name) = record { kind = sections.Frontend; name = name; first = number }
 place_of place number (statements.Backend name) = record { kind = sections.Backend; name = name; first = number }
-place_of place number other = place
+place_of place number statements.Nothing = place
+place_of place number (statements.MaxConn limit) = place
+place_of place number (statements.DefaultBackend name) = place
+place_of place number (statements.Balance method) = place
+place_of place number (statements.Bind at proxy) = place
+place_of place number (statements.Rule list action when) = place
+place_of place number (statements.StickTable table) = place
+place_of place number (statements.Server server) = place
 
 -- the lines of a section, of all those before
 abbrev pub section_lines : Place → List ConfigLine → List ConfigLine
 section_lines place items = drop place.first items
 
--- What may stand once.
+-- What may be given once.
 
 -- what a line claims for itself in the whole text: a frontend's name, a backend's name, an endpoint, or
 -- the table of a name
@@ -56,7 +64,14 @@ claim_of place (statements.Frontend name) = Some (claims.Frontend name)
 claim_of place (statements.Backend name) = Some (claims.Backend name)
 claim_of place (statements.Bind at proxy) = Some (claims.Endpoint at)
 claim_of place (statements.StickTable table) = Some (claims.Table place.name)
-claim_of place other = None
+claim_of place statements.Nothing = None
+claim_of place statements.Global = None
+claim_of place statements.Defaults = None
+claim_of place (statements.MaxConn limit) = None
+claim_of place (statements.DefaultBackend name) = None
+claim_of place (statements.Balance method) = None
+claim_of place (statements.Rule list action when) = None
+claim_of place (statements.Server server) = None
 
 abbrev pub same_claim : Claim → Claim → Bool
 same_claim (claims.Frontend a) (claims.Frontend b) = bytes_eq a b
@@ -103,7 +118,17 @@ is_bind other = false
 
 abbrev pub is_rule : Statement → Bool
 is_rule (statements.Rule list action when) = true
-is_rule other = false
+is_rule statements.Nothing = false
+is_rule statements.Global = false
+is_rule statements.Defaults = false
+is_rule (statements.Frontend name) = false
+is_rule (statements.Backend name) = false
+is_rule (statements.MaxConn limit) = false
+is_rule (statements.DefaultBackend name) = false
+is_rule (statements.Balance method) = false
+is_rule (statements.Bind at proxy) = false
+is_rule (statements.StickTable table) = false
+is_rule (statements.Server server) = false
 
 abbrev pub is_server : Statement → Bool
 is_server (statements.Server server) = true
@@ -118,12 +143,18 @@ lines_reach most test lines = nat_le most (length (filter (λ item. test item.st
 
 -- one line more of the kind is too many
 abbrev pub is_full : List ConfigLine → Place → Statement → Bool
-is_full items place (statements.Frontend name) = claims_reach 64 is_frontend items
-is_full items place (statements.Backend name) = claims_reach 64 is_backend items
-is_full items place (statements.Bind at proxy) = lines_reach 64 is_bind (section_lines place items)
-is_full items place (statements.Rule list action when) = lines_reach 256 is_rule (section_lines place items)
-is_full items place (statements.Server server) = lines_reach 64 is_server (section_lines place items)
-is_full items place other = false
+is_full items place (statements.Frontend name) = claims_reach MOST_SECTIONS is_frontend items
+is_full items place (statements.Backend name) = claims_reach MOST_SECTIONS is_backend items
+is_full items place (statements.Bind at proxy) = lines_reach MOST_BINDS is_bind (section_lines place items)
+is_full items place (statements.Rule list action when) = lines_reach MOST_RULES is_rule (section_lines place items)
+is_full items place (statements.Server server) = lines_reach MOST_SERVERS is_server (section_lines place items)
+is_full items place statements.Nothing = false
+is_full items place statements.Global = false
+is_full items place statements.Defaults = false
+is_full items place (statements.MaxConn limit) = false
+is_full items place (statements.DefaultBackend name) = false
+is_full items place (statements.Balance method) = false
+is_full items place (statements.StickTable table) = false
 
 -- a line that says this may stand behind those
 abbrev pub check_line : List ConfigLine → Place → LineReading → Result (Unit {0}) ConfKind
@@ -154,7 +185,17 @@ text_fault (Err f) = Err (record { line = f.line; kind = kinds.Text f.kind })
 
 abbrev pub has_effect : Statement → Bool
 has_effect statements.Nothing = false
-has_effect other = true
+has_effect statements.Global = true
+has_effect statements.Defaults = true
+has_effect (statements.Frontend name) = true
+has_effect (statements.Backend name) = true
+has_effect (statements.MaxConn limit) = true
+has_effect (statements.DefaultBackend name) = true
+has_effect (statements.Balance method) = true
+has_effect (statements.Bind at proxy) = true
+has_effect (statements.Rule list action when) = true
+has_effect (statements.StickTable table) = true
+has_effect (statements.Server server) = true
 
 -- the items of the lines that have an effect
 abbrev pub with_effect : List ConfigLine → List ConfigLine
@@ -175,6 +216,10 @@ items_of text = text_fault (lines_of text) >>= λ lines. items_in lines
 -- the items are, of what each line says in the light of those before it, all that has an effect
 abbrev pub AreItems : List ℕ → List ConfigLine → Type 0
 AreItems text items = (lines : List Line) × (all : List ConfigLine) × (lines_of text ≡ Ok lines) × IsRead next_item lines all × (items ≡ with_effect all)
+
+-- what is reported where memory ran out
+abbrev pub no_memory : ConfFault
+no_memory = record { line = 0; kind = kinds.NoMemory }
 
 -- f is the fault of the text's lines as text, or else of the first line that has one
 abbrev pub IsConfFault : List ℕ → ConfFault → Type 0

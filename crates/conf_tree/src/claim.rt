@@ -34,7 +34,14 @@ pub fn claim_of<'a>(place: &Place<'a>, statement: &Statement<'a>) -> Option<Clai
         Statement::Backend(name) => Some(Claim::Backend(name.again())),
         Statement::Bind(at, _) => Some(Claim::Endpoint(*at)),
         Statement::StickTable(_) => Some(Claim::Table(place.name.again())),
-        _ => None,
+        Statement::Nothing
+        | Statement::Global
+        | Statement::Defaults
+        | Statement::MaxConn(_)
+        | Statement::DefaultBackend(_)
+        | Statement::Balance(_)
+        | Statement::Rule(_, _, _)
+        | Statement::Server(_) => None,
     }
 }
 

@@ -5,9 +5,11 @@ pub use conf_line::{
     Action, ConfFault, ConfKind, KeyType, Method, Ruleset, SectionKind, ServerWords, Statement,
     Stores, TableWords, TrackWords,
 };
+pub use limits::{MOST_BINDS, MOST_RULES, MOST_SECTIONS, MOST_SERVERS};
 pub use reading::read_config;
 pub use tree::{ConfigLine, Place, Tree};
 
 mod claim;
+mod limits;
 mod reading;
 mod tree;

@@ -5,9 +5,10 @@ ghost use Rattle.list_core.specs.Each.{Fails, Gives, each};
 ghost use Rattle.conf_text.specs.Lines.{lines_of, AreLines};
 ghost use Rattle.conf_line.specs.declared.fault.ConfFault.{ConfFault};
 ghost use Rattle.conf_tree.specs.declared.tree.ConfigLine.{ConfigLine};
-ghost use Rattle.conf_tree.specs.Config.{outside, place_after, place_of, section_lines, claim_of, claims_of, is_server_named, has_server, is_taken, is_bind, is_rule, is_server, lines_reach, is_full, check_line, line_after, item_after, text_fault, has_effect, items_in, items_of, AreItems, IsConfFault};
+ghost use Rattle.conf_tree.specs.Config.{outside, place_after, place_of, section_lines, claim_of, claims_of, is_server_named, has_server, is_taken, is_bind, is_rule, is_server, lines_reach, is_full, check_line, line_after, item_after, text_fault, has_effect, items_in, items_of, AreItems, IsConfFault, no_memory};
 
 use crate::claim::{Claims, claim_of};
+use crate::limits::{MOST_BINDS, MOST_RULES, MOST_SECTIONS, MOST_SERVERS};
 use crate::tree::{ConfigLine, Place, Tree};
 use conf_line::{ConfFault, ConfKind, LineReading, SectionKind, Statement, read_line};
 use conf_text::{Line, LineKind, Lines};
@@ -71,7 +72,14 @@ fn place_of<'a>(place: Place<'a>, number: usize, statement: &Statement<'a>) -> P
             name: name.again(),
             first: number,
         },
-        _ => place,
+        Statement::Nothing
+        | Statement::MaxConn(_)
+        | Statement::DefaultBackend(_)
+        | Statement::Balance(_)
+        | Statement::Bind(_, _)
+        | Statement::Rule(_, _, _)
+        | Statement::StickTable(_)
+        | Statement::Server(_) => place,
     }
 }
 
@@ -143,12 +151,12 @@ fn rule_count(lines: &[ConfigLine]) -> usize
 
 /// Whether there are as many rules as may stand. Short sections need no look at their lines.
 fn are_rules(lines: &[ConfigLine]) -> bool
-    ensures { result ≡ lines_reach 256 is_rule lines.now }
+    ensures { result ≡ lines_reach MOST_RULES is_rule lines.now }
 {
-    if lines.len() < 256 {
+    if lines.len() < MOST_RULES {
         return false;
     }
-    rule_count(lines) >= 256
+    rule_count(lines) >= MOST_RULES
 }
 
 fn server_count(lines: &[ConfigLine]) -> usize
@@ -175,12 +183,18 @@ fn is_full(items: &[ConfigLine], taken: &Claims, place: &Place, statement: &Stat
     ensures { result ≡ is_full items.now place.now statement.now }
 {
     match statement {
-        Statement::Frontend(_) => taken.frontends() >= 64,
-        Statement::Backend(_) => taken.backends() >= 64,
-        Statement::Bind(_, _) => bind_count(section_lines(place, items)) >= 64,
+        Statement::Frontend(_) => taken.frontends() >= MOST_SECTIONS,
+        Statement::Backend(_) => taken.backends() >= MOST_SECTIONS,
+        Statement::Bind(_, _) => bind_count(section_lines(place, items)) >= MOST_BINDS,
         Statement::Rule(_, _, _) => are_rules(section_lines(place, items)),
-        Statement::Server(_) => server_count(section_lines(place, items)) >= 64,
-        _ => false,
+        Statement::Server(_) => server_count(section_lines(place, items)) >= MOST_SERVERS,
+        Statement::Nothing
+        | Statement::Global
+        | Statement::Defaults
+        | Statement::MaxConn(_)
+        | Statement::DefaultBackend(_)
+        | Statement::Balance(_)
+        | Statement::StickTable(_) => false,
     }
 }
 
@@ -302,9 +316,9 @@ fn tree_in(alloc: Global, text: &str) -> Result<Tree, Stop<ConfFault>>
     Ok(Tree::of(items))
 }
 
-/// What is told of a stop; want of memory on line 0.
+/// The fault of a stop; want of memory is on line 0.
 fn fault_of(stop: Stop<ConfFault>) -> ConfFault
-    ensures { (read : Result (List ConfigLine) ConfFault) → Fails stop read → (result.kind ≡ ConfKind.NoMemory) ⊎ (read ≡ Err result) }
+    ensures { (read : Result (List ConfigLine) ConfFault) → Fails stop read → (result ≡ no_memory) ⊎ (read ≡ Err result) }
 {
     match stop {
         Stop::Fault(fault) => fault,
@@ -315,16 +329,16 @@ fn fault_of(stop: Stop<ConfFault>) -> ConfFault
     }
 }
 
-/// What the lines of a text say that have an effect, or the fault of the least faulty line. Want of
-/// memory is told on line 0.
+/// What the lines of a text say that have an effect, or the fault of the first faulty line. Want of
+/// memory is `NoMemory` on line 0.
 pub fn read_config(alloc: Global, text: &str) -> Result<Tree, ConfFault>
     ensures ok { IfOk result (λ tree. items_of text.now ≡ Ok tree) }
-    ensures fault { IfErr result (λ f. (f.kind ≡ ConfKind.NoMemory) ⊎ (items_of text.now ≡ Err f)) }
+    ensures fault { IfErr result (λ f. (f ≡ no_memory) ⊎ (items_of text.now ≡ Err f)) }
 
     // So each line says what it says in the light of those before it, and the fault is that of the
     // text, or else of the first line that has one.
     ensures each_line { IfOk result (λ tree. AreItems text.now tree) }
-    ensures first_fault { IfErr result (λ f. (f.kind ≡ ConfKind.NoMemory) ⊎ IsConfFault text.now f) }
+    ensures first_fault { IfErr result (λ f. (f ≡ no_memory) ⊎ IsConfFault text.now f) }
 {
     match tree_in(alloc, text) {
         Ok(tree) => Ok(tree),

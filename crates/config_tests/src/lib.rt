@@ -1,14 +1,14 @@
-//! Tests of `acl_core`, `conf_text`, `conf_tree` and `plan_core`, by worked examples. The patterns of numbers are those of
-//! the HAProxy manual, "matching integers".
+//! Tests of `acl_core`, `conf_text`, `conf_tree` and `plan_core`, by worked examples: what no output of the program
+//! shows. Which texts are right, and the fault of each that is not, are cases in `tests/check`.
 #![tactic(auto)]
 
 #[cfg(test)]
-mod acl;
+mod binds;
 #[cfg(test)]
-mod compile;
+mod conditions;
+#[cfg(test)]
+mod lines;
 #[cfg(test)]
 mod plan;
-#[cfg(test)]
-mod text;
 #[cfg(test)]
 mod tree;

@@ -1,189 +1,116 @@
-//! A plan and its copy, field by field.
-use acl_core::{Cond, When};
-use addr_core::{Addr, Endpoint};
-use list_core::{Duplicate, Seq};
-use plan_core::{
-    Action, Backend, Bind, Choice, Frontend, KeyType, Method, Plan, Rule, Section, Server, Stores,
-    Table, TableId, Track,
-};
+use acl_core::When;
+use addr_core::Addr;
+use conf_tree::read_config;
+use plan_core::{Action, Backend, Frontend, KeyType, Method, Plan, Section, Table, compile};
 use std::alloc::Global;
-use std::fmt::Debug;
+use std::process::Abort;
 use std::test::Fail;
 
-fn one<T: Drop + Debug>(alloc: Global, item: T) -> Result<Seq<T>, Fail> {
-    let mut list = Seq::new(alloc);
-    list.push(item)?;
-    Ok(list)
+/// Two `defaults`, sections of one name, and tables of frontends and backends mixed.
+const TEXT: &str =
+    "defaults\nmaxconn 9\nmaxconn 10\nbalance source\ndefault_backend x\nbackend x\nstick-table type ip size 1k store conn_cur\nbalance roundrobin\nbalance leastconn\nserver s1 10.0.0.1:80\nserver s2 [::2]:81 weight 256 maxconn 4 disabled send-proxy-v2\nfrontend a\nbind :80\ntcp-request connection reject\ntcp-request session accept if { fe_conn 5 }\ntcp-request connection track-sc0 src\ntcp-request session track-sc1 src table c\ntcp-request connection track-sc2 src table x\nstick-table type ipv6 size 7 store conn_cnt\nbackend c\nstick-table type ip size 2\nserver s1 10.0.0.3:80 weight 0 send-proxy\nfrontend c\nmaxconn 5\nmaxconn 7\ndefault_backend a\nbind :81\ntcp-request connection track-sc0 src table a\ndefaults\nfrontend d\nbind 127.0.0.1:82 accept-proxy\nbind [::1]:82\nbackend a\n";
+
+/// A copy of the plan of the text.
+fn plan(alloc: Global) -> Result<Plan, Fail> {
+    let tree = read_config(alloc, TEXT).ok().ok_or("a wrong line")?;
+    let plan = compile(alloc, &tree).ok().ok_or("a text without a plan")?;
+    Ok(plan.copy(alloc)?)
 }
 
-fn name(alloc: Global, text: &str) -> Result<Seq<u8>, Fail> {
-    Ok(Seq::duplicate_of(alloc, text.as_bytes())?)
-}
-
-fn sample_frontend(alloc: Global) -> Result<Frontend, Fail> {
-    let at = Endpoint {
-        addr: Addr::V4(0x7F00_0001),
-        port: 9000,
+fn check_frontends(rt: &impl Abort, frontends: &[Frontend]) -> Result<(), Fail> {
+    let wanted: [(&[u8], u32, u64, u32, Option<u16>, usize); 3] = [
+        (b"a", 12, 10, 3, Some(0), 1),
+        (b"c", 23, 7, 25, Some(2), 1),
+        (b"d", 30, 2000, 30, None, 2),
+    ];
+    assert_eq!(rt; frontends.len(), wanted.len());
+    for (frontend, (name, line, limit, limit_line, default, binds)) in frontends
+        .iter()
+        .zip(wanted)
+    {
+        assert!(rt; frontend.name.as_slice() == name);
+        assert_eq!(rt; (frontend.line, frontend.limit), (line, limit));
+        assert_eq!(rt; frontend.limit_line, limit_line);
+        assert_eq!(rt; (frontend.default, frontend.binds.len()), (default, binds));
+        assert!(rt; frontend.choices.is_empty());
+    }
+    let [first, second] = frontends.last().ok_or("a frontend")?.binds.as_slice() else {
+        return Err(Fail::from("two binds"));
     };
-    let rejecting = Rule {
-        line: 3,
-        action: Action::Reject,
-        when: When::If(Cond {
-            groups: Seq::new(alloc),
-        }),
-    };
-    let tracking = Rule {
-        line: 4,
-        action: Action::Track(2, 7),
-        when: When::Always,
-    };
-    let choice = Choice {
-        line: 5,
-        when: When::Unless(Cond {
-            groups: Seq::new(alloc),
-        }),
-        backend: 1,
-    };
-    Ok(Frontend {
-        name: name(alloc, "web")?,
-        line: 1,
-        binds: one(
-            alloc,
-            Bind {
-                at,
-                accept_proxy: true,
-            },
-        )?,
-        limit: 2000,
-        limit_line: 2,
-        connection_rules: one(alloc, rejecting)?,
-        session_rules: one(alloc, tracking)?,
-        choices: one(alloc, choice)?,
-        default: Some(0),
-    })
-}
-
-fn sample_backend(alloc: Global) -> Result<Backend, Fail> {
-    let to = Endpoint {
-        addr: Addr::V4(0x0A00_0014),
-        port: 80,
-    };
-    let server = Server {
-        name: name(alloc, "s")?,
-        line: 8,
-        to,
-        weight: 256,
-        limit: 30,
-        disabled: true,
-        send_proxy: false,
-        send_proxy_v2: true,
-    };
-    Ok(Backend {
-        name: name(alloc, "app")?,
-        line: 7,
-        method: Method::LeastConn,
-        servers: one(alloc, server)?,
-    })
-}
-
-fn sample_plan(alloc: Global) -> Result<Plan, Fail> {
-    let table = Table {
-        section: Section::Backend,
-        name: name(alloc, "app")?,
-        kind: KeyType::Ipv6,
-        size: 100_000,
-        stores: Stores {
-            cur: false,
-            cnt: true,
-        },
-    };
-    Ok(Plan {
-        frontends: one(alloc, sample_frontend(alloc)?)?,
-        backends: one(alloc, sample_backend(alloc)?)?,
-        tables: one(alloc, table)?,
-    })
-}
-
-#[test]
-fn a_copy_has_the_frontend(rt: HostRuntime) -> Result<(), Fail> {
-    let plan = sample_plan(rt.alloc())?.copy(rt.alloc())?;
-    assert_eq!(rt; plan.frontends.len(), 1);
-    let frontend = &plan.frontends.as_slice()[0];
-    assert_eq!(rt; frontend.name.as_slice(), b"web".as_slice());
-    assert_eq!(rt; frontend.line, 1);
-    assert_eq!(rt; frontend.binds.len(), 1);
-    let bind = frontend.binds.as_slice()[0];
-    assert_eq!(rt; bind.at.addr, Addr::V4(0x7F00_0001));
-    assert_eq!(rt; bind.at.port, 9000);
-    assert!(rt; bind.accept_proxy);
-    assert_eq!(rt; (frontend.limit, frontend.limit_line), (2000, 2));
-    assert_eq!(rt; frontend.default, Some(0));
+    assert!(rt; first.accept_proxy && !second.accept_proxy);
+    assert!(rt; first.at.addr == Addr::V4(0x7F00_0001) && first.at.port == 82);
+    assert!(rt; second.at.addr == Addr::V6(1));
     Ok(())
 }
 
-#[test]
-fn a_copy_has_the_rules(rt: HostRuntime) -> Result<(), Fail> {
-    let frontend = sample_frontend(rt.alloc())?.duplicate(rt.alloc())?;
-    assert_eq!(rt; frontend.connection_rules.len(), 1);
-    let rule = &frontend.connection_rules.as_slice()[0];
-    assert_eq!(rt; (rule.line, rule.action), (3, Action::Reject));
-    assert!(rt; matches!(&rule.when, When::If(_)));
-    assert_eq!(rt; frontend.session_rules.len(), 1);
-    let rule = &frontend.session_rules.as_slice()[0];
-    assert_eq!(rt; (rule.line, rule.action), (4, Action::Track(2, 7)));
-    assert!(rt; matches!(&rule.when, When::Always));
-    assert_eq!(rt; frontend.choices.len(), 1);
-    let choice = &frontend.choices.as_slice()[0];
-    assert_eq!(rt; (choice.line, choice.backend), (5, 1));
-    assert!(rt; matches!(&choice.when, When::Unless(_)));
+fn check_rules(rt: &impl Abort, frontend: &Frontend) -> Result<(), Fail> {
+    let [first, second, third] = frontend.connection_rules.as_slice() else {
+        return Err(Fail::from("three rules of connections"));
+    };
+    assert_eq!(rt; (first.line, second.line, third.line), (14, 16, 18));
+    assert!(rt; matches!(&first.action, Action::Reject));
+    assert!(rt; matches!(&first.when, When::Always));
+    assert!(rt; matches!(&second.action, Action::Track(0, 1)));
+    assert!(rt; matches!(&third.action, Action::Track(2, 0)));
+    let [first, second] = frontend.session_rules.as_slice() else {
+        return Err(Fail::from("two rules of sessions"));
+    };
+    assert_eq!(rt; (first.line, second.line), (15, 17));
+    assert!(rt; matches!(&first.action, Action::Accept));
+    assert!(rt; matches!(&first.when, When::If(_)));
+    assert!(rt; matches!(&second.action, Action::Track(1, 2)));
     Ok(())
 }
 
-#[test]
-fn a_copy_has_the_backend_and_the_table(rt: HostRuntime) -> Result<(), Fail> {
-    let plan = sample_plan(rt.alloc())?.duplicate(rt.alloc())?;
-    assert_eq!(rt; plan.backends.len(), 1);
-    let backend = &plan.backends.as_slice()[0];
-    assert_eq!(rt; backend.name.as_slice(), b"app".as_slice());
-    assert_eq!(rt; (backend.line, backend.method), (7, Method::LeastConn));
-    assert_eq!(rt; backend.servers.len(), 1);
-    let server = &backend.servers.as_slice()[0];
-    assert_eq!(rt; server.name.as_slice(), b"s".as_slice());
-    assert_eq!(rt; server.line, 8);
-    assert_eq!(rt; server.to.addr, Addr::V4(0x0A00_0014));
-    assert_eq!(rt; server.to.port, 80);
-    assert_eq!(rt; (server.weight, server.limit), (256, 30));
+fn check_backends(rt: &impl Abort, backends: &[Backend]) -> Result<(), Fail> {
+    let [x, c, a] = backends else {
+        return Err(Fail::from("three backends"));
+    };
+    assert_eq!(rt; (x.line, c.line, a.line), (6, 20, 33));
+    assert!(rt; a.name.as_slice() == b"a".as_slice() && a.servers.is_empty());
+    assert!(rt; matches!(&x.method, Method::LeastConn));
+    assert!(rt; matches!(&c.method, Method::Source));
+    assert!(rt; matches!(&a.method, Method::RoundRobin));
+    let ([first, second], [other]) = (x.servers.as_slice(), c.servers.as_slice()) else {
+        return Err(Fail::from("three servers"));
+    };
+    assert_eq!(rt; (first.line, first.weight, first.limit), (10, 1, 0));
+    assert!(rt; !first.disabled && !first.send_proxy && !first.send_proxy_v2);
+    assert!(rt; second.name.as_slice() == b"s2".as_slice());
+    assert_eq!(rt; (second.line, second.weight, second.limit), (11, 256, 4));
+    assert!(rt; second.to.addr == Addr::V6(2) && second.to.port == 81);
+    assert!(rt; second.disabled && !second.send_proxy && second.send_proxy_v2);
+    assert_eq!(rt; (other.line, other.weight, other.send_proxy), (22, 0, true));
+    Ok(())
+}
+
+fn check_tables(rt: &impl Abort, tables: &[Table]) -> Result<(), Fail> {
+    let [x, a, c] = tables else {
+        return Err(Fail::from("three tables"));
+    };
+    assert!(rt; a.name.as_slice() == b"a".as_slice());
+    assert_eq!(rt; (x.size, a.size, c.size), (1024, 7, 2));
     assert_eq!(rt;
-        (server.disabled, server.send_proxy, server.send_proxy_v2),
-        (true, false, true)
-    );
-    assert_eq!(rt; plan.tables.len(), 1);
-    let table = &plan.tables.as_slice()[0];
-    assert_eq!(rt; table.name.as_slice(), b"app".as_slice());
-    assert_eq!(rt;
-        (table.section, table.kind),
-        (Section::Backend, KeyType::Ipv6)
+        (x.stores.cur, a.stores.cur, c.stores.cur),
+        (true, false, false)
     );
     assert_eq!(rt;
-        (table.size, table.stores.cur, table.stores.cnt),
-        (100_000, false, true)
+        (x.stores.cnt, a.stores.cnt, c.stores.cnt),
+        (false, true, false)
     );
+    assert!(rt; matches!(&x.section, Section::Backend));
+    assert!(rt; matches!(&a.section, Section::Frontend));
+    assert!(rt; matches!(&a.kind, KeyType::Ipv6));
+    assert!(rt; matches!(&c.kind, KeyType::Ip));
     Ok(())
 }
 
 #[test]
-fn a_copy_of_a_track(rt: HostRuntime) -> Result<(), Fail> {
-    assert_eq!(rt; Track::default().counter, 0);
-    let table = TableId {
-        version: 4,
-        position: 2,
-    };
-    let track = Track {
-        counter: 1,
-        table: table.duplicate(rt.alloc())?,
-        key: Addr::V4(7),
-    };
-    assert_eq!(rt; track.duplicate(rt.alloc())?, track);
-    assert_eq!(rt; (track.table.version, track.table.position), (4, 2));
-    Ok(())
+fn the_plan_of_a_text(rt: HostRuntime) -> Result<(), Fail> {
+    let plan = plan(rt.alloc())?;
+    let frontends = plan.frontends.as_slice();
+    check_frontends(&rt, frontends)?;
+    check_rules(&rt, frontends.first().ok_or("a frontend")?)?;
+    check_backends(&rt, plan.backends.as_slice())?;
+    check_tables(&rt, plan.tables.as_slice())
 }

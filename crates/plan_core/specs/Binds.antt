@@ -51,3 +51,7 @@ has_binds_of plan frontend = list_all (has_named_bind plan frontend.name) fronte
 
 abbrev pub has_all_binds : Plan → Plan → Bool
 has_all_binds plan other = list_all (has_binds_of plan) other.frontends
+
+-- each plan has all binds of the other
+abbrev pub same_binds : Plan → Plan → Bool
+same_binds a b = has_all_binds a b && has_all_binds b a

@@ -44,6 +44,10 @@ least (fault ∷ rest) = earliest (Some fault) (least rest)
 abbrev pub IsLeast : List PlanFault → PlanFault → Type 0
 IsLeast faults fault = Contains faults fault × All (λ other. is_before other fault ≡ false) faults
 
+-- what is reported where memory ran out
+abbrev pub no_memory : PlanFault
+no_memory = record { line = 0; kind = kinds.NoMemory }
+
 -- The faults of a frontend.
 
 -- no `bind` line: told on the line that opens the frontend

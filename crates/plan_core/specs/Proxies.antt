@@ -21,7 +21,14 @@ opens statements.Global = true
 opens statements.Defaults = true
 opens (statements.Frontend name) = true
 opens (statements.Backend name) = true
-opens other = false
+opens statements.Nothing = false
+opens (statements.MaxConn limit) = false
+opens (statements.DefaultBackend name) = false
+opens (statements.Balance method) = false
+opens (statements.Bind at proxy) = false
+opens (statements.Rule list action when) = false
+opens (statements.StickTable table) = false
+opens (statements.Server server) = false
 
 -- the lines up to the next section
 abbrev pub own_lines : List ConfigLine → List ConfigLine

@@ -1,9 +1,9 @@
 //! The binds of two plans compared.
-ghost use Rattle.std.specs.Prelude.{◌≡◌, ◌↔◌, ◌&&◌, ◌==◌, IsTrue};
+ghost use Rattle.std.specs.Prelude.{◌≡◌, ◌↔◌, IsTrue};
 ghost use Rattle.std.specs.List.{list_any, list_all};
 ghost use Rattle.std.specs.Str.{bytes_eq};
 ghost use Rattle.addr_core.specs.Same.{same_endpoint};
-ghost use Rattle.plan_core.specs.Binds.{same_flag, same_bind, has_bind, has_named_bind, has_binds_of, has_all_binds, SameBinds};
+ghost use Rattle.plan_core.specs.Binds.{same_flag, same_bind, has_bind, has_named_bind, has_binds_of, has_all_binds, same_binds, SameBinds};
 
 use plan_types::{Bind, Frontend, Plan};
 
@@ -74,17 +74,11 @@ fn has_all_binds(plan: &Plan, other: &Plan) -> bool
         .all(|frontend| has_binds_of(plan, frontend))
 }
 
-/// Whether each of two plans has all binds of the other.
-fn same_binds_both_ways(a: &Plan, b: &Plan) -> bool
-    ensures { result ≡ (has_all_binds a.now b.now && has_all_binds b.now a.now) }
-{
-    has_all_binds(a, b) && has_all_binds(b, a)
-}
-
 /// Whether two plans have the same binds: the same set of frontend's name, address, port and
 /// `accept-proxy`, in whatever order. It takes no memory.
 pub fn same_binds(a: &Plan, b: &Plan) -> bool
-    ensures { IsTrue result ↔ SameBinds a.now b.now }
+    ensures value { result ≡ same_binds a.now b.now }
+    ensures same { IsTrue result ↔ SameBinds a.now b.now }
 {
-    same_binds_both_ways(a, b)
+    has_all_binds(a, b) && has_all_binds(b, a)
 }

@@ -25,9 +25,9 @@ pub struct PlanFault {
 
 impl From<AllocError> for PlanFault {
     ghost use Rattle.std.specs.Prelude.{◌≡◌};
-    ghost use Rattle.plan_core.specs.declared.fault.PlanKind.TheVariants.{NoMemory};
+    ghost use Rattle.plan_core.specs.Faults.{no_memory};
 
-    ghost from_gives = { λ _ fault. fault.kind ≡ NoMemory };
+    ghost from_gives = { λ _ fault. fault ≡ no_memory };
 
     fn from(_error: AllocError) -> PlanFault {
         PlanFault {

@@ -2,8 +2,7 @@
 ghost use Rattle.std.specs.Prelude.{◌≡◌, ◌⊎◌, ◌≤◌, [], length, map, IfOk, IfErr, Ok, Err};
 ghost use Rattle.conf_tree.specs.Few.{FewSections};
 ghost use Rattle.plan_core.specs.Compiled.{backend_of, backends_in, default_number, frontend_of, plan_faults, plan_of};
-ghost use Rattle.plan_core.specs.declared.fault.PlanKind.TheVariants.{NoMemory};
-ghost use Rattle.plan_core.specs.Faults.{IsLeast};
+ghost use Rattle.plan_core.specs.Faults.{IsLeast, no_memory};
 ghost use Rattle.plan_core.specs.Fields.{tables_in};
 ghost use Rattle.plan_types.specs.Lines.{LinesDiffer};
 ghost use Rattle.plan_core.specs.Proxies.{frontends, backends};
@@ -101,15 +100,15 @@ fn frontends_in(
     Ok(list)
 }
 
-/// The plan of a configuration whose lines are right. Otherwise the least of its faults: that of the least
-/// line, and on one line the first kind in the order of `PlanKind`. Without any frontend it is
-/// `NoFrontend` on line 0. Want of memory is told on line 0.
+/// The plan of a configuration whose lines are right. Otherwise the first of its faults: that of the first
+/// faulty line, and on one line the first kind in the order of `PlanKind`. Without any frontend it is
+/// `NoFrontend` on line 0. Want of memory is `NoMemory` on line 0.
 pub fn compile(alloc: Global, tree: &Tree) -> Result<Plan, PlanFault>
     ensures ok { IfOk result (λ plan. plan_of tree.now ≡ Ok plan) }
-    ensures fault { IfErr result (λ f. (f.kind ≡ NoMemory) ⊎ (plan_of tree.now ≡ Err f)) }
-    // A fault is one of all that stand against the plan, and none comes before it.
-    ensures least { IfErr result (λ f. (f.kind ≡ NoMemory) ⊎ IsLeast (plan_faults tree.now) f) }
-    // No fault at all stands against a plan that is made.
+    ensures fault { IfErr result (λ f. (f ≡ no_memory) ⊎ (plan_of tree.now ≡ Err f)) }
+    // A fault is one of all that the plan has, and none comes before it.
+    ensures least { IfErr result (λ f. (f ≡ no_memory) ⊎ IsLeast (plan_faults tree.now) f) }
+    // A plan that is made has no fault at all.
     ensures whole { IfOk result (λ _. plan_faults tree.now ≡ []) }
     // No two backends have servers of one line.
     ensures lines { IfOk result LinesDiffer }

@@ -1,0 +1,127 @@
+-- One option more.
+use Rattle.std.proofs.Common.{◌≡◌, ℕ, suc, ◌+◌, ◌≤◌, ◌-◌, take, drop, ◌||◌, ◌&&◌, Bool, true, false, nat_lt, List, [], ◌∷◌, ◌++◌, length, filter, Option, Some, None, Result, Ok, Err, refl, sym, ap, ◌∙◌, append_assoc, if◌then◌else◌}
+use native.Mathlib.Omega.{arith}
+use Rattle.std.specs.Prelude.{is_some}
+use Rattle.std.proofs.Math.Seq.{take-length}
+use Rattle.std.specs.List.{list_any}
+use Rattle.std.specs.Option.{option_or}
+use Rattle.std.proofs.lemmas.Bool.Decides.{nat_tests}
+use Rattle.proxy_types.specs.declared.table.KeyType.{KeyType}
+use Rattle.proxy_types.specs.declared.table.Stores.{Stores}
+use Rattle.conf_line.specs.declared.statement.TableOption.{TableOption}
+use Rattle.conf_line.specs.declared.statement.TableOption.TheVariants as options
+use Rattle.list_core.specs.Each.{◌>>=◌}
+use Rattle.conf_line.specs.Servers.{has_value, server_flag, server_options}
+use Rattle.conf_line.specs.Words.{last_of, onto, after}
+use Rattle.conf_line.specs.Tables.{option_keys, option_size, is_keys, is_size, has_repeat}
+
+or_none : {Y : Type 0} (a : Option Y) → option_or a None ≡ a
+or_none None = refl
+or_none (Some y) = refl
+
+or_assoc : {Y : Type 0} (a b c : Option Y) → option_or (option_or a b) c ≡ option_or a (option_or b c)
+or_assoc None b c = refl
+or_assoc (Some a) b c = refl
+
+pub last_more : {X Y : Type 0} (value : X → Option Y) (xs : List X) (x : X) → last_of value (xs ++ x ∷ []) ≡ option_or (value x) (last_of value xs)
+last_more value [] x = sym (or_none (value x))
+last_more value (y ∷ xs) x = ap (λ o. option_or o (value y)) (last_more value xs x) ∙ or_assoc (value x) (last_of value xs) (value y)
+
+any_assoc : (a b c : Bool) → (a || (b || c)) ≡ ((a || b) || c)
+any_assoc true b c = refl
+any_assoc false b c = refl
+
+any_one : (a : Bool) → (a || false) ≡ a
+any_one true = refl
+any_one false = refl
+
+pub any_more : {X : Type 0} (test : X → Bool) (xs : List X) (x : X) → list_any test (xs ++ x ∷ []) ≡ (list_any test xs || test x)
+any_more test [] x = any_one (test x)
+any_more test (y ∷ xs) x = ap (λ b. test y || b) (any_more test xs x) ∙ any_assoc (test y) (list_any test xs) (test x)
+
+count_more : {X : Type 0} (test : X → Bool) (xs : List X) (x : X) → length (filter test (xs ++ x ∷ [])) ≡ length (filter test xs) + (if test x then 1 else 0)
+count_more test [] x = by (test x)
+  where
+    by : (b : Bool) → length (if b then x ∷ [] else []) ≡ 0 + (if b then 1 else 0)
+    by true = refl
+    by false = refl
+count_more test (y ∷ xs) x = by (count_more test xs x) (test y) (if test x then 1 else 0)
+  where
+    by : length (filter test (xs ++ x ∷ [])) ≡ length (filter test xs) + (if test x then 1 else 0) → (b : Bool) (n : ℕ) →
+        length (if b then y ∷ filter test (xs ++ x ∷ []) else filter test (xs ++ x ∷ [])) ≡ length (if b then y ∷ filter test xs else filter test xs) + (if test x then 1 else 0)
+    by more true n = ap (λ m. suc m) more ∙ (omega arith)
+    by more false n = more
+
+positive : (n : ℕ) → nat_lt 0 (suc n) ≡ true
+positive n = grind (arith, nat_tests)
+
+some_keys : (all : List TableOption) → is_some (last_of option_keys all) ≡ nat_lt 0 (length (filter is_keys all))
+some_keys [] = refl
+some_keys (options.Keys keys ∷ all) = by (last_of option_keys all) ∙ sym (positive (length (filter is_keys all)))
+  where
+    by : (o : Option KeyType) → is_some (option_or o (Some keys)) ≡ true
+    by None = refl
+    by (Some k) = refl
+some_keys (options.Size size ∷ all) = by (last_of option_keys all) (some_keys all)
+  where
+    by : (o : Option KeyType) → is_some o ≡ nat_lt 0 (length (filter is_keys all)) → is_some (option_or o None) ≡ nat_lt 0 (length (filter is_keys all))
+    by None is = is
+    by (Some k) is = is
+some_keys (options.Store stores ∷ all) = by (last_of option_keys all) (some_keys all)
+  where
+    by : (o : Option KeyType) → is_some o ≡ nat_lt 0 (length (filter is_keys all)) → is_some (option_or o None) ≡ nat_lt 0 (length (filter is_keys all))
+    by None is = is
+    by (Some k) is = is
+
+some_size : (all : List TableOption) → is_some (last_of option_size all) ≡ nat_lt 0 (length (filter is_size all))
+some_size [] = refl
+some_size (options.Keys keys ∷ all) = by (last_of option_size all) (some_size all)
+  where
+    by : (o : Option ℕ) → is_some o ≡ nat_lt 0 (length (filter is_size all)) → is_some (option_or o None) ≡ nat_lt 0 (length (filter is_size all))
+    by None is = is
+    by (Some k) is = is
+some_size (options.Size size ∷ all) = by (last_of option_size all) ∙ sym (positive (length (filter is_size all)))
+  where
+    by : (o : Option ℕ) → is_some (option_or o (Some size)) ≡ true
+    by None = refl
+    by (Some k) = refl
+some_size (options.Store stores ∷ all) = by (last_of option_size all) (some_size all)
+  where
+    by : (o : Option ℕ) → is_some o ≡ nat_lt 0 (length (filter is_size all)) → is_some (option_or o None) ≡ nat_lt 0 (length (filter is_size all))
+    by None is = is
+    by (Some k) is = is
+
+more_numbers : (n m : ℕ) (k s : Bool) → (nat_lt 1 (n + (if k then 1 else 0)) || nat_lt 1 (m + (if s then 1 else 0))) ≡ ((nat_lt 1 n || nat_lt 1 m) || ((k && nat_lt 0 n) || (s && nat_lt 0 m)))
+more_numbers n m true true = grind (arith, nat_tests)
+more_numbers n m true false = grind (arith, nat_tests)
+more_numbers n m false true = grind (arith, nat_tests)
+more_numbers n m false false = grind (arith, nat_tests)
+
+pub repeat_more : (all : List TableOption) (option : TableOption) →
+    has_repeat (all ++ option ∷ []) ≡ (has_repeat all || ((is_keys option && is_some (last_of option_keys all)) || (is_size option && is_some (last_of option_size all))))
+repeat_more all option =
+    rw (count_more is_keys all option, count_more is_size all option, some_keys all, some_size all)
+    (more_numbers (length (filter is_keys all)) (length (filter is_size all)) (is_keys option) (is_size option))
+
+pub after_more : {X F : Type 0} (done : List X) (x : X) (more : Result (List X) F) → after (done ++ x ∷ []) more ≡ after done (onto x more)
+after_more done x (Err fault) = refl
+after_more done x (Ok more) = ap (λ xs. Ok xs) (append_assoc done (x ∷ []) more)
+
+pub after_err : {X F : Type 0} (done : List X) (read : Result (List X) F) (fault : F) → read ≡ Err fault → after done read ≡ Err fault
+after_err done read fault is = rw is refl
+
+-- The words after an option.
+
+pub flag_first : (name : List ℕ) (words : List (List ℕ)) → has_value name ≡ false → server_options (name ∷ words) ≡ (server_flag name >>= λ option. onto option (server_options words))
+flag_first name [] is = rw is refl
+flag_first name (value ∷ words) is = rw is refl
+
+pub drop_one : {X : Type 0} (xs : List X) → length (drop 1 xs) ≤ length xs
+drop_one [] = (omega arith)
+drop_one (x ∷ xs) = (omega arith)
+
+pub take_rest : {X : Type 0} (xs : List X) → take (length xs - 1) (drop 1 xs) ≡ drop 1 xs
+take_rest [] = refl
+take_rest (x ∷ xs) =
+    let same : suc (length xs) - 1 ≡ length xs = omega arith in
+    ap (λ n. take n xs) same ∙ take-length xs
