@@ -10,10 +10,9 @@ use crate::fault::ConfKind;
 use crate::limits::MOST_ENTRIES;
 use crate::statement::{LineReading, Statement, TableOption, TableWords};
 use crate::words::{after_first, number_at};
-use addr_core::parts::cut_at;
 use list_core::newest;
 use proxy_types::{KeyType, Stores};
-use text_core::Word;
+use text_core::{Word, cut_at};
 
 /// How much the word's unit stands for.
 fn unit_of(word: &[u8]) -> u64

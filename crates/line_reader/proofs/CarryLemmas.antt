@@ -3,9 +3,10 @@ use Rattle.std.proofs.Common.{◌≡◌, ℕ, ◌+◌, ◌-◌, ◌<◌, ◌≤�
 use Rattle.std.specs.Prelude.{slice_index}
 use Rattle.std.proofs.lemmas.List.{drop-drop, drop-take}
 use Rattle.std.proofs.Math.Seq.{take-length}
+use Rattle.std.specs.List.{onto_first}
 use Rattle.memchr.specs.Find.{Nowhere, Passes}
-use Rattle.conf_text.specs.Parts.{parts, is_line_feed, onto_first}
-use Rattle.line_reader.specs.Unended.{onto, BeginsTooLong, BeginsWithLine, IsUnended}
+use Rattle.text_core.specs.Parts.{parts, is_line_feed, onto, IsUnended}
+use Rattle.line_reader.specs.Unended.{BeginsTooLong, BeginsWithLine}
 use Rattle.line_reader.specs.declared.lines.TheConstants.{MOST_LINE_BYTES}
 use Rattle.line_reader.proofs.LineLemmas.{part_found, unended}
 

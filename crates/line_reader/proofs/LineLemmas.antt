@@ -1,10 +1,10 @@
 -- Lines of a text that goes on.
 use Rattle.std.proofs.Common.{◌≡◌, ℕ, zero, suc, ◌+◌, ◌<◌, Bool, true, false, List, [], ◌∷◌, ◌++◌, length, take, drop, refl, ap, arith}
 use Rattle.std.specs.Prelude.{slice_index}
+use Rattle.std.specs.List.{onto_first}
 use native.Mathlib.Numerals.{unary_clauses}
 use Rattle.memchr.specs.Find.{Nowhere, Passes}
-use Rattle.conf_text.specs.Parts.{parts, onto_first}
-use Rattle.line_reader.specs.Unended.{onto}
+use Rattle.text_core.specs.Parts.{parts, onto}
 
 -- a byte that does not pass
 is_not : (t : Bool) → (t ≡ true → ⊥) → t ≡ false

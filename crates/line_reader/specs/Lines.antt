@@ -1,7 +1,7 @@
 -- What a reader of lines gives of the bytes that it reads.
 use Rattle.std.specs.Prelude.{◌≡◌, ◌⊎◌, ℕ, ◌≤◌, List, [], ◌∷◌, ◌++◌, length, Option, Some, None}
 use Rattle.std.specs.Io.KnownBytes.{Consumes}
-use Rattle.conf_text.specs.Parts.{parts, is_line_feed}
+use Rattle.text_core.specs.Parts.{parts, is_line_feed}
 use Rattle.device_core.specs.Device.{raised}
 use Rattle.device_core.specs.Patience.{IsWornOut}
 use Rattle.line_reader.specs.Unended.{BeginsWithLine}

@@ -1,16 +1,7 @@
 -- Texts whose end is not known yet.
 use Rattle.std.specs.Prelude.{◌≡◌, ℕ, ◌<◌, List, [], ◌∷◌, ◌++◌, length}
-use Rattle.conf_text.specs.Parts.{parts, is_line_feed, onto_first}
+use Rattle.text_core.specs.Parts.{parts, is_line_feed}
 use Rattle.line_reader.specs.declared.lines.TheConstants.{MOST_LINE_BYTES}
-
--- bytes in front of the first line
-abbrev pub onto : List ℕ → List (List ℕ) → List (List ℕ)
-onto [] lines = lines
-onto (b ∷ bytes) lines = onto_first b (onto bytes lines)
-
--- whatever follows, the bytes do not end a line
-abbrev pub IsUnended : List ℕ → Type 0
-IsUnended bytes = (more : List ℕ) → parts is_line_feed (bytes ++ more) ≡ onto bytes (parts is_line_feed more)
 
 -- whatever follows, the text begins with that line and its line feed, and the rest comes after it
 abbrev pub BeginsWithLine : List ℕ → List ℕ → List ℕ → Type 0

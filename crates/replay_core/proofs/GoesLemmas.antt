@@ -1,6 +1,6 @@
 -- How a replay goes on.
 use Rattle.std.proofs.Common.{◌≡◌, ◌⊎◌, ℕ, List, ◌∷◌, ◌++◌, Option, Some, refl, ap, subst, sym, ◌∙◌, append_assoc, inl, inr}
-use Rattle.conf_text.specs.Parts.{parts, is_line_feed}
+use Rattle.text_core.specs.Parts.{parts, is_line_feed}
 use Rattle.replay_core.specs.Replay.{IsFront, Outcome}
 use Rattle.replay_core.specs.Turns.{replayed_in}
 use Rattle.replay_core.specs.Standing.{Standing, Goes, IsFrontOf, total_of, total_of_lines}

@@ -1,6 +1,6 @@
 -- What a script is answered.
 use Rattle.std.specs.Prelude.{◌≡◌, ◌⊎◌, ℕ, Bool, ◌+◌, ◌==◌, ◌||◌, nat_lt, List, [], ◌∷◌, ◌++◌, length, slice_index, Option, Some, None, option_map, Result, Ok, Err, if◌then◌else◌}
-use Rattle.conf_text.specs.Parts.{parts, is_line_feed}
+use Rattle.text_core.specs.Parts.{parts, is_line_feed}
 use Rattle.plan_types.specs.declared.plan.Plan.{Plan}
 use Rattle.conn_model.specs.declared.event.OwnedEvent.{OwnedEvent}
 use Rattle.conn_model.specs.declared.plain.Plain.{Plain}

@@ -1,6 +1,6 @@
 -- How far a replay has come.
 use Rattle.std.specs.Prelude.{◌≡◌, ◌⊎◌, ℕ, ◌≤◌, List, [], ◌∷◌, ◌++◌, Option, Some}
-use Rattle.conf_text.specs.Parts.{parts, is_line_feed}
+use Rattle.text_core.specs.Parts.{parts, is_line_feed}
 use Rattle.device_core.specs.Device.{raised}
 use Rattle.device_core.specs.Patience.{IsWornOut}
 use Rattle.conn_model.specs.declared.plain.Plain.{Plain}

@@ -3,7 +3,8 @@ use Rattle.std.proofs.lemmas.Bool.Decides.{nat_tests}
 use Rattle.std.proofs.lemmas.Result.{err_from_is_err_and}
 use Rattle.device_core.specs.Patience.{IsUnblocked}
 use Rattle.line_reader.specs.Lines.{LineState}
-use Rattle.line_reader.specs.Unended.{BeginsTooLong, IsUnended}
+use Rattle.line_reader.specs.Unended.{BeginsTooLong}
+use Rattle.text_core.specs.Parts.{IsUnended}
 use Rattle.line_reader.proofs.GatherLemmas.{gathers_block, gathers_moved, gives_last}
 use Rattle.line_reader.proofs.lines.LineReader.advance.Goals as goal
 

@@ -2,7 +2,7 @@ use Rattle.std.proofs.Common.{◌≡◌, ◌-◌, ◌≤◌}
 use Rattle.device_core.specs.Device.{raised_by}
 use Rattle.device_core.specs.Patience.{IsUnblocked}
 use Rattle.line_reader.specs.Lines.{Gathers}
-use Rattle.line_reader.specs.Unended.{IsUnended}
+use Rattle.text_core.specs.Parts.{IsUnended}
 use Rattle.line_reader.proofs.lines.LineReader.advance.Given as goal
 
 abbrev pub invariant-loop-self : goal.invariant-loop-self
