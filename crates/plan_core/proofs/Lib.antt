@@ -1,3 +1,4 @@
 pub mod BindLemmas
 pub mod FaultLemmas
 pub mod LineLemmas
+pub mod SoundLemmas

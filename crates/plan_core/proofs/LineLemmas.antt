@@ -121,7 +121,7 @@ heads_behind n base (item ∷ rest) above =
     one_behind item.statement n item.line base (own_lines rest) (proxies (base_after base (own_lines rest) item.statement) rest) above.0
     (heads_behind n (base_after base (own_lines rest) item.statement) rest above.1)
 
-own_more : (item : ConfigLine) (rest : List ConfigLine) → own_lines (item ∷ rest) ≡ (if opens item.statement then [] else item ∷ own_lines rest)
+pub own_more : (item : ConfigLine) (rest : List ConfigLine) → own_lines (item ∷ rest) ≡ (if opens item.statement then [] else item ∷ own_lines rest)
 own_more item rest = by (opens item.statement) refl
   where
     by : (b : Bool) → opens item.statement ≡ b → own_lines (item ∷ rest) ≡ (if opens item.statement then [] else item ∷ own_lines rest)
@@ -145,7 +145,7 @@ no_head (statements.Rule list action when) line base own is = refl
 no_head (statements.StickTable table) line base own is = refl
 no_head (statements.Server server) line base own is = refl
 
-own_above : (n : ℕ) (items : List ConfigLine) → AreAbove n items → AllByRecursion (λ item. n < item.line) (own_lines items)
+pub own_above : (n : ℕ) (items : List ConfigLine) → AreAbove n items → AllByRecursion (λ item. n < item.line) (own_lines items)
 own_above n [] above = tt
 own_above n (item ∷ rest) above = rw (own_more item rest) (by (opens item.statement) (own_above n rest above.1))
   where

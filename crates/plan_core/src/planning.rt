@@ -4,7 +4,7 @@ ghost use Rattle.conf_tree.specs.Few.{FewSections};
 ghost use Rattle.plan_core.specs.Compiled.{backend_of, backends_in, default_number, frontend_of, plan_faults, plan_of};
 ghost use Rattle.plan_core.specs.Faults.{IsLeast, no_memory};
 ghost use Rattle.plan_core.specs.Fields.{tables_in};
-ghost use Rattle.plan_types.specs.Lines.{LinesDiffer};
+ghost use Rattle.plan_types.specs.Sound.{IsSoundPlan};
 ghost use Rattle.plan_core.specs.Proxies.{frontends, backends};
 
 use crate::checking::{backend_number, fault_of};
@@ -110,11 +110,8 @@ pub fn compile(alloc: Global, tree: &Tree) -> Result<Plan, PlanFault>
     ensures least { IfErr result (λ f. (f ≡ no_memory) ⊎ IsLeast (plan_faults tree.now) f) }
     // A plan that is made has no fault at all.
     ensures whole { IfOk result (λ _. plan_faults tree.now ≡ []) }
-    // No two backends have servers of one line.
-    ensures lines { IfOk result LinesDiffer }
-    ensures frontends { IfOk result (λ plan. length plan.frontends ≤ 64) }
-    ensures backends { IfOk result (λ plan. length plan.backends ≤ 64) }
-    ensures tables { IfOk result (λ plan. length plan.tables ≤ 128) }
+    // What a plan that is made keeps.
+    ensures sound { IfOk result IsSoundPlan }
 {
     let proxies = proxies_in(alloc, tree.items())?;
     let all = proxies.as_slice();

@@ -1,8 +1,10 @@
-use Rattle.std.proofs.Common.{[], ◌∙◌, ap}
-use Rattle.plan_core.specs.Compiled.{backends_in}
+use Rattle.std.proofs.Common.{◌≤◌, [], length, ◌∙◌, ap}
+use native.Mathlib.Omega.{arith}
+use Rattle.plan_types.specs.declared.plan.Plan.{Plan}
+use Rattle.plan_types.specs.Sound.{most_frontends, most_backends, most_tables}
 use Rattle.plan_core.specs.Proxies.{proxies}
 use Rattle.plan_core.proofs.FaultLemmas.{none_stands}
-use Rattle.plan_core.proofs.LineLemmas.{lines_differ}
+use Rattle.plan_core.proofs.SoundLemmas.{sound_plan}
 use Rattle.plan_core.proofs.planning.compile.Goals as goal
 
 pub returns-clause-whole : goal.returns-clause-whole
@@ -12,7 +14,13 @@ returns-clause-whole c =
     (c.as_slice.ensures ∙ c.in_ok-tables.ensures.value)
     (c.as_slice-2.ensures ∙ c.in_ok-backends.ensures.value)
 
-pub returns-clause-lines : goal.returns-clause-lines
-returns-clause-lines c =
-    lines_differ c.args.tree.now (record { frontends = c.in_ok-frontends.frontends; backends = c.in_ok-backends.backends; tables = c.in_ok-tables.tables }) c.items.ensures.rises
-    (c.in_ok-backends.ensures.value ∙ ap backends_in (c.as_slice-all.ensures ∙ c.in_ok-proxies.ensures.value ∙ ap (λ items. proxies [] items) c.items.ensures.items))
+pub returns-clause-sound : goal.returns-clause-sound
+returns-clause-sound c =
+    let plan : Plan = record { frontends = c.in_ok-frontends.frontends; backends = c.in_ok-backends.backends; tables = c.in_ok-tables.tables } in
+    let few_frontends : length c.in_ok-frontends.frontends ≤ most_frontends = rw (c.in_ok-frontends.ensures.number, c.as_slice-all.ensures) c.in_ok-proxies.ensures.frontends in
+    let few_backends : length c.in_ok-backends.backends ≤ most_backends = rw (c.in_ok-backends.ensures.number, c.as_slice-all.ensures) c.in_ok-proxies.ensures.backends in
+    let all_few : length c.as_slice-all.result.now ≤ most_tables = rw c.as_slice-all.ensures c.in_ok-proxies.ensures.both in
+    let few_tables : length c.in_ok-tables.tables ≤ most_tables = omega (arith, all_few, c.in_ok-tables.ensures.few) in
+    sound_plan c.args.tree.now plan c.as_slice-3.result.now c.as_slice-4.result.now c.as_slice-all.result.now c.items.ensures.rises
+    (c.as_slice-all.ensures ∙ c.in_ok-proxies.ensures.value ∙ ap (λ items. proxies [] items) c.items.ensures.items)
+    c.as_slice-3.ensures c.as_slice-4.ensures c.in_ok-backends.ensures.value c.in_ok-frontends.ensures.value few_frontends few_backends few_tables
