@@ -1,5 +1,5 @@
 //! The frontends and backends of a configuration, each with its lines.
-ghost use Rattle.std.specs.Prelude.{◌≡◌, ◌<◌, ◌≤◌, [], length, position, IfOk, IfSome};
+ghost use Rattle.std.specs.Prelude.{◌≡◌, ◌<◌, ◌≤◌, [], ◌++◌, length, position, option_to_list, IfOk, IfSome, OnOk};
 ghost use Rattle.conf_tree.specs.Few.{FewSections};
 ghost use Rattle.plan_core.specs.Proxies.{line_head, opens, own_lines, base_after, line_proxy, proxies, is_frontend, is_backend, frontends, backends};
 
@@ -136,6 +136,16 @@ fn line_proxy<'a>(
     }
 }
 
+/// Adds the proxy, if there is one.
+fn push_some<'a>(all: &mut Seq<Proxy<'a>>, proxy: Option<Proxy<'a>>) -> Result<(), AllocError>
+    ensures { OnOk result (all.new ≡ all.old ++ option_to_list proxy.entry) }
+{
+    if let Some(proxy) = proxy {
+        all.push(proxy)?;
+    }
+    Ok(())
+}
+
 fn all_proxies<'a>(alloc: Global, items: &'a [ConfigLine<'a>]) -> Result<Seq<Proxy<'a>>, AllocError>
     ensures { IfOk result (λ all. all ≡ proxies [] items.now) }
 {
@@ -143,9 +153,7 @@ fn all_proxies<'a>(alloc: Global, items: &'a [ConfigLine<'a>]) -> Result<Seq<Pro
     let mut all: Seq<Proxy<'a>> = Seq::new(alloc);
     let mut rest: &'a [ConfigLine<'a>] = items;
     while let [item, after @ ..] = rest {
-        if let Some(proxy) = line_proxy(base, after, item) {
-            all.push(proxy)?;
-        }
+        push_some(&mut all, line_proxy(base, after, item))?;
         base = base_after(base, &item.statement, after);
         rest = after;
     }
