@@ -1,3 +1,3 @@
 pub mod Meaning
 pub mod Names
-pub mod Served
+pub mod Supported

@@ -6,4 +6,4 @@ pub use planning::read_plan;
 
 mod fault;
 mod planning;
-mod serving;
+mod support;

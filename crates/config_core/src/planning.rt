@@ -1,23 +1,23 @@
 //! The plan of a text.
 ghost use Rattle.std.specs.Prelude.{◌≡◌, ◌⊎◌, ◌≤◌, length, IfOk, IfErr, Ok, Err};
 ghost use Rattle.plan_types.specs.Lines.{LinesDiffer};
-ghost use Rattle.config_core.specs.Meaning.{served, meaning};
+ghost use Rattle.config_core.specs.Meaning.{supported_plan, meaning};
 
 use crate::fault::OpenFault;
-use crate::serving::unserved_line;
+use crate::support::unsupported_line;
 use conf_tree::{ConfFault, ConfKind, Tree, read_config};
 use plan_core::{Plan, PlanKind, compile};
 use std::alloc::Global;
 
-/// The plan of a configuration whose lines are right and served.
+/// The plan of a configuration whose lines are right and supported.
 fn plan(alloc: Global, tree: &Tree<'_>) -> Result<Plan, OpenFault>
-    ensures ok { IfOk result (λ plan. served tree.now ≡ Ok plan) }
-    ensures fault { IfErr result (λ f. (f ≡ OpenFault.NoMemory) ⊎ (served tree.now ≡ Err f)) }
+    ensures ok { IfOk result (λ plan. supported_plan tree.now ≡ Ok plan) }
+    ensures fault { IfErr result (λ f. (f ≡ OpenFault.NoMemory) ⊎ (supported_plan tree.now ≡ Err f)) }
     ensures frontends { IfOk result (λ plan. length plan.frontends ≤ 64) }
     ensures lines { IfOk result (λ plan. LinesDiffer plan) }
 {
     match compile(alloc, tree) {
-        Ok(plan) => match unserved_line(tree.items()) {
+        Ok(plan) => match unsupported_line(tree.items()) {
             None => Ok(plan),
             Some(line) => Err(OpenFault::Config(ConfFault {
                 line,

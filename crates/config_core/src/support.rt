@@ -1,7 +1,7 @@
-//! Which lines of a configuration are served.
+//! Which lines of a configuration are supported.
 ghost use Rattle.std.specs.Prelude.{◌≡◌, ◌==◌, ◌&&◌, nat_lt, option_map};
 ghost use Rattle.conf_tree.specs.Config.{is_server};
-ghost use Rattle.config_core.specs.Served.{at_accept, ends_list, is_plain, is_second, is_served, says_served, unserved};
+ghost use Rattle.config_core.specs.Supported.{at_accept, ends_list, is_plain, is_second, is_supported, says_supported, first_unsupported};
 
 use conf_tree::{Action, ConfigLine, Ruleset, ServerWords, Statement};
 
@@ -48,8 +48,8 @@ fn is_earlier(other: &ConfigLine<'_>, item: &ConfigLine<'_>) -> bool
         && matches!(&other.statement, Statement::Server(_))
 }
 
-fn is_served(items: &[ConfigLine<'_>], item: &ConfigLine<'_>) -> bool
-    ensures { result ≡ is_served items.now item.now }
+fn is_supported(items: &[ConfigLine<'_>], item: &ConfigLine<'_>) -> bool
+    ensures { result ≡ is_supported items.now item.now }
 {
     match &item.statement {
         Statement::Bind(_, accept_proxy) => !*accept_proxy,
@@ -66,10 +66,10 @@ fn is_served(items: &[ConfigLine<'_>], item: &ConfigLine<'_>) -> bool
     }
 }
 
-/// The line of the first item that is not served.
-pub fn unserved_line(items: &[ConfigLine<'_>]) -> Option<u32>
-    ensures { result ≡ option_map (λ item. item.line) (unserved items.now) }
+/// The line of the first item that is not supported yet.
+pub fn unsupported_line(items: &[ConfigLine<'_>]) -> Option<u32>
+    ensures { result ≡ option_map (λ item. item.line) (first_unsupported items.now) }
 {
-    let item = items.iter().find(|item| !is_served(items, item))?;
+    let item = items.iter().find(|item| !is_supported(items, item))?;
     Some(item.line)
 }

@@ -1,4 +1,4 @@
--- What of a configuration is served. The language has more than the balancer takes up yet.
+-- What of a configuration the balancer acts on. More can be read than it acts on yet.
 use Rattle.std.specs.Prelude.{Bool, true, false, not, is_none, nat_lt, ◌==◌, ◌&&◌, List, find, Option}
 use Rattle.std.specs.List.{list_any}
 use Rattle.conf_line.specs.declared.statement.Action.{Action}
@@ -30,25 +30,25 @@ is_plain words = is_none words.weight && is_none words.limit && not words.disabl
 abbrev pub is_second : List ConfigLine → ConfigLine → Bool
 is_second items item = list_any (λ other. nat_lt other.line item.line && (other.place.first == item.place.first) && is_server other.statement) items
 
--- the words of a line are served: no header is expected, no address is tracked, no server is chosen among several
-abbrev pub says_served : Bool → Statement → Bool
-says_served second (statements.Bind at accept_proxy) = not accept_proxy
-says_served second (statements.Rule list action when) = at_accept list && ends_list action
-says_served second (statements.StickTable words) = false
-says_served second (statements.Balance method) = false
-says_served second (statements.Server words) = is_plain words && not second
-says_served second statements.Nothing = true
-says_served second statements.Global = true
-says_served second statements.Defaults = true
-says_served second (statements.Frontend name) = true
-says_served second (statements.Backend name) = true
-says_served second (statements.MaxConn limit) = true
-says_served second (statements.DefaultBackend name) = true
+-- the words of a line are supported: no header is expected, no address is tracked, no server is chosen among several
+abbrev pub says_supported : Bool → Statement → Bool
+says_supported second (statements.Bind at accept_proxy) = not accept_proxy
+says_supported second (statements.Rule list action when) = at_accept list && ends_list action
+says_supported second (statements.StickTable words) = false
+says_supported second (statements.Balance method) = false
+says_supported second (statements.Server words) = is_plain words && not second
+says_supported second statements.Nothing = true
+says_supported second statements.Global = true
+says_supported second statements.Defaults = true
+says_supported second (statements.Frontend name) = true
+says_supported second (statements.Backend name) = true
+says_supported second (statements.MaxConn limit) = true
+says_supported second (statements.DefaultBackend name) = true
 
--- the line is served
-abbrev pub is_served : List ConfigLine → ConfigLine → Bool
-is_served items item = says_served (is_second items item) item.statement
+-- the line is supported
+abbrev pub is_supported : List ConfigLine → ConfigLine → Bool
+is_supported items item = says_supported (is_second items item) item.statement
 
--- the first line that is not served
-abbrev pub unserved : List ConfigLine → Option ConfigLine
-unserved items = find (λ item. not (is_served items item)) items
+-- the first line that is not supported yet
+abbrev pub first_unsupported : List ConfigLine → Option ConfigLine
+first_unsupported items = find (λ item. not (is_supported items item)) items
