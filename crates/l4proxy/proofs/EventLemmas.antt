@@ -7,8 +7,8 @@ use Rattle.std.specs.Char.{is_ascii_digit}
 use Rattle.std.proofs.lemmas.Bool.Decides.{nat_tests}
 use Rattle.std.proofs.lemmas.List.Splits.{slice_split_at, slice_split_none}
 use Rattle.std.proofs.lemmas.List.Elements.{All-nil, All-cons, All-append}
-use Rattle.addr_core.specs.Decimal.{decimal, decimal_of}
-use Rattle.addr_core.specs.Ends.{Ends}
+use Rattle.text_core.specs.Decimal.{decimal, decimal_of}
+use Rattle.addr_core.specs.PairValue.{PairValue as Ends}
 use Rattle.addr_core.specs.Family.{same_family}
 use Rattle.addr_core.specs.Text.{endpoint_of, endpoint_text, host_text, text_of, IsEndpoint}
 use Rattle.addr_core.specs.declared.addr.Addr.{Addr}
@@ -17,7 +17,7 @@ use Rattle.addr_core.specs.declared.addr.Endpoint.{Endpoint}
 use Rattle.addr_core.specs.Groups.{groups_of}
 use Rattle.addr_core.proofs.AddrLemmas.{endpoint_of_written}
 use Rattle.addr_core.proofs.GroupLemmas.{groups_text_all}
-use Rattle.addr_core.proofs.DecimalLemmas.{are_digits_decimal, decimal_of_written}
+use Rattle.text_core.proofs.DecimalLemmas.{are_digits_decimal, decimal_of_written}
 use Rattle.conn_model.specs.declared.event.ConnId.{ConnId}
 use Rattle.conn_model.specs.declared.event.Happening.{Happening}
 use Rattle.conn_model.specs.declared.event.Happening.TheVariants.{Accepted, Closing}

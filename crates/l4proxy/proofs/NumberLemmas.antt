@@ -1,7 +1,7 @@
 -- Decimal numbers, two digits at a time.
 use Rattle.std.proofs.Common.{◌≡◌, ℕ, ◌+◌, ◌/◌, ◌%◌, ◌<◌, ◌≤◌, [], ◌∷◌, ◌++◌, refl, ap, ◌∙◌, append_assoc, arith}
-use Rattle.addr_core.specs.Decimal.{decimal}
-use Rattle.addr_core.proofs.DecimalLemmas.{decimal_small, decimal_step}
+use Rattle.text_core.specs.Decimal.{decimal}
+use Rattle.text_core.proofs.DecimalLemmas.{decimal_small, decimal_step}
 
 pub decimal_pair : (n : ℕ) → 10 ≤ n → n < 100 → decimal n ≡ (48 + n / 10) ∷ (48 + n % 10) ∷ []
 decimal_pair n low high =

@@ -2,7 +2,7 @@
 use Rattle.std.specs.Prelude.{ℕ, ◌==◌, List, ◌++◌, length, codes, Option, Some, None, if◌then◌else◌}
 use Rattle.std.specs.List.{flat_map}
 use Rattle.hex.specs.Hex.{encode_lower}
-use Rattle.addr_core.specs.Decimal.{decimal}
+use Rattle.text_core.specs.Decimal.{decimal}
 use Rattle.addr_core.specs.Text.{endpoint_text, text_of}
 use Rattle.plan_types.specs.declared.track.Track.{Track}
 use Rattle.conn_model.specs.declared.ask.Ask.{Ask}

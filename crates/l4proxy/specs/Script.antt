@@ -3,8 +3,8 @@ use Rattle.std.specs.Prelude.{◌≡◌, ℕ, Bool, true, ◌<◌, ◌^◌, ◌=
 use Rattle.std.specs.List.{join_with_byte, slice_split}
 use Rattle.std.specs.Result.{result_ok}
 use Rattle.std.specs.Str.{bytes_eq}
-use Rattle.addr_core.specs.Decimal.{decimal, decimal_of}
-use Rattle.addr_core.specs.Ends.{Ends, pair_of}
+use Rattle.text_core.specs.Decimal.{decimal, decimal_of}
+use Rattle.addr_core.specs.PairValue.{PairValue as Ends, pair_of}
 use Rattle.addr_core.specs.Text.{endpoint_of, endpoint_text, IsEndpoint}
 use Rattle.addr_core.specs.Family.{same_family}
 use Rattle.conn_model.specs.declared.ask.Ask.{Ask}

@@ -2,7 +2,7 @@
 ghost use Rattle.std.specs.Prelude.{◌≡◌, ◌+◌, ◌/◌, ◌%◌, ◌<◌, ◌≤◌, ◌++◌, ◌∷◌, [], length, codes, OnOk};
 ghost use Rattle.std.specs.List.{flat_map};
 ghost use Rattle.hex.specs.Hex.{encode_lower};
-ghost use Rattle.addr_core.specs.Decimal.{decimal};
+ghost use Rattle.text_core.specs.Decimal.{decimal};
 ghost use Rattle.addr_core.specs.declared.addr.Addr.TheVariants.{V4};
 ghost use Rattle.addr_core.specs.Text.{endpoint_text, host_text, text_of};
 ghost use Rattle.l4proxy.specs.Script.{id_text, why_text};

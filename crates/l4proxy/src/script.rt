@@ -6,7 +6,7 @@ ghost use Rattle.conn_model.specs.declared.event.Happening.{Happening};
 ghost use Rattle.conn_model.specs.History.{happening};
 ghost use Rattle.l4proxy.specs.Script.{accept_of, ask_of, close_of, ends_of, event_line, event_of, happening_of, id_of, is_mark, timed_event, wanted, wanted_of, why_of, words_of, Wanted, IsHandedIn};
 
-use addr_core::decimal::read_decimal;
+use text_core::decimal::read_decimal;
 use addr_core::{Pair, read_endpoint};
 use conn_model::ask::Ask;
 use conn_model::event::{ConnId, Event, Why};

@@ -1,8 +1,8 @@
 use Rattle.std.proofs.Common.{◌+◌, ◌++◌, ◌∷◌, ◌/◌, ◌%◌, [], ap, sym, ◌∙◌, append_assoc, arith}
 use Rattle.std.proofs.lemmas.Grind.{common_steps}
 use Rattle.std.proofs.lemmas.Result.{on_ok_weaker}
-use Rattle.addr_core.specs.Decimal.{decimal}
-use Rattle.addr_core.proofs.DecimalLemmas.{decimal_small}
+use Rattle.text_core.specs.Decimal.{decimal}
+use Rattle.text_core.proofs.DecimalLemmas.{decimal_small}
 use Rattle.l4proxy.proofs.NumberLemmas.{decimal_pair, decimal_pairs}
 use Rattle.l4proxy.proofs.replies.+write_number.Goals as goal
 
