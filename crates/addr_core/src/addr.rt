@@ -49,20 +49,8 @@ impl Addr {
     }
 }
 
-/// The default is 0.0.0.0, the unspecified address.
-impl Default for Addr {
-    ghost use Rattle.std.specs.Prelude.{◌≡◌};
-    ghost use Rattle.addr_core.specs.declared.addr.Addr.TheVariants.{V4};
-
-    ghost is_default = { λ addr. addr ≡ V4 0 };
-
-    fn default() -> Self {
-        Addr::V4(0)
-    }
-}
-
 /// An address with a port of TCP.
-#[derive(Clone, Copy, Debug, Default, PartialEq, Eq)]
+#[derive(Clone, Copy, Debug, PartialEq, Eq)]
 pub struct Endpoint {
     pub addr: Addr,
     pub port: u16,

@@ -36,7 +36,7 @@ pub enum AddrFault {
 fn has_colon(text: &[u8]) -> bool
     ensures { result ≡ list_any is_colon text.now }
 {
-    text.iter().any(|byte| *byte == b':')
+    text.contains(&b':')
 }
 
 /// The number of a part of an IPv4 address.

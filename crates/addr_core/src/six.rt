@@ -23,7 +23,7 @@ fn are_six_bytes(text: &[u8]) -> bool
 fn has_dot(word: &[u8]) -> bool
     ensures { result ≡ has_dot word.now }
 {
-    word.iter().any(|byte| *byte == b'.')
+    word.contains(&b'.')
 }
 
 /// Whether no other word may follow: it is empty or has a dot.

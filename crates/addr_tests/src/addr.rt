@@ -143,7 +143,7 @@ fn texts_of_addresses(rt: HostRuntime) {
 fn endpoints_and_pairs(rt: HostRuntime) -> Result<(), Fail> {
     let cases = [
         ("1.2.3.4:8080", Addr::V4(0x0102_0304), 8080, "1.2.3.4:8080"),
-        ("0.0.0.0:0", Addr::default(), 0, "0.0.0.0:0"),
+        ("0.0.0.0:0", Addr::V4(0), 0, "0.0.0.0:0"),
         ("[::1]:80", Addr::V6(1), 80, "[::1]:80"),
         ("[::]:0", Addr::V6(0), 0, "[::]:0"),
         (

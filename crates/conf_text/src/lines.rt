@@ -33,7 +33,7 @@ impl<'a> Lines<'a> {
         ensures exact_fault { IfErr result (λ fault. (fault ≡ no_memory) ⊎ (lines_of text.now ≡ Err fault)) }
 
         // Each line is what its part of the text says by itself.
-        ensures found { IfOk result (λ lines. AreLines text.now lines) }
+        ensures each_line { IfOk result (λ lines. AreLines text.now lines) }
 
         // A fault is that of the first line that has one, or of the text's length.
         ensures fault { IfErr result (λ fault. (fault ≡ no_memory) ⊎ IsTextFault text.now fault) }

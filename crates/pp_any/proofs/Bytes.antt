@@ -39,8 +39,8 @@ line_begun (x ∷ bytes) line = omega arith
 
 said_in_line : (bytes : List ℕ) (x : ℕ) (now : List ℕ) → IsInLine bytes → now ≡ bytes ++ x ∷ [] → (is_line now ≡ true) × (decision (bytes ++ x ∷ []) ≡ line_decision now)
 said_in_line bytes x now inside one =
-    let begun = line_begun bytes inside.line in
-    let line : is_line (bytes ++ x ∷ []) ≡ true = is_line-append bytes (x ∷ []) begun ∙ inside.line in
+    let after_first_byte = line_begun bytes inside.line in
+    let line : is_line (bytes ++ x ∷ []) ≡ true = is_line-append bytes (x ∷ []) after_first_byte ∙ inside.line in
     (ap is_line one ∙ line, rw line (ap line_decision (sym one)))
 
 pub line_answers : (b piece : List ℕ) (k : ℕ) (bytes now : List ℕ) (s : Result Meaning HeaderFault) → bytes ≡ b ++ take k piece → k < length piece → IsInLine bytes

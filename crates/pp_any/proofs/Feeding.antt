@@ -18,7 +18,7 @@ status-step b x c waits = status_from-append decision [] b (x ∷ c) waits
 pub status-waits : (b : List ℕ) (x : ℕ) → status b ≡ Wait → decision (b ++ x ∷ []) ≡ None → status (b ++ x ∷ []) ≡ Wait
 status-waits b x waits none = status-step b x [] waits ∙ ap (λ o. decided_at (length b + 1) o Wait) none
 
--- bytes that are joined
+-- the bytes before a place of a piece, and those after it
 pub joined_at : (b piece : List ℕ) (k : ℕ) (bytes : List ℕ) → bytes ≡ b ++ take k piece → bytes ++ drop k piece ≡ b ++ piece
 joined_at b piece k bytes is = ap (λ e. e ++ drop k piece) is ∙ append_assoc b (take k piece) (drop k piece) ∙ ap (λ e. b ++ e) (take-append-drop k piece)
 

@@ -33,8 +33,8 @@ status-whole b c whole =
     let all = whole.all in
     let apart = last_apart b all in
     let l : length (take 15 b) ≡ 15 = length-take-le 15 b (omega arith) in
-    let joined : b ++ c ≡ take 15 b ++ get_or b 15 0 ∷ c = ap (λ e. e ++ c) (sym apart) ∙ append_assoc (take 15 b) (get_or b 15 0 ∷ []) c in
-    ap status joined ∙ status-step (take 15 b) (get_or b 15 0) c whole.waits
+    let bytes_of : b ++ c ≡ take 15 b ++ get_or b 15 0 ∷ c = ap (λ e. e ++ c) (sym apart) ∙ append_assoc (take 15 b) (get_or b 15 0 ∷ []) c in
+    ap status bytes_of ∙ status-step (take 15 b) (get_or b 15 0) c whole.waits
     ∙ ap (λ n. decided_at (n + 1) (decision (take 15 b ++ get_or b 15 0 ∷ [])) (status_from decision (take 15 b ++ get_or b 15 0 ∷ []) c)) l
     ∙ ap (λ e. decided_at 16 (decision e) (status_from decision e c)) apart
     ∙ ap (λ o. decided_at 16 o (status_from decision b c)) (said_whole b whole)

@@ -30,6 +30,6 @@ later before (feds.More parser) = feds.More parser
 later before (feds.Whole meaning used) = feds.Whole meaning (used + before)
 later before (feds.Bad fault used) = feds.Bad fault (used + before)
 
--- the bytes of pieces, joined
-abbrev pub joined : List (Bor (List ℕ)) → List ℕ
-joined pieces = flat_map (λ piece. piece.now) pieces
+-- the bytes of pieces, one after the other
+abbrev pub bytes_of : List (Bor (List ℕ)) → List ℕ
+bytes_of pieces = flat_map (λ piece. piece.now) pieces

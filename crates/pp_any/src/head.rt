@@ -70,7 +70,7 @@ fn feed_after(head: &[u8; 16], piece: &[u8], read: usize) -> Fed
 
 impl Head {
     /// A head of which the first byte was read.
-    pub fn begun() -> Head
+    pub fn after_first_byte() -> Head
         ensures { result.bytes.items ≡ 13 ∷ [] }
     {
         let mut bytes = ArrayVec::new();

@@ -53,7 +53,7 @@ fn last_decision(bytes: &[u8]) -> Option<Result<Meaning, HeaderFault>>
 
 impl Line {
     /// A line of which the first byte was read.
-    pub fn begun() -> Line
+    pub fn after_first_byte() -> Line
         ensures { result.bytes.items ≡ 80 ∷ [] }
     {
         let mut bytes = ArrayVec::new();

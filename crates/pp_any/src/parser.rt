@@ -1,7 +1,7 @@
 //! The parser.
 ghost use Rattle.std.specs.Prelude.{◌≡◌, ◌^◌, ◌<◌, ◌≤◌, ℕ, List, [], length};
 ghost use Rattle.pp_any.specs.Rest.{IsRest, IsState, rest_in};
-ghost use Rattle.pp_any.specs.Fed.{Answers, joined, used_in};
+ghost use Rattle.pp_any.specs.Fed.{Answers, bytes_of, used_in};
 
 use crate::block::Block;
 use crate::fault::HeaderFault;
@@ -64,8 +64,8 @@ fn start(piece: &[u8]) -> Fed
         return Fed::More(Parser::new());
     };
     match *first {
-        b'P' => Line::begun().feed(&piece[1..]).later(1),
-        b'\r' => Head::begun().feed(&piece[1..]).later(1),
+        b'P' => Line::after_first_byte().feed(&piece[1..]).later(1),
+        b'\r' => Head::after_first_byte().feed(&piece[1..]).later(1),
         _ => Fed::Bad(HeaderFault::NotProxy, 1),
     }
 }
@@ -107,10 +107,10 @@ impl Parser {
     /// Feeds the pieces of a list in turn, until one of them decides. The bytes used are counted over all of
     /// them together.
     pub fn feed_all(self, pieces: &[&[u8]]) -> Fed
-        requires { length (joined pieces.now) < 2 ^ 64 }
+        requires { length (bytes_of pieces.now) < 2 ^ 64 }
 
         // However the bytes are cut into pieces, the answer is the status of all of them.
-        ensures answers { (b : List ℕ) → IsRest b self → Answers b (joined pieces.now) result }
+        ensures answers { (b : List ℕ) → IsRest b self → Answers b (bytes_of pieces.now) result }
     {
         let mut parser = self;
         let mut read = 0;

@@ -1,13 +1,13 @@
 -- Parts of a text by the first byte that ends one.
-use Rattle.std.proofs.Common.{◌≡◌, ℕ, zero, suc, ◌+◌, ◌-◌, ◌<◌, ◌≤◌, true, false, List, [], ◌∷◌, ◌++◌, length, take, drop, refl, ap, sym, ◌∙◌, append_assoc, append-nil, arith, length-drop}
+use Rattle.std.proofs.Common.{◌≡◌, ℕ, zero, suc, ◌+◌, ◌-◌, ◌<◌, true, false, List, [], ◌∷◌, ◌++◌, length, take, drop, refl, ap, sym, ◌∙◌, append_assoc, append-nil, arith}
 use Rattle.std.specs.Prelude.{Bool, slice_index}
 use Rattle.std.specs.List.{onto_first}
 use Rattle.std.proofs.lemmas.Bool.{false_from_ne_true}
 use Rattle.std.proofs.lemmas.Grind.{common_steps}
-use Rattle.std.proofs.lemmas.List.{drop-drop, take_rest}
+use Rattle.std.proofs.lemmas.List.{take_rest}
 use native.Mathlib.Numerals.{unary_clauses}
 use Rattle.memchr.specs.Find.{Nowhere, Passes}
-use Rattle.text_core.specs.Parts.{parts, before, is_line_feed, onto, IsUnended}
+use Rattle.text_core.specs.Parts.{parts, before, is_line_feed, onto, BeginsWithLine, IsUnended}
 
 -- ---- bytes in front of parts
 
@@ -26,7 +26,8 @@ onto-nil (b ∷ c ∷ bytes) some = ap (onto_first b) (onto-nil (c ∷ bytes) (o
 
 -- ---- a text that goes on
 
-parts_through : (ends : ℕ → Bool) (text : List ℕ) (at : ℕ) (more : List ℕ) → at < length text → Nowhere (Passes ends text) 0 at → ends (slice_index text at) ≡ true
+-- the first part that ends, and the text after it, whatever follows
+pub parts_through : (ends : ℕ → Bool) (text : List ℕ) (at : ℕ) (more : List ℕ) → at < length text → Nowhere (Passes ends text) 0 at → ends (slice_index text at) ≡ true
     → parts ends (text ++ more) ≡ take at text ∷ parts ends (drop (at + 1) text ++ more)
 parts_through ends [] at more lt none is = absurd (omega arith)
 parts_through ends (b ∷ text) zero more lt none is = rw is refl
@@ -36,7 +37,7 @@ parts_through ends (b ∷ text) (suc at) more lt none is =
     let shift : drop (at + 1) text ≡ drop (suc at + 1) (b ∷ text) = simp unary_clauses refl in
     rw (differs, rest) (ap (λ xs. (b ∷ take at text) ∷ parts ends (xs ++ more)) shift)
 
--- the first part that ends, and the text after it, whatever follows
+-- the same, with the text after it as a range
 pub first_part : (ends : ℕ → Bool) (text : List ℕ) (at : ℕ) → at < length text → Nowhere (Passes ends text) 0 at → ends (slice_index text at) ≡ true
     → (more : List ℕ) → parts ends (text ++ more) ≡ take at text ∷ parts ends (take (length text - (at + 1)) (drop (at + 1) text) ++ more)
 first_part ends text at lt none is more = rw (take_rest text (at + 1)) (parts_through ends text at more lt none is)
@@ -49,25 +50,10 @@ no_part ends (b ∷ text) none more =
     let rest : parts ends (text ++ more) ≡ onto text (parts ends more) = no_part ends text (λ k low high. none (suc k) (omega arith) (omega arith)) more in
     rw differs (ap (onto_first b) rest)
 
--- the text after a part, by its length
-pub rest_of : (text : List ℕ) (at : ℕ) → at < length text
-    → take (length text - (at + 1)) (drop (at + 1) text) ≡ drop (length text - length (take (length text - (at + 1)) (drop (at + 1) text))) text
-rest_of text at lt =
-    let size : length text - length (drop (at + 1) text) ≡ at + 1 = omega (arith, length-drop (at + 1) text) in
-    rw (take_rest text (at + 1)) (ap (λ k. drop k text) (sym size))
-
--- the rest of a rest
-pub rest_again : (text rest more : List ℕ) → rest ≡ drop (length text - length rest) text → length rest ≤ length text → more ≡ drop (length rest - length more) rest
-    → length more < length rest → more ≡ drop (length text - length more) text
-rest_again text rest more after within next less =
-    next ∙ ap (λ xs. drop (length rest - length more) xs) after
-    ∙ drop-drop (length rest - length more) (length text - length rest) text ∙ ap (λ k. drop k text) (let k : length text - length rest + (length rest - length more) ≡ length text - length more = omega arith in k)
-
 -- the line that begins with what was carried over
-pub cut_carried : (carry block line after : List ℕ) → IsUnended carry → ((more : List ℕ) → parts is_line_feed (block ++ more) ≡ line ∷ parts is_line_feed (after ++ more))
-    → (more : List ℕ) → parts is_line_feed (carry ++ block ++ more) ≡ (carry ++ line) ∷ parts is_line_feed (after ++ more)
-cut_carried carry block line after unended cut more =
-    ap (parts is_line_feed) (append_assoc carry block more) ∙ unended (block ++ more) ∙ ap (onto carry) (cut more)
+pub begins_carried : (carry text line after : List ℕ) → IsUnended carry → BeginsWithLine text line after → BeginsWithLine (carry ++ text) (carry ++ line) after
+begins_carried carry text line after unended begins more =
+    ap (parts is_line_feed) (append_assoc carry text more) ∙ unended (text ++ more) ∙ ap (onto carry) (begins more)
     ∙ onto-cons carry line (parts is_line_feed (after ++ more))
 
 pub unended_both : (xs ys : List ℕ) → IsUnended xs → IsUnended ys → IsUnended (xs ++ ys)
@@ -84,7 +70,7 @@ pub last_line : (rest : List ℕ) → IsUnended rest → 0 < length rest → par
 last_line rest unended some = ap (parts is_line_feed) (sym (append-nil rest)) ∙ unended [] ∙ onto-nil rest some
 
 -- the first line, and the text after it
-pub first_line : (text line rest : List ℕ) → ((more : List ℕ) → parts is_line_feed (text ++ more) ≡ line ∷ parts is_line_feed (rest ++ more)) → parts is_line_feed text ≡ line ∷ parts is_line_feed rest
+pub first_line : (text line rest : List ℕ) → BeginsWithLine text line rest → parts is_line_feed text ≡ line ∷ parts is_line_feed rest
 first_line text line rest cut =
     ap (parts is_line_feed) (sym (append-nil text)) ∙ cut [] ∙ ap (λ xs. line ∷ parts is_line_feed xs) (append-nil rest)
 

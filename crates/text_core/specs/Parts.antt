@@ -24,3 +24,7 @@ onto (b ∷ bytes) lines = onto_first b (onto bytes lines)
 -- Whatever follows, the bytes begin the first of its lines.
 abbrev pub IsUnended : List ℕ → Type 0
 IsUnended bytes = (more : List ℕ) → parts is_line_feed (bytes ++ more) ≡ onto bytes (parts is_line_feed more)
+
+-- Whatever follows, the text begins with this line, and the others are those of the rest.
+abbrev pub BeginsWithLine : List ℕ → List ℕ → List ℕ → Type 0
+BeginsWithLine text line rest = (more : List ℕ) → parts is_line_feed (text ++ more) ≡ line ∷ parts is_line_feed (rest ++ more)

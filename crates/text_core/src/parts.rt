@@ -1,9 +1,9 @@
 //! A text cut in two.
-ghost use Rattle.std.specs.Prelude.{◌≡◌, ◌==◌, ◌+◌, ◌-◌, ◌<◌, ◌∷◌, ◌++◌, [], ℕ, List, length, drop, nat_eq, IfNone, IfSome};
+ghost use Rattle.std.specs.Prelude.{◌≡◌, ◌==◌, ◌+◌, ◌<◌, ◌∷◌, [], length, nat_eq, IfNone, IfSome};
 ghost use Rattle.std.specs.List.{slice_split, starts_with};
 ghost use Rattle.std.specs.Option.{option_map};
 ghost use Rattle.text_core.specs.Cut.{cut};
-ghost use Rattle.text_core.specs.Parts.{parts, is_line_feed, IsUnended};
+ghost use Rattle.text_core.specs.Parts.{BeginsWithLine, IsUnended};
 
 use memchr::memchr;
 
@@ -47,9 +47,7 @@ pub fn cut_at(text: &[u8], mark: u8) -> Option<(&[u8], &[u8])>
 
 /// The first line that ends in the text, without its LF, and the text after it.
 pub fn cut_line(text: &[u8]) -> Option<(&[u8], &[u8])>
-    // Whatever follows the text, this is its first line, and the others are those of the rest.
-    ensures line { IfSome result (λ cut. (more : List ℕ) → parts is_line_feed (text.now ++ more) ≡ cut.0.now ∷ parts is_line_feed (cut.1.now ++ more)) }
-    ensures rest { IfSome result (λ cut. cut.1.now ≡ drop (length text.now - length cut.1.now) text.now) }
+    ensures line { IfSome result (λ cut. BeginsWithLine text.now cut.0.now cut.1.now) }
     ensures less { IfSome result (λ cut. length cut.1.now < length text.now) }
     ensures none { IfNone result (IsUnended text.now) }
 {

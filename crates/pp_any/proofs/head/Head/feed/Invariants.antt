@@ -4,6 +4,6 @@ use Rattle.pp_any.proofs.head.Head.feed.Given as goal
 
 abbrev pub invariant-loop-at : goal.invariant-loop-at
 invariant-loop-at l = record {
-  joined : l.bytes.items ≡ l.initial.bytes.items ++ take l.at l.piece;
+  bytes_of : l.bytes.items ≡ l.initial.bytes.items ++ take l.at l.piece;
   inside : IsInHead l.bytes.items;
 }

@@ -19,8 +19,8 @@ short n test = grind (arith, nat_tests)
 read_by : List ℕ → Bool → Result (List Line) LineFault
 read_by text b = if b then Err text_too_long else each next_line [] (parts is_line_feed text)
 
-pub found : (text : List ℕ) (lines : List Line) → lines_of text ≡ Ok lines → AreLines text lines
-found text lines is = by (nat_lt MOST_BYTES (length text)) refl
+pub each_line : (text : List ℕ) (lines : List Line) → lines_of text ≡ Ok lines → AreLines text lines
+each_line text lines is = by (nat_lt MOST_BYTES (length text)) refl
   where
     by : (b : Bool) → nat_lt MOST_BYTES (length text) ≡ b → AreLines text lines
     by true test = let wrong : Err text_too_long ≡ Ok lines = rw test at is in absurd cc
@@ -30,8 +30,8 @@ found text lines is = by (nat_lt MOST_BYTES (length text)) refl
         let P : List Line → Type 0 = λ ys. IsRead next_line (parts is_line_feed text) ys in
         (short (length text) test, subst P (sym more.1) more.2)
 
-pub fault_found : (text : List ℕ) (fault : LineFault) → lines_of text ≡ Err fault → IsTextFault text fault
-fault_found text fault is = by (nat_lt MOST_BYTES (length text)) refl
+pub first_fault : (text : List ℕ) (fault : LineFault) → lines_of text ≡ Err fault → IsTextFault text fault
+first_fault text fault is = by (nat_lt MOST_BYTES (length text)) refl
   where
     by : (b : Bool) → nat_lt MOST_BYTES (length text) ≡ b → IsTextFault text fault
     by true test =
