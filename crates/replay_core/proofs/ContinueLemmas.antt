@@ -1,5 +1,5 @@
 -- How a replay continues on.
-use Rattle.std.proofs.Common.{◌≡◌, ◌⊎◌, ℕ, List, ◌∷◌, ◌++◌, Option, Some, refl, ap, subst, sym, ◌∙◌, append_assoc, inl, inr}
+use Rattle.std.proofs.Common.{◌≡◌, ℕ, List, ◌∷◌, ◌++◌, Option, Some, refl, ap, subst, sym, ◌∙◌, append_assoc}
 use Rattle.conf_text.specs.Parts.{parts, is_line_feed}
 use Rattle.replay_core.specs.Replay.{IsFront, Outcome}
 use Rattle.replay_core.specs.Turns.{script_outcome_in}

@@ -1,10 +1,9 @@
 -- How far a replay has come.
-use Rattle.std.specs.Prelude.{◌≡◌, ◌⊎◌, ℕ, ◌≤◌, List, [], ◌∷◌, ◌++◌, Option, Some}
-use Rattle.conf_text.specs.Parts.{parts, is_line_feed}
+use Rattle.std.specs.Prelude.{◌≡◌, ◌⊎◌, ℕ, List, ◌++◌, Option, Some}
 use Rattle.device_core.specs.Device.{raised}
 use Rattle.device_core.specs.Patience.{IsWornOut}
 use Rattle.conn_model.specs.declared.plain.Plain.{Plain}
-use Rattle.replay_core.specs.Replay.{IsFront, Outcome, before_rest, final_outcome}
+use Rattle.replay_core.specs.Replay.{IsFront, Outcome, before_rest}
 use Rattle.replay_core.specs.Turns.{outcome_in, script_outcome_in}
 use Rattle.replay_core.specs.declared.fault.ReplayFault.{ReplayFault}
 use Rattle.replay_core.specs.declared.fault.ReplayFault.TheVariants.{Config, Format, TooLong, Read, Write, NoMemory}

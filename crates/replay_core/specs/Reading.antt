@@ -1,5 +1,5 @@
 -- How a script is read.
-use Rattle.std.specs.Prelude.{◌≡◌, ◌⊎◌, ℕ, Bool, true, false, ◌≤◌, List, [], ◌++◌, Option, Some}
+use Rattle.std.specs.Prelude.{◌≡◌, ◌⊎◌, ℕ, Bool, true, false, List, [], ◌++◌, Option, Some}
 use Rattle.device_core.specs.Device.{raised, raised_by}
 use Rattle.device_core.specs.Patience.{IsWornOut}
 use Rattle.device_core.specs.declared.patience.TheConstants.{MOST_READS}

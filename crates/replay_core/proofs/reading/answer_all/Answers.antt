@@ -1,7 +1,6 @@
-use Rattle.std.proofs.Common.{◌≡◌, ◌∷◌, ◌⊎◌, ℕ, List, ap, inl, inr, ◌∙◌, arith}
+use Rattle.std.proofs.Common.{◌∙◌, arith}
 use Rattle.std.proofs.lemmas.Result.{IfErr-weaker, on_ok_weaker, err_from_is_err_and}
-use Rattle.device_core.proofs.StallLemmas.{unblocked_on, worn_out_on}
-use Rattle.replay_core.specs.Progress.{total_of_lines}
+use Rattle.device_core.proofs.StallLemmas.{unblocked_on}
 use Rattle.replay_core.proofs.ReachLemmas.{done_end, done_last, reaches_line, reaches_sent, stops_last, stops_line, stops_reading, stops_write}
 use Rattle.replay_core.proofs.reading.answer_all.Goals as goal
 

@@ -1,9 +1,7 @@
-use Rattle.std.proofs.Common.{◌≡◌, None, Err, ap, subst, sym, inl, inr, [], refl}
+use Rattle.std.proofs.Common.{None, ap, subst, sym, inr, [], refl}
 use Rattle.std.proofs.lemmas.Result.{err_from_is_err_and}
-use Rattle.replay_core.specs.Progress.{GaveUp, Progress}
+use Rattle.replay_core.specs.Progress.{Progress}
 use Rattle.replay_core.specs.Reading.{WritesAll}
-use Rattle.replay_core.specs.declared.fault.ReplayFault.TheVariants.{Write}
-use Rattle.device_core.proofs.StallLemmas.{worn_out_on}
 use Rattle.replay_core.proofs.ReachLemmas.{cut_reaches, reaches_start}
 use Rattle.replay_core.proofs.EndLemmas.{done_ok, done_write, ends_write}
 use Rattle.replay_core.proofs.replay.answer_and_send.Goals as goal

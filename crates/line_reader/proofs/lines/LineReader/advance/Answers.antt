@@ -1,7 +1,6 @@
-use Rattle.std.proofs.Common.{◌<◌, ◌++◌, ◌≡◌, [], length, ap, refl, subst, sym, ◌∙◌, arith, append-nil, inr, Ok}
+use Rattle.std.proofs.Common.{◌<◌, ◌++◌, ◌≡◌, length, ap, subst, sym, ◌∙◌, arith, append-nil, inr, Ok}
 use Rattle.std.proofs.lemmas.Bool.Decides.{nat_tests}
 use Rattle.std.proofs.lemmas.Result.{err_from_is_err_and}
-use Rattle.device_core.specs.Patience.{IsUnblocked}
 use Rattle.line_reader.specs.Lines.{LineState}
 use Rattle.line_reader.specs.Unended.{BeginsTooLong, IsUnended}
 use Rattle.line_reader.proofs.GatherLemmas.{gathers_block, gathers_moved, gives_last}
