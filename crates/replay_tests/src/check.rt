@@ -1,5 +1,5 @@
 use device_core::{Calls, MemoryOutput, Schedule};
-use replay_core::{PrintFault, run_check};
+use replay_core::run_check;
 use std::test::Fail;
 
 /// Each write fails in turn: what was written is the front of the line.
@@ -15,11 +15,7 @@ fn each_write_of_a_check_fails_in_turn(rt: HostRuntime) -> Result<(), Fail> {
         let writes = Schedule::new(rt.alloc(), 1, &none, &failing)?;
         let mut writer = MemoryOutput::new(rt.alloc(), 64, writes)?;
         let answer = run_check(rt.alloc(), "", &mut writer);
-        let is_so = match answer {
-            Ok(found) => found.is_some() && at == 19,
-            Err(fault) => matches!(fault, PrintFault::Write) && at < 19,
-        };
-        assert!(rt; is_so, "at {at}");
+        assert_eq!(rt; answer.is_ok(), at == 19, "at {at}");
         let held = (at as usize).min(line.len());
         assert!(rt; line.starts_with(writer.as_slice()) && writer.as_slice().len() == held);
     }
