@@ -14,14 +14,14 @@ raised_by more count = count + min more (2 ^ 64 - 1 - count)
 abbrev pub raised : ℕ → ℕ
 raised count = raised_by 1 count
 
--- What a read did to the bytes that were left, where the device tells them: it gave the first of them, or none.
+-- What a read did to the bytes that were left, where the device reports them: it gave the first of them, or none.
 abbrev pub Reads : Result Got Failed → Option (List ℕ) → Option (List ℕ) → List ℕ → Type 0
 Reads (Ok (got.Bytes n)) old new buffer = (0 < n) × (n ≤ length buffer) × Consumes old new (take n buffer)
 Reads (Ok got.End) old new buffer = IsAtEnd old × Keeps old new
 Reads (Ok got.Blocked) old new buffer = Keeps old new
 Reads (Err e) old new buffer = Keeps old new
 
--- What a write did to the bytes that are held, where the device tells them: it added the first of those handed in, or none.
+-- What a write did to the bytes that are held, where the device reports them: it added the first of those handed in, or none.
 abbrev pub Writes : Result Put Failed → Option (List ℕ) → Option (List ℕ) → List ℕ → Type 0
 Writes (Ok (put.Bytes n)) old new bytes = (0 < n) × (n ≤ length bytes) × Appends old new (take n bytes)
 Writes (Ok put.Blocked) old new bytes = Keeps old new

@@ -25,7 +25,7 @@ got_count (Ok got.End) = 0
 got_count (Ok got.Blocked) = 0
 got_count (Err e) = 0
 
--- bytes are some, and the end is told where none are left
+-- bytes are some, and the end is reported where none are left
 abbrev pub IsFairRead : Result Got Failed → List ℕ → Type 0
 IsFairRead (Ok (got.Bytes n)) left = 0 < n
 IsFairRead (Ok got.End) left = left ≡ []

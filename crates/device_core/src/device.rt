@@ -25,11 +25,11 @@ pub enum Put {
 #[derive(Clone, Copy, PartialEq, Eq)]
 pub struct Failed;
 
-/// A reader. What a call leaves in the buffer behind the bytes that it gave is not said.
+/// A reader. What a call leaves in the buffer after the bytes that it gave is not said.
 pub trait Input {
     ghost use Rattle.device_core.specs.Device.{Reads, failures_after, raised, read_stalls};
 
-    /// The bytes that are still to come, where the reader tells them.
+    /// The bytes that are still to come, where the reader reports them.
     ghost left: { Self → Option (List ℕ) };
 
     /// How often it failed. This count and the next two stay at the greatest `u64`.
@@ -54,7 +54,7 @@ pub trait Input {
 pub trait Output {
     ghost use Rattle.device_core.specs.Device.{Writes, failures_after, raised, write_stalls};
 
-    /// The bytes that were written, where the writer tells them.
+    /// The bytes that were written, where the writer reports them.
     ghost held: { Self → Option (List ℕ) };
 
     /// How often it failed. This count and the next two stay at the greatest `u64`.

@@ -114,7 +114,7 @@ event_of words = None
 abbrev pub timed_event : ℕ × Event → ℕ × OwnedEvent
 timed_event timed = (timed.0, owned_event timed.1)
 
--- what is asked for by the words behind `ask`
+-- what is asked for by the words after `ask`
 abbrev pub ask_of : List (List ℕ) → Option Ask
 ask_of (kind ∷ number ∷ []) = if bytes_eq kind (codes "frontend") then option_map (λ n. asks.Frontend n) (decimal_of number 0xFFFF) else None
 ask_of words = None

@@ -125,7 +125,7 @@ fn write_bytes(out: &mut Vec<u8>, bytes: &[u8]) -> Result<(), AllocError>
     write_hex(out, bytes)
 }
 
-/// A word and a number behind it.
+/// A word and a number after it.
 fn write_field(out: &mut Vec<u8>, name: &[u8], number: u64) -> Result<(), AllocError>
     ensures { OnOk result (out.new.items ≡ out.old.items ++ (name.now ++ decimal number)) }
 {
@@ -133,7 +133,7 @@ fn write_field(out: &mut Vec<u8>, name: &[u8], number: u64) -> Result<(), AllocE
     write_number(out, number)
 }
 
-/// A word and an endpoint behind it.
+/// A word and an endpoint after it.
 fn write_place(out: &mut Vec<u8>, name: &[u8], endpoint: &Endpoint) -> Result<(), AllocError>
     ensures { OnOk result (out.new.items ≡ out.old.items ++ (name.now ++ endpoint_text endpoint.now)) }
 {
@@ -223,7 +223,7 @@ fn write_tracks(out: &mut Vec<u8>, tracks: &[Track]) -> Result<(), AllocError>
     Ok(())
 }
 
-/// Appends the line of a reply. Where memory runs out, the front of that line may stand there.
+/// Appends the line of a reply. Where memory runs out, the front of that line may be there.
 pub fn write_reply(out: &mut Vec<u8>, reply: &Reply) -> Result<(), AllocError>
     ensures { OnOk result (out.new.items ≡ out.old.items ++ reply_line reply.now) }
 {
@@ -233,7 +233,7 @@ pub fn write_reply(out: &mut Vec<u8>, reply: &Reply) -> Result<(), AllocError>
 }
 
 /// Appends the line of counts that were asked for, or of no such thing. Where memory runs out, the front
-/// of that line may stand there.
+/// of that line may be there.
 pub fn write_counts(out: &mut Vec<u8>, ask: &Ask, counts: Option<Counts>) -> Result<(), AllocError>
     ensures { OnOk result (out.new.items ≡ out.old.items ++ count_line ask.now counts) }
 {
@@ -259,7 +259,7 @@ fn write_name(out: &mut Vec<u8>, fault: &StepFault) -> Result<(), AllocError>
     }
 }
 
-/// Appends the line of a refused step. Where memory runs out, the front of that line may stand there.
+/// Appends the line of a refused step. Where memory runs out, the front of that line may be there.
 pub fn write_fault(out: &mut Vec<u8>, fault: &StepFault) -> Result<(), AllocError>
     ensures { OnOk result (out.new.items ≡ out.old.items ++ fault_line fault.now) }
 {

@@ -21,7 +21,7 @@ pub enum Request {
     Ask(Ask),
 }
 
-/// What stands before the first such byte, and what stands after it.
+/// What is before the first such byte, and what is after it.
 fn cut(text: &[u8], mark: u8) -> Option<(&[u8], &[u8])>
     ensures some { IfSome result (λ parts. slice_split (is_mark mark) text.now ≡ parts.0.now ∷ slice_split (is_mark mark) parts.1.now) }
     ensures none { IfNone result (slice_split (is_mark mark) text.now ≡ text.now ∷ []) }
@@ -133,7 +133,7 @@ fn event_in(line: &[u8]) -> Option<(u64, Event)>
     Some((moment, event))
 }
 
-/// What is asked for behind `ask`.
+/// What is asked for after `ask`.
 fn read_ask(rest: &[u8]) -> Option<Ask>
     ensures { result ≡ ask_of (words_of rest.now) }
 {

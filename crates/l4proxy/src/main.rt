@@ -7,19 +7,21 @@
 //! where something cannot be read or written, or memory ran out.
 #![tactic(auto)]
 
-use crate::advice::{line_of, refusal, sentence};
 use crate::command::commands;
+use crate::message::refusal;
 use clap::ArgMatches;
 use clap::error::ErrorKind;
 use conn_core::OpenFault;
 use device_core::{FromRead, ToWrite};
-use replay_core::{PrintFault, ReplayFault, fault_of, run_check, run_replay};
+use replay_core::{PrintFault, ReplayFault, run_check, run_replay};
 use std::process::ExitCode;
 use std::rt::Files;
 use std::{env, fs, io};
 
 mod advice;
 mod command;
+mod message;
+mod quote;
 
 /// All was done.
 const DONE: u8 = 0;
@@ -33,20 +35,17 @@ const USAGE: u8 = 2;
 /// Something cannot be read or written, or memory ran out.
 const DEVICE: u8 = 3;
 
-/// Says why the program ends, and with which status.
-fn refuse(rt: &impl Eprint, what: &str, fault: &ReplayFault) -> u8 {
-    let _told = eprintln!(rt; "l4proxy: {what}: {fault}");
-    fault.status()
-}
-
-/// Says something of a line of a file.
-fn tell_line(rt: &impl Eprint, file: &str, line: u32, words: &str) {
-    let _told = eprintln!(rt; "l4proxy: {file}: line {line}: {words}");
+/// Says why a configuration is refused. Where memory runs out, the line and the fault's name are said alone.
+fn explain_refusal(rt: &(impl AllocGlobal + Eprint), file: &str, text: &str, fault: &OpenFault) {
+    let _written = match refusal(rt.alloc(), file, text, fault) {
+        Ok(message) => eprintln!(rt; "{message}"),
+        Err(_) => eprintln!(rt; "{file}: {fault}"),
+    };
 }
 
 /// Says what cannot be read.
 fn unreadable(rt: &impl Eprint, what: &str) -> u8 {
-    let _told = eprintln!(rt; "l4proxy: {what}: cannot be read");
+    let _written = eprintln!(rt; "l4proxy: {what}: cannot be read");
     DEVICE
 }
 
@@ -81,32 +80,15 @@ fn replay_files<R: Files + AllocGlobal + Print + Eprint>(rt: &R, file: &str, scr
     match run_replay(rt.alloc(), text.as_str(), &mut reader, &mut writer) {
         Ok(_done) => DONE,
         Err(fault) => {
-            let status = refuse(rt, place(&fault, file, script), &fault);
-            if let ReplayFault::Config(refused) = fault {
-                explain_refusal(rt, file, text.as_str(), &refused);
+            match &fault {
+                ReplayFault::Config(refused) => explain_refusal(rt, file, text.as_str(), refused),
+                _ => {
+                    let what = place(&fault, file, script);
+                    let _written = eprintln!(rt; "l4proxy: {what}: {fault}");
+                }
             }
-            status
+            fault.status()
         }
-    }
-}
-
-/// Says on the line of a configuration that does not open what is wrong there, or that it is not
-/// served yet.
-fn explain_refusal(
-    rt: &(impl AllocGlobal + Eprint),
-    file: &str,
-    config: &str,
-    refused: &OpenFault,
-) {
-    if let Ok(words) = refusal(rt.alloc(), config) {
-        tell_line(rt, file, line_of(refused), words);
-    }
-}
-
-/// Says what is wrong on the faulty line of a configuration, and what would be right there.
-fn advise(rt: &(impl AllocGlobal + Eprint), file: &str, config: &str) {
-    if let Ok(Some(fault)) = fault_of(rt.alloc(), config) {
-        tell_line(rt, file, line_of(&fault), sentence(&fault));
     }
 }
 
@@ -125,14 +107,14 @@ fn check_file<R: Files + AllocGlobal + Print + Eprint>(rt: &R, file: &str) -> u8
     };
     let mut writer = ToWrite::of(io::writer(rt));
     match run_check(rt.alloc(), text.as_str(), &mut writer) {
-        Ok(true) => DONE,
-        Ok(false) => {
-            advise(rt, file, text.as_str());
+        Ok(None) => DONE,
+        Ok(Some(fault)) => {
+            explain_refusal(rt, file, text.as_str(), &fault);
             REFUSED
         }
         Err(fault) => {
             let what = printed_place(&fault, file);
-            let _told = eprintln!(rt; "l4proxy: {what}: {fault}");
+            let _written = eprintln!(rt; "l4proxy: {what}: {fault}");
             fault.status()
         }
     }
@@ -168,6 +150,7 @@ fn main(rt: HostRuntime) -> ExitCode {
             Ok(words) => words,
             Err(_) => return ExitCode::from(DEVICE),
         },
+        Err(error) if error.kind() == io::ErrorKind::OutOfMemory => return ExitCode::from(DEVICE),
         Err(_) => return ExitCode::from(USAGE),
     };
     match run(&rt, words.as_slice()) {

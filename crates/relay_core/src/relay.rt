@@ -31,7 +31,7 @@ impl Relay {
     ghost use Rattle.std.specs.Prelude.{false};
 
     /// Each direction holds `cap` bytes at most. The server gets `send` first, the header that is sent
-    /// to it, then `rest`, what the client sent behind its own header, and then what is read.
+    /// to it, then `rest`, what the client sent after its own header, and then what is read.
     pub fn new(alloc: Global, cap: usize, send: &[u8], rest: &[u8]) -> Result<Relay, AllocError>
         requires { length send.now + length rest.now ≤ cap }
         ensures forth { IfOk result (λ r. r.forth ≡ record { bytes = send.now ++ rest.now; ended = false; capacity = cap }) }

@@ -1,15 +1,15 @@
 -- How a replay ends.
 use Rattle.std.proofs.Common.{◌≡◌, ◌≢◌, ◌⊎◌, ℕ, true, List, [], ◌∷◌, ◌++◌, Option, Some, ap, subst, sym, ◌∙◌, inl, inr, add-zero}
 use Rattle.std.proofs.lemmas.List.{append-nil}
-use Rattle.replay_core.specs.Replay.{IsFront, Outcome, ended}
-use Rattle.replay_core.specs.Standing.{Standing, Goes, IsFrontOf, total, total_of}
-use Rattle.replay_core.specs.Reading.{Reached, Done, Cut, CutAtEnd, Stopped, Stops, Wrote, Ended, is_told}
+use Rattle.replay_core.specs.Replay.{IsFront, Outcome, final_outcome}
+use Rattle.replay_core.specs.Progress.{Progress, Continues, IsFrontOf, total, total_of}
+use Rattle.replay_core.specs.Reading.{Reaches, AnswersAll, IsCut, IsCutAfterAll, StopsAtLine, Stops, WritesAll, Ends, writes_answers}
 use Rattle.replay_core.specs.declared.fault.ReplayFault.{ReplayFault}
 use Rattle.replay_core.specs.declared.fault.ReplayFault.TheVariants.{Config, Format, TooLong, Read, Write, NoMemory}
-use Rattle.replay_core.proofs.GoesLemmas.{front_goes, front_sent, goes_sent}
+use Rattle.replay_core.proofs.ContinueLemmas.{front_continues, front_sent, continues_sent}
 
-wrote_all : (sent : List ℕ) (s : Standing) (script now : List ℕ) (new : Option (List ℕ)) (t : Standing) (fault : Option ReplayFault) → total now t (ended fault) ≡ total_of sent s script
-    → new ≡ Some (now ++ t.unsent) → Wrote sent s script new t.answered fault
+wrote_all : (sent : List ℕ) (s : Progress) (script now : List ℕ) (new : Option (List ℕ)) (t : Progress) (fault : Option ReplayFault) → total now t (final_outcome fault) ≡ total_of sent s script
+    → new ≡ Some (now ++ t.unsent) → WritesAll sent s script new t.answered fault
 wrote_all sent s script now new t fault same is = record {
   ends = sym (ap (λ (o : Outcome). o.fault) same);
   wrote = is ∙ ap Some (sym (append-nil (now ++ t.unsent)) ∙ ap (λ (o : Outcome). o.text) same);
@@ -17,31 +17,31 @@ wrote_all sent s script now new t fault same is = record {
 }
 
 -- what was written of the answers to the end is a front of them
-front_all : (sent : List ℕ) (s : Standing) (script now : List ℕ) (new : Option (List ℕ)) (t : Standing) (fault : Option ReplayFault) → total now t (ended fault) ≡ total_of sent s script
+front_all : (sent : List ℕ) (s : Progress) (script now : List ℕ) (new : Option (List ℕ)) (t : Progress) (fault : Option ReplayFault) → total now t (final_outcome fault) ≡ total_of sent s script
     → IsFrontOf now t [] new → IsFront new (total_of sent s script).text
 front_all sent s script now new t fault same front = subst (λ (o : Outcome). IsFront new o.text) same (front [])
 
-pub done_ok : (sent : List ℕ) (s : Standing) (script : List ℕ) (held new : Option (List ℕ)) (t : Standing) (fault : Option ReplayFault) → Done sent s script held t fault
-    → ((now : List ℕ) → held ≡ Some now → new ≡ Some (now ++ t.unsent)) → Wrote sent s script new t.answered fault
+pub done_ok : (sent : List ℕ) (s : Progress) (script : List ℕ) (held new : Option (List ℕ)) (t : Progress) (fault : Option ReplayFault) → AnswersAll sent s script held t fault
+    → ((now : List ℕ) → held ≡ Some now → new ≡ Some (now ++ t.unsent)) → WritesAll sent s script new t.answered fault
 done_ok sent s script held new t fault done wrote = wrote_all sent s script done.now new t fault done.same (wrote done.now done.is_held)
 
-pub done_write : (sent : List ℕ) (s : Standing) (script : List ℕ) (left held new : Option (List ℕ)) (t : Standing) (fault : Option ReplayFault) → left ≡ Some [] → Done sent s script held t fault
-    → ((now bytes : List ℕ) → held ≡ Some now → IsFrontOf now t bytes new) → CutAtEnd sent s script left new
+pub done_write : (sent : List ℕ) (s : Progress) (script : List ℕ) (left held new : Option (List ℕ)) (t : Progress) (fault : Option ReplayFault) → left ≡ Some [] → AnswersAll sent s script held t fault
+    → ((now bytes : List ℕ) → held ≡ Some now → IsFrontOf now t bytes new) → IsCutAfterAll sent s script left new
 done_write sent s script left held new t fault is done front =
     record { is_left = is; front = front_all sent s script done.now new t fault done.same (front done.now [] done.is_held) }
 
-stopped_ok : (sent : List ℕ) (s : Standing) (script : List ℕ) (left held new : Option (List ℕ)) (t : Standing) (fault : Option ReplayFault) → Stopped sent s script left held t fault
-    → ((now : List ℕ) → held ≡ Some now → new ≡ Some (now ++ t.unsent)) → Wrote sent s script new t.answered fault
+stopped_ok : (sent : List ℕ) (s : Progress) (script : List ℕ) (left held new : Option (List ℕ)) (t : Progress) (fault : Option ReplayFault) → StopsAtLine sent s script left held t fault
+    → ((now : List ℕ) → held ≡ Some now → new ≡ Some (now ++ t.unsent)) → WritesAll sent s script new t.answered fault
 stopped_ok sent s script left held new t fault stopped wrote =
     wrote_all sent s script stopped.now new t fault (stopped.same stopped.rest (λ e. e) ∙ ap (total_of sent s) (sym stopped.is_read)) (wrote stopped.now stopped.is_held)
 
-stopped_write : (sent : List ℕ) (s : Standing) (script : List ℕ) (left held new : Option (List ℕ)) (t : Standing) (fault : Option ReplayFault) → Stopped sent s script left held t fault
-    → ((now bytes : List ℕ) → held ≡ Some now → IsFrontOf now t bytes new) → Cut sent s script left new ⊎ CutAtEnd sent s script left new
+stopped_write : (sent : List ℕ) (s : Progress) (script : List ℕ) (left held new : Option (List ℕ)) (t : Progress) (fault : Option ReplayFault) → StopsAtLine sent s script left held t fault
+    → ((now bytes : List ℕ) → held ≡ Some now → IsFrontOf now t bytes new) → IsCut sent s script left new ⊎ IsCutAfterAll sent s script left new
 stopped_write sent s script left held new t fault stopped front =
     by stopped.rest stopped.is_left stopped.is_read stopped.same (front stopped.now [] stopped.is_held)
   where
-    by : (rest : List ℕ) → left ≡ Some rest → script ≡ stopped.got ++ rest → ((more : List ℕ) → (rest ≡ [] → more ≡ []) → total stopped.now t (ended fault) ≡ total_of sent s (stopped.got ++ more))
-        → IsFrontOf stopped.now t [] new → Cut sent s script left new ⊎ CutAtEnd sent s script left new
+    by : (rest : List ℕ) → left ≡ Some rest → script ≡ stopped.got ++ rest → ((more : List ℕ) → (rest ≡ [] → more ≡ []) → total stopped.now t (final_outcome fault) ≡ total_of sent s (stopped.got ++ more))
+        → IsFrontOf stopped.now t [] new → IsCut sent s script left new ⊎ IsCutAfterAll sent s script left new
     by [] is read same all = inr (record { is_left = is; front = front_all sent s script stopped.now new t fault (same [] (λ e. e) ∙ ap (total_of sent s) (sym read)) all })
     by (b ∷ rest) is read same all =
         inl (record {
@@ -53,47 +53,47 @@ stopped_write sent s script left held new t fault stopped front =
         })
 
 -- a fault after which the answers were written
-pub told_ok : (sent : List ℕ) (s : Standing) (script : List ℕ) (left held new : Option (List ℕ)) (t u : Standing) (fault : ReplayFault) → is_told fault ≡ true → u.answered ≡ t.answered
-    → ((now : List ℕ) → held ≡ Some now → new ≡ Some (now ++ t.unsent)) → ((now bytes : List ℕ) → held ≡ Some now → Goes now t bytes new u bytes)
-    → Stops sent s script left held t fault → Ended sent s script left new u.answered fault
-told_ok sent s script left held new t u (Config fault) told same wrote goes stops = cc
-told_ok sent s script left held new t u (Format line) told same wrote goes stops =
-    subst (λ n. Wrote sent s script new n (Some (Format line))) (sym same) (stopped_ok sent s script left held new t (Some (Format line)) stops wrote)
-told_ok sent s script left held new t u (TooLong line) told same wrote goes stops =
-    subst (λ n. Wrote sent s script new n (Some (TooLong line))) (sym same) (stopped_ok sent s script left held new t (Some (TooLong line)) stops wrote)
-told_ok sent s script left held new t u Read told same wrote goes stops =
-    let reached : Reached sent s script left held t stops.0 = stops.1 in
+pub finish_ok : (sent : List ℕ) (s : Progress) (script : List ℕ) (left held new : Option (List ℕ)) (t u : Progress) (fault : ReplayFault) → writes_answers fault ≡ true → u.answered ≡ t.answered
+    → ((now : List ℕ) → held ≡ Some now → new ≡ Some (now ++ t.unsent)) → ((now bytes : List ℕ) → held ≡ Some now → Continues now t bytes new u bytes)
+    → Stops sent s script left held t fault → Ends sent s script left new u.answered fault
+finish_ok sent s script left held new t u (Config fault) answers same wrote continues stops = cc
+finish_ok sent s script left held new t u (Format line) answers same wrote continues stops =
+    subst (λ n. WritesAll sent s script new n (Some (Format line))) (sym same) (stopped_ok sent s script left held new t (Some (Format line)) stops wrote)
+finish_ok sent s script left held new t u (TooLong line) answers same wrote continues stops =
+    subst (λ n. WritesAll sent s script new n (Some (TooLong line))) (sym same) (stopped_ok sent s script left held new t (Some (TooLong line)) stops wrote)
+finish_ok sent s script left held new t u Read answers same wrote continues stops =
+    let reaches : Reaches sent s script left held t stops.0 = stops.1 in
     record {
-      got = reached.got;
-      rest = reached.rest;
-      is_left = reached.is_left;
-      is_read = reached.is_read;
-      front = front_goes sent s reached.got new u stops.0 (goes_sent sent s reached.got held t stops.0 new u reached.goes goes);
+      got = reaches.got;
+      rest = reaches.rest;
+      is_left = reaches.is_left;
+      is_read = reaches.is_read;
+      front = front_continues sent s reaches.got new u stops.0 (continues_sent sent s reaches.got held t stops.0 new u reaches.continues continues);
     }
-told_ok sent s script left held new t u Write told same wrote goes stops = cc
-told_ok sent s script left held new t u NoMemory told same wrote goes stops = cc
+finish_ok sent s script left held new t u Write answers same wrote continues stops = cc
+finish_ok sent s script left held new t u NoMemory answers same wrote continues stops = cc
 
 -- a fault after which the answers could not be written
-pub told_write : (sent : List ℕ) (s : Standing) (script : List ℕ) (left held new : Option (List ℕ)) (t : Standing) (fault : ReplayFault) → is_told fault ≡ true
-    → ((now bytes : List ℕ) → held ≡ Some now → IsFrontOf now t bytes new) → Stops sent s script left held t fault → Cut sent s script left new ⊎ CutAtEnd sent s script left new
-told_write sent s script left held new t (Config fault) told front stops = cc
-told_write sent s script left held new t (Format line) told front stops = stopped_write sent s script left held new t (Some (Format line)) stops front
-told_write sent s script left held new t (TooLong line) told front stops = stopped_write sent s script left held new t (Some (TooLong line)) stops front
-told_write sent s script left held new t Read told front stops =
-    let reached : Reached sent s script left held t stops.0 = stops.1 in
+pub finish_write : (sent : List ℕ) (s : Progress) (script : List ℕ) (left held new : Option (List ℕ)) (t : Progress) (fault : ReplayFault) → writes_answers fault ≡ true
+    → ((now bytes : List ℕ) → held ≡ Some now → IsFrontOf now t bytes new) → Stops sent s script left held t fault → IsCut sent s script left new ⊎ IsCutAfterAll sent s script left new
+finish_write sent s script left held new t (Config fault) answers front stops = cc
+finish_write sent s script left held new t (Format line) answers front stops = stopped_write sent s script left held new t (Some (Format line)) stops front
+finish_write sent s script left held new t (TooLong line) answers front stops = stopped_write sent s script left held new t (Some (TooLong line)) stops front
+finish_write sent s script left held new t Read answers front stops =
+    let reaches : Reaches sent s script left held t stops.0 = stops.1 in
     inl (record {
-      got = reached.got;
-      rest = reached.rest;
-      is_left = reached.is_left;
-      is_read = reached.is_read;
-      front = front_sent sent s reached.got held t stops.0 new reached.goes front;
+      got = reaches.got;
+      rest = reaches.rest;
+      is_left = reaches.is_left;
+      is_read = reaches.is_read;
+      front = front_sent sent s reaches.got held t stops.0 new reaches.continues front;
     })
-told_write sent s script left held new t Write told front stops = cc
-told_write sent s script left held new t NoMemory told front stops = cc
+finish_write sent s script left held new t Write answers front stops = cc
+finish_write sent s script left held new t NoMemory answers front stops = cc
 
-pub ended_write : (sent : List ℕ) (s : Standing) (script : List ℕ) (left new : Option (List ℕ)) (lines : ℕ) (fault : ReplayFault) → fault ≡ Write
-    → Cut sent s script left new ⊎ CutAtEnd sent s script left new → Ended sent s script left new lines fault
-ended_write sent s script left new lines fault is cut = subst (Ended sent s script left new lines) (sym is) cut
+pub ends_write : (sent : List ℕ) (s : Progress) (script : List ℕ) (left new : Option (List ℕ)) (lines : ℕ) (fault : ReplayFault) → fault ≡ Write
+    → IsCut sent s script left new ⊎ IsCutAfterAll sent s script left new → Ends sent s script left new lines fault
+ends_write sent s script left new lines fault is cut = subst (Ends sent s script left new lines) (sym is) cut
 
-pub told_other : (fault : ReplayFault) → is_told fault ≡ true → fault ≢ Write
-told_other fault told is = let told' : is_told Write ≡ true = subst (λ f. is_told f ≡ true) is told in cc
+pub finish_other : (fault : ReplayFault) → writes_answers fault ≡ true → fault ≢ Write
+finish_other fault answers is = let answers' : writes_answers Write ≡ true = subst (λ f. writes_answers f ≡ true) is answers in cc

@@ -1,6 +1,6 @@
 pub mod FrontLemmas
-pub mod GoesLemmas
-pub mod ReachedLemmas
+pub mod ContinueLemmas
+pub mod ReachLemmas
 pub mod OutcomeLemmas
 pub mod EndLemmas
 pub mod PlanLemmas

@@ -11,9 +11,9 @@ use Rattle.conn_model.specs.History.{Entry, IsLegal, IsWell, after, answer, coun
 use Rattle.conn_model.proofs.Law.{after-cons, after-nil}
 use Rattle.event_text.specs.Script.{Wanted}
 use Rattle.event_text.specs.Replies.{count_line}
-use Rattle.replay_core.specs.Replay.{Outcome, after_line, answer_text, asked, before_rest, history_after, outcome, replayed}
-use Rattle.replay_core.specs.Turns.{outcome_in, plain_after, replayed_in, turn}
-use Rattle.replay_core.specs.Standing.{Standing, total_of}
+use Rattle.replay_core.specs.Replay.{Outcome, after_line, answer_text, request_at, before_rest, history_after, outcome, script_outcome}
+use Rattle.replay_core.specs.Turns.{outcome_in, plain_after, script_outcome_in, turn}
+use Rattle.replay_core.specs.Progress.{Progress, total_of}
 use Rattle.replay_core.specs.declared.fault.ReplayFault.{ReplayFault}
 
 -- an answer leaves the state after the history that it leaves
@@ -36,18 +36,18 @@ same_line p h (Ok (Some (Wanted.reply timed))) rest rest_in well legal next =
 pub same_outcome : (p : Plain) (h : List Entry) (before : ℕ) (lines : List (List ℕ)) → IsWell p → IsLegal p h → outcome p h before lines ≡ outcome_in (after p h) before lines
 same_outcome p h before [] well legal = refl
 same_outcome p h before (line ∷ lines) well legal =
-    same_line p h (asked (before + 1) line) (λ g. outcome p g (before + 1) lines) (λ q. outcome_in q (before + 1) lines) well legal
+    same_line p h (request_at (before + 1) line) (λ g. outcome p g (before + 1) lines) (λ q. outcome_in q (before + 1) lines) well legal
     (λ g ok. same_outcome p g (before + 1) lines well ok)
 
 -- what comes of a script where a plan is opened
-pub same_replayed : (plan : Plan) (script : List ℕ) → IsWell (opening plan 0) → replayed plan script ≡ replayed_in (opening plan 0) 0 script
-same_replayed plan script well =
+pub same_script_outcome : (plan : Plan) (script : List ℕ) → IsWell (opening plan 0) → script_outcome plan script ≡ script_outcome_in (opening plan 0) 0 script
+same_script_outcome plan script well =
     same_outcome (opening plan 0) [] 0 (parts is_line_feed script) well tt ∙ ap (λ p. outcome_in p 0 (parts is_line_feed script)) (after-nil (opening plan 0))
 
-abbrev pub start : Plan → Standing
+abbrev pub start : Plan → Progress
 start plan = record { plain = opening plan 0; before = 0; answered = 0; unsent = [] }
 
 -- in all, behind what was written before
-pub total_start : (plan : Plan) (sent script : List ℕ) → IsWell (opening plan 0) → total_of sent (start plan) script ≡ before_rest sent 0 (replayed plan script)
+pub total_start : (plan : Plan) (sent script : List ℕ) → IsWell (opening plan 0) → total_of sent (start plan) script ≡ before_rest sent 0 (script_outcome plan script)
 total_start plan sent script well =
-    ap (λ xs. before_rest xs 0 (replayed_in (opening plan 0) 0 script)) (append-nil sent) ∙ ap (before_rest sent 0) (sym (same_replayed plan script well))
+    ap (λ xs. before_rest xs 0 (script_outcome_in (opening plan 0) 0 script)) (append-nil sent) ∙ ap (before_rest sent 0) (sym (same_script_outcome plan script well))

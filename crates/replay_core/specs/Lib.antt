@@ -1,6 +1,6 @@
 pub mod Status
 pub mod Replay
 pub mod Turns
-pub mod Standing
+pub mod Progress
 pub mod Reading
 pub mod Check

@@ -24,8 +24,8 @@ pub record Outcome : Type 0 where
   pub lines : ℕ
   pub fault : Option ReplayFault
 
-abbrev pub ended : Option ReplayFault → Outcome
-ended fault = record { text = []; lines = 0; fault = fault }
+abbrev pub final_outcome : Option ReplayFault → Outcome
+final_outcome fault = record { text = []; lines = 0; fault = fault }
 
 -- so many answers, before what comes after them
 abbrev pub before_rest : List ℕ → ℕ → Outcome → Outcome
@@ -37,16 +37,16 @@ before_rest text lines rest = record { text = text ++ rest.text; lines = lines +
 abbrev pub is_skipped : List ℕ → Bool
 is_skipped line = length line == 0 || slice_index line 0 == 0x23
 
-abbrev pub wanted_at : ℕ → Option Wanted → Result (Option Wanted) ReplayFault
-wanted_at number None = Err (Format number)
-wanted_at number (Some wants) = Ok (Some wants)
+abbrev pub request_else : ℕ → Option Wanted → Result (Option Wanted) ReplayFault
+request_else number None = Err (Format number)
+request_else number (Some wants) = Ok (Some wants)
 
 -- what the line of that number asks for: an answer to an event, counts, or nothing; else what is wrong with it
-abbrev pub asked : ℕ → List ℕ → Result (Option Wanted) ReplayFault
-asked number line =
+abbrev pub request_at : ℕ → List ℕ → Result (Option Wanted) ReplayFault
+request_at number line =
     if nat_lt MOST_LINE_BYTES (length line) || nat_lt MOST_LINES number then Err (TooLong number)
     else if is_skipped line then Ok None
-    else wanted_at number (wanted_of (words_of line))
+    else request_else number (wanted_of (words_of line))
 
 -- what ends a replay where no line of that number comes
 abbrev pub script_fault : ℕ → LineFault → ReplayFault
@@ -55,9 +55,9 @@ script_fault number lines.Read = Read
 script_fault number lines.NoMemory = NoMemory
 
 -- what was read of a line
-abbrev pub asked_for : Result (Option Request) ReplayFault → Result (Option Wanted) ReplayFault
-asked_for (Ok request) = Ok (option_map wanted request)
-asked_for (Err fault) = Err fault
+abbrev pub request_read : Result (Option Request) ReplayFault → Result (Option Wanted) ReplayFault
+request_read (Ok request) = Ok (option_map wanted request)
+request_read (Err fault) = Err fault
 
 -- ---- the lines of a script
 
@@ -71,22 +71,22 @@ abbrev pub history_after : List Entry → ℕ → OwnedEvent → Result Reply St
 history_after h moment event (Ok reply) = entry moment event reply ∷ h
 history_after h moment event (Err fault) = h
 
--- what comes of a line behind a history, and of the rest
+-- what comes of a line after a history, and of the rest
 abbrev pub after_line : Plain → List Entry → Result (Option Wanted) ReplayFault → (List Entry → Outcome) → Outcome
-after_line p h (Err fault) rest = ended (Some fault)
+after_line p h (Err fault) rest = final_outcome (Some fault)
 after_line p h (Ok None) rest = rest h
 after_line p h (Ok (Some (Wanted.count ask))) rest = before_rest (count_line ask (counts p h ask)) 1 (rest h)
 after_line p h (Ok (Some (Wanted.reply timed))) rest =
     let answered = answer p h timed.0 timed.1 in before_rest (answer_text answered) 1 (rest (history_after h timed.0 timed.1 answered))
 
--- what comes of lines, behind a history and so many lines before them
+-- what comes of lines, after a history and so many lines
 abbrev pub outcome : Plain → List Entry → ℕ → List (List ℕ) → Outcome
-outcome p h before [] = ended None
-outcome p h before (line ∷ lines) = after_line p h (asked (before + 1) line) (λ g. outcome p g (before + 1) lines)
+outcome p h before [] = final_outcome None
+outcome p h before (line ∷ lines) = after_line p h (request_at (before + 1) line) (λ g. outcome p g (before + 1) lines)
 
 -- what comes of a script where a plan is opened
-abbrev pub replayed : Plan → List ℕ → Outcome
-replayed plan script = outcome (opening plan 0) [] 0 (parts is_line_feed script)
+abbrev pub script_outcome : Plan → List ℕ → Outcome
+script_outcome plan script = outcome (opening plan 0) [] 0 (parts is_line_feed script)
 
 -- ---- a whole replay
 
@@ -94,22 +94,22 @@ replayed plan script = outcome (opening plan 0) [] 0 (parts is_line_feed script)
 abbrev pub IsFront : Option (List ℕ) → List ℕ → Type 0
 IsFront held text = (now : List ℕ) × (rest : List ℕ) × (held ≡ Some now) × (text ≡ now ++ rest)
 
--- The configuration has a meaning, each event of the script was answered, and the answers, so many, stand behind what was written before.
+-- The configuration has a meaning, each event of the script was answered, and the answers, so many, come after what was written before.
 pub record IsReplayed (config script sent : List ℕ) (held : Option (List ℕ)) (lines : ℕ) : Type 0 where
   pub plan : Plan
   pub means : meaning config ≡ Ok plan
-  pub ends : (replayed plan script).fault ≡ None
-  pub wrote : held ≡ Some (sent ++ (replayed plan script).text)
-  pub counts : (replayed plan script).lines ≡ lines
+  pub ends : (script_outcome plan script).fault ≡ None
+  pub wrote : held ≡ Some (sent ++ (script_outcome plan script).text)
+  pub counts : (script_outcome plan script).lines ≡ lines
 
--- A line of the script is wrong, and the answers to all events before it stand behind what was written before.
+-- A line of the script is wrong, and the answers to all events before it come after what was written before.
 pub record IsStopped (config script sent : List ℕ) (held : Option (List ℕ)) (fault : ReplayFault) : Type 0 where
   pub plan : Plan
   pub means : meaning config ≡ Ok plan
-  pub ends : (replayed plan script).fault ≡ Some fault
-  pub wrote : held ≡ Some (sent ++ (replayed plan script).text)
+  pub ends : (script_outcome plan script).fault ≡ Some fault
+  pub wrote : held ≡ Some (sent ++ (script_outcome plan script).text)
 
--- What was written is the front of the answers to whatever script begins with what was read. So no line is answered before it ended.
+-- What was written is the front of the answers to whatever script begins with what was read. So no line is answered before its end.
 pub record IsCutShort (config script sent : List ℕ) (left held : Option (List ℕ)) : Type 0 where
   pub plan : Plan
   pub means : meaning config ≡ Ok plan
@@ -117,14 +117,14 @@ pub record IsCutShort (config script sent : List ℕ) (left held : Option (List 
   pub rest : List ℕ
   pub is_left : left ≡ Some rest
   pub is_read : script ≡ got ++ rest
-  pub front : (more : List ℕ) → IsFront held (sent ++ (replayed plan (got ++ more)).text)
+  pub front : (more : List ℕ) → IsFront held (sent ++ (script_outcome plan (got ++ more)).text)
 
 -- All of the script was read, and what was written is the front of its answers.
 pub record IsCutAtEnd (config script sent : List ℕ) (left held : Option (List ℕ)) : Type 0 where
   pub plan : Plan
   pub means : meaning config ≡ Ok plan
   pub is_left : left ≡ Some []
-  pub front : IsFront held (sent ++ (replayed plan script).text)
+  pub front : IsFront held (sent ++ (script_outcome plan script).text)
 
 -- how a replay ends early
 abbrev pub IsEndedBy : List ℕ → List ℕ → List ℕ → Option (List ℕ) → Option (List ℕ) → ReplayFault → Type 0

@@ -10,7 +10,7 @@ use Rattle.conn_model.specs.Counts.{counts_in}
 use Rattle.event_text.specs.Script.{Wanted}
 use Rattle.event_text.specs.Replies.{count_line}
 use Rattle.conn_model.specs.History.{after, entry}
-use Rattle.replay_core.specs.Replay.{Outcome, answer_text, asked, before_rest, ended}
+use Rattle.replay_core.specs.Replay.{Outcome, answer_text, request_at, before_rest, final_outcome}
 use Rattle.replay_core.specs.declared.fault.ReplayFault.{ReplayFault}
 
 -- the state after an answer
@@ -30,15 +30,15 @@ left_in p (Wanted.reply timed) = plain_after p timed.0 timed.1 (answer_in p time
 
 -- what comes of a line in a state, and of the rest
 abbrev pub turn : Plain → Result (Option Wanted) ReplayFault → (Plain → Outcome) → Outcome
-turn p (Err fault) rest = ended (Some fault)
+turn p (Err fault) rest = final_outcome (Some fault)
 turn p (Ok None) rest = rest p
 turn p (Ok (Some wants)) rest = before_rest (text_in p wants) 1 (rest (left_in p wants))
 
--- what comes of lines in a state, behind so many lines before them
+-- what comes of lines in a state, after so many lines before them
 abbrev pub outcome_in : Plain → ℕ → List (List ℕ) → Outcome
-outcome_in p before [] = ended None
-outcome_in p before (line ∷ lines) = turn p (asked (before + 1) line) (λ q. outcome_in q (before + 1) lines)
+outcome_in p before [] = final_outcome None
+outcome_in p before (line ∷ lines) = turn p (request_at (before + 1) line) (λ q. outcome_in q (before + 1) lines)
 
 -- what comes of the bytes of a script
-abbrev pub replayed_in : Plain → ℕ → List ℕ → Outcome
-replayed_in p before script = outcome_in p before (parts is_line_feed script)
+abbrev pub script_outcome_in : Plain → ℕ → List ℕ → Outcome
+script_outcome_in p before script = outcome_in p before (parts is_line_feed script)

@@ -4,7 +4,7 @@ ghost use Rattle.config_core.specs.Meaning.{compiled, opened};
 ghost use Rattle.plan_core.specs.Compiled.{plan_of};
 ghost use Rattle.replay_core.specs.Check.{check_output, fault_in, refused_line};
 ghost use Rattle.replay_core.specs.Replay.{IsFront};
-ghost use Rattle.replay_core.specs.Standing.{GaveUp};
+ghost use Rattle.replay_core.specs.Progress.{GaveUp};
 
 use crate::fault::PrintFault;
 use conf_tree::{ConfKind, Tree, read_config};

@@ -1,4 +1,4 @@
-//! The engines of the commands: a script is replayed, a configuration is checked.
+//! The engines of the commands: a script is script_outcome, a configuration is checked.
 #![tactic(auto)]
 
 pub use check::run_check;

@@ -4,8 +4,8 @@ ghost use Rattle.device_core.specs.Device.{raised_by};
 ghost use Rattle.device_core.specs.Patience.{IsUnblocked};
 ghost use Rattle.device_core.specs.declared.patience.TheConstants.{MOST_READS};
 ghost use Rattle.config_core.specs.declared.fault.OpenFault.{OpenFault};
-ghost use Rattle.replay_core.specs.Standing.{GaveUp};
-ghost use Rattle.replay_core.specs.Reading.{Done, IsSpent, Stops};
+ghost use Rattle.replay_core.specs.Progress.{GaveUp};
+ghost use Rattle.replay_core.specs.Reading.{AnswersAll, IsSpent, Stops};
 
 use crate::fault::ReplayFault;
 use crate::session::Session;
@@ -22,7 +22,7 @@ pub fn answer_all<I: Input, O: Output>(
     requires nothing { lines.old.kept ≡ [] }
     requires reads { lines.old.reads ≡ MOST_READS }
     ensures ok { OnOk result ((script sent : List ℕ) → I.left reader.old ≡ Some script → O.held writer.old ≡ Some sent →
-        (I.left reader.new ≡ Some []) × Done sent session.old script (O.held writer.new) session.new None) }
+        (I.left reader.new ≡ Some []) × AnswersAll sent session.old script (O.held writer.new) session.new None) }
     ensures stops { IfErr result (λ f. (script sent : List ℕ) → I.left reader.old ≡ Some script → O.held writer.old ≡ Some sent →
         Stops sent session.old script (I.left reader.new) (O.held writer.new) session.new f) }
     ensures calls { I.calls reader.new ≡ raised_by (MOST_READS - lines.new.reads) (I.calls reader.old) }

@@ -8,8 +8,8 @@ ghost use Rattle.config_core.specs.Meaning.{meaning};
 ghost use Rattle.conn_core.specs.Machine.{IsOpened};
 ghost use Rattle.config_core.specs.declared.fault.OpenFault.{OpenFault};
 ghost use Rattle.replay_core.specs.Replay.{IsEndedBy, IsReplayed};
-ghost use Rattle.replay_core.specs.Standing.{GaveUp, Standing};
-ghost use Rattle.replay_core.specs.Reading.{Ended, IsSpent, Stops, Wrote, is_told};
+ghost use Rattle.replay_core.specs.Progress.{GaveUp, Progress};
+ghost use Rattle.replay_core.specs.Reading.{Ends, IsSpent, Stops, WritesAll, writes_answers};
 
 use crate::fault::ReplayFault;
 use crate::reading::answer_all;
@@ -27,8 +27,8 @@ pub struct Replayed {
 }
 
 /// Whether what was answered before the fault is still written.
-fn is_told(fault: &ReplayFault) -> bool
-    ensures { result ≡ is_told fault.now }
+fn writes_answers(fault: &ReplayFault) -> bool
+    ensures { result ≡ writes_answers fault.now }
 {
     match fault {
         ReplayFault::Format(_) | ReplayFault::TooLong(_) | ReplayFault::Read => true,
@@ -37,15 +37,15 @@ fn is_told(fault: &ReplayFault) -> bool
 }
 
 /// Writes what was answered before a fault, and says which fault ends the replay.
-fn tell<O: Output>(session: &mut Session, fault: ReplayFault, writer: &mut O) -> ReplayFault
-    ensures ended { (sent : List ℕ) (s : Standing) (script : List ℕ) (left : Option (List ℕ)) →
-        Stops sent s script left (O.held writer.old) session.old fault → Ended sent s script left (O.held writer.new) session.new.answered result }
+fn finish<O: Output>(session: &mut Session, fault: ReplayFault, writer: &mut O) -> ReplayFault
+    ensures early_end { (sent : List ℕ) (s : Progress) (script : List ℕ) (left : Option (List ℕ)) →
+        Stops sent s script left (O.held writer.old) session.old fault → Ends sent s script left (O.held writer.new) session.new.answered result }
     ensures gave_up { result ≡ ReplayFault.Write →
         ((fault ≡ ReplayFault.Write) × (writer.new ≡ writer.old)) ⊎ ((fault ≢ ReplayFault.Write) × GaveUp (O.failures writer.old) (O.failures writer.new) (O.stalls writer.old) (O.stalls writer.new)) }
     ensures read { result ≡ ReplayFault.Read → fault ≡ ReplayFault.Read }
     ensures config { (o : OpenFault) → result ≡ ReplayFault.Config o → fault ≡ ReplayFault.Config o }
 {
-    if !is_told(&fault) {
+    if !writes_answers(&fault) {
         return fault;
     }
     match session.send(writer) {
@@ -62,9 +62,9 @@ fn answer_and_send<I: Input, O: Output>(
     writer: &mut O,
 ) -> Result<(), ReplayFault>
     ensures ok { OnOk result ((script sent : List ℕ) → I.left reader.old ≡ Some script → O.held writer.old ≡ Some sent →
-        Wrote sent session.old script (O.held writer.new) session.new.answered None) }
-    ensures ended { IfErr result (λ f. (script sent : List ℕ) → I.left reader.old ≡ Some script → O.held writer.old ≡ Some sent →
-        Ended sent session.old script (I.left reader.new) (O.held writer.new) session.new.answered f) }
+        WritesAll sent session.old script (O.held writer.new) session.new.answered None) }
+    ensures early_end { IfErr result (λ f. (script sent : List ℕ) → I.left reader.old ≡ Some script → O.held writer.old ≡ Some sent →
+        Ends sent session.old script (I.left reader.new) (O.held writer.new) session.new.answered f) }
     ensures calls { (n : ℕ) × (n ≤ MOST_READS) × (I.calls reader.new ≡ raised_by n (I.calls reader.old)) }
     ensures spent { result ≡ Err ReplayFault.Read → IsSpent (I.failures reader.old) (I.failures reader.new) (I.stalls reader.old) (I.stalls reader.new) (I.calls reader.old) (I.calls reader.new) }
     ensures gave_up { result ≡ Err ReplayFault.Write → GaveUp (O.failures writer.old) (O.failures writer.new) (O.stalls writer.old) (O.stalls writer.new) }
@@ -78,7 +78,7 @@ fn answer_and_send<I: Input, O: Output>(
             session.send(writer)?;
             Ok(())
         }
-        Err(fault) => Err(tell(session, fault, writer)),
+        Err(fault) => Err(finish(session, fault, writer)),
     }
 }
 
@@ -96,7 +96,7 @@ fn open_core(alloc: Global, config: &str) -> Result<Core, ReplayFault>
 }
 
 /// Opens a core on the configuration and answers each event of the script with one line. A line that
-/// hands in no event ends the replay, behind the answers to all events before it. At most
+/// hands in no event ends the replay, after the answers to all events before it. At most
 /// `device_core::MOST_READS` reads are made.
 pub fn run_replay<I: Input, O: Output>(
     alloc: Global,
@@ -107,7 +107,7 @@ pub fn run_replay<I: Input, O: Output>(
     // What was written is what is answered over the history from the opening on.
     ensures ok { IfOk result (λ r. (script sent : List ℕ) → I.left reader.old ≡ Some script → O.held writer.old ≡ Some sent →
         IsReplayed config.now script sent (O.held writer.new) r.lines) }
-    ensures ended { IfErr result (λ f. (script sent : List ℕ) → I.left reader.old ≡ Some script → O.held writer.old ≡ Some sent →
+    ensures early_end { IfErr result (λ f. (script sent : List ℕ) → I.left reader.old ≡ Some script → O.held writer.old ≡ Some sent →
         IsEndedBy config.now script sent (I.left reader.new) (O.held writer.new) f) }
 
     // The configuration is opened exactly where it has a meaning.

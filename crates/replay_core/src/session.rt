@@ -6,9 +6,9 @@ ghost use Rattle.conn_model.specs.Answer.{answer_in};
 ghost use Rattle.conn_model.specs.Counts.{counts_in};
 ghost use Rattle.event_text.specs.Replies.{count_line};
 ghost use Rattle.conn_model.specs.History.{owned_event};
-ghost use Rattle.replay_core.specs.Replay.{answer_text, asked, asked_for, ended, script_fault};
+ghost use Rattle.replay_core.specs.Replay.{answer_text, request_at, request_read, final_outcome, script_fault};
 ghost use Rattle.replay_core.specs.Turns.{plain_after};
-ghost use Rattle.replay_core.specs.Standing.{total, total_of_lines, GaveUp, Goes, IsFrontOf, IsLineFault};
+ghost use Rattle.replay_core.specs.Progress.{total, total_of_lines, GaveUp, Continues, IsFrontOf, IsLineFault};
 
 use crate::fault::ReplayFault;
 use event_text::{Request, read_request, write_counts, write_fault, write_reply};
@@ -38,10 +38,10 @@ pub struct Session {
 
 impl Model for Session {
     ghost use Rattle.std.specs.Prelude.{◌≤◌};
-    ghost use Rattle.replay_core.specs.Standing.{Standing};
+    ghost use Rattle.replay_core.specs.Progress.{Progress};
     ghost use Rattle.replay_core.specs.declared.session.TheConstants.{MOST_LINES};
 
-    ghost Value = { Standing };
+    ghost Value = { Progress };
 
     ghost view = { λ s. record { plain = s.core; before = s.before; answered = s.answered; unsent = s.unsent.items } };
 
@@ -51,7 +51,7 @@ impl Model for Session {
 /// What a line asks for.
 fn read_line(number: u64, line: &[u8]) -> Result<Option<Request>, ReplayFault>
     requires { length line.now ≤ MOST_LINE_BYTES }
-    ensures exact { asked_for result ≡ asked number line.now }
+    ensures exact { request_read result ≡ request_at number line.now }
     ensures small { IfOk result (λ _. number ≤ MOST_LINES) }
     ensures kind { IfErr result IsLineFault }
 {
@@ -89,7 +89,7 @@ fn answer(
     Ok(())
 }
 
-/// Collects the line of the counts that are asked for.
+/// Collects the line of the counts that are request_at for.
 fn count(core: &Core, unsent: &mut Vec<u8>, ask: &Ask) -> Result<(), ReplayFault>
     ensures text { OnOk result (unsent.new.items ≡ unsent.old.items ++ count_line ask.now (counts_in core.now ask.now)) }
     ensures err { IfErr result (λ f. f ≡ ReplayFault.NoMemory) }
@@ -145,7 +145,7 @@ impl Session {
         ensures ok { OnOk result ((sent : List ℕ) (more : List (List ℕ)) → total_of_lines sent self.new more ≡ total_of_lines sent self.old (line.now ∷ more)) }
         ensures before { OnOk result ((self.new.before ≡ self.old.before + 1) × (self.new.before ≤ MOST_LINES)) }
         ensures err { IfErr result (λ f. (f ≡ ReplayFault.NoMemory) ⊎ (IsLineFault f
-            × ((sent : List ℕ) (more : List (List ℕ)) → total sent self.new (ended (Some f)) ≡ total_of_lines sent self.old (line.now ∷ more)))) }
+            × ((sent : List ℕ) (more : List (List ℕ)) → total sent self.new (final_outcome (Some f)) ≡ total_of_lines sent self.old (line.now ∷ more)))) }
     {
         match read_line(self.before + 1, line)? {
             Some(Request::Event(moment, event)) => {
@@ -164,7 +164,7 @@ impl Session {
 
     /// Writes the answers that were collected.
     pub fn send<O: Output>(&mut self, writer: &mut O) -> Result<(), ReplayFault>
-        ensures ok { OnOk result ((sent bytes : List ℕ) → O.held writer.old ≡ Some sent → Goes sent self.old bytes (O.held writer.new) self.new bytes) }
+        ensures ok { OnOk result ((sent bytes : List ℕ) → O.held writer.old ≡ Some sent → Continues sent self.old bytes (O.held writer.new) self.new bytes) }
         ensures wrote { OnOk result ((sent : List ℕ) → O.held writer.old ≡ Some sent → O.held writer.new ≡ Some (sent ++ self.old.unsent)) }
         ensures empty { OnOk result (self.new ≡ record self.old { unsent = [] }) }
         ensures failures { OnOk result (O.failures writer.new ≡ O.failures writer.old) }
@@ -184,7 +184,7 @@ impl Session {
 
     /// Writes the answers that were collected once they are many.
     pub fn send_many<O: Output>(&mut self, writer: &mut O) -> Result<(), ReplayFault>
-        ensures ok { OnOk result ((sent bytes : List ℕ) → O.held writer.old ≡ Some sent → Goes sent self.old bytes (O.held writer.new) self.new bytes) }
+        ensures ok { OnOk result ((sent bytes : List ℕ) → O.held writer.old ≡ Some sent → Continues sent self.old bytes (O.held writer.new) self.new bytes) }
         ensures before { OnOk result (self.new.before ≡ self.old.before) }
         ensures few { OnOk result (length self.new.unsent < MOST_UNSENT) }
         ensures failures { OnOk result (O.failures writer.new ≡ O.failures writer.old) }

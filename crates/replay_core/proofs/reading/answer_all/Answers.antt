@@ -1,8 +1,7 @@
-use Rattle.std.proofs.Common.{◌≡◌, ◌∷◌, ◌⊎◌, ℕ, List, ap, inl, inr, ◌∙◌, arith}
+use Rattle.std.proofs.Common.{◌∙◌, arith}
 use Rattle.std.proofs.lemmas.Result.{IfErr-weaker, on_ok_weaker, err_from_is_err_and}
-use Rattle.device_core.proofs.StallLemmas.{unblocked_on, worn_out_on}
-use Rattle.replay_core.specs.Standing.{total_of_lines}
-use Rattle.replay_core.proofs.ReachedLemmas.{done_end, done_last, reached_line, reached_sent, stops_last, stops_line, stops_reading, stops_write}
+use Rattle.device_core.proofs.StallLemmas.{unblocked_on}
+use Rattle.replay_core.proofs.ReachLemmas.{done_end, done_last, reaches_line, reaches_sent, stops_last, stops_line, stops_reading, stops_write}
 use Rattle.replay_core.proofs.reading.answer_all.Goals as goal
 
 pub returns-in_err-answer_line-in-Ok-Line-clause-stops : goal.returns-in_err-answer_line-in-Ok-Line-clause-stops
@@ -12,7 +11,7 @@ returns-in_err-answer_line-in-Ok-Line-clause-stops g c =
     rw (p.1, p.2)
     (λ script sent left held.
     stops_line sent c.args.session.now script _ _ c.loop-session.session c.answer_line.new.self c.loop-session.lines c.advance.new.self _ _
-    (c.loop-session.invariant.reached script sent left held) gives (rw c.line.ensures at c.in_err-answer_line-in-Ok-Line.ensures.err))
+    (c.loop-session.invariant.reaches script sent left held) gives (rw c.line.ensures at c.in_err-answer_line-in-Ok-Line.ensures.err))
 
 pub returns-in_err-send_many-in-Ok-Line-clause-stops : goal.returns-in_err-send_many-in-Ok-Line-clause-stops
 returns-in_err-send_many-in-Ok-Line-clause-stops g c =
@@ -21,8 +20,8 @@ returns-in_err-send_many-in-Ok-Line-clause-stops g c =
     rw (p.1, p.2)
     (λ script sent left held.
     stops_write sent c.args.session.now script _ _ c.answer_line.new.self c.send_many.new.self _ _ _ c.in_err-send_many-in-Ok-Line.ensures.err
-    (reached_line sent c.args.session.now script _ _ c.loop-session.session c.answer_line.new.self c.loop-session.lines c.advance.new.self _
-    (c.loop-session.invariant.reached script sent left held) gives (rw c.line.ensures at c.in_ok-answer_line-in-Ok-Line.ensures.ok))
+    (reaches_line sent c.args.session.now script _ _ c.loop-session.session c.answer_line.new.self c.loop-session.lines c.advance.new.self _
+    (c.loop-session.invariant.reaches script sent left held) gives (rw c.line.ensures at c.in_ok-answer_line-in-Ok-Line.ensures.ok))
     c.in_err-send_many-in-Ok-Line.ensures.front)
 
 pub loop-session-preserved : goal.loop-session-preserved
@@ -36,10 +35,10 @@ loop-session-preserved g c =
       stalls = unblocked_on _ _ _ before.stalls (c.in-Ok-Line.ensures.stalls (λ e. cc));
       writes = c.in_ok-send_many-in-Ok-Line.ensures.failures ∙ before.writes;
       write_stalls = unblocked_on _ _ _ before.write_stalls c.in_ok-send_many-in-Ok-Line.ensures.stalls;
-      reached = λ script sent left held.
-          reached_sent sent c.args.session.now script _ _ c.answer_line.new.self c.advance.new.self.kept _ c.send_many.new.self
-          (reached_line sent c.args.session.now script _ _ c.loop-session.session c.answer_line.new.self c.loop-session.lines c.advance.new.self _
-          (before.reached script sent left held) gives (rw c.line.ensures at c.in_ok-answer_line-in-Ok-Line.ensures.ok))
+      reaches = λ script sent left held.
+          reaches_sent sent c.args.session.now script _ _ c.answer_line.new.self c.advance.new.self.kept _ c.send_many.new.self
+          (reaches_line sent c.args.session.now script _ _ c.loop-session.session c.answer_line.new.self c.loop-session.lines c.advance.new.self _
+          (before.reaches script sent left held) gives (rw c.line.ensures at c.in_ok-answer_line-in-Ok-Line.ensures.ok))
           c.in_ok-send_many-in-Ok-Line.ensures.ok;
     }
 
@@ -49,7 +48,7 @@ returns-in-Ok-LastLine-clause-ok g c =
     on_ok_weaker c.answer_line-in-Ok-LastLine.result
     (λ step script sent left held.
     done_last sent c.args.session.now script _ _ c.loop-session.session c.answer_line-in-Ok-LastLine.new.self c.loop-session.lines c.advance.new.self _
-    (c.loop-session.invariant.reached script sent left held) gives (rw c.line-in-Ok-LastLine.ensures at step))
+    (c.loop-session.invariant.reaches script sent left held) gives (rw c.line-in-Ok-LastLine.ensures at step))
     c.answer_line-in-Ok-LastLine.ensures.ok
 
 pub returns-in-Ok-LastLine-clause-stops : goal.returns-in-Ok-LastLine-clause-stops
@@ -58,16 +57,16 @@ returns-in-Ok-LastLine-clause-stops g c =
     IfErr-weaker c.answer_line-in-Ok-LastLine.result _ _
     (λ fault why script sent left held.
     stops_last sent c.args.session.now script _ _ c.loop-session.session c.answer_line-in-Ok-LastLine.new.self c.loop-session.lines c.advance.new.self _ fault
-    (c.loop-session.invariant.reached script sent left held) gives (rw c.line-in-Ok-LastLine.ensures at why))
+    (c.loop-session.invariant.reaches script sent left held) gives (rw c.line-in-Ok-LastLine.ensures at why))
     c.answer_line-in-Ok-LastLine.ensures.err
 
 pub returns-in-Ok-End-clause-ok : goal.returns-in-Ok-End-clause-ok
 returns-in-Ok-End-clause-ok g c = λ script sent left held.
     done_end sent c.args.session.now script _ _ c.loop-session.session c.loop-session.lines c.advance.new.self _
-    (c.loop-session.invariant.reached script sent left held) (rw c.in-Ok-End.field-0-is at c.in-Ok-End.ensures.gives)
+    (c.loop-session.invariant.reaches script sent left held) (rw c.in-Ok-End.field-0-is at c.in-Ok-End.ensures.gives)
 
 pub returns-in-Err-clause-stops : goal.returns-in-Err-clause-stops
 returns-in-Err-clause-stops g c = λ script sent left held.
     rw c.script_fault.ensures
     (stops_reading sent c.args.session.now script _ _ c.loop-session.session c.loop-session.lines c.advance.new.self _ c.in-Err.fault
-    (c.loop-session.invariant.reached script sent left held) c.in-Err.ensures.err c.in-Err.ensures.too_long)
+    (c.loop-session.invariant.reaches script sent left held) c.in-Err.ensures.err c.in-Err.ensures.too_long)

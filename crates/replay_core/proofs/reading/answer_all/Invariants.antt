@@ -2,7 +2,7 @@ use Rattle.std.proofs.Common.{◌≡◌, ℕ, ◌-◌, ◌≤◌, List, Some}
 use Rattle.device_core.specs.Device.{raised_by}
 use Rattle.device_core.specs.Patience.{IsUnblocked}
 use Rattle.device_core.specs.declared.patience.TheConstants.{MOST_READS}
-use Rattle.replay_core.specs.Reading.{Reached}
+use Rattle.replay_core.specs.Reading.{Reaches}
 use Rattle.replay_core.specs.declared.session.TheConstants.{MOST_LINES}
 use Rattle.replay_core.proofs.reading.answer_all.Given as goal
 
@@ -14,8 +14,8 @@ invariant-loop-session g l = record {
   stalls : IsUnblocked (g.I.Input.stalls l.initial.reader) (g.I.Input.stalls l.reader);
   writes : g.O.Output.failures l.writer ≡ g.O.Output.failures l.initial.writer;
   write_stalls : IsUnblocked (g.O.Output.stalls l.initial.writer) (g.O.Output.stalls l.writer);
-  reached : (script sent : List ℕ) → g.I.Input.left l.initial.reader ≡ Some script → g.O.Output.held l.initial.writer ≡ Some sent →
-      Reached sent l.initial.session script (g.I.Input.left l.reader) (g.O.Output.held l.writer) l.session l.lines.kept;
+  reaches : (script sent : List ℕ) → g.I.Input.left l.initial.reader ≡ Some script → g.O.Output.held l.initial.writer ≡ Some sent →
+      Reaches sent l.initial.session script (g.I.Input.left l.reader) (g.O.Output.held l.writer) l.session l.lines.kept;
 }
 
 abbrev pub decreases-loop-session : goal.decreases-loop-session

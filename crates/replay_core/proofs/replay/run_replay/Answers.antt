@@ -1,13 +1,13 @@
 use Rattle.std.proofs.Common.{◌≡◌, [], None, ap, subst, ◌∙◌}
 use Rattle.conn_model.specs.declared.plain.Plain.{Plain}
 use Rattle.conn_model.specs.History.{IsWell, opening}
-use Rattle.replay_core.specs.Reading.{Ended, Wrote}
-use Rattle.replay_core.specs.Standing.{Standing}
+use Rattle.replay_core.specs.Reading.{Ends, WritesAll}
+use Rattle.replay_core.specs.Progress.{Progress}
 use Rattle.replay_core.proofs.OutcomeLemmas.{start}
-use Rattle.replay_core.proofs.PlanLemmas.{ended_by, wrote_replayed}
+use Rattle.replay_core.proofs.PlanLemmas.{ends_by, writes_script}
 use Rattle.replay_core.proofs.replay.run_replay.Goals as goal
 
-begun : Plain → Standing
+begun : Plain → Progress
 begun p = record { plain = p; before = 0; answered = 0; unsent = [] }
 
 pub returns-in-Ok-answer_and_send-clause-ok : goal.returns-in-Ok-answer_and_send-clause-ok
@@ -16,17 +16,17 @@ returns-in-Ok-answer_and_send-clause-ok g c = λ script sent left held.
     let opened = c.in-Ok.ensures.ok in
     let well : IsWell (opening opened.0 0) = subst IsWell opened.2 c.in-Ok.ensures.well in
     let is : c.new-session.result ≡ start opened.0 = c.new-session.ensures ∙ ap begun opened.2 in
-    let wrote : Wrote sent c.new-session.result script (g.O.Output.held c.answer_and_send.new.writer) c.answer_and_send.new.session.answered None = c.in-Ok-answer_and_send.ensures.ok script sent left held in
+    let wrote : WritesAll sent c.new-session.result script (g.O.Output.held c.answer_and_send.new.writer) c.answer_and_send.new.session.answered None = c.in-Ok-answer_and_send.ensures.ok script sent left held in
     rw c.answered.ensures
-    (wrote_replayed c.args.config.now script sent (g.O.Output.held c.answer_and_send.new.writer) c.answer_and_send.new.session.answered opened.0 opened.1 well
-    (subst (λ s. Wrote sent s script (g.O.Output.held c.answer_and_send.new.writer) c.answer_and_send.new.session.answered None) is wrote))
+    (writes_script c.args.config.now script sent (g.O.Output.held c.answer_and_send.new.writer) c.answer_and_send.new.session.answered opened.0 opened.1 well
+    (subst (λ s. WritesAll sent s script (g.O.Output.held c.answer_and_send.new.writer) c.answer_and_send.new.session.answered None) is wrote))
 
-pub returns-clause-ended : goal.returns-clause-ended
+pub returns-clause-early_end : goal.returns-clause-early_end
 unfolding begun
-returns-clause-ended g c = λ script sent left held.
+returns-clause-early_end g c = λ script sent left held.
     let opened = c.in-Ok.ensures.ok in
     let well : IsWell (opening opened.0 0) = subst IsWell opened.2 c.in-Ok.ensures.well in
     let is : c.new-session.result ≡ start opened.0 = c.new-session.ensures ∙ ap begun opened.2 in
-    let ended = c.in-Err-answer_and_send.ensures.ended script sent left held in
-    ended_by c.args.config.now script sent (g.I.Input.left c.answer_and_send.new.reader) (g.O.Output.held c.answer_and_send.new.writer) c.answer_and_send.new.session.answered c.in-Err-answer_and_send.fault opened.0 opened.1 well
-    (subst (λ s. Ended sent s script (g.I.Input.left c.answer_and_send.new.reader) (g.O.Output.held c.answer_and_send.new.writer) c.answer_and_send.new.session.answered c.in-Err-answer_and_send.fault) is ended)
+    let early = c.in-Err-answer_and_send.ensures.early_end script sent left held in
+    ends_by c.args.config.now script sent (g.I.Input.left c.answer_and_send.new.reader) (g.O.Output.held c.answer_and_send.new.writer) c.answer_and_send.new.session.answered c.in-Err-answer_and_send.fault opened.0 opened.1 well
+    (subst (λ s. Ends sent s script (g.I.Input.left c.answer_and_send.new.reader) (g.O.Output.held c.answer_and_send.new.writer) c.answer_and_send.new.session.answered c.in-Err-answer_and_send.fault) is early)

@@ -1,7 +1,6 @@
-use Rattle.std.proofs.Common.{◌<◌, ◌++◌, ◌≡◌, [], length, ap, refl, subst, sym, ◌∙◌, arith, append-nil, inr, Ok}
+use Rattle.std.proofs.Common.{◌<◌, ◌++◌, ◌≡◌, length, ap, subst, sym, ◌∙◌, arith, append-nil, inr, Ok}
 use Rattle.std.proofs.lemmas.Bool.Decides.{nat_tests}
 use Rattle.std.proofs.lemmas.Result.{err_from_is_err_and}
-use Rattle.device_core.specs.Patience.{IsUnblocked}
 use Rattle.line_reader.specs.Lines.{LineState}
 use Rattle.line_reader.specs.Unended.{BeginsTooLong}
 use Rattle.text_core.specs.Parts.{IsUnended}
@@ -16,10 +15,10 @@ returns-in_err-take_kept-clause-too_long g c =
 
 pub returns-then-not-branch-clause-gives : goal.returns-then-not-branch-clause-gives
 returns-then-not-branch-clause-gives g c =
-    let over = ap Ok c.if-not-branch.true in
-    let more = ap Ok c.if-branch.false in
     let line : c.self-in-loop-self.inside.line.items ≡ c.read_block.new.self.line = ap (λ (s : LineState). s.line) c.self-in-loop-self.view_is in
     let some : 0 < length c.read_block.new.self.line = grind (arith, nat_tests, c.is_empty.ensures, c.if-is_empty.false, ap length line) in
+    let over = ap Ok c.if-not-branch.true in
+    let more = ap Ok c.if-branch.false in
     gives_last c.args.self.now c.loop-self.self c.take_kept.new.self c.read_block.new.self _ _ _ c.loop-self.invariant.gathers (c.in_ok-take_kept.ensures.all more)
     c.in_ok-read_block.ensures.line (c.in_ok-take_kept.ensures.unended more) some (c.in_ok-read_block.ensures.end over) c.in_ok-take_kept.ensures.fits
 

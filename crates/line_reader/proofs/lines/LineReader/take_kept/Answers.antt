@@ -1,4 +1,4 @@
-use Rattle.std.proofs.Common.{◌<◌, ◌≤◌, ◌+◌, ◌++◌, length, take, drop, ap, subst, sym, arith, length-append}
+use Rattle.std.proofs.Common.{◌≤◌, ◌+◌, ◌++◌, length, take, drop, ap, subst, sym, arith, length-append}
 use Rattle.std.proofs.lemmas.Result.{err_from_is_err_and}
 use Rattle.text_core.specs.Parts.{IsUnended}
 use Rattle.line_reader.proofs.CarryLemmas.{all_taken, begins_found, length_carried, too_long_found, too_long_unended, unended_carried}
