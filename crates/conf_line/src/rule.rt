@@ -1,11 +1,13 @@
 //! Rules of a frontend.
-ghost use Rattle.std.specs.Prelude.{◌≡◌};
+ghost use Rattle.std.specs.Prelude.{◌≡◌, ◌<◌, IfOk};
 ghost use Rattle.list_core.specs.Each.{Gives};
 ghost use Rattle.acl_core.specs.Reading as reading;
 ghost use Rattle.conf_line.specs.Words.{Sees};
+ghost use Rattle.conf_line.specs.Sound.{IsSoundAction, IsSoundStatement};
 ghost use Rattle.conf_line.specs.Rules.{acl_result, when_of, table_at, track_at, action_at, ruleset_at, head_at, rule_of};
 
 use crate::fault::ConfKind;
+use crate::limits::COUNTERS;
 use crate::statement::{Action, Ruleset, Statement, TrackWords};
 use crate::words::{name_at, word_at};
 use acl_core::{AclFault, Cond, When, read_cond};
@@ -50,7 +52,9 @@ fn table_at<'a, 'w>(
     counter: u8,
     words: &'w [Word<'a>],
 ) -> Result<(Action<'a>, &'w [Word<'a>]), ConfKind>
-    ensures { Sees (λ x. (x.0, x.1.now)) result (table_at counter words.now) }
+    requires { counter < COUNTERS }
+    ensures value { Sees (λ x. (x.0, x.1.now)) result (table_at counter words.now) }
+    ensures sound { IfOk result (λ x. IsSoundAction x.0) }
 {
     match words {
         [word, rest @ ..] if word.is(b"table") => {
@@ -78,7 +82,9 @@ fn track_at<'a, 'w>(
     counter: u8,
     words: &'w [Word<'a>],
 ) -> Result<(Action<'a>, &'w [Word<'a>]), ConfKind>
-    ensures { Sees (λ x. (x.0, x.1.now)) result (track_at counter words.now) }
+    requires { counter < COUNTERS }
+    ensures value { Sees (λ x. (x.0, x.1.now)) result (track_at counter words.now) }
+    ensures sound { IfOk result (λ x. IsSoundAction x.0) }
 {
     let (key, rest) = word_at(words)?;
     if !key.is(b"src") {
@@ -89,7 +95,8 @@ fn track_at<'a, 'w>(
 
 /// An action, and the words behind it.
 fn action_at<'a, 'w>(words: &'w [Word<'a>]) -> Result<(Action<'a>, &'w [Word<'a>]), ConfKind>
-    ensures { Sees (λ x. (x.0, x.1.now)) result (action_at words.now) }
+    ensures value { Sees (λ x. (x.0, x.1.now)) result (action_at words.now) }
+    ensures sound { IfOk result (λ x. IsSoundAction x.0) }
 {
     let (word, rest) = word_at(words)?;
     if word.is(b"accept") {
@@ -123,7 +130,8 @@ fn ruleset_at<'a, 'w>(words: &'w [Word<'a>]) -> Result<(Ruleset, &'w [Word<'a>])
 
 /// The list and the action of a rule, and the words behind them.
 fn head_at<'a, 'w>(words: &'w [Word<'a>]) -> Result<(Ruleset, Action<'a>, &'w [Word<'a>]), ConfKind>
-    ensures { Sees (λ x. (x.0, (x.1, x.2.now))) result (head_at words.now) }
+    ensures value { Sees (λ x. (x.0, (x.1, x.2.now))) result (head_at words.now) }
+    ensures sound { IfOk result (λ x. IsSoundAction x.1) }
 {
     let (ruleset, rest) = ruleset_at(words)?;
     let (action, rest) = action_at(rest)?;
@@ -132,7 +140,8 @@ fn head_at<'a, 'w>(words: &'w [Word<'a>]) -> Result<(Ruleset, Action<'a>, &'w [W
 
 /// A rule.
 pub fn rule<'a>(alloc: Global, words: &[Word<'a>]) -> Result<Statement<'a>, Stop<ConfKind>>
-    ensures { Gives result (rule_of words.now) }
+    ensures value { Gives result (rule_of words.now) }
+    ensures sound { IfOk result IsSoundStatement }
 {
     match head_at(words) {
         Ok((ruleset, action, rest)) => Ok(Statement::Rule(ruleset, action, when(alloc, rest)?)),

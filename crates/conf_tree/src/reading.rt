@@ -1,10 +1,12 @@
 //! Reading the lines of a configuration.
-ghost use Rattle.std.specs.Prelude.{◌≡◌, ◌⊎◌, ◌++◌, ◌∷◌, [], length, filter, IfOk, IfErr, List, Result, Ok, Err};
+ghost use Rattle.std.specs.Prelude.{◌≡◌, ◌⊎◌, ◌++◌, ◌∷◌, [], false, length, filter, IfOk, IfErr, OnOk, List, Result, Ok, Err};
 ghost use Rattle.std.specs.List.{list_any};
 ghost use Rattle.list_core.specs.Each.{Fails, Gives, each};
 ghost use Rattle.conf_text.specs.Lines.{lines_of, AreLines};
 ghost use Rattle.conf_line.specs.declared.fault.ConfFault.{ConfFault};
 ghost use Rattle.conf_tree.specs.declared.tree.ConfigLine.{ConfigLine};
+ghost use Rattle.conf_line.specs.Sound.{IsSoundStatement};
+ghost use Rattle.conf_tree.specs.Sound.{AreSoundStatements, ClaimsDiffer};
 ghost use Rattle.conf_tree.specs.Config.{outside, place_after, place_of, section_lines, claim_of, claims_of, is_server_named, has_server, is_taken, is_bind, is_rule, is_server, lines_reach, is_full, check_line, line_after, item_after, text_fault, has_effect, items_in, items_of, AreItems, IsConfFault, no_memory};
 
 use crate::claim::{Claims, claim_of};
@@ -206,7 +208,9 @@ fn check_line(
     reading: &LineReading,
 ) -> Result<(), ConfKind>
     requires { taken.now ≡ claims_of items.now }
-    ensures { result ≡ check_line items.now place.now reading.now }
+    ensures value { result ≡ check_line items.now place.now reading.now }
+    ensures fits { OnOk result (reading.now.exceeds ≡ false) }
+    ensures free { OnOk result (is_taken items.now place.now reading.now.statement ≡ false) }
 {
     if reading.repeats || is_taken(items, taken, place, &reading.statement) {
         return Err(ConfKind::Duplicate);
@@ -225,7 +229,9 @@ fn read_line_after<'a>(
     line: &Line<'a>,
 ) -> Result<ConfigLine<'a>, Stop<ConfKind>>
     requires { taken.now ≡ claims_of items.now }
-    ensures { Gives result (line_after items.now line.now) }
+    ensures gives { Gives result (line_after items.now line.now) }
+    ensures sound { IfOk result (λ item. IsSoundStatement item.statement) }
+    ensures free { IfOk result (λ item. is_taken items.now item.place item.statement ≡ false) }
 {
     let before = place_after(items);
     let reading = read_line(alloc, before.kind, line.words.as_slice())?;
@@ -248,7 +254,9 @@ fn item_after<'a>(
     line: &Line<'a>,
 ) -> Result<ConfigLine<'a>, Stop<ConfFault>>
     requires { taken.now ≡ claims_of items.now }
-    ensures { Gives result (item_after items.now line.now) }
+    ensures gives { Gives result (item_after items.now line.now) }
+    ensures sound { IfOk result (λ item. IsSoundStatement item.statement) }
+    ensures free { IfOk result (λ item. is_taken items.now item.place item.statement ≡ false) }
 {
     match read_line_after(alloc, items, taken, line) {
         Ok(item) => Ok(item),
@@ -294,7 +302,9 @@ fn has_effect(statement: &Statement) -> bool
 
 /// The items of the lines that have an effect. Most lines of a long text may have none.
 fn items<'a>(alloc: Global, lines: &[Line<'a>]) -> Result<Seq<ConfigLine<'a>>, Stop<ConfFault>>
-    ensures { Gives result (items_in lines.now) }
+    ensures gives { Gives result (items_in lines.now) }
+    ensures statements { IfOk result AreSoundStatements }
+    ensures claims { IfOk result (λ items. ClaimsDiffer (claims_of items)) }
 {
     let mut items = Seq::new(alloc);
     let mut taken = Claims::new(alloc);

@@ -1,12 +1,13 @@
-use Rattle.std.proofs.Common.{◌≡◌, ◌||◌, ◌&&◌, [], ◌∷◌, ◌++◌, drop, ◌∙◌, ap, sym}
+use Rattle.std.proofs.Common.{◌≡◌, ◌≤◌, ◌||◌, subst, ◌&&◌, [], ◌∷◌, ◌++◌, drop, ◌∙◌, ap, sym}
 use native.Mathlib.Omega.{arith}
 use Rattle.std.specs.Prelude.{is_some}
 use Rattle.std.specs.List.{list_any}
 use Rattle.std.specs.Option.{option_or}
 use Rattle.std.proofs.lemmas.List.{drop_more}
+use Rattle.conf_line.specs.Sound.{IsSoundSize}
 use Rattle.conf_line.specs.Words.{last_of, onto, after}
 use Rattle.conf_line.specs.Tables.{table_options, option_keys, option_size, is_keys, is_size, stores_cur, stores_cnt, has_repeat}
-use Rattle.conf_line.proofs.OptionLemmas.{last_more, any_more, after_more, take_rest, repeat_more}
+use Rattle.conf_line.proofs.OptionLemmas.{last_more, any_more, after_more, take_rest, or_sound, repeat_more}
 use Rattle.conf_line.proofs.table.all_options.Goals as goal
 
 pub loop-rest-preserved : goal.loop-rest-preserved
@@ -28,4 +29,5 @@ loop-rest-preserved c =
           ∙ ap (λ k. has_repeat all || ((is_keys option && is_some k) || (is_size option && is_some c.loop-rest.options.size))) c.loop-rest.invariant.2
           ∙ ap (λ s. has_repeat all || ((is_keys option && is_some (last_of option_keys all)) || (is_size option && is_some s))) c.loop-rest.invariant.3
           ∙ sym (repeat_more all option),
+      subst IsSoundSize (sym c.with_option-options.ensures.size) (or_sound (λ n. 1 ≤ n) (option_size option) c.loop-rest.options.size c.in_ok-option.ensures.sound c.loop-rest.invariant.7),
     )
