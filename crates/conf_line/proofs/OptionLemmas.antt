@@ -1,5 +1,5 @@
 -- One option more.
-use Rattle.std.proofs.Common.{◌≡◌, ℕ, suc, ◌+◌, ◌≤◌, ◌-◌, take, drop, ◌||◌, ◌&&◌, Bool, true, false, nat_lt, List, [], ◌∷◌, ◌++◌, length, filter, Option, Some, None, Result, Ok, Err, refl, sym, ap, ◌∙◌, append_assoc, if◌then◌else◌}
+use Rattle.std.proofs.Common.{◌≡◌, ℕ, suc, ◌+◌, ◌≤◌, ◌-◌, get_or, take, drop, ◌||◌, ◌&&◌, Bool, true, false, nat_lt, List, [], ◌∷◌, ◌++◌, length, filter, Option, Some, None, Result, Ok, Err, refl, sym, ap, ◌∙◌, append_assoc, if◌then◌else◌}
 use native.Mathlib.Omega.{arith}
 use Rattle.std.specs.Prelude.{is_some, IfSome}
 use Rattle.std.proofs.Math.Seq.{take-length}
@@ -7,14 +7,12 @@ use Rattle.std.specs.List.{list_any}
 use Rattle.std.specs.Option.{option_or}
 use Rattle.std.proofs.lemmas.Bool.Decides.{nat_tests}
 use Rattle.proxy_types.specs.declared.table.KeyType.{KeyType}
-use Rattle.proxy_types.specs.declared.table.Stores.{Stores}
 use Rattle.conf_line.specs.declared.statement.TableOption.{TableOption}
 use Rattle.conf_line.specs.declared.statement.TableOption.TheVariants as options
 use Rattle.list_core.specs.Each.{◌>>=◌}
 use Rattle.conf_line.specs.Servers.{has_value, server_flag, server_options, is_excess, option_limit}
 use Rattle.conf_line.specs.declared.statement.ServerOption.{ServerOption}
 use Rattle.conf_line.specs.declared.statement.ServerOption.TheVariants as flags
-use Rattle.conf_line.specs.declared.limits.TheConstants.{MOST_CONNECTIONS}
 use Rattle.conf_line.specs.Sound.{IsSoundLimit}
 use Rattle.conf_line.specs.Words.{last_of, onto, after}
 use Rattle.conf_line.specs.Tables.{option_keys, option_size, is_keys, is_size, has_repeat}
@@ -128,11 +126,12 @@ pub drop_one : {X : Type 0} (xs : List X) → length (drop 1 xs) ≤ length xs
 drop_one [] = (omega arith)
 drop_one (x ∷ xs) = (omega arith)
 
-pub take_rest : {X : Type 0} (xs : List X) → take (length xs - 1) (drop 1 xs) ≡ drop 1 xs
-take_rest [] = refl
-take_rest (x ∷ xs) =
+-- the first of some words, and those after it
+pub first_and_rest : {X : Type 0} (xs : List X) (x : X) → 1 ≤ length xs → x ≡ get_or xs 0 x → x ∷ take (length xs - 1) (drop 1 xs) ≡ xs
+first_and_rest [] x some is = absurd (omega arith)
+first_and_rest (y ∷ xs) x some is =
     let same : suc (length xs) - 1 ≡ length xs = omega arith in
-    ap (λ n. take n xs) same ∙ take-length xs
+    ap (λ z. z ∷ take (suc (length xs) - 1) xs) is ∙ ap (λ n. y ∷ take n xs) same ∙ ap (λ zs. y ∷ zs) (take-length xs)
 
 -- What holds of each value.
 

@@ -2,7 +2,7 @@
 ghost use Rattle.std.specs.Prelude.{◌≡◌, IfOk, Result, Ok};
 ghost use Rattle.list_core.specs.Each.{Gives};
 ghost use Rattle.conf_line.specs.Keywords.{keyword_of, check_keyword};
-ghost use Rattle.conf_line.specs.Statements.{global_of, defaults_of, frontend_of, backend_of, mode_of, default_backend_of, method_of, balance_of, accepts_proxy, bind_of, max_conn_of, without_effect_if, is_global, is_option, is_timeout, log_of, plain_reading, keyword_reading, line_reading};
+ghost use Rattle.conf_line.specs.Statements.{only_name, global_of, defaults_of, frontend_of, backend_of, mode_of, default_backend_of, method_of, balance_of, accepts_proxy, bind_of, max_conn_of, without_effect_if, is_global, is_option, is_timeout, log_of, plain_reading, keyword_reading, line_reading};
 ghost use Rattle.conf_line.specs.Sound.{IsSoundStatement, IsSoundReading};
 ghost use Rattle.conf_line.specs.Rules.{rule_of};
 
@@ -39,12 +39,20 @@ fn defaults<'a>(words: &[Word<'a>]) -> Result<Statement<'a>, ConfKind>
     Ok(Statement::Defaults)
 }
 
+/// A name, and no further word.
+fn only_name<'a>(words: &[Word<'a>]) -> Result<Word<'a>, ConfKind>
+    ensures { result ≡ only_name words.now }
+{
+    let (name, rest) = name_at(words)?;
+    end_at(rest)?;
+    Ok(name)
+}
+
 fn frontend<'a>(words: &[Word<'a>]) -> Result<Statement<'a>, ConfKind>
     ensures value { result ≡ frontend_of words.now }
     ensures sound { IfOk result IsSoundStatement }
 {
-    let (name, rest) = name_at(words)?;
-    end_at(rest)?;
+    let name = only_name(words)?;
     Ok(Statement::Frontend(name))
 }
 
@@ -52,8 +60,7 @@ fn backend<'a>(words: &[Word<'a>]) -> Result<Statement<'a>, ConfKind>
     ensures value { result ≡ backend_of words.now }
     ensures sound { IfOk result IsSoundStatement }
 {
-    let (name, rest) = name_at(words)?;
-    end_at(rest)?;
+    let name = only_name(words)?;
     Ok(Statement::Backend(name))
 }
 
@@ -73,8 +80,7 @@ fn default_backend<'a>(words: &[Word<'a>]) -> Result<Statement<'a>, ConfKind>
     ensures value { result ≡ default_backend_of words.now }
     ensures sound { IfOk result IsSoundStatement }
 {
-    let (name, rest) = name_at(words)?;
-    end_at(rest)?;
+    let name = only_name(words)?;
     Ok(Statement::DefaultBackend(name))
 }
 
@@ -103,7 +109,7 @@ fn balance<'a>(words: &[Word<'a>]) -> Result<Statement<'a>, ConfKind>
     Ok(method)
 }
 
-/// Whether connections begin with a PROXY header, by the words behind an endpoint.
+/// Whether connections begin with a PROXY header, by the words after an endpoint.
 fn accepts_proxy(words: &[Word]) -> Result<bool, ConfKind>
     ensures { result ≡ accepts_proxy words.now }
 {
@@ -195,7 +201,7 @@ fn log<'a>(kind: SectionKind, words: &[Word<'a>]) -> Result<Statement<'a>, ConfK
     }
 }
 
-/// A line in which nothing stands twice, and no number is beyond its limit.
+/// A line in which nothing is given twice, and no number is greater than its limit.
 fn plain_reading<'a>(
     statement: Result<Statement<'a>, ConfKind>,
 ) -> Result<LineReading<'a>, Stop<ConfKind>>
@@ -240,7 +246,7 @@ fn without_memory<'a>(
     }
 }
 
-/// What a line says behind its keyword.
+/// What a line says after its keyword.
 fn keyword_reading<'a>(
     alloc: Global,
     kind: SectionKind,

@@ -29,7 +29,7 @@ fn condition(alloc: Global, words: &[Word]) -> Result<Cond, Stop<ConfKind>>
     }
 }
 
-/// When a rule applies, by the words behind its action.
+/// When a rule applies, by the words after its action.
 fn when(alloc: Global, words: &[Word]) -> Result<When, Stop<ConfKind>>
     ensures { Gives result (when_of words.now) }
 {
@@ -47,7 +47,7 @@ fn when(alloc: Global, words: &[Word]) -> Result<When, Stop<ConfKind>>
     }
 }
 
-/// The table that a track names, and the words behind it.
+/// The table that a track names, and the words after it.
 fn table_at<'a, 'w>(
     counter: u8,
     words: &'w [Word<'a>],
@@ -77,7 +77,7 @@ fn table_at<'a, 'w>(
     }
 }
 
-/// What is tracked, and the words behind it.
+/// What is tracked, and the words after it.
 fn track_at<'a, 'w>(
     counter: u8,
     words: &'w [Word<'a>],
@@ -93,7 +93,7 @@ fn track_at<'a, 'w>(
     table_at(counter, rest)
 }
 
-/// An action, and the words behind it.
+/// An action, and the words after it.
 fn action_at<'a, 'w>(words: &'w [Word<'a>]) -> Result<(Action<'a>, &'w [Word<'a>]), ConfKind>
     ensures value { Sees (λ x. (x.0, x.1.now)) result (action_at words.now) }
     ensures sound { IfOk result (λ x. IsSoundAction x.0) }
@@ -114,7 +114,7 @@ fn action_at<'a, 'w>(words: &'w [Word<'a>]) -> Result<(Action<'a>, &'w [Word<'a>
     }
 }
 
-/// The list that a rule belongs to, and the words behind it.
+/// The list that a rule belongs to, and the words after it.
 fn ruleset_at<'a, 'w>(words: &'w [Word<'a>]) -> Result<(Ruleset, &'w [Word<'a>]), ConfKind>
     ensures { Sees (λ x. (x.0, x.1.now)) result (ruleset_at words.now) }
 {
@@ -128,7 +128,7 @@ fn ruleset_at<'a, 'w>(words: &'w [Word<'a>]) -> Result<(Ruleset, &'w [Word<'a>])
     }
 }
 
-/// The list and the action of a rule, and the words behind them.
+/// The list and the action of a rule, and the words after them.
 fn head_at<'a, 'w>(words: &'w [Word<'a>]) -> Result<(Ruleset, Action<'a>, &'w [Word<'a>]), ConfKind>
     ensures value { Sees (λ x. (x.0, (x.1, x.2.now))) result (head_at words.now) }
     ensures sound { IfOk result (λ x. IsSoundAction x.1) }

@@ -5,7 +5,7 @@ use proxy_types::{KeyType, Method, Stores};
 use word_core::Word;
 
 /// The kind of a section.
-#[derive(Clone, Copy, Debug, PartialEq, Eq)]
+#[derive(Clone, Copy)]
 pub enum SectionKind {
     /// Before any section.
     Outside,
@@ -16,14 +16,14 @@ pub enum SectionKind {
 }
 
 /// The two lists of rules of a frontend (HAProxy manual, `tcp-request`).
-#[derive(Clone, Copy, Debug, PartialEq, Eq)]
+#[derive(Clone, Copy)]
 pub enum Ruleset {
     Connection,
     Session,
 }
 
 /// What a rule does once it applies (HAProxy manual, `tcp-request connection`).
-#[derive(Debug, Drop)]
+#[derive(Drop)]
 pub enum Action<'a> {
     Accept,
     Reject,
@@ -31,7 +31,7 @@ pub enum Action<'a> {
 }
 
 /// A source address is tracked (HAProxy manual, `track-sc0`).
-#[derive(Debug, Drop)]
+#[derive(Drop)]
 pub struct TrackWords<'a> {
     /// The counter, 0 to 2.
     pub counter: u8,
@@ -40,7 +40,7 @@ pub struct TrackWords<'a> {
 }
 
 /// The words of a `stick-table` line.
-#[derive(Clone, Copy, Debug, PartialEq, Eq)]
+#[derive(Clone, Copy)]
 pub struct TableWords {
     pub keys: KeyType,
     /// How many entries there may be, from 1 on.
@@ -67,7 +67,7 @@ pub enum ServerOption {
 }
 
 /// The words of a `server` line.
-#[derive(Debug, Drop)]
+#[derive(Drop)]
 pub struct ServerWords<'a> {
     pub name: Word<'a>,
     pub to: Endpoint,
@@ -81,7 +81,7 @@ pub struct ServerWords<'a> {
 }
 
 /// What a line says.
-#[derive(Debug, Drop)]
+#[derive(Drop)]
 pub enum Statement<'a> {
     /// It has no word, or is read and has no effect. A tree has no such item.
     Nothing,

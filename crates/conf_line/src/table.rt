@@ -16,7 +16,7 @@ use list_core::newest;
 use proxy_types::{KeyType, Stores};
 use word_core::Word;
 
-/// How much the word's unit stands for.
+/// How much the word's unit is.
 fn unit_of(word: &[u8]) -> u64
     ensures value { result ≡ unit_of word.now }
     ensures one { 1 ≤ result }

@@ -39,7 +39,7 @@ fn again<'a>(place: &Place<'a>) -> Place<'a>
     }
 }
 
-/// The section in which the line after those stands, if it opens none.
+/// The section of the line after those, if it opens none.
 fn place_after<'a>(items: &[ConfigLine<'a>]) -> Place<'a>
     ensures { result ≡ place_after items.now }
 {
@@ -151,7 +151,7 @@ fn rule_count(lines: &[ConfigLine]) -> usize
     lines.iter().filter(|item| is_rule(&item.statement)).count()
 }
 
-/// Whether there are as many rules as may stand. Short sections need no look at their lines.
+/// Whether there are as many rules as there may be. Short sections need no look at their lines.
 fn are_rules(lines: &[ConfigLine]) -> bool
     ensures { result ≡ lines_reach MOST_RULES is_rule lines.now }
 {
@@ -170,7 +170,7 @@ fn server_count(lines: &[ConfigLine]) -> usize
         .count()
 }
 
-/// Whether an earlier line has what may stand once.
+/// Whether an earlier line has what may be given once.
 fn is_taken(items: &[ConfigLine], taken: &Claims, place: &Place, statement: &Statement) -> bool
     requires { taken.now ≡ claims_of items.now }
     ensures { result ≡ is_taken items.now place.now statement.now }
@@ -200,7 +200,7 @@ fn is_full(items: &[ConfigLine], taken: &Claims, place: &Place, statement: &Stat
     }
 }
 
-/// Whether a line that says this may stand behind those.
+/// Whether a line that says this may come after those.
 fn check_line(
     items: &[ConfigLine],
     taken: &Claims,

@@ -4,8 +4,8 @@ use list_core::Seq;
 use std::marker::Model;
 use word_core::Word;
 
-/// The section in which a line stands. A line that opens a section stands in that section.
-#[derive(Debug, Drop)]
+/// The section of a line. A line that opens a section is in that section.
+#[derive(Drop)]
 pub struct Place<'a> {
     pub kind: SectionKind,
     /// The section's name, empty where it has none.
@@ -15,7 +15,7 @@ pub struct Place<'a> {
 }
 
 /// What a line says, with its number and its section.
-#[derive(Debug, Drop)]
+#[derive(Drop)]
 pub struct ConfigLine<'a> {
     /// From 1.
     pub line: u32,
@@ -25,7 +25,7 @@ pub struct ConfigLine<'a> {
 
 /// What the lines of a configuration say that have an effect. Contracts see the list of its items, in
 /// the order of the lines.
-#[derive(Debug, Drop)]
+#[derive(Drop)]
 pub struct Tree<'a> {
     items: Seq<ConfigLine<'a>>,
 }

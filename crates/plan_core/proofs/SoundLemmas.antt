@@ -1,12 +1,11 @@
 -- What a plan that is made keeps: numbers that are in range, and rules in the order of their lines.
-use Rattle.std.proofs.Common.{◌≡◌, ℕ, suc, ◌+◌, ◌<◌, ◌≤◌, Bool, true, false, List, [], ◌∷◌, ◌++◌, length, filter, map, Option, Some, None, refl, sym, ap, subst, ◌∙◌, if◌then◌else◌}
+use Rattle.std.proofs.Common.{◌≡◌, ℕ, ◌<◌, ◌≤◌, Bool, true, false, List, [], ◌∷◌, ◌++◌, length, map, Option, Some, None, refl, sym, ap, subst, ◌∙◌, if◌then◌else◌}
 use native.Mathlib.Omega.{arith}
 use Rattle.std.specs.Prelude.{IfSome, unwrap_or, option_map, option_to_list, position}
-use Rattle.std.specs.List.{AllByRecursion, cons_option, filter_map}
+use Rattle.std.specs.List.{AllByRecursion, cons_option}
 use Rattle.std.specs.Option.{option_or}
 use Rattle.std.specs.Str.{bytes_eq}
 use Rattle.std.proofs.lemmas.List.Quantifiers.{position-Some}
-use Rattle.acl_core.specs.declared.condition.When.{When}
 use Rattle.conf_line.specs.declared.statement.Action as line
 use Rattle.conf_line.specs.declared.statement.Action.TheVariants as words
 use Rattle.conf_line.specs.declared.statement.Ruleset.{Ruleset}
@@ -30,7 +29,7 @@ use Rattle.plan_core.specs.declared.fields.Limit.{Limit}
 use Rattle.plan_core.specs.declared.fields.Named.{Named}
 use Rattle.plan_core.specs.declared.proxies.Proxy.{Proxy}
 use Rattle.plan_core.specs.Compiled.{default_number, frontend_of, backend_of, backends_in}
-use Rattle.plan_core.specs.Fields.{line_default, line_limit, line_table, line_server, line_rule, rule_with, all_of, last_of, setting_in, limit_in, table_with, tables_in, table_number, is_table_of, action_of, track_with, is_in, backend_number}
+use Rattle.plan_core.specs.Fields.{line_default, line_limit, line_table, line_server, line_rule, rule_with, all_of, last_of, setting_in, limit_in, table_with, tables_in, table_number, is_table_of, action_of, track_with, is_in}
 use Rattle.plan_core.specs.Proxies.{line_head, own_lines, base_after, proxy_with, proxies, is_frontend, is_backend, frontends, backends, opens}
 use Rattle.plan_core.proofs.LineLemmas.{own_more, own_above, lines_differ}
 use Rattle.plan_core.proofs.NameLemmas.{frontend_names_differ, backend_names_differ}
