@@ -1,17 +1,19 @@
 -- One option more.
-use Rattle.std.proofs.Common.{◌≡◌, ℕ, suc, ◌+◌, ◌≤◌, ◌-◌, take, drop, ◌||◌, ◌&&◌, Bool, true, false, nat_lt, List, [], ◌∷◌, ◌++◌, length, filter, Option, Some, None, Result, Ok, Err, refl, sym, ap, ◌∙◌, append_assoc, if◌then◌else◌}
+use Rattle.std.proofs.Common.{◌≡◌, ℕ, suc, ◌+◌, ◌≤◌, ◌-◌, get_or, take, drop, ◌||◌, ◌&&◌, Bool, true, false, nat_lt, List, [], ◌∷◌, ◌++◌, length, filter, Option, Some, None, Result, Ok, Err, refl, sym, ap, ◌∙◌, append_assoc, if◌then◌else◌}
 use native.Mathlib.Omega.{arith}
-use Rattle.std.specs.Prelude.{is_some}
+use Rattle.std.specs.Prelude.{is_some, IfSome}
 use Rattle.std.proofs.Math.Seq.{take-length}
 use Rattle.std.specs.List.{list_any}
 use Rattle.std.specs.Option.{option_or}
 use Rattle.std.proofs.lemmas.Bool.Decides.{nat_tests}
 use Rattle.proxy_types.specs.declared.table.KeyType.{KeyType}
-use Rattle.proxy_types.specs.declared.table.Stores.{Stores}
 use Rattle.conf_line.specs.declared.statement.TableOption.{TableOption}
 use Rattle.conf_line.specs.declared.statement.TableOption.TheVariants as options
 use Rattle.list_core.specs.Each.{◌>>=◌}
-use Rattle.conf_line.specs.Servers.{has_value, server_flag, server_options}
+use Rattle.conf_line.specs.Servers.{has_value, server_flag, server_options, is_excess, option_limit}
+use Rattle.conf_line.specs.declared.statement.ServerOption.{ServerOption}
+use Rattle.conf_line.specs.declared.statement.ServerOption.TheVariants as flags
+use Rattle.conf_line.specs.Sound.{IsSoundLimit}
 use Rattle.conf_line.specs.Words.{last_of, onto, after}
 use Rattle.conf_line.specs.Tables.{option_keys, option_size, is_keys, is_size, has_repeat}
 
@@ -103,6 +105,10 @@ repeat_more all option =
     rw (count_more is_keys all option, count_more is_size all option, some_keys all, some_size all)
     (more_numbers (length (filter is_keys all)) (length (filter is_size all)) (is_keys option) (is_size option))
 
+pub after_none : {X F : Type 0} (read : Result (List X) F) → after [] read ≡ read
+after_none (Err fault) = refl
+after_none (Ok more) = refl
+
 pub after_more : {X F : Type 0} (done : List X) (x : X) (more : Result (List X) F) → after (done ++ x ∷ []) more ≡ after done (onto x more)
 after_more done x (Err fault) = refl
 after_more done x (Ok more) = ap (λ xs. Ok xs) (append_assoc done (x ∷ []) more)
@@ -120,8 +126,26 @@ pub drop_one : {X : Type 0} (xs : List X) → length (drop 1 xs) ≤ length xs
 drop_one [] = (omega arith)
 drop_one (x ∷ xs) = (omega arith)
 
-pub take_rest : {X : Type 0} (xs : List X) → take (length xs - 1) (drop 1 xs) ≡ drop 1 xs
-take_rest [] = refl
-take_rest (x ∷ xs) =
+-- the first of some words, and those after it
+pub first_and_rest : {X : Type 0} (xs : List X) (x : X) → 1 ≤ length xs → x ≡ get_or xs 0 x → x ∷ take (length xs - 1) (drop 1 xs) ≡ xs
+first_and_rest [] x some is = absurd (omega arith)
+first_and_rest (y ∷ xs) x some is =
     let same : suc (length xs) - 1 ≡ length xs = omega arith in
-    ap (λ n. take n xs) same ∙ take-length xs
+    ap (λ z. z ∷ take (suc (length xs) - 1) xs) is ∙ ap (λ n. y ∷ take n xs) same ∙ ap (λ zs. y ∷ zs) (take-length xs)
+
+-- What holds of each value.
+
+pub or_sound : (P : ℕ → Type 0) (a b : Option ℕ) → IfSome a P → IfSome b P → IfSome (option_or a b) P
+or_sound P None b one other = other
+or_sound P (Some n) b one other = one
+
+pub limit_sound : (option : ServerOption) → is_excess option ≡ false → IsSoundLimit (option_limit option)
+limit_sound (flags.Weight weight) is = tt
+limit_sound (flags.MaxConn limit) is = grind (arith, nat_tests)
+limit_sound flags.Disabled is = tt
+limit_sound flags.SendProxy is = tt
+limit_sound flags.SendProxyV2 is = tt
+
+pub neither : (a b : Bool) → (a || b) ≡ false → (a ≡ false) × (b ≡ false)
+neither true b is = absurd cc
+neither false b is = (refl, is)

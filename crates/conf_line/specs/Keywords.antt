@@ -1,4 +1,4 @@
--- The keywords, and in which sections they stand (HAProxy manual, "proxy keywords matrix").
+-- The keywords, and their sections (HAProxy manual, "proxy keywords matrix").
 use Rattle.std.specs.Prelude.{ℕ, Bool, true, false, List, Result, Ok, Err, codes, if◌then◌else◌}
 use Rattle.std.specs.Str.{bytes_eq}
 use Rattle.conf_line.specs.declared.fault.ConfKind.{ConfKind}
@@ -95,7 +95,7 @@ check_keyword_in sections.Defaults keyword = check_support (in_defaults keyword)
 check_keyword_in sections.Frontend keyword = check_support (in_frontend keyword)
 check_keyword_in sections.Backend keyword = check_support (in_backend keyword)
 
--- whether the keyword may stand in such a section; those that open a section stand everywhere
+-- whether the keyword is one of such a section; those that open a section are taken everywhere
 abbrev pub check_keyword : SectionKind → Keyword → Result (Unit {0}) ConfKind
 check_keyword kind k.Unknown = Err UnknownKeyword
 check_keyword kind k.Listen = Err Unsupported

@@ -5,3 +5,4 @@ pub mod Rules
 pub mod Servers
 pub mod Tables
 pub mod Statements
+pub mod Sound

@@ -16,7 +16,7 @@ use Rattle.conf_line.specs.declared.fault.ConfKind.{ConfKind}
 use Rattle.conf_line.specs.declared.fault.ConfKind.TheVariants.{Unsupported, Acl}
 use Rattle.conf_line.specs.Words.{word_at, name_at}
 
--- When a rule applies: always, or by a condition behind `if` or `unless`.
+-- When a rule applies: always, or by a condition after `if` or `unless`.
 
 abbrev pub acl_result : {X : Type 0} → Result X AclFault → Result X ConfKind
 acl_result (Ok x) = Ok x
@@ -31,20 +31,20 @@ when_of (word ∷ rest) =
 
 -- The action.
 
--- behind `src`: the table of a section, or that of the rule's own
+-- after `src`: the table of a section, or that of the rule's own
 abbrev pub table_at : ℕ → List (List ℕ) → Result (Action × List (List ℕ)) ConfKind
 table_at counter [] = Ok (Track (record { counter = counter; table = None }), [])
 table_at counter (word ∷ rest) =
     if bytes_eq word (codes "table") then (name_at rest >>= λ name. Ok (Track (record { counter = counter; table = Some name.0 }), name.1))
     else Ok (Track (record { counter = counter; table = None }), word ∷ rest)
 
--- behind `track-sc0` and the like: the key is the source
+-- after `track-sc0` and the like: the key is the source
 abbrev pub track_at : ℕ → List (List ℕ) → Result (Action × List (List ℕ)) ConfKind
 track_at counter words = do
   key ← word_at words
   if bytes_eq key.0 (codes "src") then table_at counter key.1 else Err Unsupported
 
--- an action, and the words behind it
+-- an action, and the words after it
 abbrev pub action_at : List (List ℕ) → Result (Action × List (List ℕ)) ConfKind
 action_at words = do
   word ← word_at words
@@ -55,7 +55,7 @@ action_at words = do
       else if bytes_eq word.0 (codes "track-sc2") then track_at 2 word.1
       else Err Unsupported
 
--- the list that the rule belongs to, and the words behind it
+-- the list that the rule belongs to, and the words after it
 abbrev pub ruleset_at : List (List ℕ) → Result (Ruleset × List (List ℕ)) ConfKind
 ruleset_at words = do
   word ← word_at words
@@ -63,7 +63,7 @@ ruleset_at words = do
       else if bytes_eq word.0 (codes "session") then Ok (Session, word.1)
       else Err Unsupported
 
--- the list and the action, and the words behind them
+-- the list and the action, and the words after them
 abbrev pub head_at : List (List ℕ) → Result (Ruleset × (Action × List (List ℕ))) ConfKind
 head_at words = do
   list ← ruleset_at words

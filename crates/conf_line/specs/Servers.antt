@@ -55,7 +55,7 @@ server_options (name ∷ value ∷ rest) =
     if has_value name then (server_value name value >>= λ option. onto option (server_options rest))
     else (server_flag name >>= λ option. onto option (server_options (value ∷ rest)))
 
--- What the options say together: of an option that is given twice the later counts, and each limit is judged.
+-- What the options say together: of an option that is given twice the later counts, and each limit is checked.
 
 abbrev pub option_weight : ServerOption → Option ℕ
 option_weight (options.Weight weight) = Some weight

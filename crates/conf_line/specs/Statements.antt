@@ -1,4 +1,4 @@
--- What a line says by its words alone, or the first word that cannot stand.
+-- What a line says by its words alone, or the first word that is wrong.
 use Rattle.std.specs.Prelude.{ℕ, Bool, true, false, ◌||◌, ◌==◌, ◌∷◌, nat_lt, List, [], Result, Ok, Err, codes, if◌then◌else◌}
 use Rattle.std.specs.Str.{bytes_eq}
 use Rattle.list_core.specs.Each.{◌>>=◌}
@@ -19,6 +19,13 @@ use Rattle.conf_line.specs.Rules.{rule_of}
 use Rattle.conf_line.specs.Servers.{server_of}
 use Rattle.conf_line.specs.Tables.{table_of}
 
+-- a name, and no further word
+abbrev pub only_name : List (List ℕ) → Result (List ℕ) ConfKind
+only_name words = do
+  name ← name_at words
+  _ ← end_at name.1
+  Ok name.0
+
 -- Sections.
 
 abbrev pub global_of : List (List ℕ) → Result Statement ConfKind
@@ -33,16 +40,10 @@ defaults_of (word ∷ rest) = do
   Ok statements.Defaults
 
 abbrev pub frontend_of : List (List ℕ) → Result Statement ConfKind
-frontend_of words = do
-  name ← name_at words
-  _ ← end_at name.1
-  Ok (statements.Frontend name.0)
+frontend_of words = only_name words >>= λ name. Ok (statements.Frontend name)
 
 abbrev pub backend_of : List (List ℕ) → Result Statement ConfKind
-backend_of words = do
-  name ← name_at words
-  _ ← end_at name.1
-  Ok (statements.Backend name.0)
+backend_of words = only_name words >>= λ name. Ok (statements.Backend name)
 
 -- Lines of sections.
 
@@ -52,10 +53,7 @@ mode_of words = do
   if bytes_eq word.0 (codes "tcp") then (end_at word.1 >>= λ _. Ok statements.Nothing) else Err Unsupported
 
 abbrev pub default_backend_of : List (List ℕ) → Result Statement ConfKind
-default_backend_of words = do
-  name ← name_at words
-  _ ← end_at name.1
-  Ok (statements.DefaultBackend name.0)
+default_backend_of words = only_name words >>= λ name. Ok (statements.DefaultBackend name)
 
 abbrev pub method_of : List ℕ → Result Statement ConfKind
 method_of word =
@@ -71,7 +69,7 @@ balance_of words = do
   _ ← end_at word.1
   Ok method
 
--- `accept-proxy` may stand behind the endpoint
+-- `accept-proxy` may come after the endpoint
 abbrev pub accepts_proxy : List (List ℕ) → Result Bool ConfKind
 accepts_proxy [] = Ok false
 accepts_proxy (word ∷ rest) = if bytes_eq word (codes "accept-proxy") then (end_at rest >>= λ _. Ok true) else Err Unsupported
@@ -92,7 +90,7 @@ max_conn_of words = do
     _ ← end_at word.1
     Ok (record { statement = statements.MaxConn limit; repeats = false; exceeds = nat_lt MOST_CONNECTIONS limit })
 
--- Lines that are read and have no effect; the words behind those offered are not read.
+-- Lines that are read and have no effect; the words after those offered are not read.
 
 abbrev pub without_effect_if : (List ℕ → Bool) → List (List ℕ) → Result Statement ConfKind
 without_effect_if is_offered words = do
@@ -108,7 +106,7 @@ is_option word = bytes_eq word (codes "tcplog") || bytes_eq word (codes "dontlog
 abbrev pub is_timeout : List ℕ → Bool
 is_timeout word = bytes_eq word (codes "connect") || bytes_eq word (codes "client") || bytes_eq word (codes "server")
 
--- in global all words behind `log` are free
+-- in global all words after `log` are free
 abbrev pub log_of : SectionKind → List (List ℕ) → Result Statement ConfKind
 log_of sections.Global words = Ok statements.Nothing
 log_of sections.Outside words = without_effect_if is_global words
@@ -118,12 +116,12 @@ log_of sections.Backend words = without_effect_if is_global words
 
 -- All lines.
 
--- a line in which nothing stands twice, and no number is beyond its limit
+-- a line in which nothing is given twice, and no number is greater than its limit
 abbrev pub plain_reading : Result Statement ConfKind → Result LineReading ConfKind
 plain_reading (Err kind) = Err kind
 plain_reading (Ok reading) = Ok (record { statement = reading; repeats = false; exceeds = false })
 
--- what a line says behind its keyword; some of the language's lines are not taken
+-- what a line says after its keyword; some of the language's lines are not taken
 abbrev pub keyword_reading : SectionKind → Keyword → List (List ℕ) → Result LineReading ConfKind
 keyword_reading kind k.Global words = plain_reading (global_of words)
 keyword_reading kind k.Defaults words = plain_reading (defaults_of words)

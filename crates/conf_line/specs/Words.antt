@@ -1,4 +1,4 @@
--- The words of a line, read from the left: the first that cannot stand decides.
+-- The words of a line, read from the left: the first that is wrong decides.
 use Rattle.std.specs.Prelude.{ℕ, Bool, ◌≡◌, ◌||◌, ◌&&◌, ◌==◌, ◌∷◌, ◌++◌, nat_le, List, [], Option, Some, None, Result, Ok, Err, if◌then◌else◌}
 use Rattle.std.specs.List.{list_all}
 use Rattle.std.specs.Option.{option_or}
@@ -75,7 +75,7 @@ abbrev pub wildcard_at : Option ℕ → Result Endpoint ConfKind
 wildcard_at None = Err BadAddress
 wildcard_at (Some port) = if port == 0 then Err BadAddress else Ok (record { addr = V4 0; port = port })
 
--- behind a star
+-- after a star
 abbrev pub star_at : List ℕ → Result Endpoint ConfKind
 star_at [] = Err BadAddress
 star_at (b ∷ port) = if b == 58 then wildcard_at (decimal_of port 65535) else Err BadAddress

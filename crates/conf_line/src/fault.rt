@@ -4,7 +4,7 @@ use conf_text::LineKind;
 use std::fmt;
 
 /// What is wrong with a line of a configuration. Of the words of a line, read from the left, the first
-/// that cannot stand decides.
+/// that is wrong decides.
 #[derive(Clone, Copy, Debug, PartialEq, Eq)]
 pub enum ConfKind {
     /// The line's own characters.
@@ -31,7 +31,7 @@ pub enum ConfKind {
     NoMemory,
 }
 
-/// What is wrong with a configuration: the least faulty line, and its fault.
+/// What is wrong with a configuration: the first faulty line, and its fault.
 #[derive(Clone, Copy, Debug, PartialEq, Eq)]
 pub struct ConfFault {
     pub line: u32,

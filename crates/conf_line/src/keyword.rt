@@ -7,7 +7,7 @@ use crate::statement::SectionKind;
 use text_core::Word;
 
 /// The first word of a line.
-#[derive(Clone, Copy, Debug, PartialEq, Eq)]
+#[derive(Clone, Copy)]
 pub enum Keyword {
     Global,
     Defaults,
@@ -92,7 +92,7 @@ pub fn keyword_of(word: &Word) -> Keyword
     }
 }
 
-/// Whether the keyword may stand in a section of this kind.
+/// Whether the keyword is one of a section of this kind.
 pub fn check_keyword(kind: SectionKind, keyword: Keyword) -> Result<(), ConfKind>
     ensures { result ≡ check_keyword kind keyword }
 {

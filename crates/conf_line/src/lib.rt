@@ -2,7 +2,7 @@
 #![tactic(auto)]
 
 pub use fault::{ConfFault, ConfKind};
-pub use limits::{GREATEST_WEIGHT, MOST_CONNECTIONS, MOST_ENTRIES};
+pub use limits::{COUNTERS, GREATEST_WEIGHT, MOST_CONNECTIONS, MOST_ENTRIES};
 pub use proxy_types::{KeyType, Method, Stores};
 pub use reading::read_line;
 pub use statement::{

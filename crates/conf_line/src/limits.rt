@@ -8,3 +8,6 @@ pub const MOST_CONNECTIONS: u64 = 1_048_576;
 
 /// Of the weight of a server (HAProxy manual, `weight`).
 pub const GREATEST_WEIGHT: u64 = 256;
+
+/// How many counters a connection has (HAProxy manual, `track-sc0`).
+pub const COUNTERS: u8 = 3;

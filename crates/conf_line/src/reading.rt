@@ -1,8 +1,9 @@
 //! What a line says by its words alone.
-ghost use Rattle.std.specs.Prelude.{◌≡◌, Result, Ok};
+ghost use Rattle.std.specs.Prelude.{◌≡◌, IfOk, Result, Ok};
 ghost use Rattle.list_core.specs.Each.{Gives};
 ghost use Rattle.conf_line.specs.Keywords.{keyword_of, check_keyword};
-ghost use Rattle.conf_line.specs.Statements.{global_of, defaults_of, frontend_of, backend_of, mode_of, default_backend_of, method_of, balance_of, accepts_proxy, bind_of, max_conn_of, without_effect_if, is_global, is_option, is_timeout, log_of, plain_reading, keyword_reading, line_reading};
+ghost use Rattle.conf_line.specs.Statements.{only_name, global_of, defaults_of, frontend_of, backend_of, mode_of, default_backend_of, method_of, balance_of, accepts_proxy, bind_of, max_conn_of, without_effect_if, is_global, is_option, is_timeout, log_of, plain_reading, keyword_reading, line_reading};
+ghost use Rattle.conf_line.specs.Sound.{IsSoundStatement, IsSoundReading};
 ghost use Rattle.conf_line.specs.Rules.{rule_of};
 
 use crate::fault::ConfKind;
@@ -19,14 +20,16 @@ use std::alloc::Global;
 use text_core::Word;
 
 fn global<'a>(words: &[Word<'a>]) -> Result<Statement<'a>, ConfKind>
-    ensures { result ≡ global_of words.now }
+    ensures value { result ≡ global_of words.now }
+    ensures sound { IfOk result IsSoundStatement }
 {
     end_at(words)?;
     Ok(Statement::Global)
 }
 
 fn defaults<'a>(words: &[Word<'a>]) -> Result<Statement<'a>, ConfKind>
-    ensures { result ≡ defaults_of words.now }
+    ensures value { result ≡ defaults_of words.now }
+    ensures sound { IfOk result IsSoundStatement }
 {
     if words.is_empty() {
         return Ok(Statement::Defaults);
@@ -36,24 +39,34 @@ fn defaults<'a>(words: &[Word<'a>]) -> Result<Statement<'a>, ConfKind>
     Ok(Statement::Defaults)
 }
 
-fn frontend<'a>(words: &[Word<'a>]) -> Result<Statement<'a>, ConfKind>
-    ensures { result ≡ frontend_of words.now }
+/// A name, and no further word.
+fn only_name<'a>(words: &[Word<'a>]) -> Result<Word<'a>, ConfKind>
+    ensures { result ≡ only_name words.now }
 {
     let (name, rest) = name_at(words)?;
     end_at(rest)?;
+    Ok(name)
+}
+
+fn frontend<'a>(words: &[Word<'a>]) -> Result<Statement<'a>, ConfKind>
+    ensures value { result ≡ frontend_of words.now }
+    ensures sound { IfOk result IsSoundStatement }
+{
+    let name = only_name(words)?;
     Ok(Statement::Frontend(name))
 }
 
 fn backend<'a>(words: &[Word<'a>]) -> Result<Statement<'a>, ConfKind>
-    ensures { result ≡ backend_of words.now }
+    ensures value { result ≡ backend_of words.now }
+    ensures sound { IfOk result IsSoundStatement }
 {
-    let (name, rest) = name_at(words)?;
-    end_at(rest)?;
+    let name = only_name(words)?;
     Ok(Statement::Backend(name))
 }
 
 fn mode<'a>(words: &[Word<'a>]) -> Result<Statement<'a>, ConfKind>
-    ensures { result ≡ mode_of words.now }
+    ensures value { result ≡ mode_of words.now }
+    ensures sound { IfOk result IsSoundStatement }
 {
     let (word, rest) = word_at(words)?;
     if !word.is(b"tcp") {
@@ -64,15 +77,16 @@ fn mode<'a>(words: &[Word<'a>]) -> Result<Statement<'a>, ConfKind>
 }
 
 fn default_backend<'a>(words: &[Word<'a>]) -> Result<Statement<'a>, ConfKind>
-    ensures { result ≡ default_backend_of words.now }
+    ensures value { result ≡ default_backend_of words.now }
+    ensures sound { IfOk result IsSoundStatement }
 {
-    let (name, rest) = name_at(words)?;
-    end_at(rest)?;
+    let name = only_name(words)?;
     Ok(Statement::DefaultBackend(name))
 }
 
 fn method_of<'a>(word: &Word<'a>) -> Result<Statement<'a>, ConfKind>
-    ensures { result ≡ method_of word.now }
+    ensures value { result ≡ method_of word.now }
+    ensures sound { IfOk result IsSoundStatement }
 {
     if word.is(b"roundrobin") {
         Ok(Statement::Balance(Method::RoundRobin))
@@ -86,7 +100,8 @@ fn method_of<'a>(word: &Word<'a>) -> Result<Statement<'a>, ConfKind>
 }
 
 fn balance<'a>(words: &[Word<'a>]) -> Result<Statement<'a>, ConfKind>
-    ensures { result ≡ balance_of words.now }
+    ensures value { result ≡ balance_of words.now }
+    ensures sound { IfOk result IsSoundStatement }
 {
     let (word, rest) = word_at(words)?;
     let method = method_of(word)?;
@@ -94,7 +109,7 @@ fn balance<'a>(words: &[Word<'a>]) -> Result<Statement<'a>, ConfKind>
     Ok(method)
 }
 
-/// Whether connections begin with a PROXY header, by the words behind an endpoint.
+/// Whether connections begin with a PROXY header, by the words after an endpoint.
 fn accepts_proxy(words: &[Word]) -> Result<bool, ConfKind>
     ensures { result ≡ accepts_proxy words.now }
 {
@@ -111,7 +126,8 @@ fn accepts_proxy(words: &[Word]) -> Result<bool, ConfKind>
 }
 
 fn bind<'a>(words: &[Word<'a>]) -> Result<Statement<'a>, ConfKind>
-    ensures { result ≡ bind_of words.now }
+    ensures value { result ≡ bind_of words.now }
+    ensures sound { IfOk result IsSoundStatement }
 {
     let (word, rest) = word_at(words)?;
     let at = bind_at(word)?;
@@ -120,7 +136,8 @@ fn bind<'a>(words: &[Word<'a>]) -> Result<Statement<'a>, ConfKind>
 }
 
 fn max_conn<'a>(words: &[Word<'a>]) -> Result<LineReading<'a>, ConfKind>
-    ensures { result ≡ max_conn_of words.now }
+    ensures value { result ≡ max_conn_of words.now }
+    ensures sound { IfOk result IsSoundReading }
 {
     let (word, rest) = word_at(words)?;
     let limit = number_at(word.bytes())?;
@@ -137,7 +154,8 @@ fn max_conn<'a>(words: &[Word<'a>]) -> Result<LineReading<'a>, ConfKind>
 
 /// `log global`.
 fn global_log<'a>(words: &[Word<'a>]) -> Result<Statement<'a>, ConfKind>
-    ensures { result ≡ without_effect_if is_global words.now }
+    ensures value { result ≡ without_effect_if is_global words.now }
+    ensures sound { IfOk result IsSoundStatement }
 {
     let (word, _rest) = word_at(words)?;
     if word.is(b"global") {
@@ -148,7 +166,8 @@ fn global_log<'a>(words: &[Word<'a>]) -> Result<Statement<'a>, ConfKind>
 
 /// An option without effect.
 fn option<'a>(words: &[Word<'a>]) -> Result<Statement<'a>, ConfKind>
-    ensures { result ≡ without_effect_if is_option words.now }
+    ensures value { result ≡ without_effect_if is_option words.now }
+    ensures sound { IfOk result IsSoundStatement }
 {
     let (word, _rest) = word_at(words)?;
     if word.is(b"tcplog") || word.is(b"dontlognull") {
@@ -159,7 +178,8 @@ fn option<'a>(words: &[Word<'a>]) -> Result<Statement<'a>, ConfKind>
 
 /// A time without effect.
 fn timeout<'a>(words: &[Word<'a>]) -> Result<Statement<'a>, ConfKind>
-    ensures { result ≡ without_effect_if is_timeout words.now }
+    ensures value { result ≡ without_effect_if is_timeout words.now }
+    ensures sound { IfOk result IsSoundStatement }
 {
     let (word, _rest) = word_at(words)?;
     if word.is(b"connect") || word.is(b"client") || word.is(b"server") {
@@ -169,7 +189,8 @@ fn timeout<'a>(words: &[Word<'a>]) -> Result<Statement<'a>, ConfKind>
 }
 
 fn log<'a>(kind: SectionKind, words: &[Word<'a>]) -> Result<Statement<'a>, ConfKind>
-    ensures { result ≡ log_of kind words.now }
+    ensures value { result ≡ log_of kind words.now }
+    ensures sound { IfOk result IsSoundStatement }
 {
     match kind {
         SectionKind::Global => Ok(Statement::Nothing),
@@ -180,11 +201,13 @@ fn log<'a>(kind: SectionKind, words: &[Word<'a>]) -> Result<Statement<'a>, ConfK
     }
 }
 
-/// A line in which nothing stands twice, and no number is beyond its limit.
+/// A line in which nothing is given twice, and no number is greater than its limit.
 fn plain_reading<'a>(
     statement: Result<Statement<'a>, ConfKind>,
 ) -> Result<LineReading<'a>, Stop<ConfKind>>
-    ensures { Gives result (plain_reading statement.entry) }
+    requires { IfOk statement IsSoundStatement }
+    ensures value { Gives result (plain_reading statement.entry) }
+    ensures sound { IfOk result IsSoundReading }
 {
     match statement {
         Ok(statement) => Ok(LineReading {
@@ -198,7 +221,8 @@ fn plain_reading<'a>(
 
 /// A rule's line.
 fn rule_reading<'a>(alloc: Global, words: &[Word<'a>]) -> Result<LineReading<'a>, Stop<ConfKind>>
-    ensures { Gives result (plain_reading (rule_of words.now)) }
+    ensures value { Gives result (plain_reading (rule_of words.now)) }
+    ensures sound { IfOk result IsSoundReading }
 {
     let statement = rule(alloc, words)?;
     Ok(LineReading {
@@ -212,7 +236,9 @@ fn rule_reading<'a>(alloc: Global, words: &[Word<'a>]) -> Result<LineReading<'a>
 fn without_memory<'a>(
     reading: Result<LineReading<'a>, ConfKind>,
 ) -> Result<LineReading<'a>, Stop<ConfKind>>
-    ensures { Gives result reading.entry }
+    requires { IfOk reading IsSoundReading }
+    ensures value { Gives result reading.entry }
+    ensures sound { IfOk result IsSoundReading }
 {
     match reading {
         Ok(reading) => Ok(reading),
@@ -220,14 +246,15 @@ fn without_memory<'a>(
     }
 }
 
-/// What a line says behind its keyword.
+/// What a line says after its keyword.
 fn keyword_reading<'a>(
     alloc: Global,
     kind: SectionKind,
     keyword: Keyword,
     words: &[Word<'a>],
 ) -> Result<LineReading<'a>, Stop<ConfKind>>
-    ensures { Gives result (keyword_reading kind keyword words.now) }
+    ensures value { Gives result (keyword_reading kind keyword words.now) }
+    ensures sound { IfOk result IsSoundReading }
 {
     match keyword {
         Keyword::Global => plain_reading(global(words)),
@@ -263,7 +290,8 @@ pub fn read_line<'a>(
     kind: SectionKind,
     words: &[Word<'a>],
 ) -> Result<LineReading<'a>, Stop<ConfKind>>
-    ensures { Gives result (line_reading kind words.now) }
+    ensures value { Gives result (line_reading kind words.now) }
+    ensures sound { IfOk result IsSoundReading }
 {
     match words {
         [] => plain_reading(Ok(Statement::Nothing)),

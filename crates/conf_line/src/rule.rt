@@ -1,11 +1,13 @@
 //! Rules of a frontend.
-ghost use Rattle.std.specs.Prelude.{◌≡◌};
+ghost use Rattle.std.specs.Prelude.{◌≡◌, ◌<◌, IfOk};
 ghost use Rattle.list_core.specs.Each.{Gives};
 ghost use Rattle.acl_core.specs.Reading as reading;
 ghost use Rattle.conf_line.specs.Words.{Sees};
+ghost use Rattle.conf_line.specs.Sound.{IsSoundAction, IsSoundStatement};
 ghost use Rattle.conf_line.specs.Rules.{acl_result, when_of, table_at, track_at, action_at, ruleset_at, head_at, rule_of};
 
 use crate::fault::ConfKind;
+use crate::limits::COUNTERS;
 use crate::statement::{Action, Ruleset, Statement, TrackWords};
 use crate::words::{name_at, word_at};
 use acl_core::{AclFault, Cond, When, read_cond};
@@ -27,7 +29,7 @@ fn condition(alloc: Global, words: &[Word]) -> Result<Cond, Stop<ConfKind>>
     }
 }
 
-/// When a rule applies, by the words behind its action.
+/// When a rule applies, by the words after its action.
 fn when(alloc: Global, words: &[Word]) -> Result<When, Stop<ConfKind>>
     ensures { Gives result (when_of words.now) }
 {
@@ -45,12 +47,14 @@ fn when(alloc: Global, words: &[Word]) -> Result<When, Stop<ConfKind>>
     }
 }
 
-/// The table that a track names, and the words behind it.
+/// The table that a track names, and the words after it.
 fn table_at<'a, 'w>(
     counter: u8,
     words: &'w [Word<'a>],
 ) -> Result<(Action<'a>, &'w [Word<'a>]), ConfKind>
-    ensures { Sees (λ x. (x.0, x.1.now)) result (table_at counter words.now) }
+    requires { counter < COUNTERS }
+    ensures value { Sees (λ x. (x.0, x.1.now)) result (table_at counter words.now) }
+    ensures sound { IfOk result (λ x. IsSoundAction x.0) }
 {
     match words {
         [word, rest @ ..] if word.is(b"table") => {
@@ -73,12 +77,14 @@ fn table_at<'a, 'w>(
     }
 }
 
-/// What is tracked, and the words behind it.
+/// What is tracked, and the words after it.
 fn track_at<'a, 'w>(
     counter: u8,
     words: &'w [Word<'a>],
 ) -> Result<(Action<'a>, &'w [Word<'a>]), ConfKind>
-    ensures { Sees (λ x. (x.0, x.1.now)) result (track_at counter words.now) }
+    requires { counter < COUNTERS }
+    ensures value { Sees (λ x. (x.0, x.1.now)) result (track_at counter words.now) }
+    ensures sound { IfOk result (λ x. IsSoundAction x.0) }
 {
     let (key, rest) = word_at(words)?;
     if !key.is(b"src") {
@@ -87,9 +93,10 @@ fn track_at<'a, 'w>(
     table_at(counter, rest)
 }
 
-/// An action, and the words behind it.
+/// An action, and the words after it.
 fn action_at<'a, 'w>(words: &'w [Word<'a>]) -> Result<(Action<'a>, &'w [Word<'a>]), ConfKind>
-    ensures { Sees (λ x. (x.0, x.1.now)) result (action_at words.now) }
+    ensures value { Sees (λ x. (x.0, x.1.now)) result (action_at words.now) }
+    ensures sound { IfOk result (λ x. IsSoundAction x.0) }
 {
     let (word, rest) = word_at(words)?;
     if word.is(b"accept") {
@@ -107,7 +114,7 @@ fn action_at<'a, 'w>(words: &'w [Word<'a>]) -> Result<(Action<'a>, &'w [Word<'a>
     }
 }
 
-/// The list that a rule belongs to, and the words behind it.
+/// The list that a rule belongs to, and the words after it.
 fn ruleset_at<'a, 'w>(words: &'w [Word<'a>]) -> Result<(Ruleset, &'w [Word<'a>]), ConfKind>
     ensures { Sees (λ x. (x.0, x.1.now)) result (ruleset_at words.now) }
 {
@@ -121,9 +128,10 @@ fn ruleset_at<'a, 'w>(words: &'w [Word<'a>]) -> Result<(Ruleset, &'w [Word<'a>])
     }
 }
 
-/// The list and the action of a rule, and the words behind them.
+/// The list and the action of a rule, and the words after them.
 fn head_at<'a, 'w>(words: &'w [Word<'a>]) -> Result<(Ruleset, Action<'a>, &'w [Word<'a>]), ConfKind>
-    ensures { Sees (λ x. (x.0, (x.1, x.2.now))) result (head_at words.now) }
+    ensures value { Sees (λ x. (x.0, (x.1, x.2.now))) result (head_at words.now) }
+    ensures sound { IfOk result (λ x. IsSoundAction x.1) }
 {
     let (ruleset, rest) = ruleset_at(words)?;
     let (action, rest) = action_at(rest)?;
@@ -132,7 +140,8 @@ fn head_at<'a, 'w>(words: &'w [Word<'a>]) -> Result<(Ruleset, Action<'a>, &'w [W
 
 /// A rule.
 pub fn rule<'a>(alloc: Global, words: &[Word<'a>]) -> Result<Statement<'a>, Stop<ConfKind>>
-    ensures { Gives result (rule_of words.now) }
+    ensures value { Gives result (rule_of words.now) }
+    ensures sound { IfOk result IsSoundStatement }
 {
     match head_at(words) {
         Ok((ruleset, action, rest)) => Ok(Statement::Rule(ruleset, action, when(alloc, rest)?)),

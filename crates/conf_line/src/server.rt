@@ -1,6 +1,7 @@
 //! Servers.
-ghost use Rattle.std.specs.Prelude.{◌≡◌, ◌≤◌, ◌∷◌, ◌||◌, length, IfOk, IfErr, Err};
+ghost use Rattle.std.specs.Prelude.{◌≡◌, ◌≤◌, ◌∷◌, ◌||◌, false, length, IfOk, IfErr, Err};
 ghost use Rattle.std.specs.Option.{option_or};
+ghost use Rattle.conf_line.specs.Sound.{IsSoundWeight, IsSoundLimit, IsSoundReading};
 ghost use Rattle.conf_line.specs.Words.{onto};
 ghost use Rattle.conf_line.specs.Servers.{has_value, words_after, server_flag, server_number, server_value, server_options, option_weight, option_limit, is_excess, is_disabled, is_send_proxy, is_send_proxy_v2, IsServer, server_of};
 
@@ -18,7 +19,8 @@ fn has_value(word: &Word) -> bool
 }
 
 fn flag(word: &Word) -> Result<ServerOption, ConfKind>
-    ensures { result ≡ server_flag word.now }
+    ensures value { result ≡ server_flag word.now }
+    ensures sound { IfOk result (λ option. IsSoundWeight (option_weight option)) }
 {
     if word.is(b"disabled") {
         Ok(ServerOption::Disabled)
@@ -32,7 +34,8 @@ fn flag(word: &Word) -> Result<ServerOption, ConfKind>
 }
 
 fn numeric(name: &Word, number: u64) -> Result<ServerOption, ConfKind>
-    ensures { result ≡ server_number name.now number }
+    ensures value { result ≡ server_number name.now number }
+    ensures sound { IfOk result (λ option. IsSoundWeight (option_weight option)) }
 {
     if name.is(b"maxconn") {
         return Ok(ServerOption::MaxConn(number));
@@ -44,7 +47,8 @@ fn numeric(name: &Word, number: u64) -> Result<ServerOption, ConfKind>
 }
 
 fn numeric_option(name: &Word, value: &Word) -> Result<ServerOption, ConfKind>
-    ensures { result ≡ server_value name.now value.now }
+    ensures value { result ≡ server_value name.now value.now }
+    ensures sound { IfOk result (λ option. IsSoundWeight (option_weight option)) }
 {
     let number = number_at(value.bytes())?;
     numeric(name, number)
@@ -54,6 +58,7 @@ fn numeric_option(name: &Word, value: &Word) -> Result<ServerOption, ConfKind>
 fn option_at(name: &Word, after: &[Word]) -> Result<ServerOption, ConfKind>
     ensures ok { IfOk result (λ option. server_options (name.now ∷ after.now) ≡ onto option (server_options (words_after name.now after.now))) }
     ensures err { IfErr result (λ kind. server_options (name.now ∷ after.now) ≡ Err kind) }
+    ensures sound { IfOk result (λ option. IsSoundWeight (option_weight option)) }
 {
     if !has_value(name) {
         return flag(name);
@@ -125,6 +130,7 @@ fn with_option(options: Options, option: &ServerOption) -> Options
 fn all_options<'a, 'w>(words: &'w [Word<'a>]) -> Result<Options, ConfKind>
     ensures ok { IfOk result (λ o. IsServer words.now o.weight o.limit o.disabled o.send_proxy o.send_proxy_v2 o.exceeds) }
     ensures err { IfErr result (λ kind. server_options words.now ≡ Err kind) }
+    ensures sound { IfOk result (λ o. IsSoundWeight o.weight × (o.exceeds ≡ false → IsSoundLimit o.limit)) }
 {
     let mut options = Options {
         weight: None,
@@ -145,7 +151,8 @@ fn all_options<'a, 'w>(words: &'w [Word<'a>]) -> Result<Options, ConfKind>
 
 /// A server.
 pub fn server<'a>(words: &[Word<'a>]) -> Result<LineReading<'a>, ConfKind>
-    ensures { result ≡ server_of words.now }
+    ensures value { result ≡ server_of words.now }
+    ensures sound { IfOk result IsSoundReading }
 {
     let (name, rest) = name_at(words)?;
     let (word, rest) = word_at(rest)?;

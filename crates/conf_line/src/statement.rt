@@ -5,7 +5,7 @@ use proxy_types::{KeyType, Method, Stores};
 use text_core::Word;
 
 /// The kind of a section.
-#[derive(Clone, Copy, Debug, PartialEq, Eq)]
+#[derive(Clone, Copy)]
 pub enum SectionKind {
     /// Before any section.
     Outside,
@@ -16,7 +16,7 @@ pub enum SectionKind {
 }
 
 /// The two lists of rules of a frontend (HAProxy manual, `tcp-request`).
-#[derive(Clone, Copy, Debug, PartialEq, Eq)]
+#[derive(Clone, Copy)]
 pub enum Ruleset {
     Connection,
     Session,
@@ -40,7 +40,7 @@ pub struct TrackWords<'a> {
 }
 
 /// The words of a `stick-table` line.
-#[derive(Clone, Copy, Debug, PartialEq, Eq)]
+#[derive(Clone, Copy)]
 pub struct TableWords {
     pub keys: KeyType,
     /// How many entries there may be, from 1 on.

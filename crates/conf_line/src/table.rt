@@ -1,8 +1,9 @@
 //! Stick tables.
-ghost use Rattle.std.specs.Prelude.{◌≡◌, ◌==◌, ◌∷◌, ◌||◌, ◌&&◌, is_some, drop, IfOk, IfErr, Err};
+ghost use Rattle.std.specs.Prelude.{◌≡◌, ◌==◌, ◌≤◌, ◌∷◌, ◌||◌, ◌&&◌, is_some, drop, IfOk, IfErr, Err};
 ghost use Rattle.std.specs.List.{slice_split};
 ghost use Rattle.std.specs.Option.{option_or};
 ghost use Rattle.list_core.specs.Each.{run};
+ghost use Rattle.conf_line.specs.Sound.{IsSoundSize, IsSoundReading};
 ghost use Rattle.conf_line.specs.Words.{onto};
 ghost use Rattle.conf_line.specs.Tables.{unit_of, digits_of, size_at, keys_of, stores_with, stores_of, without_value, table_option, table_options, option_keys, option_size, is_keys, is_size, stores_cur, stores_cnt, IsTable, table_of};
 
@@ -14,9 +15,10 @@ use list_core::newest;
 use proxy_types::{KeyType, Stores};
 use text_core::{Word, cut_at};
 
-/// How much the word's unit stands for.
+/// How much the word's unit is.
 fn unit_of(word: &[u8]) -> u64
-    ensures { result ≡ unit_of word.now }
+    ensures value { result ≡ unit_of word.now }
+    ensures one { 1 ≤ result }
 {
     match newest(word) {
         None => 1,
@@ -43,7 +45,8 @@ fn digits_of(word: &[u8]) -> &[u8]
 }
 
 fn size_at(word: &[u8]) -> Result<u64, ConfKind>
-    ensures { result ≡ size_at word.now }
+    ensures value { result ≡ size_at word.now }
+    ensures one { IfOk result (λ size. 1 ≤ size) }
 {
     let number = number_at(digits_of(word))?;
     if number == 0 {
@@ -111,7 +114,8 @@ fn without_value(name: &Word) -> ConfKind
 
 /// An option, by its name and its value.
 fn option(name: &Word, value: &Word) -> Result<TableOption, ConfKind>
-    ensures { result ≡ table_option name.now value.now }
+    ensures value { result ≡ table_option name.now value.now }
+    ensures sound { IfOk result (λ option. IsSoundSize (option_size option)) }
 {
     if name.is(b"type") {
         Ok(TableOption::Keys(keys_of(value)?))
@@ -128,6 +132,7 @@ fn option(name: &Word, value: &Word) -> Result<TableOption, ConfKind>
 fn option_at(name: &Word, after: &[Word]) -> Result<TableOption, ConfKind>
     ensures ok { IfOk result (λ option. table_options (name.now ∷ after.now) ≡ onto option (table_options (drop 1 after.now))) }
     ensures err { IfErr result (λ kind. table_options (name.now ∷ after.now) ≡ Err kind) }
+    ensures sound { IfOk result (λ option. IsSoundSize (option_size option)) }
 {
     match after {
         [] => Err(without_value(name)),
@@ -178,6 +183,7 @@ fn with_option(options: Options, option: &TableOption) -> Options
 fn all_options<'a, 'w>(words: &'w [Word<'a>]) -> Result<Options, ConfKind>
     ensures ok { IfOk result (λ o. IsTable words.now o.keys o.size o.stores o.repeats) }
     ensures err { IfErr result (λ kind. table_options words.now ≡ Err kind) }
+    ensures sound { IfOk result (λ o. IsSoundSize o.size) }
 {
     let mut options = Options {
         keys: None,
@@ -199,7 +205,8 @@ fn all_options<'a, 'w>(words: &'w [Word<'a>]) -> Result<Options, ConfKind>
 
 /// A table.
 pub fn table<'a>(words: &[Word<'a>]) -> Result<LineReading<'a>, ConfKind>
-    ensures { result ≡ table_of words.now }
+    ensures value { result ≡ table_of words.now }
+    ensures sound { IfOk result IsSoundReading }
 {
     let options = all_options(words)?;
     let (Some(keys), Some(size)) = (options.keys, options.size) else {

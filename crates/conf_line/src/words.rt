@@ -45,12 +45,12 @@ fn is_name(bytes: &[u8]) -> bool
     ensures { result ≡ list_all is_name_byte bytes.now }
 {
     bytes.iter().all(|b| {
-        48 <= *b && *b <= 58
-            || 65 <= *b && *b <= 90
-            || 97 <= *b && *b <= 122
-            || *b == 45
-            || *b == 46
-            || *b == 95
+        b'0' <= *b && *b <= b':'
+            || b'A' <= *b && *b <= b'Z'
+            || b'a' <= *b && *b <= b'z'
+            || *b == b'-'
+            || *b == b'.'
+            || *b == b'_'
     })
 }
 
@@ -112,7 +112,7 @@ fn star_at(bytes: &[u8]) -> Result<Endpoint, ConfKind>
     ensures { result ≡ star_at bytes.now }
 {
     match bytes {
-        [58, port @ ..] => wildcard_at(port),
+        [b':', port @ ..] => wildcard_at(port),
         _ => Err(ConfKind::BadAddress),
     }
 }
@@ -123,8 +123,8 @@ pub fn bind_at(word: &Word) -> Result<Endpoint, ConfKind>
 {
     match word.bytes() {
         [] => Err(ConfKind::BadAddress),
-        [58, port @ ..] => wildcard_at(port),
-        [42, rest @ ..] => star_at(rest),
+        [b':', port @ ..] => wildcard_at(port),
+        [b'*', rest @ ..] => star_at(rest),
         [_, ..] => address_at(word),
     }
 }

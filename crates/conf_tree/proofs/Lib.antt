@@ -3,3 +3,4 @@ pub mod RisingLemmas
 pub mod EffectLemmas
 pub mod FewLemmas
 pub mod MarkLemmas
+pub mod SoundLemmas

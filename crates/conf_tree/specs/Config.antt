@@ -1,4 +1,4 @@
--- A configuration as the list of what its lines say, each with the section that it stands in.
+-- A configuration as the list of what its lines say, each with its section.
 use Rattle.std.specs.Prelude.{◌≡◌, ℕ, Bool, true, false, ◌⊎◌, ◌||◌, nat_le, List, [], length, filter, drop, Option, Some, None, Result, Ok, Err, if◌then◌else◌}
 use Rattle.std.specs.List.{list_any, filter_map}
 use Rattle.std.specs.Str.{bytes_eq}
@@ -32,7 +32,7 @@ abbrev pub place_at : Option ConfigLine → Place
 place_at None = outside
 place_at (Some item) = item.place
 
--- the section in which the line after those stands, if it opens none
+-- the section of the line after those, if it opens none
 abbrev pub place_after : List ConfigLine → Place
 place_after items = place_at (newest items)
 
@@ -92,16 +92,16 @@ abbrev pub is_server_named : List ℕ → Statement → Bool
 is_server_named name (statements.Server server) = bytes_eq server.name name
 is_server_named name other = false
 
--- a server's name may stand once in its backend
+-- a server's name may be given once in its backend
 abbrev pub has_server : List ConfigLine → Statement → Bool
 has_server lines (statements.Server server) = list_any (λ item. is_server_named server.name item.statement) lines
 has_server lines other = false
 
--- an earlier line has what may stand once
+-- an earlier line has what may be given once
 abbrev pub is_taken : List ConfigLine → Place → Statement → Bool
 is_taken items place reading = is_claim_taken (claims_of items) (claim_of place reading) || has_server (section_lines place items) reading
 
--- How many may stand: 64 frontends and 64 backends; in a frontend 64 `bind` lines and 256 rules; in a
+-- How many there may be: 64 frontends and 64 backends; in a frontend 64 `bind` lines and 256 rules; in a
 -- backend 64 servers.
 
 abbrev pub is_frontend : Claim → Bool
@@ -156,7 +156,7 @@ is_full items place (statements.DefaultBackend name) = false
 is_full items place (statements.Balance method) = false
 is_full items place (statements.StickTable table) = false
 
--- a line that says this may stand behind those
+-- a line that says this may come after those
 abbrev pub check_line : List ConfigLine → Place → LineReading → Result (Unit {0}) ConfKind
 check_line items place reading =
     if reading.repeats || is_taken items place reading.statement then Err kinds.Duplicate

@@ -1,4 +1,5 @@
 pub mod Config
 pub mod Rising
 pub mod Few
+pub mod Sound
 pub mod Marks

@@ -1,4 +1,4 @@
-//! What may stand once in a configuration.
+//! What may be given once in a configuration.
 ghost use Rattle.std.specs.Prelude.{◌≡◌, map, length, filter};
 ghost use Rattle.std.specs.List.{list_any};
 ghost use Rattle.conf_tree.specs.Config.{claim_of, same_claim, is_frontend, is_backend};
@@ -57,7 +57,7 @@ fn same_claim(a: &Claim, b: &Claim) -> bool
     }
 }
 
-/// A number that the same claims share, by which most others are told apart at once.
+/// A number that the same claims share, by which most others are seen to differ at once.
 fn mark_of(claim: &Claim) -> u16
     ensures { result ≡ mark_of claim.now }
 {

@@ -1,10 +1,12 @@
 //! Reading the lines of a configuration.
-ghost use Rattle.std.specs.Prelude.{◌≡◌, ◌⊎◌, ◌++◌, ◌∷◌, [], length, filter, IfOk, IfErr, List, Result, Ok, Err};
+ghost use Rattle.std.specs.Prelude.{◌≡◌, ◌⊎◌, ◌++◌, ◌∷◌, [], false, length, filter, IfOk, IfErr, OnOk, List, Result, Ok, Err};
 ghost use Rattle.std.specs.List.{list_any};
 ghost use Rattle.list_core.specs.Each.{Fails, Gives, each};
 ghost use Rattle.conf_text.specs.Lines.{lines_of, AreLines};
 ghost use Rattle.conf_line.specs.declared.fault.ConfFault.{ConfFault};
 ghost use Rattle.conf_tree.specs.declared.tree.ConfigLine.{ConfigLine};
+ghost use Rattle.conf_line.specs.Sound.{IsSoundStatement};
+ghost use Rattle.conf_tree.specs.Sound.{AreSoundStatements, ClaimsDiffer};
 ghost use Rattle.conf_tree.specs.Config.{outside, place_after, place_of, section_lines, claim_of, claims_of, is_server_named, has_server, is_taken, is_bind, is_rule, is_server, lines_reach, is_full, check_line, line_after, item_after, text_fault, has_effect, items_in, items_of, AreItems, IsConfFault, no_memory};
 
 use crate::claim::{Claims, claim_of};
@@ -37,7 +39,7 @@ fn again<'a>(place: &Place<'a>) -> Place<'a>
     }
 }
 
-/// The section in which the line after those stands, if it opens none.
+/// The section of the line after those, if it opens none.
 fn place_after<'a>(items: &[ConfigLine<'a>]) -> Place<'a>
     ensures { result ≡ place_after items.now }
 {
@@ -149,7 +151,7 @@ fn rule_count(lines: &[ConfigLine]) -> usize
     lines.iter().filter(|item| is_rule(&item.statement)).count()
 }
 
-/// Whether there are as many rules as may stand. Short sections need no look at their lines.
+/// Whether there are as many rules as there may be. Short sections need no look at their lines.
 fn are_rules(lines: &[ConfigLine]) -> bool
     ensures { result ≡ lines_reach MOST_RULES is_rule lines.now }
 {
@@ -168,7 +170,7 @@ fn server_count(lines: &[ConfigLine]) -> usize
         .count()
 }
 
-/// Whether an earlier line has what may stand once.
+/// Whether an earlier line has what may be given once.
 fn is_taken(items: &[ConfigLine], taken: &Claims, place: &Place, statement: &Statement) -> bool
     requires { taken.now ≡ claims_of items.now }
     ensures { result ≡ is_taken items.now place.now statement.now }
@@ -198,7 +200,7 @@ fn is_full(items: &[ConfigLine], taken: &Claims, place: &Place, statement: &Stat
     }
 }
 
-/// Whether a line that says this may stand behind those.
+/// Whether a line that says this may come after those.
 fn check_line(
     items: &[ConfigLine],
     taken: &Claims,
@@ -206,7 +208,9 @@ fn check_line(
     reading: &LineReading,
 ) -> Result<(), ConfKind>
     requires { taken.now ≡ claims_of items.now }
-    ensures { result ≡ check_line items.now place.now reading.now }
+    ensures value { result ≡ check_line items.now place.now reading.now }
+    ensures fits { OnOk result (reading.now.exceeds ≡ false) }
+    ensures free { OnOk result (is_taken items.now place.now reading.now.statement ≡ false) }
 {
     if reading.repeats || is_taken(items, taken, place, &reading.statement) {
         return Err(ConfKind::Duplicate);
@@ -225,7 +229,9 @@ fn read_line_after<'a>(
     line: &Line<'a>,
 ) -> Result<ConfigLine<'a>, Stop<ConfKind>>
     requires { taken.now ≡ claims_of items.now }
-    ensures { Gives result (line_after items.now line.now) }
+    ensures gives { Gives result (line_after items.now line.now) }
+    ensures sound { IfOk result (λ item. IsSoundStatement item.statement) }
+    ensures free { IfOk result (λ item. is_taken items.now item.place item.statement ≡ false) }
 {
     let before = place_after(items);
     let reading = read_line(alloc, before.kind, line.words.as_slice())?;
@@ -248,7 +254,9 @@ fn item_after<'a>(
     line: &Line<'a>,
 ) -> Result<ConfigLine<'a>, Stop<ConfFault>>
     requires { taken.now ≡ claims_of items.now }
-    ensures { Gives result (item_after items.now line.now) }
+    ensures gives { Gives result (item_after items.now line.now) }
+    ensures sound { IfOk result (λ item. IsSoundStatement item.statement) }
+    ensures free { IfOk result (λ item. is_taken items.now item.place item.statement ≡ false) }
 {
     match read_line_after(alloc, items, taken, line) {
         Ok(item) => Ok(item),
@@ -294,7 +302,9 @@ fn has_effect(statement: &Statement) -> bool
 
 /// The items of the lines that have an effect. Most lines of a long text may have none.
 fn items<'a>(alloc: Global, lines: &[Line<'a>]) -> Result<Seq<ConfigLine<'a>>, Stop<ConfFault>>
-    ensures { Gives result (items_in lines.now) }
+    ensures gives { Gives result (items_in lines.now) }
+    ensures statements { IfOk result AreSoundStatements }
+    ensures claims { IfOk result (λ items. ClaimsDiffer (claims_of items)) }
 {
     let mut items = Seq::new(alloc);
     let mut taken = Claims::new(alloc);

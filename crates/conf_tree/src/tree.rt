@@ -4,7 +4,7 @@ use list_core::Seq;
 use std::marker::Model;
 use text_core::Word;
 
-/// The section in which a line stands. A line that opens a section stands in that section.
+/// The section of a line. A line that opens a section is in that section.
 #[derive(Drop)]
 pub struct Place<'a> {
     pub kind: SectionKind,
@@ -33,34 +33,30 @@ pub struct Tree<'a> {
 impl<'a> Model for Tree<'a> {
     ghost use Rattle.std.specs.Prelude.{List};
     ghost use Rattle.conf_tree.specs.declared.tree.ConfigLine.{ConfigLine};
-    ghost use Rattle.conf_tree.specs.Few.{FewSections};
-    ghost use Rattle.conf_tree.specs.Rising.{Rises};
+    ghost use Rattle.conf_tree.specs.Sound.{IsSoundTree};
 
     ghost Value = { List ConfigLine };
 
     ghost view = { λ t. t.items };
 
-    ghost invariant = { λ t. Rises t.items × FewSections t.items };
+    ghost invariant = { λ t. IsSoundTree t.items };
 }
 
 impl<'a> Tree<'a> {
     ghost use Rattle.std.specs.Prelude.{◌≡◌};
-    ghost use Rattle.conf_tree.specs.Few.{FewSections};
-    ghost use Rattle.conf_tree.specs.Rising.{Rises};
+    ghost use Rattle.conf_tree.specs.Sound.{IsSoundTree};
 
     /// The items, in the order of the lines. A line without effect has none.
     pub fn items(&self) -> &[ConfigLine<'a>]
         ensures items { result.now ≡ self.now }
-        ensures rises { Rises self.now }
-        ensures few { FewSections self.now }
+        ensures sound { IsSoundTree self.now }
     {
         self.items.as_slice()
     }
 
-    /// The tree of items whose lines rise, with no more sections than there may be.
+    /// The tree of those items.
     pub(crate) fn of(items: Seq<ConfigLine<'a>>) -> Self
-        requires rises { Rises items }
-        requires few { FewSections items }
+        requires { IsSoundTree items }
         ensures { result ≡ items.entry }
     {
         Tree { items }

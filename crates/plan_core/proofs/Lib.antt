@@ -1,4 +1,5 @@
 pub mod BindLemmas
 pub mod FaultLemmas
 pub mod LineLemmas
+pub mod NameLemmas
 pub mod SoundLemmas

@@ -1,11 +1,11 @@
 -- What a plan that is made keeps: numbers that are in range, and rules in the order of their lines.
-use Rattle.std.proofs.Common.{◌≡◌, ℕ, suc, ◌+◌, ◌<◌, ◌≤◌, Bool, true, false, List, [], ◌∷◌, ◌++◌, length, filter, map, Option, Some, None, refl, sym, ap, subst, ◌∙◌, if◌then◌else◌}
+use Rattle.std.proofs.Common.{◌≡◌, ℕ, ◌<◌, ◌≤◌, Bool, true, false, List, [], ◌∷◌, ◌++◌, length, map, Option, Some, None, refl, sym, ap, subst, ◌∙◌, if◌then◌else◌}
 use native.Mathlib.Omega.{arith}
-use Rattle.std.specs.Prelude.{IfSome, option_map, option_to_list, position}
-use Rattle.std.specs.List.{AllByRecursion, cons_option, filter_map}
+use Rattle.std.specs.Prelude.{IfSome, unwrap_or, option_map, option_to_list, position}
+use Rattle.std.specs.List.{AllByRecursion, cons_option}
+use Rattle.std.specs.Option.{option_or}
 use Rattle.std.specs.Str.{bytes_eq}
 use Rattle.std.proofs.lemmas.List.Quantifiers.{position-Some}
-use Rattle.acl_core.specs.declared.condition.When.{When}
 use Rattle.conf_line.specs.declared.statement.Action as line
 use Rattle.conf_line.specs.declared.statement.Action.TheVariants as words
 use Rattle.conf_line.specs.declared.statement.Ruleset.{Ruleset}
@@ -13,19 +13,26 @@ use Rattle.conf_line.specs.declared.statement.Ruleset.TheVariants.{Connection, S
 use Rattle.conf_line.specs.declared.statement.Statement.{Statement}
 use Rattle.conf_line.specs.declared.statement.Statement.TheVariants as statements
 use Rattle.conf_tree.specs.declared.tree.ConfigLine.{ConfigLine}
+use Rattle.conf_line.specs.declared.statement.TableWords.{TableWords}
+use Rattle.conf_line.specs.Sound.{IsSoundStatement}
+use Rattle.conf_line.specs.Sound as lines
 use Rattle.conf_tree.specs.Rising.{AreAbove, Rises}
+use Rattle.conf_tree.specs.Sound.{AreSoundStatements, IsSoundTree}
 use Rattle.plan_types.specs.declared.plan.Action.{Action}
 use Rattle.plan_types.specs.declared.plan.Backend.{Backend}
 use Rattle.plan_types.specs.declared.plan.Plan.{Plan}
 use Rattle.plan_types.specs.declared.plan.Rule.{Rule}
 use Rattle.plan_types.specs.declared.plan.Table.{Table}
-use Rattle.plan_types.specs.Sound.{IsSoundAction, RulesRise, AreSoundRules, IsSoundFrontend, IsSoundPlan, most_frontends, most_backends, most_tables}
+use Rattle.plan_types.specs.declared.plan.Server.{Server}
+use Rattle.plan_types.specs.Sound.{IsSoundAction, RulesRise, AreSoundRules, IsWithin, IsSoundFrontend, IsSoundServer, IsSoundBackend, IsSoundTable, IsSoundPlan, most_frontends, most_backends, most_tables, most_connections, most_entries, greatest_weight}
+use Rattle.plan_core.specs.declared.fields.Limit.{Limit}
 use Rattle.plan_core.specs.declared.fields.Named.{Named}
 use Rattle.plan_core.specs.declared.proxies.Proxy.{Proxy}
-use Rattle.plan_core.specs.Compiled.{default_number, frontend_of, backends_in}
-use Rattle.plan_core.specs.Fields.{line_default, line_rule, rule_with, all_of, setting_in, tables_in, table_number, is_table_of, action_of, track_with, is_in, backend_number}
-use Rattle.plan_core.specs.Proxies.{line_head, own_lines, base_after, proxy_with, proxies, is_frontend, frontends, opens}
+use Rattle.plan_core.specs.Compiled.{default_number, frontend_of, backend_of, backends_in}
+use Rattle.plan_core.specs.Fields.{line_default, line_limit, line_table, line_server, line_rule, rule_with, all_of, last_of, setting_in, limit_in, table_with, tables_in, table_number, is_table_of, action_of, track_with, is_in}
+use Rattle.plan_core.specs.Proxies.{line_head, own_lines, base_after, proxy_with, proxies, is_frontend, is_backend, frontends, backends, opens}
 use Rattle.plan_core.proofs.LineLemmas.{own_more, own_above, lines_differ}
+use Rattle.plan_core.proofs.NameLemmas.{frontend_names_differ, backend_names_differ}
 
 -- Numbers.
 
@@ -41,14 +48,14 @@ some_table : (tables : List Table) (name : List ℕ) (named : Option (List ℕ))
 some_table tables name None = within (is_table_of name) tables
 some_table tables name (Some other) = within (λ (table : Table). bytes_eq table.name other) tables
 
-some_action : (tables : List Table) (name : List ℕ) (action : line.Action) → IfSome (action_of tables name action) (IsSoundAction (length tables))
-some_action tables name words.Accept = tt
-some_action tables name words.Reject = tt
-some_action tables name (words.Track track) = by (table_number tables name track.table) (some_table tables name track.table)
+some_action : (tables : List Table) (name : List ℕ) (action : line.Action) → lines.IsSoundAction action → IfSome (action_of tables name action) (IsSoundAction (length tables))
+some_action tables name words.Accept sound = tt
+some_action tables name words.Reject sound = tt
+some_action tables name (words.Track track) sound = by (table_number tables name track.table) (some_table tables name track.table)
   where
     by : (o : Option ℕ) → IfSome o (λ n. n < length tables) → IfSome (option_map (track_with track.counter) o) (IsSoundAction (length tables))
     by None less = tt
-    by (Some n) less = less
+    by (Some n) less = (sound, less)
 
 some_default : (backends : List Backend) (setting : Option Named) → IfSome (default_number backends setting) (λ n. n < length backends)
 some_default backends None = tt
@@ -59,24 +66,24 @@ some_default backends (Some named) = within (λ (backend : Backend). bytes_eq ba
 abbrev IsRuleOf : ℕ → ℕ → Rule → Type 0
 IsRuleOf tables at rule = IsSoundAction tables rule.action × (rule.line ≡ at)
 
-some_rule : (list : Ruleset) (tables : List Table) (name : List ℕ) (at : ℕ) (s : Statement) → IfSome (line_rule list tables name at s) (IsRuleOf (length tables) at)
-some_rule list tables name at statements.Nothing = tt
-some_rule list tables name at statements.Global = tt
-some_rule list tables name at statements.Defaults = tt
-some_rule list tables name at (statements.Frontend other) = tt
-some_rule list tables name at (statements.Backend other) = tt
-some_rule list tables name at (statements.MaxConn limit) = tt
-some_rule list tables name at (statements.DefaultBackend other) = tt
-some_rule list tables name at (statements.Balance method) = tt
-some_rule list tables name at (statements.Bind endpoint flag) = tt
-some_rule list tables name at (statements.Rule other action when) = by (is_in list other) (action_of tables name action) (some_action tables name action)
+some_rule : (list : Ruleset) (tables : List Table) (name : List ℕ) (at : ℕ) (s : Statement) → IsSoundStatement s → IfSome (line_rule list tables name at s) (IsRuleOf (length tables) at)
+some_rule list tables name at statements.Nothing sound = tt
+some_rule list tables name at statements.Global sound = tt
+some_rule list tables name at statements.Defaults sound = tt
+some_rule list tables name at (statements.Frontend other) sound = tt
+some_rule list tables name at (statements.Backend other) sound = tt
+some_rule list tables name at (statements.MaxConn limit) sound = tt
+some_rule list tables name at (statements.DefaultBackend other) sound = tt
+some_rule list tables name at (statements.Balance method) sound = tt
+some_rule list tables name at (statements.Bind endpoint flag) sound = tt
+some_rule list tables name at (statements.Rule other action when) sound = by (is_in list other) (action_of tables name action) (some_action tables name action sound)
   where
     by : (b : Bool) (o : Option Action) → IfSome o (IsSoundAction (length tables)) → IfSome (if b then option_map (rule_with at when) o else None) (IsRuleOf (length tables) at)
     by true None is = tt
     by true (Some done) is = (is, refl)
     by false o is = tt
-some_rule list tables name at (statements.StickTable table) = tt
-some_rule list tables name at (statements.Server server) = tt
+some_rule list tables name at (statements.StickTable table) sound = tt
+some_rule list tables name at (statements.Server server) sound = tt
 
 -- one rule more in front
 rules_more : (o : Option Rule) (tables at : ℕ) (rest : List Rule) → IfSome o (IsRuleOf tables at) → AllByRecursion (λ rule. IsSoundAction tables rule.action) rest →
@@ -84,39 +91,48 @@ rules_more : (o : Option Rule) (tables at : ℕ) (rest : List Rule) → IfSome o
 rules_more None tables at rest is all = all
 rules_more (Some rule) tables at rest is all = (is.0, all)
 
-sound_actions : (list : Ruleset) (tables : List Table) (name : List ℕ) (items : List ConfigLine) →
+sound_actions : (list : Ruleset) (tables : List Table) (name : List ℕ) (items : List ConfigLine) → AreSoundStatements items →
     AllByRecursion (λ rule. IsSoundAction (length tables) rule.action) (all_of (line_rule list tables name) items)
-sound_actions list tables name [] = tt
-sound_actions list tables name (item ∷ rest) =
+sound_actions list tables name [] sound = tt
+sound_actions list tables name (item ∷ rest) sound =
     rules_more (line_rule list tables name item.line item.statement) (length tables) item.line (all_of (line_rule list tables name) rest)
-    (some_rule list tables name item.line item.statement) (sound_actions list tables name rest)
+    (some_rule list tables name item.line item.statement sound.0) (sound_actions list tables name rest sound.1)
 
 above_more : (o : Option Rule) (n tables at : ℕ) (rest : List Rule) → IfSome o (IsRuleOf tables at) → n < at → AllByRecursion (λ rule. n < rule.line) rest →
     AllByRecursion (λ rule. n < rule.line) (cons_option o rest)
 above_more None n tables at rest is less all = all
 above_more (Some rule) n tables at rest is less all = (subst (λ m. n < m) (sym is.1) less, all)
 
-rules_above : (n : ℕ) (list : Ruleset) (tables : List Table) (name : List ℕ) (items : List ConfigLine) → AreAbove n items →
+rules_above : (n : ℕ) (list : Ruleset) (tables : List Table) (name : List ℕ) (items : List ConfigLine) → AreSoundStatements items → AreAbove n items →
     AllByRecursion (λ rule. n < rule.line) (all_of (line_rule list tables name) items)
-rules_above n list tables name [] above = tt
-rules_above n list tables name (item ∷ rest) above =
+rules_above n list tables name [] sound above = tt
+rules_above n list tables name (item ∷ rest) sound above =
     above_more (line_rule list tables name item.line item.statement) n (length tables) item.line (all_of (line_rule list tables name) rest)
-    (some_rule list tables name item.line item.statement) above.0 (rules_above n list tables name rest above.1)
+    (some_rule list tables name item.line item.statement sound.0) above.0 (rules_above n list tables name rest sound.1 above.1)
 
 rise_more : (o : Option Rule) (tables at : ℕ) (rest : List Rule) → IfSome o (IsRuleOf tables at) → AllByRecursion (λ rule. at < rule.line) rest → RulesRise rest → RulesRise (cons_option o rest)
 rise_more None tables at rest is above rise = rise
 rise_more (Some rule) tables at rest is above rise = (subst (λ m. AllByRecursion (λ (other : Rule). m < other.line) rest) (sym is.1) above, rise)
 
-rules_rise : (list : Ruleset) (tables : List Table) (name : List ℕ) (items : List ConfigLine) → Rises items → RulesRise (all_of (line_rule list tables name) items)
-rules_rise list tables name [] rises = tt
-rules_rise list tables name (item ∷ rest) rises =
+rules_rise : (list : Ruleset) (tables : List Table) (name : List ℕ) (items : List ConfigLine) → AreSoundStatements items → Rises items → RulesRise (all_of (line_rule list tables name) items)
+rules_rise list tables name [] sound rises = tt
+rules_rise list tables name (item ∷ rest) sound rises =
     rise_more (line_rule list tables name item.line item.statement) (length tables) item.line (all_of (line_rule list tables name) rest)
-    (some_rule list tables name item.line item.statement) (rules_above item.line list tables name rest rises.0) (rules_rise list tables name rest rises.1)
+    (some_rule list tables name item.line item.statement sound.0) (rules_above item.line list tables name rest sound.1 rises.0) (rules_rise list tables name rest sound.1 rises.1)
 
-sound_rules : (list : Ruleset) (tables : List Table) (name : List ℕ) (items : List ConfigLine) → Rises items → AreSoundRules (length tables) (all_of (line_rule list tables name) items)
-sound_rules list tables name items rises = record { actions = sound_actions list tables name items; rise = rules_rise list tables name items rises }
+sound_rules : (list : Ruleset) (tables : List Table) (name : List ℕ) (items : List ConfigLine) → AreSoundStatements items → Rises items →
+    AreSoundRules (length tables) (all_of (line_rule list tables name) items)
+sound_rules list tables name items sound rises = record { actions = sound_actions list tables name items sound; rise = rules_rise list tables name items sound rises }
 
--- The lines of each section rise.
+-- The lines of each section.
+
+own_sound : (items : List ConfigLine) → AreSoundStatements items → AreSoundStatements (own_lines items)
+own_sound [] sound = tt
+own_sound (item ∷ rest) sound = subst (λ xs. AreSoundStatements xs) (sym (own_more item rest)) (by (opens item.statement) (own_sound rest sound.1))
+  where
+    by : (b : Bool) → AreSoundStatements (own_lines rest) → AreSoundStatements (if b then [] else item ∷ own_lines rest)
+    by true later = tt
+    by false later = (sound.0, later)
 
 own_rises : (items : List ConfigLine) → Rises items → Rises (own_lines items)
 own_rises [] rises = tt
@@ -126,58 +142,177 @@ own_rises (item ∷ rest) rises = subst (λ xs. Rises xs) (sym (own_more item re
     by true later = tt
     by false later = (own_above item.line rest rises.0, later)
 
-abbrev OwnRise : List Proxy → Type 0
-OwnRise all = AllByRecursion (λ proxy. Rises proxy.own) all
+base_sound : (s : Statement) (base own : List ConfigLine) → AreSoundStatements base → AreSoundStatements own → AreSoundStatements (base_after base own s)
+base_sound statements.Nothing base own sound more = sound
+base_sound statements.Global base own sound more = sound
+base_sound statements.Defaults base own sound more = more
+base_sound (statements.Frontend name) base own sound more = sound
+base_sound (statements.Backend name) base own sound more = sound
+base_sound (statements.MaxConn limit) base own sound more = sound
+base_sound (statements.DefaultBackend name) base own sound more = sound
+base_sound (statements.Balance method) base own sound more = sound
+base_sound (statements.Bind endpoint flag) base own sound more = sound
+base_sound (statements.Rule list action when) base own sound more = sound
+base_sound (statements.StickTable table) base own sound more = sound
+base_sound (statements.Server server) base own sound more = sound
 
-one_rises : (s : Statement) (at : ℕ) (base own : List ConfigLine) (rest : List Proxy) → Rises own → OwnRise rest → OwnRise (option_to_list (option_map (proxy_with base own) (line_head at s)) ++ rest)
-one_rises statements.Nothing at base own rest rises all = all
-one_rises statements.Global at base own rest rises all = all
-one_rises statements.Defaults at base own rest rises all = all
-one_rises (statements.Frontend name) at base own rest rises all = (rises, all)
-one_rises (statements.Backend name) at base own rest rises all = (rises, all)
-one_rises (statements.MaxConn limit) at base own rest rises all = all
-one_rises (statements.DefaultBackend name) at base own rest rises all = all
-one_rises (statements.Balance method) at base own rest rises all = all
-one_rises (statements.Bind endpoint flag) at base own rest rises all = all
-one_rises (statements.Rule list action when) at base own rest rises all = all
-one_rises (statements.StickTable table) at base own rest rises all = all
-one_rises (statements.Server server) at base own rest rises all = all
+abbrev IsSoundProxy : Proxy → Type 0
+IsSoundProxy proxy = Rises proxy.own × AreSoundStatements proxy.own × AreSoundStatements proxy.base
 
-all_rise : (base items : List ConfigLine) → Rises items → OwnRise (proxies base items)
-all_rise base [] rises = tt
-all_rise base (item ∷ rest) rises =
-    one_rises item.statement item.line base (own_lines rest) (proxies (base_after base (own_lines rest) item.statement) rest) (own_rises rest rises.1)
-    (all_rise (base_after base (own_lines rest) item.statement) rest rises.1)
+one_proxy : (s : Statement) (at : ℕ) (base own : List ConfigLine) (rest : List Proxy) → Rises own → AreSoundStatements own → AreSoundStatements base → AllByRecursion IsSoundProxy rest →
+    AllByRecursion IsSoundProxy (option_to_list (option_map (proxy_with base own) (line_head at s)) ++ rest)
+one_proxy statements.Nothing at base own rest rises sound more all = all
+one_proxy statements.Global at base own rest rises sound more all = all
+one_proxy statements.Defaults at base own rest rises sound more all = all
+one_proxy (statements.Frontend name) at base own rest rises sound more all = ((rises, sound, more), all)
+one_proxy (statements.Backend name) at base own rest rises sound more all = ((rises, sound, more), all)
+one_proxy (statements.MaxConn limit) at base own rest rises sound more all = all
+one_proxy (statements.DefaultBackend name) at base own rest rises sound more all = all
+one_proxy (statements.Balance method) at base own rest rises sound more all = all
+one_proxy (statements.Bind endpoint flag) at base own rest rises sound more all = all
+one_proxy (statements.Rule list action when) at base own rest rises sound more all = all
+one_proxy (statements.StickTable table) at base own rest rises sound more all = all
+one_proxy (statements.Server server) at base own rest rises sound more all = all
 
--- Frontends.
+all_proxies : (base items : List ConfigLine) → AreSoundStatements base → AreSoundStatements items → Rises items → AllByRecursion IsSoundProxy (proxies base items)
+all_proxies base [] more sound rises = tt
+all_proxies base (item ∷ rest) more sound rises =
+    one_proxy item.statement item.line base (own_lines rest) (proxies (base_after base (own_lines rest) item.statement) rest) (own_rises rest rises.1) (own_sound rest sound.1) more
+    (all_proxies (base_after base (own_lines rest) item.statement) rest (base_sound item.statement base (own_lines rest) more (own_sound rest sound.1)) sound.1 rises.1)
 
-sound_frontend : (tables : List Table) (backends : List Backend) (proxy : Proxy) → Rises proxy.own → IsSoundFrontend (length tables) (length backends) (frontend_of tables backends proxy)
-sound_frontend tables backends proxy rises = record {
-  connection_rules = sound_rules Connection tables proxy.head.name proxy.own rises;
-  session_rules = sound_rules Session tables proxy.head.name proxy.own rises;
+-- Numbers of a line.
+
+or_some : {X : Type 0} (P : X → Type 0) (a b : Option X) → IfSome a P → IfSome b P → IfSome (option_or a b) P
+or_some P None b one other = other
+or_some P (Some x) b one other = one
+
+some_limit : (at : ℕ) (s : Statement) → IsSoundStatement s → IfSome (line_limit at s) (λ limit. IsWithin most_connections limit.limit)
+some_limit at statements.Nothing sound = tt
+some_limit at statements.Global sound = tt
+some_limit at statements.Defaults sound = tt
+some_limit at (statements.Frontend name) sound = tt
+some_limit at (statements.Backend name) sound = tt
+some_limit at (statements.MaxConn limit) sound = sound
+some_limit at (statements.DefaultBackend name) sound = tt
+some_limit at (statements.Balance method) sound = tt
+some_limit at (statements.Bind endpoint flag) sound = tt
+some_limit at (statements.Rule list action when) sound = tt
+some_limit at (statements.StickTable table) sound = tt
+some_limit at (statements.Server server) sound = tt
+
+last_limit : (items : List ConfigLine) → AreSoundStatements items → IfSome (last_of line_limit items) (λ limit. IsWithin most_connections limit.limit)
+last_limit [] sound = tt
+last_limit (item ∷ rest) sound =
+    or_some (λ limit. IsWithin most_connections limit.limit) (last_of line_limit rest) (line_limit item.line item.statement) (last_limit rest sound.1) (some_limit item.line item.statement sound.0)
+
+sound_limit : (proxy : Proxy) → IsSoundProxy proxy → IsWithin most_connections (limit_in proxy).limit
+sound_limit proxy sound =
+    by (setting_in line_limit proxy)
+    (or_some (λ limit. IsWithin most_connections limit.limit) (last_of line_limit proxy.own) (last_of line_limit proxy.base) (last_limit proxy.own sound.1) (last_limit proxy.base sound.2))
+  where
+    by : (o : Option Limit) → IfSome o (λ limit. IsWithin most_connections limit.limit) → IsWithin most_connections (unwrap_or o (record { limit = 2000; line = proxy.head.line })).limit
+    by None is = (omega arith, omega arith)
+    by (Some limit) is = is
+
+some_words : (at : ℕ) (s : Statement) → IsSoundStatement s → IfSome (line_table at s) (λ words. IsWithin most_entries words.size)
+some_words at statements.Nothing sound = tt
+some_words at statements.Global sound = tt
+some_words at statements.Defaults sound = tt
+some_words at (statements.Frontend name) sound = tt
+some_words at (statements.Backend name) sound = tt
+some_words at (statements.MaxConn limit) sound = tt
+some_words at (statements.DefaultBackend name) sound = tt
+some_words at (statements.Balance method) sound = tt
+some_words at (statements.Bind endpoint flag) sound = tt
+some_words at (statements.Rule list action when) sound = tt
+some_words at (statements.StickTable table) sound = sound
+some_words at (statements.Server server) sound = tt
+
+last_words : (items : List ConfigLine) → AreSoundStatements items → IfSome (last_of line_table items) (λ words. IsWithin most_entries words.size)
+last_words [] sound = tt
+last_words (item ∷ rest) sound =
+    or_some (λ words. IsWithin most_entries words.size) (last_of line_table rest) (line_table item.line item.statement) (last_words rest sound.1) (some_words item.line item.statement sound.0)
+
+sound_tables : (all : List Proxy) → AllByRecursion IsSoundProxy all → AllByRecursion IsSoundTable (tables_in all)
+sound_tables [] sound = tt
+sound_tables (proxy ∷ rest) sound = by (last_of line_table proxy.own) (last_words proxy.own sound.0.1) (sound_tables rest sound.1)
+  where
+    by : (o : Option TableWords) → IfSome o (λ words. IsWithin most_entries words.size) → AllByRecursion IsSoundTable (tables_in rest) →
+        AllByRecursion IsSoundTable (cons_option (option_map (table_with proxy.head) o) (tables_in rest))
+    by None is later = later
+    by (Some words) is later = (is, later)
+
+weight_sound : (weight : Option ℕ) → IfSome weight (λ w. w ≤ greatest_weight) → unwrap_or weight 1 ≤ greatest_weight
+weight_sound None is = omega arith
+weight_sound (Some w) is = is
+
+limit_sound : (limit : Option ℕ) → IfSome limit (λ l. l ≤ most_connections) → unwrap_or limit 0 ≤ most_connections
+limit_sound None is = omega arith
+limit_sound (Some l) is = is
+
+some_server : (at : ℕ) (s : Statement) → IsSoundStatement s → IfSome (line_server at s) IsSoundServer
+some_server at statements.Nothing sound = tt
+some_server at statements.Global sound = tt
+some_server at statements.Defaults sound = tt
+some_server at (statements.Frontend name) sound = tt
+some_server at (statements.Backend name) sound = tt
+some_server at (statements.MaxConn limit) sound = tt
+some_server at (statements.DefaultBackend name) sound = tt
+some_server at (statements.Balance method) sound = tt
+some_server at (statements.Bind endpoint flag) sound = tt
+some_server at (statements.Rule list action when) sound = tt
+some_server at (statements.StickTable table) sound = tt
+some_server at (statements.Server server) sound = record { weight = weight_sound server.weight sound.0; limit = limit_sound server.limit sound.1 }
+
+sound_servers : (items : List ConfigLine) → AreSoundStatements items → AllByRecursion IsSoundServer (all_of line_server items)
+sound_servers [] sound = tt
+sound_servers (item ∷ rest) sound = by (line_server item.line item.statement) (some_server item.line item.statement sound.0) (sound_servers rest sound.1)
+  where
+    by : (o : Option Server) → IfSome o IsSoundServer → AllByRecursion IsSoundServer (all_of line_server rest) → AllByRecursion IsSoundServer (cons_option o (all_of line_server rest))
+    by None is later = later
+    by (Some server) is later = (is, later)
+
+-- Sections.
+
+sound_frontend : (tables : List Table) (backends : List Backend) (proxy : Proxy) → IsSoundProxy proxy → IsSoundFrontend (length tables) (length backends) (frontend_of tables backends proxy)
+sound_frontend tables backends proxy sound = record {
+  limit = sound_limit proxy sound;
+  connection_rules = sound_rules Connection tables proxy.head.name proxy.own sound.1 sound.0;
+  session_rules = sound_rules Session tables proxy.head.name proxy.own sound.1 sound.0;
   default = some_default backends (setting_in line_default proxy);
 }
 
-sound_frontends : (tables : List Table) (backends : List Backend) (all : List Proxy) → OwnRise all → AllByRecursion (IsSoundFrontend (length tables) (length backends)) (map (frontend_of tables backends) (frontends all))
-sound_frontends tables backends [] rise = tt
-sound_frontends tables backends (proxy ∷ rest) rise = by (is_frontend proxy) (sound_frontends tables backends rest rise.1)
+sound_frontends : (tables : List Table) (backends : List Backend) (all : List Proxy) → AllByRecursion IsSoundProxy all →
+    AllByRecursion (IsSoundFrontend (length tables) (length backends)) (map (frontend_of tables backends) (frontends all))
+sound_frontends tables backends [] sound = tt
+sound_frontends tables backends (proxy ∷ rest) sound = by (is_frontend proxy) (sound_frontends tables backends rest sound.1)
   where
     by : (b : Bool) → AllByRecursion (IsSoundFrontend (length tables) (length backends)) (map (frontend_of tables backends) (frontends rest)) →
         AllByRecursion (IsSoundFrontend (length tables) (length backends)) (map (frontend_of tables backends) (if b then proxy ∷ frontends rest else frontends rest))
-    by true later = (sound_frontend tables backends proxy rise.0, later)
+    by true later = (sound_frontend tables backends proxy sound.0, later)
     by false later = later
 
-each_sound : (items : List ConfigLine) (tables : List Table) (backends : List Backend) → Rises items →
-    AllByRecursion (IsSoundFrontend (length tables) (length backends)) (map (frontend_of tables backends) (frontends (proxies [] items)))
-each_sound items tables backends rises = sound_frontends tables backends (proxies [] items) (all_rise [] items rises)
+sound_backends : (all : List Proxy) → AllByRecursion IsSoundProxy all → AllByRecursion IsSoundBackend (backends_in all)
+sound_backends [] sound = tt
+sound_backends (proxy ∷ rest) sound = by (is_backend proxy) (sound_backends rest sound.1)
+  where
+    by : (b : Bool) → AllByRecursion IsSoundBackend (backends_in rest) → AllByRecursion IsSoundBackend (map backend_of (if b then proxy ∷ backends rest else backends rest))
+    by true later = (sound_servers proxy.own sound.0.1, later)
+    by false later = later
 
-pub sound_plan : (items : List ConfigLine) (plan : Plan) (tables : List Table) (backends : List Backend) (all : List Proxy) → Rises items → all ≡ proxies [] items →
-    tables ≡ plan.tables → backends ≡ plan.backends → plan.backends ≡ backends_in all → plan.frontends ≡ map (frontend_of tables backends) (frontends all) →
+pub sound_plan : (items : List ConfigLine) (plan : Plan) (tables : List Table) (backends : List Backend) (all : List Proxy) → IsSoundTree items → all ≡ proxies [] items →
+    tables ≡ plan.tables → backends ≡ plan.backends → plan.tables ≡ tables_in all → plan.backends ≡ backends_in all → plan.frontends ≡ map (frontend_of tables backends) (frontends all) →
     length plan.frontends ≤ most_frontends → length plan.backends ≤ most_backends → length plan.tables ≤ most_tables → IsSoundPlan plan
-sound_plan items plan tables backends all rises of_items of_tables of_backends of_all of_frontends few_frontends few_backends few_tables = record {
-  frontends = few_frontends;
-  backends = few_backends;
-  tables = few_tables;
-  each_frontend = rw (of_frontends, of_items, of_tables, of_backends) (each_sound items plan.tables plan.backends rises);
-  lines = lines_differ items plan rises (of_all ∙ ap backends_in of_items);
-}
+sound_plan items plan tables backends all tree of_items of_tables of_backends all_tables all_backends of_frontends few_frontends few_backends few_tables =
+    let sound : AllByRecursion IsSoundProxy (proxies [] items) = all_proxies [] items tt tree.statements tree.rises in
+    record {
+      frontends = few_frontends;
+      backends = few_backends;
+      tables = few_tables;
+      each_frontend = rw (of_frontends, of_items, of_tables, of_backends) (sound_frontends plan.tables plan.backends (proxies [] items) sound);
+      each_backend = rw (all_backends, of_items) (sound_backends (proxies [] items) sound);
+      each_table = rw (all_tables, of_items) (sound_tables (proxies [] items) sound);
+      frontend_names = rw (of_frontends, of_items) (frontend_names_differ tables backends items tree.claims);
+      backend_names = rw (all_backends, of_items) (backend_names_differ items tree.claims);
+      lines = lines_differ items plan tree.rises (all_backends ∙ ap backends_in of_items);
+    }

@@ -1,4 +1,4 @@
--- The plan of what the lines of a configuration say, or the fault that stands against it.
+-- The plan of what the lines of a configuration say, or its fault.
 use Rattle.std.specs.Prelude.{ℕ, List, [], map, option_and_then, Option, Some, None, Result, Ok, Err}
 use Rattle.conf_tree.specs.declared.tree.ConfigLine.{ConfigLine}
 use Rattle.conf_line.specs.declared.statement.Ruleset.TheVariants.{Connection, Session}
@@ -49,7 +49,7 @@ frontends_in all = map (frontend_of (tables_in all) (backends_in all)) (frontend
 abbrev pub plan_with : List Proxy → Plan
 plan_with all = record { frontends = frontends_in all; backends = backends_in all; tables = tables_in all }
 
--- all that stands against a plan of the lines
+-- all that is wrong with a plan of the lines
 abbrev pub plan_faults : List ConfigLine → List PlanFault
 plan_faults items = faults_of (tables_in (proxies [] items)) (backends_in (proxies [] items)) (proxies [] items)
 
@@ -57,6 +57,6 @@ abbrev pub plan_or : List Proxy → Option PlanFault → Result Plan PlanFault
 plan_or all None = Ok (plan_with all)
 plan_or all (Some fault) = Err fault
 
--- the plan of the lines, or the least of the faults
+-- the plan of the lines, or the first of the faults
 abbrev pub plan_of : List ConfigLine → Result Plan PlanFault
 plan_of items = plan_or (proxies [] items) (least (plan_faults items))

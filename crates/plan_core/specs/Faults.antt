@@ -1,4 +1,4 @@
--- What may stand against the plan of a configuration, and which fault is told.
+-- What may be wrong with a configuration as a whole, and which fault is reported.
 use Rattle.std.specs.Prelude.{◌≡◌, ℕ, Bool, false, ◌&&◌, ◌||◌, ◌==◌, nat_lt, List, [], ◌∷◌, ◌++◌, is_some, flat_map, Option, Some, None, if◌then◌else◌, All, Contains}
 use Rattle.std.specs.List.{list_any}
 use Rattle.conf_line.specs.declared.statement.Statement.{Statement}
@@ -13,7 +13,7 @@ use Rattle.plan_core.specs.declared.proxies.Proxy.{Proxy}
 use Rattle.plan_core.specs.Proxies.{is_frontend}
 use Rattle.plan_core.specs.Fields.{line_bind, line_default, all_of, last_of, setting_in, action_of, backend_number}
 
--- Which of two faults is told.
+-- Which of two faults is reported.
 
 abbrev pub kind_number : PlanKind → ℕ
 kind_number kinds.NoTable = 0
@@ -23,7 +23,7 @@ kind_number kinds.NoBind = 3
 kind_number kinds.NoFrontend = 4
 kind_number kinds.NoMemory = 5
 
--- the first comes before the second: its line is less, or on the same line its kind stands before
+-- the first comes before the second: its line is less, or on the same line its kind is earlier
 abbrev pub is_before : PlanFault → PlanFault → Bool
 is_before a b = nat_lt a.line b.line || ((a.line == b.line) && nat_lt (kind_number a.kind) (kind_number b.kind))
 
@@ -35,7 +35,7 @@ earliest None other = other
 earliest (Some a) None = Some a
 earliest (Some a) (Some b) = Some (earlier a b)
 
--- the least fault of several
+-- the first of several faults
 abbrev pub least : List PlanFault → Option PlanFault
 least [] = None
 least (fault ∷ rest) = earliest (Some fault) (least rest)
@@ -50,11 +50,11 @@ no_memory = record { line = 0; kind = kinds.NoMemory }
 
 -- The faults of a frontend.
 
--- no `bind` line: told on the line that opens the frontend
+-- no `bind` line: reported on the line that opens the frontend
 abbrev pub bind_faults : Proxy → List PlanFault
 bind_faults proxy = if is_some (last_of line_bind proxy.own) then [] else record { line = proxy.head.line; kind = kinds.NoBind } ∷ []
 
--- the `default_backend` that counts names no backend: told on its own line, which may stand in `defaults`
+-- the `default_backend` that counts names no backend: reported on its own line, which may be one of `defaults`
 abbrev pub default_faults : List Backend → Option Named → List PlanFault
 default_faults backends None = []
 default_faults backends (Some named) =
@@ -70,7 +70,7 @@ abbrev pub frontend_faults : List Table → List Backend → Proxy → List Plan
 frontend_faults tables backends proxy =
     bind_faults proxy ++ default_faults backends (setting_in line_default proxy) ++ all_of (track_fault tables proxy.head.name) proxy.own
 
--- nothing stands against a backend
+-- nothing is wrong with a backend
 abbrev pub faults_in : List Table → List Backend → Proxy → List PlanFault
 faults_in tables backends proxy = if is_frontend proxy then frontend_faults tables backends proxy else []
 

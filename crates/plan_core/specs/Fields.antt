@@ -23,6 +23,7 @@ use Rattle.plan_types.specs.declared.plan.Server.{Server}
 use Rattle.plan_types.specs.declared.plan.Table.{Table}
 use Rattle.plan_core.specs.declared.proxies.Head.{Head}
 use Rattle.plan_core.specs.declared.proxies.Proxy.{Proxy}
+use Rattle.plan_core.specs.declared.fields.TheConstants.{DEFAULT_CONNECTIONS}
 use Rattle.plan_core.specs.declared.fields.Limit.{Limit}
 use Rattle.plan_core.specs.declared.fields.Named.{Named}
 use Rattle.plan_core.specs.Proxies.{is_frontend_section}
@@ -49,7 +50,7 @@ abbrev pub line_table : ℕ → Statement → Option TableWords
 line_table line (statements.StickTable table) = Some table
 line_table line other = None
 
--- weight 1 where none is said, and any number of connections
+-- weight 1 and any number of connections where nothing is given
 abbrev pub line_server : ℕ → Statement → Option Server
 line_server line (statements.Server server) =
     Some (record {
@@ -77,11 +78,11 @@ last_of setting (item ∷ rest) = option_or (last_of setting rest) (setting item
 abbrev pub setting_in : {X : Type 0} → (ℕ → Statement → Option X) → Proxy → Option X
 setting_in setting proxy = option_or (last_of setting proxy.own) (last_of setting proxy.base)
 
--- 2,000 connections where no limit is said, in the name of the section's own line
+-- 2,000 connections where no limit is given, citing the section's own line
 abbrev pub limit_in : Proxy → Limit
-limit_in proxy = unwrap_or (setting_in line_limit proxy) (record { limit = 2000; line = proxy.head.line })
+limit_in proxy = unwrap_or (setting_in line_limit proxy) (record { limit = DEFAULT_CONNECTIONS; line = proxy.head.line })
 
--- round robin where nothing is said
+-- round robin where nothing is given
 abbrev pub method_in : Proxy → Method
 method_in proxy = unwrap_or (setting_in line_method proxy) RoundRobin
 

@@ -34,7 +34,7 @@ opens (statements.Server server) = false
 abbrev pub own_lines : List ConfigLine → List ConfigLine
 own_lines items = before_first (λ item. opens item.statement) items
 
--- the lines of the `defaults` in force behind a line: a `defaults` line starts from nothing
+-- the lines of the `defaults` in force after a line: a `defaults` line starts from nothing
 abbrev pub base_after : List ConfigLine → List ConfigLine → Statement → List ConfigLine
 base_after base own statements.Defaults = own
 base_after base own other = base

@@ -1,4 +1,4 @@
-//! What stands against a plan.
+//! What is wrong with a configuration as a whole.
 ghost use Rattle.std.specs.Prelude.{◌≡◌, ◌≤◌, ◌<◌, length, flat_map, is_some, IfSome};
 ghost use Rattle.std.specs.List.{list_any};
 ghost use Rattle.std.specs.Str.{bytes_eq};
@@ -117,7 +117,7 @@ fn track_fault(tables: &[Table], name: &Word, item: &ConfigLine) -> Option<PlanF
     }
 }
 
-/// The least fault of the rules in some lines.
+/// The first fault of the rules in some lines.
 fn track_fault_in(tables: &[Table], name: &Word, items: &[ConfigLine]) -> Option<PlanFault>
     requires { length tables.now ≤ 65535 }
     ensures { result ≡ least (all_of (track_fault tables.now name.now) items.now) }
@@ -129,7 +129,7 @@ fn track_fault_in(tables: &[Table], name: &Word, items: &[ConfigLine]) -> Option
     found
 }
 
-/// The least fault of a frontend.
+/// The first fault of a frontend.
 fn frontend_fault(tables: &[Table], backends: &[Backend], proxy: &Proxy) -> Option<PlanFault>
     requires tables { length tables.now ≤ 65535 }
     requires backends { length backends.now ≤ 65535 }
@@ -140,7 +140,7 @@ fn frontend_fault(tables: &[Table], backends: &[Backend], proxy: &Proxy) -> Opti
     earliest(bind_fault(proxy), earliest(of_default, of_rules))
 }
 
-/// The least fault of a section.
+/// The first fault of a section.
 fn fault_in(tables: &[Table], backends: &[Backend], proxy: &Proxy) -> Option<PlanFault>
     requires tables { length tables.now ≤ 65535 }
     requires backends { length backends.now ≤ 65535 }
@@ -153,7 +153,7 @@ fn fault_in(tables: &[Table], backends: &[Backend], proxy: &Proxy) -> Option<Pla
     }
 }
 
-/// The least fault of all sections.
+/// The first fault of all sections.
 fn fault_in_all(tables: &[Table], backends: &[Backend], all: &[Proxy]) -> Option<PlanFault>
     requires tables { length tables.now ≤ 65535 }
     requires backends { length backends.now ≤ 65535 }
@@ -172,7 +172,7 @@ fn has_frontend(all: &[Proxy]) -> bool
     all.iter().any(is_frontend)
 }
 
-/// The least fault of a configuration.
+/// The first fault of a configuration.
 pub fn fault_of(tables: &[Table], backends: &[Backend], all: &[Proxy]) -> Option<PlanFault>
     requires tables { length tables.now ≤ 65535 }
     requires backends { length backends.now ≤ 65535 }

@@ -10,6 +10,9 @@ use proxy_types::Method;
 use std::alloc::{AllocError, Global};
 use text_core::Word;
 
+/// How many connections may be open in a frontend that has no `maxconn` line.
+pub const DEFAULT_CONNECTIONS: u64 = 2_000;
+
 /// A name, and the line that has it.
 #[derive(Drop)]
 pub struct Named<'a> {
@@ -155,7 +158,7 @@ pub fn limit_in(proxy: &Proxy) -> Limit
     match last_limit(proxy.own.items()).or(last_limit(proxy.base.items())) {
         Some(limit) => limit,
         None => Limit {
-            limit: 2000,
+            limit: DEFAULT_CONNECTIONS,
             line: proxy.head.line,
         },
     }

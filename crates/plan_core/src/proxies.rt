@@ -1,6 +1,7 @@
 //! The frontends and backends of a configuration, each with its lines.
 ghost use Rattle.std.specs.Prelude.{◌≡◌, ◌<◌, ◌≤◌, [], ◌++◌, length, position, option_to_list, IfOk, IfSome, OnOk};
 ghost use Rattle.conf_tree.specs.Few.{FewSections};
+ghost use Rattle.plan_types.specs.Sound.{most_frontends, most_backends, most_tables};
 ghost use Rattle.plan_core.specs.Proxies.{line_head, opens, own_lines, base_after, line_proxy, proxies, is_frontend, is_backend, frontends, backends};
 
 use conf_tree::{ConfigLine, Statement};
@@ -104,7 +105,7 @@ fn own_lines<'a>(items: &'a [ConfigLine<'a>]) -> &'a [ConfigLine<'a>]
     }
 }
 
-/// The lines of the `defaults` in force behind an item.
+/// The lines of the `defaults` in force after an item.
 fn base_after<'a>(
     base: &'a [ConfigLine<'a>],
     statement: &Statement,
@@ -167,9 +168,9 @@ pub fn proxies_in<'a>(
 ) -> Result<Seq<Proxy<'a>>, AllocError>
     requires { FewSections items.now }
     ensures value { IfOk result (λ all. all ≡ proxies [] items.now) }
-    ensures frontends { IfOk result (λ all. length (frontends all) ≤ 64) }
-    ensures backends { IfOk result (λ all. length (backends all) ≤ 64) }
-    ensures both { IfOk result (λ all. length all ≤ 128) }
+    ensures frontends { IfOk result (λ all. length (frontends all) ≤ most_frontends) }
+    ensures backends { IfOk result (λ all. length (backends all) ≤ most_backends) }
+    ensures both { IfOk result (λ all. length all ≤ most_tables) }
 {
     let all = all_proxies(alloc, items)?;
     Ok(all)

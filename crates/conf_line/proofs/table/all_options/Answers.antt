@@ -1,23 +1,20 @@
-use Rattle.std.proofs.Common.{◌≡◌, ◌||◌, ◌&&◌, [], ◌∷◌, ◌++◌, drop, ◌∙◌, ap, sym}
-use native.Mathlib.Omega.{arith}
+use Rattle.std.proofs.Common.{◌≤◌, ◌||◌, subst, ◌&&◌, [], ◌∷◌, ◌++◌, ◌∙◌, ap, sym}
 use Rattle.std.specs.Prelude.{is_some}
-use Rattle.std.specs.List.{list_any}
 use Rattle.std.specs.Option.{option_or}
-use Rattle.std.proofs.lemmas.List.{drop_more}
+use Rattle.conf_line.specs.Sound.{IsSoundSize}
 use Rattle.conf_line.specs.Words.{last_of, onto, after}
 use Rattle.conf_line.specs.Tables.{table_options, option_keys, option_size, is_keys, is_size, stores_cur, stores_cnt, has_repeat}
-use Rattle.conf_line.proofs.OptionLemmas.{last_more, any_more, after_more, take_rest, repeat_more}
+use Rattle.conf_line.proofs.OptionLemmas.{last_more, any_more, after_more, first_and_rest, or_sound, repeat_more}
 use Rattle.conf_line.proofs.table.all_options.Goals as goal
 
 pub loop-rest-preserved : goal.loop-rest-preserved
 loop-rest-preserved c =
     let all = c.loop-rest.invariant.0 in
     let option = c.in_ok-option.option in
-    let there : c.loop-rest.rest.now ≡ c.name-item.result ∷ drop 1 c.loop-rest.rest.now =
-    drop_more c.loop-rest.rest.now 0 c.name-item.result (omega (arith, c.in-len1-up.len_at_least)) ∙ ap (λ name. name ∷ drop 1 c.loop-rest.rest.now) (sym c.name-item.is) in (
+    let there = first_and_rest c.loop-rest.rest.now c.name-item.result c.in-len1-up.len_at_least c.name-item.is in (
       all ++ option ∷ [],
       after_more all option (table_options c.after_first-rest.result.now)
-          ∙ ap (after all) (ap (λ words. onto option (table_options words)) c.after_first-rest.ensures.after ∙ sym c.in_ok-option.ensures.ok ∙ ap (λ words. table_options (c.name-item.result ∷ words)) (take_rest c.loop-rest.rest.now) ∙ ap table_options (sym there))
+          ∙ ap (after all) (ap (λ words. onto option (table_options words)) c.after_first-rest.ensures.after ∙ sym c.in_ok-option.ensures.ok ∙ ap table_options there)
           ∙ c.loop-rest.invariant.1,
       c.with_option-options.ensures.keys ∙ ap (option_or (option_keys option)) c.loop-rest.invariant.2 ∙ sym (last_more option_keys all option),
       c.with_option-options.ensures.size ∙ ap (option_or (option_size option)) c.loop-rest.invariant.3 ∙ sym (last_more option_size all option),
@@ -28,4 +25,5 @@ loop-rest-preserved c =
           ∙ ap (λ k. has_repeat all || ((is_keys option && is_some k) || (is_size option && is_some c.loop-rest.options.size))) c.loop-rest.invariant.2
           ∙ ap (λ s. has_repeat all || ((is_keys option && is_some (last_of option_keys all)) || (is_size option && is_some s))) c.loop-rest.invariant.3
           ∙ sym (repeat_more all option),
+      subst IsSoundSize (sym c.with_option-options.ensures.size) (or_sound (λ n. 1 ≤ n) (option_size option) c.loop-rest.options.size c.in_ok-option.ensures.sound c.loop-rest.invariant.7),
     )

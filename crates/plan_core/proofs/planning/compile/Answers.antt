@@ -21,6 +21,6 @@ returns-clause-sound c =
     let few_backends : length c.in_ok-backends.backends ≤ most_backends = rw (c.in_ok-backends.ensures.number, c.as_slice-all.ensures) c.in_ok-proxies.ensures.backends in
     let all_few : length c.as_slice-all.result.now ≤ most_tables = rw c.as_slice-all.ensures c.in_ok-proxies.ensures.both in
     let few_tables : length c.in_ok-tables.tables ≤ most_tables = omega (arith, all_few, c.in_ok-tables.ensures.few) in
-    sound_plan c.args.tree.now plan c.as_slice-3.result.now c.as_slice-4.result.now c.as_slice-all.result.now c.items.ensures.rises
+    sound_plan c.args.tree.now plan c.as_slice-3.result.now c.as_slice-4.result.now c.as_slice-all.result.now c.items.ensures.sound
     (c.as_slice-all.ensures ∙ c.in_ok-proxies.ensures.value ∙ ap (λ items. proxies [] items) c.items.ensures.items)
-    c.as_slice-3.ensures c.as_slice-4.ensures c.in_ok-backends.ensures.value c.in_ok-frontends.ensures.value few_frontends few_backends few_tables
+    c.as_slice-3.ensures c.as_slice-4.ensures c.in_ok-tables.ensures.value c.in_ok-backends.ensures.value c.in_ok-frontends.ensures.value few_frontends few_backends few_tables

@@ -1,0 +1,49 @@
+-- Numbers within their limits.
+use Rattle.std.specs.Prelude.{◌≡◌, ℕ, ◌≤◌, ◌<◌, false, Option, IfSome}
+use Rattle.conf_line.specs.declared.limits.TheConstants.{MOST_ENTRIES, MOST_CONNECTIONS, GREATEST_WEIGHT, COUNTERS}
+use Rattle.conf_line.specs.declared.statement.Action.{Action}
+use Rattle.conf_line.specs.declared.statement.Action.TheVariants as actions
+use Rattle.conf_line.specs.declared.statement.LineReading.{LineReading}
+use Rattle.conf_line.specs.declared.statement.ServerWords.{ServerWords}
+use Rattle.conf_line.specs.declared.statement.Statement.{Statement}
+use Rattle.conf_line.specs.declared.statement.Statement.TheVariants as statements
+
+-- a counter is below 3
+abbrev pub IsSoundAction : Action → Type 0
+IsSoundAction actions.Accept = Unit {0}
+IsSoundAction actions.Reject = Unit {0}
+IsSoundAction (actions.Track track) = track.counter < COUNTERS
+
+abbrev pub IsWithin : ℕ → ℕ → Type 0
+IsWithin most number = (1 ≤ number) × (number ≤ most)
+
+abbrev pub IsSoundWeight : Option ℕ → Type 0
+IsSoundWeight weight = IfSome weight (λ w. w ≤ GREATEST_WEIGHT)
+
+abbrev pub IsSoundLimit : Option ℕ → Type 0
+IsSoundLimit limit = IfSome limit (λ l. l ≤ MOST_CONNECTIONS)
+
+abbrev pub IsSoundServer : ServerWords → Type 0
+IsSoundServer server = IsSoundWeight server.weight × IsSoundLimit server.limit
+
+abbrev pub IsSoundSize : Option ℕ → Type 0
+IsSoundSize size = IfSome size (λ n. 1 ≤ n)
+
+-- the numbers of a line are within their limits
+abbrev pub IsSoundStatement : Statement → Type 0
+IsSoundStatement statements.Nothing = Unit {0}
+IsSoundStatement statements.Global = Unit {0}
+IsSoundStatement statements.Defaults = Unit {0}
+IsSoundStatement (statements.Frontend name) = Unit {0}
+IsSoundStatement (statements.Backend name) = Unit {0}
+IsSoundStatement (statements.MaxConn limit) = IsWithin MOST_CONNECTIONS limit
+IsSoundStatement (statements.DefaultBackend name) = Unit {0}
+IsSoundStatement (statements.Balance method) = Unit {0}
+IsSoundStatement (statements.Bind at proxy) = Unit {0}
+IsSoundStatement (statements.Rule list action when) = IsSoundAction action
+IsSoundStatement (statements.StickTable table) = IsWithin MOST_ENTRIES table.size
+IsSoundStatement (statements.Server server) = IsSoundServer server
+
+-- so they are, unless the line exceeds one
+abbrev pub IsSoundReading : LineReading → Type 0
+IsSoundReading reading = reading.exceeds ≡ false → IsSoundStatement reading.statement
