@@ -1,6 +1,6 @@
 //! The plan of a text.
-ghost use Rattle.std.specs.Prelude.{◌≡◌, ◌⊎◌, ◌≤◌, length, IfOk, IfErr, Ok, Err};
-ghost use Rattle.plan_types.specs.Lines.{LinesDiffer};
+ghost use Rattle.std.specs.Prelude.{◌≡◌, ◌⊎◌, IfOk, IfErr, Ok, Err};
+ghost use Rattle.plan_types.specs.Sound.{IsSoundPlan};
 ghost use Rattle.config_core.specs.Meaning.{supported_plan, meaning};
 
 use crate::fault::OpenFault;
@@ -13,8 +13,7 @@ use std::alloc::Global;
 fn plan(alloc: Global, tree: &Tree<'_>) -> Result<Plan, OpenFault>
     ensures ok { IfOk result (λ plan. supported_plan tree.now ≡ Ok plan) }
     ensures fault { IfErr result (λ f. (f ≡ OpenFault.NoMemory) ⊎ (supported_plan tree.now ≡ Err f)) }
-    ensures frontends { IfOk result (λ plan. length plan.frontends ≤ 64) }
-    ensures lines { IfOk result (λ plan. LinesDiffer plan) }
+    ensures sound { IfOk result IsSoundPlan }
 {
     match compile(alloc, tree) {
         Ok(plan) => match unsupported_line(tree.items()) {
@@ -37,8 +36,7 @@ fn plan(alloc: Global, tree: &Tree<'_>) -> Result<Plan, OpenFault>
 pub fn read_plan(alloc: Global, text: &str) -> Result<Plan, OpenFault>
     ensures ok { IfOk result (λ plan. meaning text.now ≡ Ok plan) }
     ensures fault { IfErr result (λ f. (f ≡ OpenFault.NoMemory) ⊎ (meaning text.now ≡ Err f)) }
-    ensures frontends { IfOk result (λ plan. length plan.frontends ≤ 64) }
-    ensures lines { IfOk result (λ plan. LinesDiffer plan) }
+    ensures sound { IfOk result IsSoundPlan }
 {
     match read_config(alloc, text) {
         Ok(tree) => plan(alloc, &tree),

@@ -19,7 +19,7 @@ use Rattle.conn_core.specs.declared.admission.Arrival.{Arrival}
 use Rattle.conn_core.specs.declared.judging.Verdict.{Verdict}
 use Rattle.conn_core.specs.declared.judging.Verdict.TheVariants.{Assigned, Refused}
 use Rattle.conn_core.specs.Judging.{result_of, IsFoundIn}
-use Rattle.conn_core.specs.Machine.{HaveLines, IsCoreState, left_by}
+use Rattle.conn_core.specs.Machine.{AreSound, IsCoreState, left_by}
 
 -- where an item passes, a first one is found
 record Found {X : Type 0} (test : X → Bool) (xs : List X) : Type 0 where
@@ -66,9 +66,9 @@ identity_found plan n backend server differ there first =
     ∙ ap (λ o. record { backend = backend.name; name = option_map_or (λ s. s.name) o []; to = server.to }) first
 
 -- what holds of each version holds of the newest
-newest_lines : (versions : List Version) (version : Version) → HaveLines versions → newest versions ≡ Some version → LinesDiffer version.plan
+newest_lines : (versions : List Version) (version : Version) → AreSound versions → newest versions ≡ Some version → LinesDiffer version.plan
 newest_lines [] version have is = absurd (cc)
-newest_lines (v ∷ []) version have is = let same : v ≡ version = cc in subst (λ w. LinesDiffer w.plan) same have.0
+newest_lines (v ∷ []) version have is = let same : v ≡ version = cc in subst (λ w. LinesDiffer w.plan) same have.0.lines
 newest_lines (v ∷ w ∷ versions) version have is = newest_lines (w ∷ versions) version have.1 is
 
 -- what a verdict leaves is what its reply says
@@ -77,7 +77,7 @@ pub left_is : (p : Plain) → IsCoreState p → (version : Version) → newest p
 left_is p known version there arrival number (Assigned backend server) found =
     let plan : plan_of p [] (newest_number p) ≡ Some version.plan = plan_in_force p known.well version there in
     let force : newest_number p ≡ version.number = ap (λ o. option_map_or (λ v. v.number) o 0) there in
-    let same = identity_found version.plan found.0 backend.now server.now (newest_lines p.versions version known.lines there) found.1 found.2 in
+    let same = identity_found version.plan found.0 backend.now server.now (newest_lines p.versions version known.plans there) found.1 found.2 in
     let identity : identity_of (plan_of p [] (newest_number p)) server.now.line 0 server.now.to ≡ record { backend = backend.now.name; name = server.now.name; to = server.now.to } =
     ap (λ o. identity_of o server.now.line 0 server.now.to) plan ∙ same in
     ap (λ n. record {

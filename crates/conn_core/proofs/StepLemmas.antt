@@ -15,13 +15,13 @@ use Rattle.conn_model.specs.History.{after, entry, Entry}
 use Rattle.conn_model.proofs.Parts.{versions-same}
 use Rattle.conn_model.proofs.Well.{after-nil, well_after}
 use Rattle.conn_model.proofs.Steps.{after-accept, after-close}
-use Rattle.conn_core.specs.Machine.{IsCoreState, HaveLines, Next}
+use Rattle.conn_core.specs.Machine.{IsCoreState, AreSound, Next}
 
 -- an answered event leaves a state that a core can be in
 kept : (q : Plain) → IsCoreState q → (e : Entry) → answer_in q e.moment e.event ≡ Ok e.reply → IsCoreState (after q (e ∷ []))
 kept q known e is = record {
   well = well_after q known.well (e ∷ []) (tt, subst (λ s. answer_in s e.moment e.event ≡ Ok e.reply) (sym (after-nil q known.well)) is);
-  lines = subst HaveLines (sym (versions-same q (e ∷ []))) known.lines;
+  plans = subst AreSound (sym (versions-same q (e ∷ []))) known.plans;
 }
 
 -- a state is the one after an entry, and one that a core can be in

@@ -2,7 +2,7 @@
 use Rattle.std.specs.Prelude.{ℕ, List, [], ◌∷◌, Option, Some, slice_get, option_to_list, ◌≡◌, ◌+◌, ◌<◌, ◌^◌, Ok}
 use Rattle.std.specs.List.{AllByRecursion}
 use Rattle.addr_core.specs.PairValue.{PairValue}
-use Rattle.plan_types.specs.Lines.{LinesDiffer}
+use Rattle.plan_types.specs.Sound.{IsSoundPlan}
 use Rattle.plan_types.specs.declared.plan.Plan.{Plan}
 use Rattle.plan_types.specs.declared.plan.Server.{Server}
 use Rattle.plan_types.specs.declared.plan.Backend.{Backend}
@@ -20,14 +20,14 @@ use Rattle.conn_core.specs.declared.judging.Verdict.{Verdict}
 use Rattle.conn_core.specs.declared.judging.Verdict.TheVariants.{Assigned, Refused}
 use Rattle.conn_core.specs.declared.admission.Arrival.{Arrival}
 
--- in each version the servers of different backends have different lines
-abbrev pub HaveLines : List Version → Type 0
-HaveLines versions = AllByRecursion (λ version. LinesDiffer version.plan) versions
+-- each version has a plan as plans are made
+abbrev pub AreSound : List Version → Type 0
+AreSound versions = AllByRecursion (λ version. IsSoundPlan version.plan) versions
 
 -- a state that a core can be in
 pub record IsCoreState (p : Plain) : Type 0 where
   pub well : IsWell p
-  pub lines : HaveLines p.versions
+  pub plans : AreSound p.versions
 
 -- the id is the next of its frontend, what is said is said to it, and the row is the one that it leaves
 pub record Next (p : Plain) (clock : ℕ) (real : PairValue) (id : ConnId) (said : Said) (row : Option Row) (own : FrontendRows) : Type 0 where

@@ -1,7 +1,7 @@
 //! The decision core.
 ghost use Rattle.std.specs.Prelude.{◌≡◌, ◌≢◌, ◌⊎◌, ◌+◌, ◌-◌, ◌^◌, ◌<◌, ◌≤◌, length, ℕ, List, [], ◌∷◌, ◌++◌, Option, Some, IfOk, IfErr, IfSome, OnOk, OnErr, slice_get, Ok, Err, is_some, option_to_list};
 ghost use Rattle.std.specs.Option.{option_map};
-ghost use Rattle.plan_types.specs.Lines.{LinesDiffer};
+ghost use Rattle.plan_types.specs.Sound.{IsSoundPlan};
 ghost use Rattle.conn_model.specs.Answer.{answer_in, accept_answer, row_at, reply_of};
 ghost use Rattle.conn_model.specs.Counts.{counts_in, open_of};
 ghost use Rattle.conn_model.specs.History.{after, answer, counts, owned_event, opening, entry, NeedsNoMemory, IsFault, IsLegal, IsWell, Entry};
@@ -76,8 +76,7 @@ impl Core {
     }
 
     fn start(alloc: Global, plan: Plan, last: u64) -> Result<Core, OpenFault>
-        requires few { length plan.frontends ≤ 64 }
-        requires lines { LinesDiffer plan }
+        requires { IsSoundPlan plan }
         ensures ok { IfOk result (λ core. core ≡ opening plan last) }
         ensures well { IfOk result IsWell }
         ensures fault { IfErr result (λ f. f ≡ OpenFault.NoMemory) }

@@ -8,7 +8,8 @@ use Rattle.conn_model.specs.declared.plain.Plain.{Plain}
 use Rattle.conn_model.specs.declared.reply.Reply.{Reply}
 use Rattle.conn_model.specs.declared.reply.StepFault.{StepFault}
 use Rattle.conn_model.specs.History.{Entry, IsLegal, IsWell, after, answer, counts, entry, opening}
-use Rattle.conn_model.proofs.Law.{after-cons, after-nil}
+use Rattle.conn_model.proofs.Goes.{whole_in_parts}
+use Rattle.conn_model.proofs.Well.{after-nil}
 use Rattle.event_text.specs.Script.{Wanted}
 use Rattle.event_text.specs.Replies.{count_line}
 use Rattle.replay_core.specs.Replay.{Outcome, after_line, answer_text, request_at, before_rest, history_after, outcome, script_outcome}
@@ -21,7 +22,7 @@ same_after : (p : Plain) (h : List Entry) (moment : ℕ) (event : OwnedEvent) (a
     → IsWell p → IsLegal p h → ((g : List Entry) → IsLegal p g → rest g ≡ rest_in (after p g)) → answer p h moment event ≡ answered
     → rest (history_after h moment event answered) ≡ rest_in (plain_after (after p h) moment event answered)
 same_after p h moment event (Ok reply) rest rest_in well legal next is =
-    next (entry moment event reply ∷ h) (legal, is) ∙ ap rest_in (after-cons p (entry moment event reply) h well (legal, is))
+    next (entry moment event reply ∷ h) (legal, is) ∙ ap rest_in (sym (whole_in_parts p well (entry moment event reply ∷ []) h (legal, is)))
 same_after p h moment event (Err fault) rest rest_in well legal next is = next h legal
 
 same_line : (p : Plain) (h : List Entry) (asks : Result (Option Wanted) ReplayFault) (rest : List Entry → Outcome) (rest_in : Plain → Outcome)
@@ -42,7 +43,7 @@ same_outcome p h before (line ∷ lines) well legal =
 -- what comes of a script where a plan is opened
 pub same_script_outcome : (plan : Plan) (script : List ℕ) → IsWell (opening plan 0) → script_outcome plan script ≡ script_outcome_in (opening plan 0) 0 script
 same_script_outcome plan script well =
-    same_outcome (opening plan 0) [] 0 (parts is_line_feed script) well tt ∙ ap (λ p. outcome_in p 0 (parts is_line_feed script)) (after-nil (opening plan 0))
+    same_outcome (opening plan 0) [] 0 (parts is_line_feed script) well tt ∙ ap (λ p. outcome_in p 0 (parts is_line_feed script)) (after-nil (opening plan 0) well)
 
 abbrev pub start : Plan → Progress
 start plan = record { plain = opening plan 0; before = 0; answered = 0; unsent = [] }

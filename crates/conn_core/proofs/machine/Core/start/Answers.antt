@@ -9,7 +9,7 @@ pub invariant_of-result : goal.invariant_of-result
 invariant_of-result c =
     let state : Plain = record { clock = 0; listeners = c.in_ok-listeners.listeners; frontends = c.in_ok-frontends.frontends.items; versions = c.of.result; tables = c.new-2.result } in
     let same : state ≡ opening c.args.plan c.args.last = search rules in
-    subst IsCoreState (sym same) (record { well = opening_well c.args.plan c.args.last; lines = (c.requires.lines, tt) })
+    subst IsCoreState (sym same) (record { well = opening_well c.args.plan c.args.last; plans = (c.requires, tt) })
 
 pub returns-clause-well : goal.returns-clause-well
 returns-clause-well c = (invariant_of-result c).well
