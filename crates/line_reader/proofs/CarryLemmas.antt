@@ -3,54 +3,26 @@ use Rattle.std.proofs.Common.{◌≡◌, ℕ, ◌+◌, ◌-◌, ◌<◌, ◌≤�
 use Rattle.std.specs.Prelude.{slice_index}
 use Rattle.std.proofs.lemmas.List.{drop-drop, drop-take}
 use Rattle.std.proofs.Math.Seq.{take-length}
-use Rattle.std.specs.List.{onto_first}
 use Rattle.memchr.specs.Find.{Nowhere, Passes}
-use Rattle.text_core.specs.Parts.{parts, is_line_feed, onto, IsUnended}
-use Rattle.line_reader.specs.Unended.{BeginsTooLong, BeginsWithLine}
+use Rattle.text_core.specs.Parts.{parts, is_line_feed, onto, BeginsWithLine, IsUnended}
+use Rattle.text_core.proofs.PartLemmas.{begins_carried, no_part, onto-cons, onto-nil, parts_through, unended_both}
+use Rattle.line_reader.specs.Unended.{BeginsTooLong}
 use Rattle.line_reader.specs.declared.lines.TheConstants.{MOST_LINE_BYTES}
-use Rattle.line_reader.proofs.LineLemmas.{part_found, unended}
-
-onto-cons : (bytes line : List ℕ) (lines : List (List ℕ)) → onto bytes (line ∷ lines) ≡ (bytes ++ line) ∷ lines
-onto-cons [] line lines = refl
-onto-cons (b ∷ bytes) line lines = ap (onto_first b) (onto-cons bytes line lines)
-
-onto-append : (xs ys : List ℕ) (lines : List (List ℕ)) → onto (xs ++ ys) lines ≡ onto xs (onto ys lines)
-onto-append [] ys lines = refl
-onto-append (b ∷ xs) ys lines = ap (onto_first b) (onto-append xs ys lines)
-
-onto-nil : (bytes : List ℕ) → 0 < length bytes → onto bytes [] ≡ bytes ∷ []
-onto-nil [] some = absurd (omega arith)
-onto-nil (b ∷ []) some = refl
-onto-nil (b ∷ c ∷ bytes) some = ap (onto_first b) (onto-nil (c ∷ bytes) (omega arith))
 
 pub unended_none : IsUnended []
 unended_none more = refl
-
--- the line that begins with what was carried over
-begins_carried : (carry text line after : List ℕ) → IsUnended carry → BeginsWithLine text line after → BeginsWithLine (carry ++ text) (carry ++ line) after
-begins_carried carry text line after unended begins more =
-    ap (parts is_line_feed) (append_assoc carry text more) ∙ unended (text ++ more) ∙ ap (onto carry) (begins more)
-    ∙ onto-cons carry line (parts is_line_feed (after ++ more))
 
 -- the line that ends at the first line feed
 pub begins_found : (carry text seen : List ℕ) (at : ℕ) → IsUnended carry → seen ≡ text → at < length seen → Nowhere (Passes is_line_feed seen) 0 at
     → is_line_feed (slice_index seen at) ≡ true → BeginsWithLine (carry ++ text) (carry ++ take at text) (drop (at + 1) text)
 begins_found carry text seen at unended same lt none is =
     subst (λ xs. BeginsWithLine (carry ++ xs) (carry ++ take at xs) (drop (at + 1) xs)) same
-    (begins_carried carry seen (take at seen) (drop (at + 1) seen) unended (λ more. part_found is_line_feed seen at more lt none is))
-
-unended_both : (xs ys : List ℕ) → IsUnended xs → IsUnended ys → IsUnended (xs ++ ys)
-unended_both xs ys first second more =
-    ap (parts is_line_feed) (append_assoc xs ys more) ∙ first (ys ++ more) ∙ ap (onto xs) (second more) ∙ sym (onto-append xs ys (parts is_line_feed more))
+    (begins_carried carry seen (take at seen) (drop (at + 1) seen) unended (λ more. parts_through is_line_feed seen at more lt none is))
 
 -- with no line feed the line goes on
 pub unended_carried : (carry text seen : List ℕ) → IsUnended carry → seen ≡ text → Nowhere (Passes is_line_feed seen) 0 (length seen) → IsUnended (carry ++ text)
 unended_carried carry text seen first same none =
-    subst (λ xs. IsUnended (carry ++ xs)) same (unended_both carry seen first (unended is_line_feed seen none))
-
--- the last line, which lacks its end
-pub last_line : (rest : List ℕ) → IsUnended rest → 0 < length rest → parts is_line_feed rest ≡ rest ∷ []
-last_line rest unended some = ap (parts is_line_feed) (sym (append-nil rest)) ∙ unended [] ∙ onto-nil rest some
+    subst (λ xs. IsUnended (carry ++ xs)) same (unended_both carry seen first (no_part is_line_feed seen none))
 
 first_of_onto : (bytes : List ℕ) (lines : List (List ℕ)) → 0 < length bytes → (x : List ℕ) × (more : List (List ℕ)) × (onto bytes lines ≡ (bytes ++ x) ∷ more)
 first_of_onto bytes [] some = ([], [], onto-nil bytes some ∙ ap (λ xs. xs ∷ []) (sym (append-nil bytes)))

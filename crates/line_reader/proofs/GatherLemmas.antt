@@ -4,7 +4,7 @@ use Rattle.std.specs.Io.KnownBytes.{Consumes, IsAtEnd, Keeps}
 use Rattle.text_core.specs.Parts.{parts, is_line_feed, IsUnended}
 use Rattle.line_reader.specs.Lines.{ConsumesAll, Gathers, GivesLastLine, LineState}
 use Rattle.line_reader.specs.declared.lines.TheConstants.{MOST_LINE_BYTES}
-use Rattle.line_reader.proofs.CarryLemmas.{last_line}
+use Rattle.text_core.proofs.PartLemmas.{last_line}
 
 consumes_none : (left : Option (List ℕ)) → Consumes left left []
 consumes_none None = tt

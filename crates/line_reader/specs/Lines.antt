@@ -1,10 +1,9 @@
 -- What a reader of lines gives of the bytes that it reads.
 use Rattle.std.specs.Prelude.{◌≡◌, ◌⊎◌, ℕ, ◌≤◌, List, [], ◌∷◌, ◌++◌, length, Option, Some, None}
 use Rattle.std.specs.Io.KnownBytes.{Consumes}
-use Rattle.text_core.specs.Parts.{parts, is_line_feed}
+use Rattle.text_core.specs.Parts.{parts, is_line_feed, BeginsWithLine}
 use Rattle.device_core.specs.Device.{raised}
 use Rattle.device_core.specs.Patience.{IsWornOut}
-use Rattle.line_reader.specs.Unended.{BeginsWithLine}
 use Rattle.line_reader.specs.declared.lines.TheConstants.{MOST_LINE_BYTES}
 use Rattle.line_reader.specs.declared.lines.Next.{Next}
 use Rattle.line_reader.specs.declared.lines.Next.TheVariants.{Line, LastLine, End}

@@ -3,10 +3,6 @@ use Rattle.std.specs.Prelude.{◌≡◌, ℕ, ◌<◌, List, [], ◌∷◌, ◌+
 use Rattle.text_core.specs.Parts.{parts, is_line_feed}
 use Rattle.line_reader.specs.declared.lines.TheConstants.{MOST_LINE_BYTES}
 
--- whatever follows, the text begins with that line and its line feed, and the rest comes after it
-abbrev pub BeginsWithLine : List ℕ → List ℕ → List ℕ → Type 0
-BeginsWithLine text line rest = (more : List ℕ) → parts is_line_feed (text ++ more) ≡ line ∷ parts is_line_feed (rest ++ more)
-
 -- whatever follows, the first line of the text is longer than a line may be
 abbrev pub BeginsTooLong : List ℕ → Type 0
 BeginsTooLong text =

@@ -1,8 +1,8 @@
 //! Lines from a reader.
 ghost use Rattle.std.specs.Prelude.{◌≡◌, ◌≢◌, ◌+◌, ◌-◌, ◌<◌, ◌≤◌, ◌++◌, [], length, drop, take, IfOk, OnOk, OnErr, Ok, Err, IfErr, true, false};
 ghost use Rattle.device_core.specs.Device.{raised_by};
-ghost use Rattle.line_reader.specs.Unended.{BeginsTooLong, BeginsWithLine};
-ghost use Rattle.text_core.specs.Parts.{IsUnended};
+ghost use Rattle.line_reader.specs.Unended.{BeginsTooLong};
+ghost use Rattle.text_core.specs.Parts.{BeginsWithLine, IsUnended};
 
 use device_core::{Failed, Input, MOST_READS, Moved, read_on};
 use memchr::memchr;
