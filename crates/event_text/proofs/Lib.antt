@@ -1,4 +1,2 @@
-pub mod SplitLemmas
 pub mod LongLemmas
 pub mod EventLemmas
-pub mod NumberLemmas

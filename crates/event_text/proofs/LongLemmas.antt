@@ -2,16 +2,16 @@
 use Rattle.std.proofs.Common.{◌≡◌, ℕ, List, ◌∷◌, None, refl}
 use Rattle.std.specs.List.{slice_split}
 use Rattle.event_text.specs.Script.{accept_of, ask_of, close_of, id_in, is_mark, words_of}
-use Rattle.event_text.proofs.SplitLemmas.{split_some}
+use Rattle.text_core.proofs.CutLemmas.{split_first}
 
 pub accept_long : (a b c text : List ℕ) → accept_of (a ∷ b ∷ c ∷ words_of text) ≡ None
-accept_long a b c text = let some = split_some (is_mark 0x20) text in rw (some.2) refl
+accept_long a b c text = let some = split_first (is_mark 0x20) text in rw (some.2) refl
 
 pub close_long : (a b text : List ℕ) → close_of (a ∷ b ∷ words_of text) ≡ None
-close_long a b text = let some = split_some (is_mark 0x20) text in rw (some.2) refl
+close_long a b text = let some = split_first (is_mark 0x20) text in rw (some.2) refl
 
 pub id_long : (a b text : List ℕ) → id_in (a ∷ b ∷ slice_split (is_mark 0x2E) text) ≡ None
-id_long a b text = let some = split_some (is_mark 0x2E) text in rw (some.2) refl
+id_long a b text = let some = split_first (is_mark 0x2E) text in rw (some.2) refl
 
 pub ask_long : (a b text : List ℕ) → ask_of (a ∷ b ∷ words_of text) ≡ None
-ask_long a b text = let some = split_some (is_mark 0x20) text in rw (some.2) refl
+ask_long a b text = let some = split_first (is_mark 0x20) text in rw (some.2) refl

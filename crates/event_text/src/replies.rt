@@ -1,5 +1,5 @@
 //! Replies and counts as lines.
-ghost use Rattle.std.specs.Prelude.{◌≡◌, ◌+◌, ◌/◌, ◌%◌, ◌<◌, ◌≤◌, ◌++◌, ◌∷◌, [], length, codes, OnOk};
+ghost use Rattle.std.specs.Prelude.{◌≡◌, ◌≤◌, ◌++◌, length, codes, OnOk};
 ghost use Rattle.std.specs.List.{flat_map};
 ghost use Rattle.hex.specs.Hex.{encode_lower};
 ghost use Rattle.text_core.specs.Decimal.{decimal};
@@ -14,6 +14,7 @@ use conn_model::event::{ConnId, Why};
 use conn_model::reply::{Cause, Reply, Said, StepFault};
 use plan_types::Track;
 use std::alloc::AllocError;
+use text_core::decimal::append_decimal;
 
 fn write_text(out: &mut Vec<u8>, text: &[u8]) -> Result<(), AllocError>
     ensures { OnOk result (out.new.items ≡ out.old.items ++ text.now) }
@@ -21,39 +22,17 @@ fn write_text(out: &mut Vec<u8>, text: &[u8]) -> Result<(), AllocError>
     out.extend_from_slice(text)
 }
 
-/// The two last digits of a number.
-fn write_pair(out: &mut Vec<u8>, pair: u8) -> Result<(), AllocError>
-    requires { pair < 100 }
-    ensures { OnOk result (out.new.items ≡ out.old.items ++ (48 + pair / 10) ∷ (48 + pair % 10) ∷ []) }
-{
-    out.extend_from_slice(&[b'0' + pair / 10, b'0' + pair % 10])
-}
-
-fn write_number(out: &mut Vec<u8>, number: u64) -> Result<(), AllocError>
-    ensures { OnOk result (out.new.items ≡ out.old.items ++ decimal number) }
-{
-    if number < 10 {
-        out.push(b'0' + number as u8)?;
-        return Ok(());
-    }
-    if number < 100 {
-        return write_pair(out, number as u8);
-    }
-    write_number(out, number / 100)?;
-    write_pair(out, (number % 100) as u8)
-}
-
 /// An IPv4 address in dotted decimal.
 fn write_dotted(out: &mut Vec<u8>, number: u32) -> Result<(), AllocError>
     ensures { OnOk result (out.new.items ≡ out.old.items ++ text_of (V4 number)) }
 {
-    write_number(out, u64::from(number / 0x100_0000))?;
+    append_decimal(out, u64::from(number / 0x100_0000))?;
     write_text(out, b".")?;
-    write_number(out, u64::from(number / 0x1_0000 % 0x100))?;
+    append_decimal(out, u64::from(number / 0x1_0000 % 0x100))?;
     write_text(out, b".")?;
-    write_number(out, u64::from(number / 0x100 % 0x100))?;
+    append_decimal(out, u64::from(number / 0x100 % 0x100))?;
     write_text(out, b".")?;
-    write_number(out, u64::from(number % 0x100))
+    append_decimal(out, u64::from(number % 0x100))
 }
 
 fn write_addr(out: &mut Vec<u8>, addr: &Addr) -> Result<(), AllocError>
@@ -83,15 +62,15 @@ fn write_endpoint(out: &mut Vec<u8>, endpoint: &Endpoint) -> Result<(), AllocErr
 {
     write_host(out, &endpoint.addr)?;
     write_text(out, b":")?;
-    write_number(out, u64::from(endpoint.port))
+    append_decimal(out, u64::from(endpoint.port))
 }
 
 fn write_id(out: &mut Vec<u8>, id: &ConnId) -> Result<(), AllocError>
     ensures { OnOk result (out.new.items ≡ out.old.items ++ id_text id.now) }
 {
-    write_number(out, u64::from(id.frontend))?;
+    append_decimal(out, u64::from(id.frontend))?;
     write_text(out, b".")?;
-    write_number(out, id.serial)
+    append_decimal(out, id.serial)
 }
 
 fn write_why(out: &mut Vec<u8>, why: &Why) -> Result<(), AllocError>
@@ -130,7 +109,7 @@ fn write_field(out: &mut Vec<u8>, name: &[u8], number: u64) -> Result<(), AllocE
     ensures { OnOk result (out.new.items ≡ out.old.items ++ (name.now ++ decimal number)) }
 {
     write_text(out, name)?;
-    write_number(out, number)
+    append_decimal(out, number)
 }
 
 /// A word and an endpoint after it.

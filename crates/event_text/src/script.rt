@@ -1,16 +1,15 @@
 //! Scripts: the lines that hand in events, and those that ask for counts.
 ghost use Rattle.std.specs.Prelude.{◌≡◌, ◌==◌, ◌∷◌, ◌<◌, ◌^◌, ℕ, [], IfSome, IfNone, option_map};
-ghost use Rattle.std.specs.List.{slice_split};
 ghost use Rattle.std.specs.Str.{bytes_eq};
 ghost use Rattle.conn_model.specs.declared.event.OwnedEvent.{OwnedEvent};
 ghost use Rattle.conn_model.specs.History.{owned_event};
-ghost use Rattle.event_text.specs.Script.{accept_of, ask_of, close_of, ends_of, event_line, event_of, event_by_verb, id_of, is_mark, timed_event, wanted, wanted_of, why_of, words_of, Wanted, IsHandedIn};
+ghost use Rattle.event_text.specs.Script.{accept_of, ask_of, close_of, ends_of, event_line, event_of, event_by_verb, id_of, timed_event, wanted, wanted_of, why_of, words_of, Wanted, IsHandedIn};
 
-use text_core::decimal::read_decimal;
 use addr_core::{Pair, read_endpoint};
 use conn_model::ask::Ask;
 use conn_model::event::{ConnId, Event, Why};
-use memchr::memchr;
+use text_core::cut_at;
+use text_core::decimal::read_decimal;
 
 /// What a line asks for.
 #[derive(Clone, Copy)]
@@ -21,22 +20,11 @@ pub enum Request {
     Ask(Ask),
 }
 
-/// What is before the first such byte, and what is after it.
-fn cut(text: &[u8], mark: u8) -> Option<(&[u8], &[u8])>
-    ensures some { IfSome result (λ parts. slice_split (is_mark mark) text.now ≡ parts.0.now ∷ slice_split (is_mark mark) parts.1.now) }
-    ensures none { IfNone result (slice_split (is_mark mark) text.now ≡ text.now ∷ []) }
-{
-    match memchr(mark, text) {
-        Some(at) => Some((&text[..at], &text[at + 1..])),
-        None => None,
-    }
-}
-
 fn cut_word(text: &[u8]) -> Option<(&[u8], &[u8])>
     ensures some { IfSome result (λ parts. words_of text.now ≡ parts.0.now ∷ words_of parts.1.now) }
     ensures none { IfNone result (words_of text.now ≡ text.now ∷ []) }
 {
-    cut(text, b' ')
+    cut_at(text, b' ')
 }
 
 fn is(word: &[u8], text: &[u8]) -> bool
@@ -48,8 +36,8 @@ fn is(word: &[u8], text: &[u8]) -> bool
 fn read_id(word: &[u8]) -> Option<ConnId>
     ensures { result ≡ id_of word.now }
 {
-    let (frontend, serial) = cut(word, b'.')?;
-    if let Some((_last, _more)) = cut(serial, b'.') {
+    let (frontend, serial) = cut_at(word, b'.')?;
+    if let Some((_last, _more)) = cut_at(serial, b'.') {
         return None;
     }
     let frontend = read_decimal(frontend, 65535)?;
