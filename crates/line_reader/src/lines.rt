@@ -102,7 +102,11 @@ impl LineReader {
             return Err(LineFault::TooLong);
         }
         let from = self.at;
-        if self.line.extend_from_slice(&self.block[from..from + count]).is_err() {
+        if self
+            .line
+            .extend_from_slice(&self.block[from..from + count])
+            .is_err()
+        {
             return Err(LineFault::NoMemory);
         }
         self.at += count + skipped;

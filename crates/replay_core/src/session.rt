@@ -11,12 +11,12 @@ ghost use Rattle.replay_core.specs.Turns.{plain_after};
 ghost use Rattle.replay_core.specs.Progress.{total, total_of_lines, GaveUp, Continues, IsFrontOf, IsLineFault};
 
 use crate::fault::ReplayFault;
-use event_text::{Request, read_request, write_counts, write_fault, write_reply};
 use conn_core::Core;
 use conn_model::ask::Ask;
 use conn_model::event::Event;
 use conn_model::reply::StepFault;
 use device_core::{Failed, Output, write_all};
+use event_text::{Request, read_request, write_counts, write_fault, write_reply};
 use line_reader::LineFault;
 use std::alloc::Global;
 use std::marker::Model;
