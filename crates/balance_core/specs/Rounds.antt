@@ -26,7 +26,7 @@ comes_before weights a b =
     let right = (2 * b.turn + 1) * weight_in weights a.server in
     nat_lt left right || ((left == right) && nat_lt a.server b.server)
 
--- each turn of each server stands there once, in that order
+-- each turn of each server is there once, in that order
 pub record IsRound (weights : List ℕ) (cycle : List Place) : Type 0 where
   pub turns : IsPermutation (turns_from 0 weights) cycle
   pub sorted : IsSortedBy (comes_before weights) cycle

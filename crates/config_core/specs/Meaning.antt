@@ -1,4 +1,4 @@
--- What a configuration means: its plan, or the fault that stands against it.
+-- What a configuration means: its plan, or its fault.
 use Rattle.std.specs.Prelude.{ℕ, List, Option, Some, None, Result, Ok, Err}
 use Rattle.conf_line.specs.declared.fault.ConfFault.{ConfFault}
 use Rattle.conf_line.specs.declared.fault.ConfKind.TheVariants.{Unsupported}
@@ -19,7 +19,7 @@ abbrev pub planned : Result (List ConfigLine) ConfFault → Result Plan OpenFaul
 planned (Err fault) = Err (opens.Config fault)
 planned (Ok items) = opened (plan_of items)
 
--- the plan of a text, or the fault that stands against it
+-- the plan of a text, or its fault
 abbrev pub compiled : List ℕ → Result Plan OpenFault
 compiled text = planned (items_of text)
 

@@ -27,7 +27,7 @@ pub struct Arrival {
     pub accepted: u64,
 }
 
-/// An accept that is answered: the new connection's name, what it is told, and what is kept of it. It
+/// An accept that is answered: the name of the new connection, the answer to it, and what is kept of it. It
 /// cannot be dropped, since the row cannot.
 pub struct Admission {
     pub id: ConnId,
@@ -56,7 +56,7 @@ pub fn admission_of(
     })
 }
 
-/// What the connection is told of its verdict.
+/// The answer to a connection of that verdict.
 fn said(id: ConnId, real: Pair, verdict: &Verdict<'_>) -> Said
     ensures { result ≡ said_of id real (result_of verdict.now) }
 {

@@ -1,6 +1,6 @@
 //! Connections as data: events, replies, the plain state, and what an answer is.
 //!
-//! The definitions stand in `specs/`: `Answer` says what is answered in a plain state, `History`
+//! The definitions are in `specs/`: `Answer` says what is answered in a plain state, `History`
 //! what a list of answered events leaves of one.
 #![tactic(auto)]
 

@@ -1,4 +1,4 @@
--- The frontends and backends of a configuration stand one after the other.
+-- The frontends and backends of a configuration come one after the other.
 use Rattle.std.proofs.Common.{◌≡◌, ℕ, zero, suc, ◌+◌, ◌<◌, ◌≤◌, Bool, true, false, not, eqb, List, [], ◌∷◌, ◌++◌, length, take, filter, Some, refl, sym, ap, subst, ◌∙◌, if◌then◌else◌}
 use native.Mathlib.Omega.{arith}
 use Rattle.std.specs.Prelude.{slice_get, ◌==◌, option_map, option_to_list}
@@ -94,7 +94,7 @@ few_proxies items few =
 abbrev AreBehind : ℕ → List Proxy → Type 0
 AreBehind line all = AllByRecursion (λ proxy. line < proxy.head.line) all
 
--- each section's lines are behind its own head, and before the heads of those after it
+-- each section's lines are after its own head, and before the heads of those after it
 abbrev Parted : List Proxy → Type 0
 Parted [] = Unit {0}
 Parted (proxy ∷ rest) =

@@ -48,7 +48,7 @@ status_at says d (x ∷ b) (suc (suc j)) s f =
     })
     ∙ ap (λ n. given n s) count
 
--- what a status tells of bytes
+-- what a status says of bytes
 data Tells (says : List ℕ → Say) (d b : List ℕ) (status : Status) : Type 0 where
   At : (j : ℕ) (s : Result Meaning HeaderFault) → status ≡ given (length d + j) s → FirstAfter says d b j s → Tells says d b status
   Nowhere : status ≡ Wait → ((k : ℕ) → 0 < k → k ≤ length b → says (d ++ take k b) ≡ None) → Tells says d b status

@@ -16,7 +16,7 @@ continues_on sent s bytes held t rest new u last continues step =
     let next : Continues continues.now t rest new u last = step continues.now continues.is_held in
     record { now = next.now; is_held = next.is_held; same = λ more. next.same more ∙ continues.same more }
 
--- with more bytes behind
+-- with more bytes after them
 pub continues_more : (sent : List ℕ) (s : Progress) (bytes : List ℕ) (held : Option (List ℕ)) (t : Progress) (rest more : List ℕ)
     → Continues sent s bytes held t rest → Continues sent s (bytes ++ more) held t (rest ++ more)
 continues_more sent s bytes held t rest more continues = record {

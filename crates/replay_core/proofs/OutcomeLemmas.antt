@@ -48,7 +48,7 @@ same_script_outcome plan script well =
 abbrev pub start : Plan → Progress
 start plan = record { plain = opening plan 0; before = 0; answered = 0; unsent = [] }
 
--- in all, behind what was written before
+-- in all, after what was written before
 pub total_start : (plan : Plan) (sent script : List ℕ) → IsWell (opening plan 0) → total_of sent (start plan) script ≡ before_rest sent 0 (script_outcome plan script)
 total_start plan sent script well =
     ap (λ xs. before_rest xs 0 (script_outcome_in (opening plan 0) 0 script)) (append-nil sent) ∙ ap (before_rest sent 0) (sym (same_script_outcome plan script well))

@@ -12,7 +12,7 @@ is_of identity count = same_server count.identity identity
 abbrev pub place_of : ServerIdentity → List Count → Option ℕ
 place_of identity counts = position (is_of identity) counts
 
--- one that is new stands last, with no open connection
+-- one that is new is last, with no open connection
 abbrev pub with_identity : ServerIdentity → List Count → List Count
 with_identity identity counts = if is_some (place_of identity counts) then counts else counts ++ record { identity = identity; connections = 0 } ∷ []
 

@@ -15,7 +15,7 @@ pub struct Count {
     pub connections: u64,
 }
 
-/// Where the count of a server stands. It holds for good.
+/// The place of a server's count. It holds for good.
 #[derive(Clone, Copy, Debug, PartialEq, Eq)]
 pub struct SlotIx {
     pub place: usize,
