@@ -27,8 +27,8 @@ pub struct Arrival {
     pub accepted: u64,
 }
 
-/// An accept that is answered: the name of the new connection, the answer to it, and what is kept of it. It
-/// cannot be dropped, since the row cannot.
+/// An accept that is answered: the name of the new connection, the answer to it, and what is kept of
+/// it. It cannot be dropped, since the row cannot.
 pub struct Admission {
     pub id: ConnId,
     pub said: Said,
