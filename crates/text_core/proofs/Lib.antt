@@ -1,3 +1,4 @@
 pub mod CutLemmas
 pub mod DecimalLemmas
+pub mod NameLemmas
 pub mod PartLemmas
