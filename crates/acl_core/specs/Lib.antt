@@ -1,3 +1,5 @@
 pub mod Names
-pub mod Truth
 pub mod Reading
+pub mod TestValue
+pub mod Tokens
+pub mod Truth

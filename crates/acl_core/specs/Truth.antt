@@ -1,5 +1,5 @@
 -- When a test and a condition are true (HAProxy manual, "using ACLs to form conditions").
-use Rattle.std.specs.Prelude.{ℕ, Bool, true, false, not, ◌&&◌, ◌==◌, nat_le, nat_lt, List, if◌then◌else◌}
+use Rattle.std.specs.Prelude.{ℕ, Bool, true, false, not, ◌&&◌, ◌==◌, nat_le, nat_lt, List, slice_get, Option, Some, None, if◌then◌else◌}
 use Rattle.std.specs.List.{list_any, list_all}
 use Rattle.addr_core.specs.Prefix.{holds}
 use Rattle.acl_core.specs.declared.criterion.Criterion.{Criterion}
@@ -9,7 +9,10 @@ use Rattle.acl_core.specs.declared.criterion.Operator.TheVariants.{Equal, AtLeas
 use Rattle.acl_core.specs.declared.criterion.Pattern.TheVariants.{Network, Within, Compared}
 use Rattle.acl_core.specs.declared.criterion.Value.{Value}
 use Rattle.acl_core.specs.declared.criterion.Value.TheVariants.{Absent, Number, Source}
-use Rattle.acl_core.specs.declared.condition.Test.{Test}
+use Rattle.acl_core.specs.TestValue.{TestValue}
+use Rattle.acl_core.specs.declared.condition.Acl.{Acl}
+use Rattle.acl_core.specs.declared.condition.Operand.{Operand}
+use Rattle.acl_core.specs.declared.condition.Operand.TheVariants as operands
 use Rattle.acl_core.specs.declared.condition.Term.{Term}
 use Rattle.acl_core.specs.declared.condition.Cond.{Cond}
 use Rattle.acl_core.specs.declared.condition.When.{When}
@@ -34,21 +37,33 @@ matches (Source addr) (Within least most) = false
 matches (Source addr) (Compared operator bound) = false
 
 -- a test is true where the criterion has a value that some pattern holds
-abbrev pub test_holds : (Criterion → Value) → Test → Bool
+abbrev pub test_holds : (Criterion → Value) → TestValue → Bool
 test_holds worth test = list_any (matches (worth test.criterion)) test.patterns
 
-abbrev pub term_holds : (Criterion → Value) → Term → Bool
-term_holds worth term = if term.negated then not (list_any (test_holds worth) term.tests) else list_any (test_holds worth) term.tests
+-- an ACL is true where some test of its name is
+abbrev pub acl_holds : (Criterion → Value) → Acl → Bool
+acl_holds worth acl = list_any (test_holds worth) acl.tests
+
+-- nothing is true of a name that is not there
+abbrev pub named_holds : (Criterion → Value) → Option Acl → Bool
+named_holds worth None = false
+named_holds worth (Some acl) = acl_holds worth acl
+
+-- what a term asks, in a section with those ACLs
+abbrev pub operand_holds : List Acl → (Criterion → Value) → Operand → Bool
+operand_holds acls worth (operands.Constant truth) = truth
+operand_holds acls worth (operands.Test test) = test_holds worth test
+operand_holds acls worth (operands.Acl number) = named_holds worth (slice_get acls number)
+
+abbrev pub term_holds : List Acl → (Criterion → Value) → Term → Bool
+term_holds acls worth term = if term.negated then not (operand_holds acls worth term.operand) else operand_holds acls worth term.operand
 
 -- in some group all terms hold
-abbrev pub some_group : (Criterion → Value) → List (List Term) → Bool
-some_group worth groups = list_any (λ group. list_all (term_holds worth) group) groups
-
-abbrev pub condition_holds : (Criterion → Value) → Cond → Bool
-condition_holds worth condition = some_group worth condition.groups
+abbrev pub condition_holds : List Acl → (Criterion → Value) → Cond → Bool
+condition_holds acls worth condition = list_any (λ group. list_all (term_holds acls worth) group) condition.groups
 
 -- when a line applies
-abbrev pub applies : (Criterion → Value) → When → Bool
-applies worth Always = true
-applies worth (If condition) = condition_holds worth condition
-applies worth (Unless condition) = not (condition_holds worth condition)
+abbrev pub applies : List Acl → (Criterion → Value) → When → Bool
+applies acls worth Always = true
+applies acls worth (If condition) = condition_holds acls worth condition
+applies acls worth (Unless condition) = not (condition_holds acls worth condition)

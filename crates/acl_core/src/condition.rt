@@ -1,26 +1,35 @@
-//! Tests, and conditions made of them.
-ghost use Rattle.std.specs.Prelude.{◌≡◌, IfOk};
+//! Conditions made of tests.
+ghost use Rattle.std.specs.Prelude.{◌≡◌, slice_get, IfOk};
 ghost use Rattle.std.specs.List.{list_any, list_all};
-ghost use Rattle.acl_core.specs.Truth.{matches, test_holds, term_holds, some_group, condition_holds, applies};
+ghost use Rattle.acl_core.specs.Truth.{test_holds, acl_holds, operand_holds, term_holds, condition_holds, applies};
 
-use crate::criterion::{Criterion, Pattern, Value, View};
+use crate::criterion::{Criterion, Value};
+use crate::test::Test;
 use list_core::{Duplicate, Seq};
 use std::alloc::{AllocError, Global};
 
-/// One criterion against its patterns, which are alternatives.
+/// The tests of one name (HAProxy manual, `acl`). They are alternatives, from all its declarations.
 #[derive(Debug, Drop)]
-pub struct Test {
-    pub criterion: Criterion,
-    pub patterns: Seq<Pattern>,
+pub struct Acl {
+    pub name: Seq<u8>,
+    pub tests: Seq<Test>,
 }
 
-/// One test or several that are alternatives, or none of them where the term is negated.
-///
-/// `FALSE` has no test, and `TRUE` is `FALSE` negated.
+/// What a term asks.
+#[derive(Debug, Drop)]
+pub enum Operand {
+    /// `TRUE` or `FALSE`.
+    Constant(bool),
+    Test(Test),
+    /// The number of the name among those of its section.
+    Acl(usize),
+}
+
+/// A question, or its opposite.
 #[derive(Debug, Drop)]
 pub struct Term {
     pub negated: bool,
-    pub tests: Seq<Test>,
+    pub operand: Operand,
 }
 
 /// Groups of terms (HAProxy manual, "using ACLs to form conditions"). The terms of a group have to
@@ -40,10 +49,30 @@ pub enum When {
     Unless(Cond),
 }
 
+/// The connection that a condition is asked about, in a section with its ACLs.
+pub trait View {
+    ghost use Rattle.std.specs.Prelude.{List};
+    ghost use Rattle.acl_core.specs.declared.criterion.Criterion.{Criterion};
+    ghost use Rattle.acl_core.specs.declared.criterion.Value.{Value};
+    ghost use Rattle.acl_core.specs.declared.condition.Acl.{Acl};
+
+    /// What each criterion is worth.
+    ghost worth: { Self → Criterion → Value };
+
+    /// The ACLs of the section.
+    ghost acls: { Self → List Acl };
+
+    fn value(&self, criterion: &Criterion) -> Value
+        ensures { result ≡ worth self.now criterion.now };
+
+    fn acls(&self) -> &[Acl]
+        ensures { result.now ≡ acls self.now };
+}
+
 impl When {
     /// Whether the line applies to the connection.
     pub fn applies<V: View>(&self, view: &V) -> bool
-        ensures { result ≡ applies (V.worth view.now) self.now }
+        ensures { result ≡ applies (V.acls view.now) (V.worth view.now) self.now }
     {
         match self {
             When::Always => true,
@@ -56,60 +85,73 @@ impl When {
 impl Cond {
     /// Whether the condition is true of the connection.
     pub fn holds<V: View>(&self, view: &V) -> bool
-        ensures { result ≡ condition_holds (V.worth view.now) self.now }
+        ensures { result ≡ condition_holds (V.acls view.now) (V.worth view.now) self.now }
     {
-        holds_in_some(self.groups.as_slice(), view)
+        self.groups
+            .as_slice()
+            .iter()
+            .any(|group| holds_in_all(group, view))
     }
 }
 
-fn holds_in_some<V: View>(groups: &[Seq<Term>], view: &V) -> bool
-    ensures { result ≡ some_group (V.worth view.now) groups.now }
-{
-    groups.iter().any(|group| holds_in_all(group, view))
-}
-
 fn holds_in_all<V: View>(group: &Seq<Term>, view: &V) -> bool
-    ensures { result ≡ list_all (term_holds (V.worth view.now)) group.now }
+    ensures { result ≡ list_all (term_holds (V.acls view.now) (V.worth view.now)) group.now }
 {
     group.as_slice().iter().all(|term| term.holds(view))
 }
 
 impl Term {
     fn holds<V: View>(&self, view: &V) -> bool
-        ensures { result ≡ term_holds (V.worth view.now) self.now }
+        ensures { result ≡ term_holds (V.acls view.now) (V.worth view.now) self.now }
     {
-        let some = some_test_holds(self.tests.as_slice(), view);
-        if self.negated { !some } else { some }
+        if self.negated {
+            !self.operand.holds(view)
+        } else {
+            self.operand.holds(view)
+        }
     }
 }
 
-fn some_test_holds<V: View>(tests: &[Test], view: &V) -> bool
-    ensures { result ≡ list_any (test_holds (V.worth view.now)) tests.now }
-{
-    tests.iter().any(|test| test.holds(view))
+impl Operand {
+    fn holds<V: View>(&self, view: &V) -> bool
+        ensures { result ≡ operand_holds (V.acls view.now) (V.worth view.now) self.now }
+    {
+        match self {
+            Operand::Constant(truth) => *truth,
+            Operand::Test(test) => test.holds(view),
+            Operand::Acl(number) => match view.acls().get(*number) {
+                Some(acl) => acl.holds(view),
+                None => false,
+            },
+        }
+    }
 }
 
-impl Test {
-    /// Whether the criterion has a value, and some pattern holds it.
+impl Acl {
+    /// Whether some test of the name is true.
     pub fn holds<V: View>(&self, view: &V) -> bool
-        ensures { result ≡ test_holds (V.worth view.now) self.now }
+        ensures { result ≡ acl_holds (V.worth view.now) self.now }
     {
-        some_pattern_holds(self.patterns.as_slice(), &view.value(&self.criterion))
+        self.tests.as_slice().iter().any(|test| test.holds(view))
     }
 }
 
-fn some_pattern_holds(patterns: &[Pattern], value: &Value) -> bool
-    ensures { result ≡ list_any (matches value.now) patterns.now }
-{
-    patterns.iter().any(|pattern| pattern.holds(value))
+impl Duplicate for Acl {
+    fn duplicate(&self, alloc: Global) -> Result<Acl, AllocError> {
+        Ok(Acl {
+            name: self.name.duplicate(alloc)?,
+            tests: self.tests.duplicate(alloc)?,
+        })
+    }
 }
 
-impl Duplicate for Test {
-    fn duplicate(&self, alloc: Global) -> Result<Test, AllocError> {
-        Ok(Test {
-            criterion: self.criterion,
-            patterns: self.patterns.duplicate(alloc)?,
-        })
+impl Duplicate for Operand {
+    fn duplicate(&self, alloc: Global) -> Result<Operand, AllocError> {
+        match self {
+            Operand::Constant(truth) => Ok(Operand::Constant(*truth)),
+            Operand::Test(test) => Ok(Operand::Test(test.duplicate(alloc)?)),
+            Operand::Acl(number) => Ok(Operand::Acl(*number)),
+        }
     }
 }
 
@@ -117,7 +159,7 @@ impl Duplicate for Term {
     fn duplicate(&self, alloc: Global) -> Result<Term, AllocError> {
         Ok(Term {
             negated: self.negated,
-            tests: self.tests.duplicate(alloc)?,
+            operand: self.operand.duplicate(alloc)?,
         })
     }
 }

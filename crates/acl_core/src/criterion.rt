@@ -1,20 +1,30 @@
 //! What a test looks at, and what it compares it with.
 ghost use Rattle.std.specs.Prelude.{◌≡◌, IfOk};
 ghost use Rattle.acl_core.specs.Truth.{compares, matches};
-ghost use Rattle.acl_core.specs.declared.criterion.Criterion.{Criterion};
-ghost use Rattle.acl_core.specs.declared.criterion.Value.{Value};
 
 use addr_core::{Addr, Net};
-use list_core::Duplicate;
+use list_core::{Duplicate, Seq};
 use std::alloc::{AllocError, Global};
 
-/// What a test looks at (HAProxy manual, "fetching samples").
-#[derive(Clone, Copy, Debug, PartialEq, Eq)]
+/// What a test looks at (HAProxy manual, "fetching samples"). Names are as they were read.
+#[derive(Debug, Drop)]
 pub enum Criterion {
     /// `src`: the source address of the connection.
     Source,
-    /// `fe_conn`: how many connections of its own frontend are open, itself included.
-    FrontendConnections,
+    /// `sc0_conn_cur`, by the counter, 0 to 2: how many open connections track the key that it tracks.
+    TrackedConnections(u8),
+    /// `sc0_conn_cnt`: how many connections have tracked that key.
+    TrackedTotal(u8),
+    /// `src_conn_cur`: how many open connections track the source address in a table, by the name of
+    /// its section, or in that of its own section.
+    SourceConnections(Option<Seq<u8>>),
+    /// `src_conn_cnt`: how many connections have tracked it there.
+    SourceTotal(Option<Seq<u8>>),
+    /// `fe_conn`: how many connections of a frontend, by its name, or of its own are open, itself
+    /// included.
+    FrontendConnections(Option<Seq<u8>>),
+    /// `be_conn`: how many connections to a backend are open, by its name.
+    BackendConnections(Seq<u8>),
 }
 
 /// How a number is compared with a bound (HAProxy manual, "matching integers").
@@ -51,15 +61,6 @@ pub enum Value {
     Source(Addr),
 }
 
-/// The connection that a condition is asked about.
-pub trait View {
-    /// What each criterion is worth.
-    ghost worth: { Self → Criterion → Value };
-
-    fn value(&self, criterion: &Criterion) -> Value
-        ensures { result ≡ worth self.now criterion.now };
-}
-
 impl Pattern {
     /// Whether the pattern holds the value.
     pub fn holds(&self, value: &Value) -> bool
@@ -91,6 +92,26 @@ impl Operator {
             Operator::Above => number > bound,
             Operator::AtMost => number <= bound,
             Operator::Below => number < bound,
+        }
+    }
+}
+
+impl Duplicate for Criterion {
+    fn duplicate(&self, alloc: Global) -> Result<Criterion, AllocError> {
+        match self {
+            Criterion::Source => Ok(Criterion::Source),
+            Criterion::TrackedConnections(counter) => Ok(Criterion::TrackedConnections(*counter)),
+            Criterion::TrackedTotal(counter) => Ok(Criterion::TrackedTotal(*counter)),
+            Criterion::SourceConnections(table) => {
+                Ok(Criterion::SourceConnections(table.duplicate(alloc)?))
+            }
+            Criterion::SourceTotal(table) => Ok(Criterion::SourceTotal(table.duplicate(alloc)?)),
+            Criterion::FrontendConnections(frontend) => {
+                Ok(Criterion::FrontendConnections(frontend.duplicate(alloc)?))
+            }
+            Criterion::BackendConnections(backend) => {
+                Ok(Criterion::BackendConnections(backend.duplicate(alloc)?))
+            }
         }
     }
 }

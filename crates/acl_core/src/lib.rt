@@ -1,12 +1,17 @@
 //! Access control lists: tests of a connection, and conditions made of tests.
 #![tactic(auto)]
 
-pub use condition::{Cond, Term, Test, When};
-pub use criterion::{Criterion, Operator, Pattern, Value, View};
+pub use condition::{Acl, Cond, Operand, Term, View, When};
+pub use criterion::{Criterion, Operator, Pattern, Value};
 pub use fault::AclFault;
-pub use reading::{read_cond, read_test};
+pub use grouping::read_cond;
+pub use reading::{read_name, read_test};
+pub use test::Test;
 
 mod condition;
 mod criterion;
 mod fault;
+mod grouping;
 mod reading;
+mod test;
+mod token;

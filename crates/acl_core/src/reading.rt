@@ -1,18 +1,18 @@
-//! Reading tests and conditions.
-ghost use Rattle.std.specs.Prelude.{◌≡◌, ◌⊎◌, ◌<◌, [], length, position, IfOk, IfErr, IfSome, None, Err, codes};
-ghost use Rattle.std.specs.Str.{bytes_eq};
+//! Reading tests.
+ghost use Rattle.std.specs.Prelude.{◌≡◌, ◌⊎◌, [], ◌∷◌, IfOk, IfErr, None};
 ghost use Rattle.list_core.specs.Each.{Gives, each};
 ghost use Rattle.addr_core.specs.Text.{net_of};
-ghost use Rattle.acl_core.specs.Reading.{network_of, number_in, end_in, range_between, range_in, range_of, bound_of, value_of, values_of, criterion_of, operator_of, numbers_of, patterns_of, test_of, inner_test, open_brace_fault, test_alone, test_to_brace, in_braces, groups_of, condition_of};
+ghost use Rattle.text_core.specs.Cut.{cut};
+ghost use Rattle.acl_core.specs.Reading.{network_of, number_in, end_in, range_between, range_in, range_of, bound_of, value_of, values_of, tracked_criterion, criterion_alone, criterion_on, argument_in, criterion_of, operator_of, numbers_of, patterns_of, test_of, is_reserved, declared_name};
 
-use crate::condition::{Cond, Term, Test};
 use crate::criterion::{Criterion, Operator, Pattern};
 use crate::fault::AclFault;
+use crate::test::Test;
 use addr_core::read_net;
 use list_core::{Seq, Stop};
-use std::alloc::{AllocError, Global};
+use std::alloc::Global;
 use text_core::decimal::read_number;
-use text_core::{Word, cut_at};
+use text_core::{Word, cut_at, is_name};
 
 /// How the values of a test are read.
 #[derive(Clone, Copy)]
@@ -121,15 +121,81 @@ fn values(alloc: Global, form: Form, words: &[Word]) -> Result<Seq<Pattern>, Sto
     }
 }
 
-fn criterion(word: &Word) -> Result<Criterion, AclFault>
-    ensures { result ≡ criterion_of word.now }
+/// A count of a counter.
+fn tracked_criterion(word: &Word) -> Result<Criterion, AclFault>
+    ensures { result ≡ tracked_criterion word.now }
+{
+    if word.is(b"sc0_conn_cur") {
+        Ok(Criterion::TrackedConnections(0))
+    } else if word.is(b"sc1_conn_cur") {
+        Ok(Criterion::TrackedConnections(1))
+    } else if word.is(b"sc2_conn_cur") {
+        Ok(Criterion::TrackedConnections(2))
+    } else if word.is(b"sc0_conn_cnt") {
+        Ok(Criterion::TrackedTotal(0))
+    } else if word.is(b"sc1_conn_cnt") {
+        Ok(Criterion::TrackedTotal(1))
+    } else if word.is(b"sc2_conn_cnt") {
+        Ok(Criterion::TrackedTotal(2))
+    } else {
+        Err(AclFault::UnknownCriterion)
+    }
+}
+
+/// A criterion without argument.
+fn criterion_alone(word: &Word) -> Result<Criterion, AclFault>
+    ensures { result ≡ criterion_alone word.now }
 {
     if word.is(b"src") {
         Ok(Criterion::Source)
+    } else if word.is(b"src_conn_cur") {
+        Ok(Criterion::SourceConnections(None))
+    } else if word.is(b"src_conn_cnt") {
+        Ok(Criterion::SourceTotal(None))
     } else if word.is(b"fe_conn") {
-        Ok(Criterion::FrontendConnections)
+        Ok(Criterion::FrontendConnections(None))
+    } else {
+        tracked_criterion(word)
+    }
+}
+
+/// A criterion with a name as its argument.
+fn criterion_on(keyword: &Word, name: Seq<u8>) -> Result<Criterion, AclFault>
+    ensures { result ≡ criterion_on keyword.now name }
+{
+    if keyword.is(b"src_conn_cur") {
+        Ok(Criterion::SourceConnections(Some(name)))
+    } else if keyword.is(b"src_conn_cnt") {
+        Ok(Criterion::SourceTotal(Some(name)))
+    } else if keyword.is(b"fe_conn") {
+        Ok(Criterion::FrontendConnections(Some(name)))
+    } else if keyword.is(b"be_conn") {
+        Ok(Criterion::BackendConnections(name))
     } else {
         Err(AclFault::UnknownCriterion)
+    }
+}
+
+/// The name between the brackets, by the text after the first.
+fn argument(alloc: Global, text: &[u8]) -> Result<Seq<u8>, Stop<AclFault>>
+    ensures { Gives result (argument_in (cut (41 ∷ []) text.now)) }
+{
+    match cut_at(text, b')') {
+        Some((name, [])) if is_name(name) => Ok(Seq::duplicate_of(alloc, name)?),
+        _ => Err(Stop::Fault(AclFault::UnknownCriterion)),
+    }
+}
+
+fn criterion(alloc: Global, word: &Word) -> Result<Criterion, Stop<AclFault>>
+    ensures { Gives result (criterion_of word.now) }
+{
+    let read = match cut_at(word.bytes(), b'(') {
+        Some((keyword, rest)) => criterion_on(&Word::of(keyword), argument(alloc, rest)?),
+        None => criterion_alone(word),
+    };
+    match read {
+        Ok(criterion) => Ok(criterion),
+        Err(fault) => Err(Stop::Fault(fault)),
     }
 }
 
@@ -167,149 +233,62 @@ fn numbers(alloc: Global, words: &[Word]) -> Result<Seq<Pattern>, Stop<AclFault>
 /// The values of a criterion.
 fn patterns(
     alloc: Global,
-    criterion: Criterion,
+    criterion: &Criterion,
     words: &[Word],
 ) -> Result<Seq<Pattern>, Stop<AclFault>>
-    ensures { Gives result (patterns_of criterion words.now) }
+    ensures { Gives result (patterns_of criterion.now words.now) }
 {
     match criterion {
         Criterion::Source => values(alloc, Form::Networks, words),
-        Criterion::FrontendConnections => numbers(alloc, words),
+        Criterion::TrackedConnections(_)
+        | Criterion::TrackedTotal(_)
+        | Criterion::SourceConnections(_)
+        | Criterion::SourceTotal(_)
+        | Criterion::FrontendConnections(_)
+        | Criterion::BackendConnections(_) => numbers(alloc, words),
     }
 }
 
 /// A criterion and its values.
-fn test(alloc: Global, words: &[Word]) -> Result<Test, Stop<AclFault>>
+pub(crate) fn test(alloc: Global, words: &[Word]) -> Result<Test, Stop<AclFault>>
     ensures { Gives result (test_of words.now) }
 {
     match words {
         [] => Err(Stop::Fault(AclFault::UnknownCriterion)),
-        [word, rest @ ..] => match criterion(word) {
-            Ok(criterion) => Ok(Test {
-                criterion,
-                patterns: patterns(alloc, criterion, rest)?,
-            }),
-            Err(fault) => Err(Stop::Fault(fault)),
-        },
-    }
-}
-
-/// The words between braces.
-fn inner_test(alloc: Global, words: &[Word]) -> Result<Test, Stop<AclFault>>
-    ensures { Gives result (inner_test words.now) }
-{
-    if words.is_empty() {
-        return Err(Stop::Fault(AclFault::BadBraces));
-    }
-    test(alloc, words)
-}
-
-/// The fault of words without their closing brace.
-fn open_brace_fault(alloc: Global, words: &[Word]) -> Stop<AclFault>
-    ensures { Gives (Err result) (open_brace_fault (inner_test words.now)) }
-{
-    match inner_test(alloc, words) {
-        Err(Stop::Memory) => Stop::Memory,
-        Err(Stop::Fault(AclFault::UnknownCriterion)) => Stop::Fault(AclFault::UnknownCriterion),
-        Err(Stop::Fault(AclFault::BadPattern)) => Stop::Fault(AclFault::BadPattern),
-        _ => Stop::Fault(AclFault::BadBraces),
-    }
-}
-
-/// After the closing brace no word is left.
-fn test_alone(words: &[Word], test: Test) -> Result<Test, Stop<AclFault>>
-    ensures { Gives result (test_alone test words.now) }
-{
-    match words {
-        [] => Ok(test),
-        [_, ..] => Err(Stop::Fault(AclFault::UnknownName)),
-    }
-}
-
-/// The place of the closing brace.
-fn closing_brace(words: &[Word]) -> Option<usize>
-    ensures place { result ≡ position (λ w. bytes_eq w (codes "}")) words.now }
-    ensures inside { IfSome result (λ closing_brace. closing_brace < length words.now) }
-{
-    words.iter().position(|word| word.is(b"}"))
-}
-
-/// The words after the opening brace.
-fn test_to_brace(alloc: Global, words: &[Word]) -> Result<Test, Stop<AclFault>>
-    ensures { Gives result (test_to_brace words.now (position (λ w. bytes_eq w (codes "}")) words.now)) }
-{
-    match closing_brace(words) {
-        Some(closing_brace) => {
-            let test = inner_test(alloc, &words[..closing_brace])?;
-            test_alone(&words[closing_brace + 1..], test)
-        }
-        None => Err(open_brace_fault(alloc, words)),
-    }
-}
-
-/// One test in braces.
-fn in_braces(alloc: Global, words: &[Word]) -> Result<Test, Stop<AclFault>>
-    ensures { Gives result (in_braces words.now) }
-{
-    match words {
-        [] => Err(Stop::Fault(AclFault::EmptyGroup)),
         [word, rest @ ..] => {
-            if word.is(b"{") {
-                test_to_brace(alloc, rest)
-            } else {
-                Err(Stop::Fault(AclFault::UnknownName))
-            }
+            let criterion = criterion(alloc, word)?;
+            let patterns = patterns(alloc, &criterion, rest)?;
+            Ok(Test::of(criterion, patterns))
         }
     }
 }
 
-/// One group of one term.
-fn groups(alloc: Global, test: Test) -> Result<Seq<Seq<Term>>, AllocError>
-    ensures { IfOk result (λ groups. groups ≡ groups_of test) }
+/// The name that an `acl` line declares: letters, digits, `-`, `_`, `.` and `:`, and not `TRUE`,
+/// `FALSE` or `or`, which mean something else in a condition.
+pub fn read_name<'a>(word: &Word<'a>) -> Result<Word<'a>, AclFault>
+    ensures { result ≡ declared_name word.now }
 {
-    let mut tests = Seq::new(alloc);
-    tests.push(test)?;
-    let mut terms = Seq::new(alloc);
-    terms.push(Term {
-        negated: false,
-        tests,
-    })?;
-    let mut groups = Seq::new(alloc);
-    groups.push(terms)?;
-    Ok(groups)
+    if !is_name(word.bytes()) || is_reserved(word) {
+        return Err(AclFault::BadName);
+    }
+    Ok(word.again())
 }
 
-fn condition(alloc: Global, words: &[Word]) -> Result<Cond, Stop<AclFault>>
-    ensures { Gives result (condition_of words.now) }
+fn is_reserved(word: &Word) -> bool
+    ensures { result ≡ is_reserved word.now }
 {
-    let test = in_braces(alloc, words)?;
-    Ok(Cond {
-        groups: groups(alloc, test)?,
-    })
+    word.is(b"TRUE") || word.is(b"FALSE") || word.is(b"or")
 }
 
 /// The test that the words are: a criterion and its values, as of an `acl` line after its name
-/// (HAProxy manual, `acl`). The criteria are `src` and `fe_conn` without argument. Of the words, read
-/// from the left, the first wrong one decides.
+/// (HAProxy manual, `acl`). Of the words, read from the left, the first wrong one decides; without a
+/// word there is no criterion.
 pub fn read_test(alloc: Global, words: &[Word]) -> Result<Test, AclFault>
     ensures ok { IfOk result (λ test. test_of words.now ≡ Ok test) }
     ensures fault { IfErr result (λ fault. (fault ≡ AclFault.NoMemory) ⊎ (test_of words.now ≡ Err fault)) }
 {
     match test(alloc, words) {
         Ok(test) => Ok(test),
-        Err(Stop::Fault(fault)) => Err(fault),
-        Err(Stop::Memory) => Err(AclFault::NoMemory),
-    }
-}
-
-/// The condition that the words after `if` or `unless` are (HAProxy manual, "using ACLs to form
-/// conditions"): one test in braces. A word outside them is a name, and none is declared.
-pub fn read_cond(alloc: Global, words: &[Word]) -> Result<Cond, AclFault>
-    ensures ok { IfOk result (λ condition. condition_of words.now ≡ Ok condition) }
-    ensures fault { IfErr result (λ fault. (fault ≡ AclFault.NoMemory) ⊎ (condition_of words.now ≡ Err fault)) }
-{
-    match condition(alloc, words) {
-        Ok(condition) => Ok(condition),
         Err(Stop::Fault(fault)) => Err(fault),
         Err(Stop::Memory) => Err(AclFault::NoMemory),
     }

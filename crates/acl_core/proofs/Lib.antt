@@ -1,0 +1,3 @@
+pub mod GroupLemmas
+pub mod SplitLemmas
+pub mod TruthLemmas
