@@ -1,8 +1,7 @@
--- What a `tcp-request` line says.
+-- What a `tcp-request` or `use_backend` line says.
 use Rattle.std.specs.Prelude.{ℕ, ◌∷◌, List, [], Some, None, Result, Ok, Err, codes, if◌then◌else◌}
 use Rattle.std.specs.Str.{bytes_eq}
 use Rattle.list_core.specs.Each.{◌>>=◌}
-use Rattle.acl_core.specs.declared.fault.AclFault.{AclFault}
 use Rattle.acl_core.specs.declared.condition.When.{When}
 use Rattle.acl_core.specs.declared.condition.When.TheVariants as whens
 use Rattle.acl_core.specs.Reading.{condition_of}
@@ -13,20 +12,17 @@ use Rattle.conf_line.specs.declared.statement.Ruleset.TheVariants.{Connection, S
 use Rattle.conf_line.specs.declared.statement.Statement.{Statement}
 use Rattle.conf_line.specs.declared.statement.Statement.TheVariants as statements
 use Rattle.conf_line.specs.declared.fault.ConfKind.{ConfKind}
-use Rattle.conf_line.specs.declared.fault.ConfKind.TheVariants.{Unsupported, Acl}
+use Rattle.conf_line.specs.declared.fault.ConfKind.TheVariants.{Unsupported}
 use Rattle.conf_line.specs.Words.{word_at, name_at}
+use Rattle.conf_line.specs.Acls.{acl_result}
 
--- When a rule applies: always, or by a condition after `if` or `unless`.
+-- When a line applies: always, or by a condition after `if` or `unless`, which may ask for the known names.
 
-abbrev pub acl_result : {X : Type 0} → Result X AclFault → Result X ConfKind
-acl_result (Ok x) = Ok x
-acl_result (Err fault) = Err (Acl fault)
-
-abbrev pub when_of : List (List ℕ) → Result When ConfKind
-when_of [] = Ok whens.Always
-when_of (word ∷ rest) =
-    if bytes_eq word (codes "if") then (acl_result (condition_of rest) >>= λ condition. Ok (whens.If condition))
-    else if bytes_eq word (codes "unless") then (acl_result (condition_of rest) >>= λ condition. Ok (whens.Unless condition))
+abbrev pub when_of : List (List ℕ) → List (List ℕ) → Result When ConfKind
+when_of known [] = Ok whens.Always
+when_of known (word ∷ rest) =
+    if bytes_eq word (codes "if") then (acl_result (condition_of known rest) >>= λ condition. Ok (whens.If condition))
+    else if bytes_eq word (codes "unless") then (acl_result (condition_of known rest) >>= λ condition. Ok (whens.Unless condition))
     else Err Unsupported
 
 -- The action.
@@ -70,8 +66,16 @@ head_at words = do
   action ← action_at list.1
   Ok (list.0, action)
 
-abbrev pub rule_of : List (List ℕ) → Result Statement ConfKind
-rule_of words = do
+abbrev pub rule_of : List (List ℕ) → List (List ℕ) → Result Statement ConfKind
+rule_of known words = do
   head ← head_at words
-  when ← when_of head.1.1
+  when ← when_of known head.1.1
   Ok (statements.Rule head.0 head.1.0 when)
+
+-- The backend that is used.
+
+abbrev pub choice_of : List (List ℕ) → List (List ℕ) → Result Statement ConfKind
+choice_of known words = do
+  name ← name_at words
+  when ← when_of known name.1
+  Ok (statements.UseBackend name.0 when)

@@ -40,7 +40,9 @@ IsSoundStatement (statements.MaxConn limit) = IsWithin MOST_CONNECTIONS limit
 IsSoundStatement (statements.DefaultBackend name) = Unit {0}
 IsSoundStatement (statements.Balance method) = Unit {0}
 IsSoundStatement (statements.Bind at proxy) = Unit {0}
+IsSoundStatement (statements.Acl name test) = Unit {0}
 IsSoundStatement (statements.Rule list action when) = IsSoundAction action
+IsSoundStatement (statements.UseBackend name when) = Unit {0}
 IsSoundStatement (statements.StickTable table) = IsWithin MOST_ENTRIES table.size
 IsSoundStatement (statements.Server server) = IsSoundServer server
 

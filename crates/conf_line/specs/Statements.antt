@@ -15,7 +15,8 @@ use Rattle.conf_line.specs.declared.statement.LineReading.{LineReading}
 use Rattle.conf_line.specs.declared.limits.TheConstants.{MOST_CONNECTIONS}
 use Rattle.conf_line.specs.Keywords.{keyword_of, check_keyword}
 use Rattle.conf_line.specs.Words.{word_at, end_at, name_at, number_at, bind_at}
-use Rattle.conf_line.specs.Rules.{rule_of}
+use Rattle.conf_line.specs.Acls.{acl_of}
+use Rattle.conf_line.specs.Rules.{rule_of, choice_of}
 use Rattle.conf_line.specs.Servers.{server_of}
 use Rattle.conf_line.specs.Tables.{table_of}
 
@@ -121,35 +122,35 @@ abbrev pub plain_reading : Result Statement ConfKind → Result LineReading Conf
 plain_reading (Err kind) = Err kind
 plain_reading (Ok reading) = Ok (record { statement = reading; repeats = false; exceeds = false })
 
--- what a line says after its keyword; some of the language's lines are not taken
-abbrev pub keyword_reading : SectionKind → Keyword → List (List ℕ) → Result LineReading ConfKind
-keyword_reading kind k.Global words = plain_reading (global_of words)
-keyword_reading kind k.Defaults words = plain_reading (defaults_of words)
-keyword_reading kind k.Frontend words = plain_reading (frontend_of words)
-keyword_reading kind k.Backend words = plain_reading (backend_of words)
-keyword_reading kind k.Mode words = plain_reading (mode_of words)
-keyword_reading kind k.MaxConn words = max_conn_of words
-keyword_reading kind k.DefaultBackend words = plain_reading (default_backend_of words)
-keyword_reading kind k.Balance words = plain_reading (balance_of words)
-keyword_reading kind k.Bind words = plain_reading (bind_of words)
-keyword_reading kind k.TcpRequest words = plain_reading (rule_of words)
-keyword_reading kind k.StickTable words = table_of words
-keyword_reading kind k.Server words = server_of words
-keyword_reading kind k.Log words = plain_reading (log_of kind words)
-keyword_reading kind k.Option words = plain_reading (without_effect_if is_option words)
-keyword_reading kind k.Timeout words = plain_reading (without_effect_if is_timeout words)
-keyword_reading kind k.Daemon words = plain_reading (Ok statements.Nothing)
-keyword_reading kind k.User words = plain_reading (Ok statements.Nothing)
-keyword_reading kind k.Group words = plain_reading (Ok statements.Nothing)
-keyword_reading kind k.Chroot words = plain_reading (Ok statements.Nothing)
-keyword_reading kind k.Pidfile words = plain_reading (Ok statements.Nothing)
-keyword_reading kind k.Nbthread words = plain_reading (Ok statements.Nothing)
-keyword_reading kind k.Acl words = Err Unsupported
-keyword_reading kind k.UseBackend words = Err Unsupported
-keyword_reading kind k.Listen words = Err Unsupported
-keyword_reading kind k.Unknown words = Err Unsupported
+-- what a line says after its keyword, where those names are known; some of the language's lines are not taken
+abbrev pub keyword_reading : SectionKind → List (List ℕ) → Keyword → List (List ℕ) → Result LineReading ConfKind
+keyword_reading kind known k.Global words = plain_reading (global_of words)
+keyword_reading kind known k.Defaults words = plain_reading (defaults_of words)
+keyword_reading kind known k.Frontend words = plain_reading (frontend_of words)
+keyword_reading kind known k.Backend words = plain_reading (backend_of words)
+keyword_reading kind known k.Mode words = plain_reading (mode_of words)
+keyword_reading kind known k.MaxConn words = max_conn_of words
+keyword_reading kind known k.DefaultBackend words = plain_reading (default_backend_of words)
+keyword_reading kind known k.Balance words = plain_reading (balance_of words)
+keyword_reading kind known k.Bind words = plain_reading (bind_of words)
+keyword_reading kind known k.Acl words = plain_reading (acl_of words)
+keyword_reading kind known k.TcpRequest words = plain_reading (rule_of known words)
+keyword_reading kind known k.UseBackend words = plain_reading (choice_of known words)
+keyword_reading kind known k.StickTable words = table_of words
+keyword_reading kind known k.Server words = server_of words
+keyword_reading kind known k.Log words = plain_reading (log_of kind words)
+keyword_reading kind known k.Option words = plain_reading (without_effect_if is_option words)
+keyword_reading kind known k.Timeout words = plain_reading (without_effect_if is_timeout words)
+keyword_reading kind known k.Daemon words = plain_reading (Ok statements.Nothing)
+keyword_reading kind known k.User words = plain_reading (Ok statements.Nothing)
+keyword_reading kind known k.Group words = plain_reading (Ok statements.Nothing)
+keyword_reading kind known k.Chroot words = plain_reading (Ok statements.Nothing)
+keyword_reading kind known k.Pidfile words = plain_reading (Ok statements.Nothing)
+keyword_reading kind known k.Nbthread words = plain_reading (Ok statements.Nothing)
+keyword_reading kind known k.Listen words = Err Unsupported
+keyword_reading kind known k.Unknown words = Err Unsupported
 
--- what a line says in a section of that kind
-abbrev pub line_reading : SectionKind → List (List ℕ) → Result LineReading ConfKind
-line_reading kind [] = plain_reading (Ok statements.Nothing)
-line_reading kind (word ∷ rest) = check_keyword kind (keyword_of word) >>= λ _. keyword_reading kind (keyword_of word) rest
+-- what a line says in a section of that kind, where the earlier lines of the section declare those names
+abbrev pub line_reading : SectionKind → List (List ℕ) → List (List ℕ) → Result LineReading ConfKind
+line_reading kind known [] = plain_reading (Ok statements.Nothing)
+line_reading kind known (word ∷ rest) = check_keyword kind (keyword_of word) >>= λ _. keyword_reading kind known (keyword_of word) rest

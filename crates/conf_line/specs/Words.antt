@@ -1,11 +1,11 @@
 -- The words of a line, read from the left: the first that is wrong decides.
-use Rattle.std.specs.Prelude.{ℕ, Bool, ◌≡◌, ◌||◌, ◌&&◌, ◌==◌, ◌∷◌, ◌++◌, nat_le, List, [], Option, Some, None, Result, Ok, Err, if◌then◌else◌}
-use Rattle.std.specs.List.{list_all}
+use Rattle.std.specs.Prelude.{ℕ, ◌≡◌, ◌==◌, ◌∷◌, ◌++◌, List, [], Option, Some, None, Result, Ok, Err, if◌then◌else◌}
 use Rattle.std.specs.Option.{option_or}
 use Rattle.list_core.specs.Each.{◌>>=◌}
 use Rattle.addr_core.specs.declared.addr.Addr.TheVariants.{V4}
 use Rattle.addr_core.specs.declared.addr.Endpoint.{Endpoint}
 use Rattle.addr_core.specs.declared.reading.AddrFault.{AddrFault}
+use Rattle.text_core.specs.Names.{is_name}
 use Rattle.text_core.specs.Decimal.{decimal_of, number_of}
 use Rattle.addr_core.specs.Text.{endpoint_of}
 use Rattle.conf_line.specs.declared.fault.ConfKind.{ConfKind}
@@ -26,15 +26,11 @@ abbrev pub end_at : List (List ℕ) → Result (Unit {0}) ConfKind
 end_at [] = Ok tt
 end_at (word ∷ rest) = Err ExtraWord
 
--- a letter, a digit, or one of `-`, `.`, `:` and `_`
-abbrev pub is_name_byte : ℕ → Bool
-is_name_byte b = (nat_le 48 b && nat_le b 58) || (nat_le 65 b && nat_le b 90) || (nat_le 97 b && nat_le b 122) || b == 45 || b == 46 || b == 95
-
 -- the name of a section or a server
 abbrev pub name_at : List (List ℕ) → Result (List ℕ × List (List ℕ)) ConfKind
 name_at words = do
   word ← word_at words
-  if list_all is_name_byte word.0 then Ok word else Err Unsupported
+  if is_name word.0 then Ok word else Err Unsupported
 
 -- Numbers.
 

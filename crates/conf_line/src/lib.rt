@@ -10,6 +10,7 @@ pub use statement::{
     TableWords, TrackWords,
 };
 
+mod acl;
 mod fault;
 mod keyword;
 mod limits;

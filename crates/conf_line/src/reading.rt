@@ -4,12 +4,14 @@ ghost use Rattle.list_core.specs.Each.{Gives};
 ghost use Rattle.conf_line.specs.Keywords.{keyword_of, check_keyword};
 ghost use Rattle.conf_line.specs.Statements.{only_name, global_of, defaults_of, frontend_of, backend_of, mode_of, default_backend_of, method_of, balance_of, accepts_proxy, bind_of, max_conn_of, without_effect_if, is_global, is_option, is_timeout, log_of, plain_reading, keyword_reading, line_reading};
 ghost use Rattle.conf_line.specs.Sound.{IsSoundStatement, IsSoundReading};
-ghost use Rattle.conf_line.specs.Rules.{rule_of};
+ghost use Rattle.conf_line.specs.Acls.{acl_of};
+ghost use Rattle.conf_line.specs.Rules.{rule_of, choice_of};
 
+use crate::acl::acl;
 use crate::fault::ConfKind;
 use crate::keyword::{Keyword, check_keyword, keyword_of};
 use crate::limits::MOST_CONNECTIONS;
-use crate::rule::rule;
+use crate::rule::{choice, rule};
 use crate::server::server;
 use crate::statement::{LineReading, SectionKind, Statement};
 use crate::table::table;
@@ -219,14 +221,17 @@ fn plain_reading<'a>(
     }
 }
 
-/// A rule's line.
-fn rule_reading<'a>(alloc: Global, words: &[Word<'a>]) -> Result<LineReading<'a>, Stop<ConfKind>>
-    ensures value { Gives result (plain_reading (rule_of words.now)) }
+/// A line in which nothing is given twice and no number is greater than its limit, and for which
+/// memory may be taken.
+fn taken_reading<'a>(
+    statement: Result<Statement<'a>, Stop<ConfKind>>,
+) -> Result<LineReading<'a>, Stop<ConfKind>>
+    requires { IfOk statement IsSoundStatement }
+    ensures value { (read : Result Statement ConfKind) → Gives statement.entry read → Gives result (plain_reading read) }
     ensures sound { IfOk result IsSoundReading }
 {
-    let statement = rule(alloc, words)?;
     Ok(LineReading {
-        statement,
+        statement: statement?,
         repeats: false,
         exceeds: false,
     })
@@ -250,10 +255,11 @@ fn without_memory<'a>(
 fn keyword_reading<'a>(
     alloc: Global,
     kind: SectionKind,
+    known: &[Word],
     keyword: Keyword,
     words: &[Word<'a>],
 ) -> Result<LineReading<'a>, Stop<ConfKind>>
-    ensures value { Gives result (keyword_reading kind keyword words.now) }
+    ensures value { Gives result (keyword_reading kind known.now keyword words.now) }
     ensures sound { IfOk result IsSoundReading }
 {
     match keyword {
@@ -266,7 +272,9 @@ fn keyword_reading<'a>(
         Keyword::DefaultBackend => plain_reading(default_backend(words)),
         Keyword::Balance => plain_reading(balance(words)),
         Keyword::Bind => plain_reading(bind(words)),
-        Keyword::TcpRequest => rule_reading(alloc, words),
+        Keyword::Acl => taken_reading(acl(alloc, words)),
+        Keyword::TcpRequest => taken_reading(rule(alloc, known, words)),
+        Keyword::UseBackend => taken_reading(choice(alloc, known, words)),
         Keyword::StickTable => without_memory(table(words)),
         Keyword::Server => without_memory(server(words)),
         Keyword::Log => plain_reading(log(kind, words)),
@@ -278,19 +286,19 @@ fn keyword_reading<'a>(
         | Keyword::Chroot
         | Keyword::Pidfile
         | Keyword::Nbthread => plain_reading(Ok(Statement::Nothing)),
-        Keyword::Acl | Keyword::UseBackend | Keyword::Listen | Keyword::Unknown => {
-            Err(Stop::Fault(ConfKind::Unsupported))
-        }
+        Keyword::Listen | Keyword::Unknown => Err(Stop::Fault(ConfKind::Unsupported)),
     }
 }
 
-/// What a line says in a section of that kind.
+/// What a line says in a section of that kind, where the earlier lines of the section declare those
+/// names.
 pub fn read_line<'a>(
     alloc: Global,
     kind: SectionKind,
+    known: &[Word],
     words: &[Word<'a>],
 ) -> Result<LineReading<'a>, Stop<ConfKind>>
-    ensures value { Gives result (line_reading kind words.now) }
+    ensures value { Gives result (line_reading kind known.now words.now) }
     ensures sound { IfOk result IsSoundReading }
 {
     match words {
@@ -298,7 +306,7 @@ pub fn read_line<'a>(
         [word, rest @ ..] => {
             let keyword = keyword_of(word);
             match check_keyword(kind, keyword) {
-                Ok(()) => keyword_reading(alloc, kind, keyword, rest),
+                Ok(()) => keyword_reading(alloc, kind, known, keyword, rest),
                 Err(kind) => Err(Stop::Fault(kind)),
             }
         }

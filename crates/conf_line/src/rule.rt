@@ -2,9 +2,10 @@
 ghost use Rattle.std.specs.Prelude.{◌≡◌, ◌<◌, IfOk};
 ghost use Rattle.list_core.specs.Each.{Gives};
 ghost use Rattle.acl_core.specs.Reading as reading;
+ghost use Rattle.conf_line.specs.Acls.{acl_result};
 ghost use Rattle.conf_line.specs.Words.{Sees};
 ghost use Rattle.conf_line.specs.Sound.{IsSoundAction, IsSoundStatement};
-ghost use Rattle.conf_line.specs.Rules.{acl_result, when_of, table_at, track_at, action_at, ruleset_at, head_at, rule_of};
+ghost use Rattle.conf_line.specs.Rules.{when_of, table_at, track_at, action_at, ruleset_at, head_at, rule_of, choice_of};
 
 use crate::fault::ConfKind;
 use crate::limits::COUNTERS;
@@ -15,10 +16,10 @@ use list_core::Stop;
 use std::alloc::Global;
 use text_core::Word;
 
-fn condition(alloc: Global, words: &[Word]) -> Result<Cond, Stop<ConfKind>>
-    ensures { Gives result (acl_result (reading.condition_of words.now)) }
+fn condition(alloc: Global, known: &[Word], words: &[Word]) -> Result<Cond, Stop<ConfKind>>
+    ensures { Gives result (acl_result (reading.condition_of known.now words.now)) }
 {
-    match read_cond(alloc, words) {
+    match read_cond(alloc, words, known) {
         Ok(condition) => Ok(condition),
         Err(fault) => {
             if matches!(fault, AclFault::NoMemory) {
@@ -29,17 +30,17 @@ fn condition(alloc: Global, words: &[Word]) -> Result<Cond, Stop<ConfKind>>
     }
 }
 
-/// When a rule applies, by the words after its action.
-fn when(alloc: Global, words: &[Word]) -> Result<When, Stop<ConfKind>>
-    ensures { Gives result (when_of words.now) }
+/// When a line applies, by the words after its action, where those names are known.
+fn when(alloc: Global, known: &[Word], words: &[Word]) -> Result<When, Stop<ConfKind>>
+    ensures { Gives result (when_of known.now words.now) }
 {
     match words {
         [] => Ok(When::Always),
         [word, rest @ ..] => {
             if word.is(b"if") {
-                Ok(When::If(condition(alloc, rest)?))
+                Ok(When::If(condition(alloc, known, rest)?))
             } else if word.is(b"unless") {
-                Ok(When::Unless(condition(alloc, rest)?))
+                Ok(When::Unless(condition(alloc, known, rest)?))
             } else {
                 Err(Stop::Fault(ConfKind::Unsupported))
             }
@@ -138,13 +139,36 @@ fn head_at<'a, 'w>(words: &'w [Word<'a>]) -> Result<(Ruleset, Action<'a>, &'w [W
     Ok((ruleset, action, rest))
 }
 
-/// A rule.
-pub fn rule<'a>(alloc: Global, words: &[Word<'a>]) -> Result<Statement<'a>, Stop<ConfKind>>
-    ensures value { Gives result (rule_of words.now) }
+/// A rule, where those names are known.
+pub fn rule<'a>(
+    alloc: Global,
+    known: &[Word],
+    words: &[Word<'a>],
+) -> Result<Statement<'a>, Stop<ConfKind>>
+    ensures value { Gives result (rule_of known.now words.now) }
     ensures sound { IfOk result IsSoundStatement }
 {
     match head_at(words) {
-        Ok((ruleset, action, rest)) => Ok(Statement::Rule(ruleset, action, when(alloc, rest)?)),
+        Ok((ruleset, action, rest)) => Ok(Statement::Rule(
+            ruleset,
+            action,
+            when(alloc, known, rest)?,
+        )),
+        Err(kind) => Err(Stop::Fault(kind)),
+    }
+}
+
+/// The backend that is used, where those names are known.
+pub fn choice<'a>(
+    alloc: Global,
+    known: &[Word],
+    words: &[Word<'a>],
+) -> Result<Statement<'a>, Stop<ConfKind>>
+    ensures value { Gives result (choice_of known.now words.now) }
+    ensures sound { IfOk result IsSoundStatement }
+{
+    match name_at(words) {
+        Ok((name, rest)) => Ok(Statement::UseBackend(name, when(alloc, known, rest)?)),
         Err(kind) => Err(Stop::Fault(kind)),
     }
 }

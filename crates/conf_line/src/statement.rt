@@ -1,5 +1,5 @@
 //! What the lines of a configuration say.
-use acl_core::When;
+use acl_core::{Test, When};
 use addr_core::Endpoint;
 use proxy_types::{KeyType, Method, Stores};
 use text_core::Word;
@@ -95,7 +95,11 @@ pub enum Statement<'a> {
     Balance(Method),
     /// Where connections are accepted, and whether each begins with a PROXY header.
     Bind(Endpoint, bool),
+    /// A name, and a test that it stands for.
+    Acl(Word<'a>, Test),
     Rule(Ruleset, Action<'a>, When),
+    /// The backend that is used, and when.
+    UseBackend(Word<'a>, When),
     StickTable(TableWords),
     Server(ServerWords<'a>),
 }

@@ -1,14 +1,13 @@
 //! The words of a line, read from the left.
 ghost use Rattle.std.specs.Prelude.{◌≡◌, ◌≤◌, drop, length};
-ghost use Rattle.std.specs.List.{list_all};
-ghost use Rattle.conf_line.specs.Words.{Sees, word_at, end_at, is_name_byte, name_at, number_at, address_at, wildcard_at, star_at, bind_at};
+ghost use Rattle.conf_line.specs.Words.{Sees, word_at, end_at, name_at, number_at, address_at, wildcard_at, star_at, bind_at};
 ghost use Rattle.addr_core.specs.Text.{endpoint_of};
 ghost use Rattle.text_core.specs.Decimal.{decimal_of};
 
 use crate::fault::ConfKind;
 use addr_core::{Addr, Endpoint, read_endpoint};
-use text_core::Word;
 use text_core::decimal::{read_decimal, read_number};
+use text_core::{Word, is_name};
 
 /// A word, and the words after it.
 pub fn word_at<'a, 'w>(words: &'w [Word<'a>]) -> Result<(&'w Word<'a>, &'w [Word<'a>]), ConfKind>
@@ -39,19 +38,6 @@ pub fn end_at(words: &[Word]) -> Result<(), ConfKind>
         [] => Ok(()),
         [_, ..] => Err(ConfKind::ExtraWord),
     }
-}
-
-fn is_name(bytes: &[u8]) -> bool
-    ensures { result ≡ list_all is_name_byte bytes.now }
-{
-    bytes.iter().all(|b| {
-        b'0' <= *b && *b <= b':'
-            || b'A' <= *b && *b <= b'Z'
-            || b'a' <= *b && *b <= b'z'
-            || *b == b'-'
-            || *b == b'.'
-            || *b == b'_'
-    })
 }
 
 /// The name of a section or a server.

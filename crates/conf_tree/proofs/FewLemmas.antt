@@ -15,7 +15,7 @@ use Rattle.conf_line.specs.declared.statement.Statement.{Statement}
 use Rattle.conf_line.specs.declared.statement.Statement.TheVariants as statements
 use Rattle.conf_line.specs.declared.statement.LineReading.{LineReading}
 use Rattle.conf_line.specs.Statements.{line_reading}
-use Rattle.conf_tree.specs.Config.{place_after, place_of, claim_of, claims_of, is_frontend, is_backend, is_taken, is_full, check_line, line_after, at_line, item_after, has_effect, with_effect, next_item, items_in}
+use Rattle.conf_tree.specs.Config.{place_after, place_of, known_names, claim_of, claims_of, is_frontend, is_backend, is_taken, is_full, check_line, line_after, at_line, item_after, has_effect, with_effect, next_item, items_in}
 use Rattle.conf_tree.specs.Few.{FewSections}
 
 -- An item that was read left room.
@@ -30,7 +30,7 @@ allowed_left_room items place reading u is = by (reading.repeats || is_taken ite
     by false false false e = refl
 
 judged_left_room : (items : List ConfigLine) (line : Line) (item : ConfigLine) → line_after items line ≡ Ok item → is_full items item.place item.statement ≡ false
-judged_left_room items line item is = by (line_reading (place_after items).kind line.words) is
+judged_left_room items line item is = by (line_reading (place_after items).kind (known_names items) line.words) is
   where
     said_by : LineReading → ConfigLine
     said_by reading = record { line = line.number; place = place_of (place_after items) (length items) reading.statement; statement = reading.statement }
@@ -97,6 +97,8 @@ frontends_of items line place (statements.DefaultBackend name) full few = (omega
 frontends_of items line place (statements.Balance method) full few = (omega arith)
 frontends_of items line place (statements.Bind at proxy) full few = (omega arith)
 frontends_of items line place (statements.Rule list action when) full few = (omega arith)
+frontends_of items line place (statements.UseBackend name when) full few = (omega arith)
+frontends_of items line place (statements.Acl name test) full few = (omega arith)
 frontends_of items line place (statements.StickTable table) full few = (omega arith)
 frontends_of items line place (statements.Server server) full few = (omega arith)
 
@@ -112,6 +114,8 @@ backends_of items line place (statements.DefaultBackend name) full few = (omega 
 backends_of items line place (statements.Balance method) full few = (omega arith)
 backends_of items line place (statements.Bind at proxy) full few = (omega arith)
 backends_of items line place (statements.Rule list action when) full few = (omega arith)
+backends_of items line place (statements.UseBackend name when) full few = (omega arith)
+backends_of items line place (statements.Acl name test) full few = (omega arith)
 backends_of items line place (statements.StickTable table) full few = (omega arith)
 backends_of items line place (statements.Server server) full few = (omega arith)
 

@@ -16,7 +16,7 @@ use Rattle.conf_line.specs.declared.fault.ConfFault.{ConfFault}
 use Rattle.conf_tree.specs.declared.tree.ConfigLine.{ConfigLine}
 use Rattle.conf_line.specs.declared.statement.LineReading.{LineReading}
 use Rattle.conf_line.specs.Statements.{line_reading}
-use Rattle.conf_tree.specs.Config.{place_after, place_of, check_line, line_after, at_line, item_after, has_effect, with_effect, next_item, items_in}
+use Rattle.conf_tree.specs.Config.{place_after, place_of, known_names, check_line, line_after, at_line, item_after, has_effect, with_effect, next_item, items_in}
 use Rattle.conf_tree.specs.Rising.{AreAbove, Rises}
 
 -- Numbers of lines.
@@ -65,7 +65,7 @@ numbered text all read i line there =
 -- Lines of items.
 
 judged_at : (items : List ConfigLine) (line : Line) (item : ConfigLine) → line_after items line ≡ Ok item → item.line ≡ line.number
-judged_at items line item is = by (line_reading (place_after items).kind line.words) is
+judged_at items line item is = by (line_reading (place_after items).kind (known_names items) line.words) is
   where
     then_allowed : (reading : LineReading) (r : Result (Unit {0}) ConfKind)
         → (r >>= λ u. Ok (record { line = line.number; place = place_of (place_after items) (length items) reading.statement; statement = reading.statement })) ≡ Ok item → item.line ≡ line.number

@@ -5,6 +5,7 @@ use Rattle.std.specs.Str.{bytes_eq}
 use Rattle.list_core.specs.Each.{◌>>=◌, each, IsRead, IsFirstFault}
 use Rattle.list_core.specs.Newest.{newest}
 use Rattle.addr_core.specs.Same.{same_endpoint}
+use Rattle.text_core.specs.Names.{distinct}
 use Rattle.conf_text.specs.declared.line.Line.{Line}
 use Rattle.conf_text.specs.declared.line.LineFault.{LineFault}
 use Rattle.conf_text.specs.Lines.{lines_of}
@@ -19,7 +20,7 @@ use Rattle.conf_line.specs.declared.statement.Statement.TheVariants as statement
 use Rattle.conf_tree.specs.declared.claim.Claim.{Claim}
 use Rattle.conf_tree.specs.declared.claim.Claim.TheVariants as claims
 use Rattle.conf_line.specs.declared.statement.LineReading.{LineReading}
-use Rattle.conf_tree.specs.declared.limits.TheConstants.{MOST_SECTIONS, MOST_BINDS, MOST_RULES, MOST_SERVERS}
+use Rattle.conf_tree.specs.declared.limits.TheConstants.{MOST_SECTIONS, MOST_BINDS, MOST_ACLS, MOST_RULES, MOST_SERVERS}
 use Rattle.conf_line.specs.Statements.{line_reading}
 
 -- Sections.
@@ -47,13 +48,41 @@ place_of place number (statements.MaxConn limit) = place
 place_of place number (statements.DefaultBackend name) = place
 place_of place number (statements.Balance method) = place
 place_of place number (statements.Bind at proxy) = place
+place_of place number (statements.Acl name test) = place
 place_of place number (statements.Rule list action when) = place
+place_of place number (statements.UseBackend name when) = place
 place_of place number (statements.StickTable table) = place
 place_of place number (statements.Server server) = place
 
 -- the lines of a section, of all those before
 abbrev pub section_lines : Place → List ConfigLine → List ConfigLine
 section_lines place items = drop place.first items
+
+-- Names that are declared.
+
+abbrev pub acl_name : Statement → Option (List ℕ)
+acl_name (statements.Acl name test) = Some name
+acl_name statements.Nothing = None
+acl_name statements.Global = None
+acl_name statements.Defaults = None
+acl_name (statements.Frontend name) = None
+acl_name (statements.Backend name) = None
+acl_name (statements.MaxConn limit) = None
+acl_name (statements.DefaultBackend name) = None
+acl_name (statements.Balance method) = None
+acl_name (statements.Bind at proxy) = None
+acl_name (statements.Rule list action when) = None
+acl_name (statements.UseBackend name when) = None
+acl_name (statements.StickTable table) = None
+acl_name (statements.Server server) = None
+
+-- the names that some lines of a section declare, each once, in the order of their first declarations
+abbrev pub acl_names : List ConfigLine → List (List ℕ)
+acl_names lines = distinct (filter_map (λ item. acl_name item.statement) lines)
+
+-- the names that a condition on the line after those may ask for: those of its own section
+abbrev pub known_names : List ConfigLine → List (List ℕ)
+known_names items = acl_names (section_lines (place_after items) items)
 
 -- What may be given once.
 
@@ -70,7 +99,9 @@ claim_of place statements.Defaults = None
 claim_of place (statements.MaxConn limit) = None
 claim_of place (statements.DefaultBackend name) = None
 claim_of place (statements.Balance method) = None
+claim_of place (statements.Acl name test) = None
 claim_of place (statements.Rule list action when) = None
+claim_of place (statements.UseBackend name when) = None
 claim_of place (statements.Server server) = None
 
 abbrev pub same_claim : Claim → Claim → Bool
@@ -101,8 +132,8 @@ has_server lines other = false
 abbrev pub is_taken : List ConfigLine → Place → Statement → Bool
 is_taken items place reading = is_claim_taken (claims_of items) (claim_of place reading) || has_server (section_lines place items) reading
 
--- How many there may be: 64 frontends and 64 backends; in a frontend 64 `bind` lines and 256 rules; in a
--- backend 64 servers.
+-- How many there may be: 64 frontends and 64 backends; in a frontend 64 `bind` lines, 256 `acl`
+-- lines, and 256 of `tcp-request` and `use_backend` lines together; in a backend 64 servers.
 
 abbrev pub is_frontend : Claim → Bool
 is_frontend (claims.Frontend name) = true
@@ -116,8 +147,14 @@ abbrev pub is_bind : Statement → Bool
 is_bind (statements.Bind at proxy) = true
 is_bind other = false
 
+abbrev pub is_acl : Statement → Bool
+is_acl (statements.Acl name test) = true
+is_acl other = false
+
+-- a `tcp-request` or `use_backend` line
 abbrev pub is_rule : Statement → Bool
 is_rule (statements.Rule list action when) = true
+is_rule (statements.UseBackend name when) = true
 is_rule statements.Nothing = false
 is_rule statements.Global = false
 is_rule statements.Defaults = false
@@ -127,6 +164,7 @@ is_rule (statements.MaxConn limit) = false
 is_rule (statements.DefaultBackend name) = false
 is_rule (statements.Balance method) = false
 is_rule (statements.Bind at proxy) = false
+is_rule (statements.Acl name test) = false
 is_rule (statements.StickTable table) = false
 is_rule (statements.Server server) = false
 
@@ -146,7 +184,9 @@ abbrev pub is_full : List ConfigLine → Place → Statement → Bool
 is_full items place (statements.Frontend name) = claims_reach MOST_SECTIONS is_frontend items
 is_full items place (statements.Backend name) = claims_reach MOST_SECTIONS is_backend items
 is_full items place (statements.Bind at proxy) = lines_reach MOST_BINDS is_bind (section_lines place items)
+is_full items place (statements.Acl name test) = lines_reach MOST_ACLS is_acl (section_lines place items)
 is_full items place (statements.Rule list action when) = lines_reach MOST_RULES is_rule (section_lines place items)
+is_full items place (statements.UseBackend name when) = lines_reach MOST_RULES is_rule (section_lines place items)
 is_full items place (statements.Server server) = lines_reach MOST_SERVERS is_server (section_lines place items)
 is_full items place statements.Nothing = false
 is_full items place statements.Global = false
@@ -168,7 +208,7 @@ check_line items place reading =
 -- what the line after those says
 abbrev pub line_after : List ConfigLine → Line → Result ConfigLine ConfKind
 line_after items line = do
-  reading ← line_reading (place_after items).kind line.words
+  reading ← line_reading (place_after items).kind (known_names items) line.words
   _ ← check_line items (place_of (place_after items) (length items) reading.statement) reading
   Ok (record { line = line.number; place = place_of (place_after items) (length items) reading.statement; statement = reading.statement })
 
@@ -193,7 +233,9 @@ has_effect (statements.MaxConn limit) = true
 has_effect (statements.DefaultBackend name) = true
 has_effect (statements.Balance method) = true
 has_effect (statements.Bind at proxy) = true
+has_effect (statements.Acl name test) = true
 has_effect (statements.Rule list action when) = true
+has_effect (statements.UseBackend name when) = true
 has_effect (statements.StickTable table) = true
 has_effect (statements.Server server) = true
 

@@ -2,4 +2,5 @@ pub mod Config
 pub mod Rising
 pub mod Few
 pub mod Sound
+pub mod Kept
 pub mod Marks

@@ -40,7 +40,9 @@ pub fn claim_of<'a>(place: &Place<'a>, statement: &Statement<'a>) -> Option<Clai
         | Statement::MaxConn(_)
         | Statement::DefaultBackend(_)
         | Statement::Balance(_)
+        | Statement::Acl(_, _)
         | Statement::Rule(_, _, _)
+        | Statement::UseBackend(_, _)
         | Statement::Server(_) => None,
     }
 }

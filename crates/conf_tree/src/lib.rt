@@ -5,11 +5,14 @@ pub use conf_line::{
     Action, ConfFault, ConfKind, KeyType, Method, Ruleset, SectionKind, ServerWords, Statement,
     Stores, TableWords, TrackWords,
 };
-pub use limits::{MOST_BINDS, MOST_RULES, MOST_SECTIONS, MOST_SERVERS};
+pub use limits::{MOST_ACLS, MOST_BINDS, MOST_RULES, MOST_SECTIONS, MOST_SERVERS};
+pub use names::acl_names;
 pub use reading::read_config;
 pub use tree::{ConfigLine, Place, Tree};
 
 mod claim;
+mod kept;
 mod limits;
+mod names;
 mod reading;
 mod tree;

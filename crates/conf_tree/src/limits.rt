@@ -6,7 +6,10 @@ pub const MOST_SECTIONS: usize = 64;
 /// `bind` lines of a frontend.
 pub const MOST_BINDS: usize = 64;
 
-/// `tcp-request` lines of a frontend.
+/// `acl` lines of a frontend.
+pub const MOST_ACLS: usize = 256;
+
+/// `tcp-request` and `use_backend` lines of a frontend, together.
 pub const MOST_RULES: usize = 256;
 
 /// Servers of a backend.

@@ -5,16 +5,16 @@ ghost use Rattle.list_core.specs.Each.{Fails, Gives, each};
 ghost use Rattle.conf_text.specs.Lines.{lines_of, AreLines};
 ghost use Rattle.conf_line.specs.declared.fault.ConfFault.{ConfFault};
 ghost use Rattle.conf_tree.specs.declared.tree.ConfigLine.{ConfigLine};
-ghost use Rattle.conf_line.specs.Sound.{IsSoundStatement};
-ghost use Rattle.conf_tree.specs.Sound.{AreSoundStatements, ClaimsDiffer};
-ghost use Rattle.conf_tree.specs.Config.{outside, place_after, place_of, section_lines, claim_of, claims_of, is_server_named, has_server, is_taken, is_bind, is_rule, is_server, lines_reach, is_full, check_line, line_after, item_after, text_fault, has_effect, items_in, items_of, AreItems, IsConfFault, no_memory};
+ghost use Rattle.conf_tree.specs.Kept.{IsNext};
+ghost use Rattle.conf_tree.specs.Config.{outside, place_after, place_of, section_lines, claim_of, is_server_named, has_server, is_taken, is_bind, is_acl, is_rule, is_server, lines_reach, is_full, check_line, line_after, item_after, text_fault, has_effect, with_effect, items_in, items_of, AreItems, IsConfFault, no_memory};
 
-use crate::claim::{Claims, claim_of};
-use crate::limits::{MOST_BINDS, MOST_RULES, MOST_SECTIONS, MOST_SERVERS};
+use crate::claim::claim_of;
+use crate::kept::Kept;
+use crate::limits::{MOST_ACLS, MOST_BINDS, MOST_RULES, MOST_SECTIONS, MOST_SERVERS};
 use crate::tree::{ConfigLine, Place, Tree};
 use conf_line::{ConfFault, ConfKind, LineReading, SectionKind, Statement, read_line};
 use conf_text::{Line, LineKind, Lines};
-use list_core::{Seq, Stop, newest};
+use list_core::{Stop, newest};
 use std::alloc::{AllocError, Global};
 use text_core::Word;
 
@@ -79,7 +79,9 @@ fn place_of<'a>(place: Place<'a>, number: usize, statement: &Statement<'a>) -> P
         | Statement::DefaultBackend(_)
         | Statement::Balance(_)
         | Statement::Bind(_, _)
+        | Statement::Acl(_, _)
         | Statement::Rule(_, _, _)
+        | Statement::UseBackend(_, _)
         | Statement::StickTable(_)
         | Statement::Server(_) => place,
     }
@@ -127,10 +129,19 @@ fn is_bind(statement: &Statement) -> bool
     matches!(statement, Statement::Bind(_, _))
 }
 
+fn is_acl(statement: &Statement) -> bool
+    ensures { result ≡ is_acl statement.now }
+{
+    matches!(statement, Statement::Acl(_, _))
+}
+
 fn is_rule(statement: &Statement) -> bool
     ensures { result ≡ is_rule statement.now }
 {
-    matches!(statement, Statement::Rule(_, _, _))
+    matches!(
+        statement,
+        Statement::Rule(_, _, _) | Statement::UseBackend(_, _)
+    )
 }
 
 fn is_server(statement: &Statement) -> bool
@@ -145,10 +156,26 @@ fn bind_count(lines: &[ConfigLine]) -> usize
     lines.iter().filter(|item| is_bind(&item.statement)).count()
 }
 
+fn acl_count(lines: &[ConfigLine]) -> usize
+    ensures { result ≡ length (filter (λ item. is_acl item.statement) lines.now) }
+{
+    lines.iter().filter(|item| is_acl(&item.statement)).count()
+}
+
 fn rule_count(lines: &[ConfigLine]) -> usize
     ensures { result ≡ length (filter (λ item. is_rule item.statement) lines.now) }
 {
     lines.iter().filter(|item| is_rule(&item.statement)).count()
+}
+
+/// Whether there are as many `acl` lines as there may be. Short sections need no look at their lines.
+fn are_acls(lines: &[ConfigLine]) -> bool
+    ensures { result ≡ lines_reach MOST_ACLS is_acl lines.now }
+{
+    if lines.len() < MOST_ACLS {
+        return false;
+    }
+    acl_count(lines) >= MOST_ACLS
 }
 
 /// Whether there are as many rules as there may be. Short sections need no look at their lines.
@@ -171,24 +198,26 @@ fn server_count(lines: &[ConfigLine]) -> usize
 }
 
 /// Whether an earlier line has what may be given once.
-fn is_taken(items: &[ConfigLine], taken: &Claims, place: &Place, statement: &Statement) -> bool
-    requires { taken.now ≡ claims_of items.now }
-    ensures { result ≡ is_taken items.now place.now statement.now }
+fn is_taken(kept: &Kept, place: &Place, statement: &Statement) -> bool
+    ensures { result ≡ is_taken kept.now place.now statement.now }
 {
     let claim = claim_of(place, statement);
-    taken.has(&claim) || has_server(section_lines(place, items), statement)
+    kept.claims().has(&claim) || has_server(section_lines(place, kept.items()), statement)
 }
 
 /// Whether one line more of the kind is too many.
-fn is_full(items: &[ConfigLine], taken: &Claims, place: &Place, statement: &Statement) -> bool
-    requires { taken.now ≡ claims_of items.now }
-    ensures { result ≡ is_full items.now place.now statement.now }
+fn is_full(kept: &Kept, place: &Place, statement: &Statement) -> bool
+    ensures { result ≡ is_full kept.now place.now statement.now }
 {
+    let items = kept.items();
     match statement {
-        Statement::Frontend(_) => taken.frontends() >= MOST_SECTIONS,
-        Statement::Backend(_) => taken.backends() >= MOST_SECTIONS,
+        Statement::Frontend(_) => kept.claims().frontends() >= MOST_SECTIONS,
+        Statement::Backend(_) => kept.claims().backends() >= MOST_SECTIONS,
         Statement::Bind(_, _) => bind_count(section_lines(place, items)) >= MOST_BINDS,
-        Statement::Rule(_, _, _) => are_rules(section_lines(place, items)),
+        Statement::Acl(_, _) => are_acls(section_lines(place, items)),
+        Statement::Rule(_, _, _) | Statement::UseBackend(_, _) => {
+            are_rules(section_lines(place, items))
+        }
         Statement::Server(_) => server_count(section_lines(place, items)) >= MOST_SERVERS,
         Statement::Nothing
         | Statement::Global
@@ -201,21 +230,15 @@ fn is_full(items: &[ConfigLine], taken: &Claims, place: &Place, statement: &Stat
 }
 
 /// Whether a line that says this may come after those.
-fn check_line(
-    items: &[ConfigLine],
-    taken: &Claims,
-    place: &Place,
-    reading: &LineReading,
-) -> Result<(), ConfKind>
-    requires { taken.now ≡ claims_of items.now }
-    ensures value { result ≡ check_line items.now place.now reading.now }
+fn check_line(kept: &Kept, place: &Place, reading: &LineReading) -> Result<(), ConfKind>
+    ensures value { result ≡ check_line kept.now place.now reading.now }
     ensures fits { OnOk result (reading.now.exceeds ≡ false) }
-    ensures free { OnOk result (is_taken items.now place.now reading.now.statement ≡ false) }
+    ensures free { OnOk result (is_taken kept.now place.now reading.now.statement ≡ false) }
 {
-    if reading.repeats || is_taken(items, taken, place, &reading.statement) {
+    if reading.repeats || is_taken(kept, place, &reading.statement) {
         return Err(ConfKind::Duplicate);
     }
-    if reading.exceeds || is_full(items, taken, place, &reading.statement) {
+    if reading.exceeds || is_full(kept, place, &reading.statement) {
         return Err(ConfKind::Limit);
     }
     Ok(())
@@ -224,19 +247,16 @@ fn check_line(
 /// What the line after those says.
 fn read_line_after<'a>(
     alloc: Global,
-    items: &[ConfigLine<'a>],
-    taken: &Claims,
+    kept: &Kept<'a>,
     line: &Line<'a>,
 ) -> Result<ConfigLine<'a>, Stop<ConfKind>>
-    requires { taken.now ≡ claims_of items.now }
-    ensures gives { Gives result (line_after items.now line.now) }
-    ensures sound { IfOk result (λ item. IsSoundStatement item.statement) }
-    ensures free { IfOk result (λ item. is_taken items.now item.place item.statement ≡ false) }
+    ensures gives { Gives result (line_after kept.now line.now) }
+    ensures next { IfOk result (IsNext kept.now) }
 {
-    let before = place_after(items);
-    let reading = read_line(alloc, before.kind, line.words.as_slice())?;
-    let place = place_of(before, items.len(), &reading.statement);
-    match check_line(items, taken, &place, &reading) {
+    let before = place_after(kept.items());
+    let reading = read_line(alloc, before.kind, kept.known(), line.words.as_slice())?;
+    let place = place_of(before, kept.items().len(), &reading.statement);
+    match check_line(kept, &place, &reading) {
         Ok(()) => Ok(ConfigLine {
             line: line.number,
             place,
@@ -249,16 +269,13 @@ fn read_line_after<'a>(
 /// The item of the line after those.
 fn item_after<'a>(
     alloc: Global,
-    items: &[ConfigLine<'a>],
-    taken: &Claims,
+    kept: &Kept<'a>,
     line: &Line<'a>,
 ) -> Result<ConfigLine<'a>, Stop<ConfFault>>
-    requires { taken.now ≡ claims_of items.now }
-    ensures gives { Gives result (item_after items.now line.now) }
-    ensures sound { IfOk result (λ item. IsSoundStatement item.statement) }
-    ensures free { IfOk result (λ item. is_taken items.now item.place item.statement ≡ false) }
+    ensures gives { Gives result (item_after kept.now line.now) }
+    ensures next { IfOk result (IsNext kept.now) }
 {
-    match read_line_after(alloc, items, taken, line) {
+    match read_line_after(alloc, kept, line) {
         Ok(item) => Ok(item),
         Err(Stop::Memory) => Err(Stop::Memory),
         Err(Stop::Fault(kind)) => Err(Stop::Fault(ConfFault {
@@ -266,14 +283,6 @@ fn item_after<'a>(
             kind,
         })),
     }
-}
-
-/// What is claimed with one item more.
-fn claims_with<'a>(taken: Claims<'a>, item: &ConfigLine<'a>) -> Result<Claims<'a>, AllocError>
-    ensures { IfOk result (λ claims. claims ≡ taken.entry ++ claims_of (item.now ∷ [])) }
-{
-    let claim = claim_of(&item.place, &item.statement);
-    taken.with(claim)
 }
 
 fn lines(alloc: Global, text: &str) -> Result<Lines, Stop<ConfFault>>
@@ -300,30 +309,40 @@ fn has_effect(statement: &Statement) -> bool
     !matches!(statement, Statement::Nothing)
 }
 
-/// The items of the lines that have an effect. Most lines of a long text may have none.
-fn items<'a>(alloc: Global, lines: &[Line<'a>]) -> Result<Seq<ConfigLine<'a>>, Stop<ConfFault>>
-    ensures gives { Gives result (items_in lines.now) }
-    ensures statements { IfOk result AreSoundStatements }
-    ensures claims { IfOk result (λ items. ClaimsDiffer (claims_of items)) }
+/// Those, and the item if its line has an effect. Most lines of a long text may have none.
+fn kept_with<'a>(
+    alloc: Global,
+    kept: Kept<'a>,
+    item: ConfigLine<'a>,
+) -> Result<Kept<'a>, AllocError>
+    requires { IsNext kept item }
+    ensures { IfOk result (λ more. more ≡ kept.entry ++ with_effect (item.entry ∷ [])) }
 {
-    let mut items = Seq::new(alloc);
-    let mut taken = Claims::new(alloc);
-    for line in lines {
-        let item = item_after(alloc, items.as_slice(), &taken, line)?;
-        if has_effect(&item.statement) {
-            taken = claims_with(taken, &item)?;
-            items.push(item)?;
-        }
+    if has_effect(&item.statement) {
+        kept.with(alloc, item)
+    } else {
+        Ok(kept)
     }
-    Ok(items)
+}
+
+/// The items of the lines that have an effect.
+fn kept_items<'a>(alloc: Global, lines: &[Line<'a>]) -> Result<Kept<'a>, Stop<ConfFault>>
+    ensures { Gives result (items_in lines.now) }
+{
+    let mut kept = Kept::new(alloc);
+    for line in lines {
+        let item = item_after(alloc, &kept, line)?;
+        kept = kept_with(alloc, kept, item)?;
+    }
+    Ok(kept)
 }
 
 fn tree_in(alloc: Global, text: &str) -> Result<Tree, Stop<ConfFault>>
     ensures { Gives result (items_of text.now) }
 {
     let lines = lines(alloc, text)?;
-    let items = items(alloc, lines.as_slice())?;
-    Ok(Tree::of(items))
+    let kept = kept_items(alloc, lines.as_slice())?;
+    Ok(Tree::of(kept.into_items()))
 }
 
 /// The fault of a stop; want of memory is on line 0.

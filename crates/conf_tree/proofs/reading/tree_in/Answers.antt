@@ -6,11 +6,11 @@ use Rattle.conf_tree.proofs.reading.tree_in.Goals as goal
 
 pub of-requires : goal.of-requires
 of-requires c =
-    let read : items_in c.in_ok-lines.lines ≡ Ok c.in_ok-items.items = ap items_in (sym c.as_slice.ensures) ∙ c.in_ok-items.ensures.gives in
-    let reads : items_in c.as_slice.result.now ≡ Ok c.in_ok-items.items = c.in_ok-items.ensures.gives in
-    record {
-      rises = rises_in c.args.text.now c.in_ok-lines.lines c.in_ok-items.items c.in_ok-lines.ensures.lines read;
-      few = few_in c.as_slice.result.now c.in_ok-items.items reads;
-      statements = c.in_ok-items.ensures.statements;
-      claims = c.in_ok-items.ensures.claims;
+    let reads : items_in c.as_slice.result.now ≡ Ok c.in_ok-kept.kept = c.in_ok-kept.ensures in
+    let read : items_in c.in_ok-lines.lines ≡ Ok c.in_ok-kept.kept = ap items_in (sym c.as_slice.ensures) ∙ reads in
+    rw c.into_items.ensures.items record {
+      rises = rises_in c.args.text.now c.in_ok-lines.lines c.in_ok-kept.kept c.in_ok-lines.ensures.lines read;
+      few = few_in c.as_slice.result.now c.in_ok-kept.kept reads;
+      statements = c.into_items.ensures.statements;
+      claims = c.into_items.ensures.claims;
     }

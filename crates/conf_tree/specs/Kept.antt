@@ -1,0 +1,43 @@
+-- What is kept of the lines so far.
+use Rattle.std.specs.Prelude.{◌≡◌, ℕ, ◌≤◌, false, List, [], ◌∷◌, ◌++◌, length, if◌then◌else◌}
+use Rattle.std.specs.List.{list_any}
+use Rattle.std.specs.Str.{bytes_eq}
+use Rattle.conf_line.specs.declared.statement.Statement.{Statement}
+use Rattle.conf_line.specs.declared.statement.Statement.TheVariants as statements
+use Rattle.conf_line.specs.Sound.{IsSoundStatement}
+use Rattle.conf_tree.specs.declared.claim.Claim.{Claim}
+use Rattle.conf_tree.specs.declared.tree.ConfigLine.{ConfigLine}
+use Rattle.conf_tree.specs.Config.{known_names, claims_of, is_taken, place_after, place_of}
+use Rattle.conf_tree.specs.Sound.{AreSoundStatements, ClaimsDiffer}
+
+-- what is kept beside the items agrees with them
+pub record IsKept (items : List ConfigLine) (claims : List Claim) (known : List (List ℕ)) : Type 0 where
+  pub taken : claims ≡ claims_of items
+  pub names : known ≡ known_names items
+  -- their section begins among them
+  pub place : (place_after items).first ≤ length items
+  pub statements : AreSoundStatements items
+  pub differ : ClaimsDiffer (claims_of items)
+
+-- the item may come after those
+pub record IsNext (items : List ConfigLine) (item : ConfigLine) : Type 0 where
+  pub place : item.place ≡ place_of (place_after items) (length items) item.statement
+  pub sound : IsSoundStatement item.statement
+  pub free : is_taken items item.place item.statement ≡ false
+
+-- the names known after a line, where those are known before it: a section begins with none
+abbrev pub names_after : List (List ℕ) → Statement → List (List ℕ)
+names_after known statements.Global = []
+names_after known statements.Defaults = []
+names_after known (statements.Frontend name) = []
+names_after known (statements.Backend name) = []
+names_after known (statements.Acl name test) = if list_any (λ other. bytes_eq other name) known then known else known ++ name ∷ []
+names_after known statements.Nothing = known
+names_after known (statements.MaxConn limit) = known
+names_after known (statements.DefaultBackend name) = known
+names_after known (statements.Balance method) = known
+names_after known (statements.Bind at proxy) = known
+names_after known (statements.Rule list action when) = known
+names_after known (statements.UseBackend name when) = known
+names_after known (statements.StickTable table) = known
+names_after known (statements.Server server) = known
