@@ -1,7 +1,7 @@
 -- The least of some faults.
 use Rattle.std.proofs.Common.{◌≡◌, ℕ, zero, suc, ◌<◌, ◌||◌, ◌&&◌, Bool, true, false, nat_lt, List, [], ◌∷◌, ◌++◌, length, slice_index_or, Option, Some, None, refl, sym, ap, ◌∙◌}
 use native.Mathlib.Omega.{arith}
-use Rattle.std.specs.Prelude.{◌==◌, flat_map, IfSome}
+use Rattle.std.specs.Prelude.{◌==◌, flat_map, option_to_list, IfSome}
 use Rattle.std.specs.List.{filter_map, cons_option, list_any}
 use Rattle.std.proofs.lemmas.Bool.Decides.{nat_tests}
 use Rattle.conf_tree.specs.declared.tree.ConfigLine.{ConfigLine}
@@ -75,6 +75,15 @@ least_append (fault ∷ rest) more =
 least_cons : (fault : Option PlanFault) (rest : List PlanFault) → least (cons_option fault rest) ≡ earliest fault (least rest)
 least_cons None rest = refl
 least_cons (Some fault) rest = refl
+
+-- one fault, if there is one, before others
+pub one_and_more : (fault : Option PlanFault) (more : List PlanFault) → least (option_to_list fault ++ more) ≡ earliest fault (least more)
+one_and_more None more = refl
+one_and_more (Some fault) more = refl
+
+pub only_one : (fault : Option PlanFault) → least (option_to_list fault) ≡ fault
+only_one None = refl
+only_one (Some fault) = refl
 
 -- One more item of a loop.
 
@@ -154,5 +163,5 @@ pub some_least : (faults : List PlanFault) (told : Option PlanFault) → told �
 some_least faults None is = tt
 some_least faults (Some fault) is = least_is faults fault (sym is)
 
-pub faults_where : (tables : List Table) (backends : List Backend) (all : List Proxy) → list_any is_frontend all ≡ true → faults_of tables backends all ≡ flat_map (faults_in tables backends) all
+pub faults_where : (tables : List Table) (backends : List Backend) (all : List Proxy) → list_any is_frontend all ≡ true → faults_of tables backends all ≡ flat_map (faults_in tables backends all) all
 faults_where tables backends all is = rw is refl

@@ -43,6 +43,8 @@ frontend_apart (statements.Backend own_name) at place base own name rest all lat
 frontend_apart (statements.MaxConn limit) at place base own name rest all later others = later others
 frontend_apart (statements.DefaultBackend own_name) at place base own name rest all later others = later others
 frontend_apart (statements.Balance method) at place base own name rest all later others = later others
+frontend_apart (statements.Acl called test) at place base own name rest all later others = later others
+frontend_apart (statements.UseBackend called when) at place base own name rest all later others = later others
 frontend_apart (statements.Bind endpoint flag) at place base own name rest all later others = later others.1
 frontend_apart (statements.Rule list action when) at place base own name rest all later others = later others
 frontend_apart (statements.StickTable table) at place base own name rest all later others = later others.1
@@ -65,6 +67,8 @@ one_frontend (statements.Backend own_name) at place base own rest all apart late
 one_frontend (statements.MaxConn limit) at place base own rest all apart later differ = later differ
 one_frontend (statements.DefaultBackend own_name) at place base own rest all apart later differ = later differ
 one_frontend (statements.Balance method) at place base own rest all apart later differ = later differ
+one_frontend (statements.Acl called test) at place base own rest all apart later differ = later differ
+one_frontend (statements.UseBackend called when) at place base own rest all apart later differ = later differ
 one_frontend (statements.Bind endpoint flag) at place base own rest all apart later differ = later differ.1
 one_frontend (statements.Rule list action when) at place base own rest all apart later differ = later differ
 one_frontend (statements.StickTable table) at place base own rest all apart later differ = later differ.1
@@ -88,6 +92,8 @@ backend_apart (statements.Backend own_name) at place base own name rest all late
 backend_apart (statements.MaxConn limit) at place base own name rest all later others = later others
 backend_apart (statements.DefaultBackend own_name) at place base own name rest all later others = later others
 backend_apart (statements.Balance method) at place base own name rest all later others = later others
+backend_apart (statements.Acl called test) at place base own name rest all later others = later others
+backend_apart (statements.UseBackend called when) at place base own name rest all later others = later others
 backend_apart (statements.Bind endpoint flag) at place base own name rest all later others = later others.1
 backend_apart (statements.Rule list action when) at place base own name rest all later others = later others
 backend_apart (statements.StickTable table) at place base own name rest all later others = later others.1
@@ -110,6 +116,8 @@ one_backend (statements.Backend own_name) at place base own rest all apart later
 one_backend (statements.MaxConn limit) at place base own rest all apart later differ = later differ
 one_backend (statements.DefaultBackend own_name) at place base own rest all apart later differ = later differ
 one_backend (statements.Balance method) at place base own rest all apart later differ = later differ
+one_backend (statements.Acl called test) at place base own rest all apart later differ = later differ
+one_backend (statements.UseBackend called when) at place base own rest all apart later differ = later differ
 one_backend (statements.Bind endpoint flag) at place base own rest all apart later differ = later differ.1
 one_backend (statements.Rule list action when) at place base own rest all apart later differ = later differ
 one_backend (statements.StickTable table) at place base own rest all apart later differ = later differ.1

@@ -20,16 +20,17 @@ use Rattle.conf_tree.specs.Rising.{AreAbove, Rises}
 use Rattle.conf_tree.specs.Sound.{AreSoundStatements, IsSoundTree}
 use Rattle.plan_types.specs.declared.plan.Action.{Action}
 use Rattle.plan_types.specs.declared.plan.Backend.{Backend}
+use Rattle.plan_types.specs.declared.plan.Choice.{Choice}
 use Rattle.plan_types.specs.declared.plan.Plan.{Plan}
 use Rattle.plan_types.specs.declared.plan.Rule.{Rule}
 use Rattle.plan_types.specs.declared.plan.Table.{Table}
 use Rattle.plan_types.specs.declared.plan.Server.{Server}
-use Rattle.plan_types.specs.Sound.{IsSoundAction, RulesRise, AreSoundRules, IsWithin, IsSoundFrontend, IsSoundServer, IsSoundBackend, IsSoundTable, IsSoundPlan, most_frontends, most_backends, most_tables, most_connections, most_entries, greatest_weight}
+use Rattle.plan_types.specs.Sound.{IsSoundAction, RulesRise, AreSoundRules, ChoicesRise, IsWithin, IsSoundFrontend, IsSoundServer, IsSoundBackend, IsSoundTable, IsSoundPlan, most_frontends, most_backends, most_tables, most_connections, most_entries, greatest_weight}
 use Rattle.plan_core.specs.declared.fields.Limit.{Limit}
 use Rattle.plan_core.specs.declared.fields.Named.{Named}
 use Rattle.plan_core.specs.declared.proxies.Proxy.{Proxy}
 use Rattle.plan_core.specs.Compiled.{default_number, frontend_of, backend_of, backends_in}
-use Rattle.plan_core.specs.Fields.{line_default, line_limit, line_table, line_server, line_rule, rule_with, all_of, last_of, setting_in, limit_in, table_with, tables_in, table_number, is_table_of, action_of, track_with, is_in}
+use Rattle.plan_core.specs.Fields.{line_default, line_limit, line_table, line_server, line_rule, line_choice, choice_with, backend_number, rule_with, all_of, last_of, setting_in, limit_in, table_with, tables_in, table_number, is_table_of, action_of, track_with, is_in}
 use Rattle.plan_core.specs.Proxies.{line_head, own_lines, base_after, proxy_with, proxies, is_frontend, is_backend, frontends, backends, opens}
 use Rattle.plan_core.proofs.LineLemmas.{own_more, own_above, lines_differ}
 use Rattle.plan_core.proofs.NameLemmas.{frontend_names_differ, backend_names_differ}
@@ -75,6 +76,8 @@ some_rule list tables name at (statements.Backend other) sound = tt
 some_rule list tables name at (statements.MaxConn limit) sound = tt
 some_rule list tables name at (statements.DefaultBackend other) sound = tt
 some_rule list tables name at (statements.Balance method) sound = tt
+some_rule list tables name at (statements.Acl called test) sound = tt
+some_rule list tables name at (statements.UseBackend called when) sound = tt
 some_rule list tables name at (statements.Bind endpoint flag) sound = tt
 some_rule list tables name at (statements.Rule other action when) sound = by (is_in list other) (action_of tables name action) (some_action tables name action sound)
   where
@@ -124,6 +127,59 @@ sound_rules : (list : Ruleset) (tables : List Table) (name : List ℕ) (items : 
     AreSoundRules (length tables) (all_of (line_rule list tables name) items)
 sound_rules list tables name items sound rises = record { actions = sound_actions list tables name items sound; rise = rules_rise list tables name items sound rises }
 
+-- Choices.
+
+abbrev IsChoiceOf : ℕ → ℕ → Choice → Type 0
+IsChoiceOf backends at choice = (choice.backend < backends) × (choice.line ≡ at)
+
+some_choice : (backends : List Backend) (at : ℕ) (s : Statement) → IfSome (line_choice backends at s) (IsChoiceOf (length backends) at)
+some_choice backends at statements.Nothing = tt
+some_choice backends at statements.Global = tt
+some_choice backends at statements.Defaults = tt
+some_choice backends at (statements.Frontend other) = tt
+some_choice backends at (statements.Backend other) = tt
+some_choice backends at (statements.MaxConn limit) = tt
+some_choice backends at (statements.DefaultBackend other) = tt
+some_choice backends at (statements.Balance method) = tt
+some_choice backends at (statements.Bind endpoint flag) = tt
+some_choice backends at (statements.Acl called test) = tt
+some_choice backends at (statements.Rule list action when) = tt
+some_choice backends at (statements.UseBackend called when) = by (backend_number backends called) (within (λ (backend : Backend). bytes_eq backend.name called) backends)
+  where
+    by : (o : Option ℕ) → IfSome o (λ n. n < length backends) → IfSome (option_map (choice_with at when) o) (IsChoiceOf (length backends) at)
+    by None less = tt
+    by (Some n) less = (less, refl)
+some_choice backends at (statements.StickTable table) = tt
+some_choice backends at (statements.Server server) = tt
+
+choices_within : (backends : List Backend) (items : List ConfigLine) → AllByRecursion (λ choice. choice.backend < length backends) (all_of (line_choice backends) items)
+choices_within backends [] = tt
+choices_within backends (item ∷ rest) = by (line_choice backends item.line item.statement) (some_choice backends item.line item.statement) (choices_within backends rest)
+  where
+    by : (o : Option Choice) → IfSome o (IsChoiceOf (length backends) item.line) → AllByRecursion (λ choice. choice.backend < length backends) (all_of (line_choice backends) rest) →
+        AllByRecursion (λ choice. choice.backend < length backends) (cons_option o (all_of (line_choice backends) rest))
+    by None is later = later
+    by (Some choice) is later = (is.0, later)
+
+choices_above : (n : ℕ) (backends : List Backend) (items : List ConfigLine) → AreAbove n items → AllByRecursion (λ choice. n < choice.line) (all_of (line_choice backends) items)
+choices_above n backends [] above = tt
+choices_above n backends (item ∷ rest) above = by (line_choice backends item.line item.statement) (some_choice backends item.line item.statement) (choices_above n backends rest above.1)
+  where
+    by : (o : Option Choice) → IfSome o (IsChoiceOf (length backends) item.line) → AllByRecursion (λ choice. n < choice.line) (all_of (line_choice backends) rest) →
+        AllByRecursion (λ choice. n < choice.line) (cons_option o (all_of (line_choice backends) rest))
+    by None is later = later
+    by (Some choice) is later = (subst (λ m. n < m) (sym is.1) above.0, later)
+
+choices_rise : (backends : List Backend) (items : List ConfigLine) → Rises items → ChoicesRise (all_of (line_choice backends) items)
+choices_rise backends [] rises = tt
+choices_rise backends (item ∷ rest) rises =
+    by (line_choice backends item.line item.statement) (some_choice backends item.line item.statement) (choices_above item.line backends rest rises.0) (choices_rise backends rest rises.1)
+  where
+    by : (o : Option Choice) → IfSome o (IsChoiceOf (length backends) item.line) → AllByRecursion (λ choice. item.line < choice.line) (all_of (line_choice backends) rest) →
+        ChoicesRise (all_of (line_choice backends) rest) → ChoicesRise (cons_option o (all_of (line_choice backends) rest))
+    by None is above later = later
+    by (Some choice) is above later = (subst (λ m. AllByRecursion (λ (other : Choice). m < other.line) (all_of (line_choice backends) rest)) (sym is.1) above, later)
+
 -- The lines of each section.
 
 own_sound : (items : List ConfigLine) → AreSoundStatements items → AreSoundStatements (own_lines items)
@@ -151,6 +207,8 @@ base_sound (statements.Backend name) base own sound more = sound
 base_sound (statements.MaxConn limit) base own sound more = sound
 base_sound (statements.DefaultBackend name) base own sound more = sound
 base_sound (statements.Balance method) base own sound more = sound
+base_sound (statements.Acl called test) base own sound more = sound
+base_sound (statements.UseBackend called when) base own sound more = sound
 base_sound (statements.Bind endpoint flag) base own sound more = sound
 base_sound (statements.Rule list action when) base own sound more = sound
 base_sound (statements.StickTable table) base own sound more = sound
@@ -169,6 +227,8 @@ one_proxy (statements.Backend name) at base own rest rises sound more all = ((ri
 one_proxy (statements.MaxConn limit) at base own rest rises sound more all = all
 one_proxy (statements.DefaultBackend name) at base own rest rises sound more all = all
 one_proxy (statements.Balance method) at base own rest rises sound more all = all
+one_proxy (statements.Acl called test) at base own rest rises sound more all = all
+one_proxy (statements.UseBackend called when) at base own rest rises sound more all = all
 one_proxy (statements.Bind endpoint flag) at base own rest rises sound more all = all
 one_proxy (statements.Rule list action when) at base own rest rises sound more all = all
 one_proxy (statements.StickTable table) at base own rest rises sound more all = all
@@ -195,6 +255,8 @@ some_limit at (statements.Backend name) sound = tt
 some_limit at (statements.MaxConn limit) sound = sound
 some_limit at (statements.DefaultBackend name) sound = tt
 some_limit at (statements.Balance method) sound = tt
+some_limit at (statements.Acl called test) sound = tt
+some_limit at (statements.UseBackend called when) sound = tt
 some_limit at (statements.Bind endpoint flag) sound = tt
 some_limit at (statements.Rule list action when) sound = tt
 some_limit at (statements.StickTable table) sound = tt
@@ -223,6 +285,8 @@ some_words at (statements.Backend name) sound = tt
 some_words at (statements.MaxConn limit) sound = tt
 some_words at (statements.DefaultBackend name) sound = tt
 some_words at (statements.Balance method) sound = tt
+some_words at (statements.Acl called test) sound = tt
+some_words at (statements.UseBackend called when) sound = tt
 some_words at (statements.Bind endpoint flag) sound = tt
 some_words at (statements.Rule list action when) sound = tt
 some_words at (statements.StickTable table) sound = sound
@@ -259,6 +323,8 @@ some_server at (statements.Backend name) sound = tt
 some_server at (statements.MaxConn limit) sound = tt
 some_server at (statements.DefaultBackend name) sound = tt
 some_server at (statements.Balance method) sound = tt
+some_server at (statements.Acl called test) sound = tt
+some_server at (statements.UseBackend called when) sound = tt
 some_server at (statements.Bind endpoint flag) sound = tt
 some_server at (statements.Rule list action when) sound = tt
 some_server at (statements.StickTable table) sound = tt
@@ -279,6 +345,7 @@ sound_frontend tables backends proxy sound = record {
   limit = sound_limit proxy sound;
   connection_rules = sound_rules Connection tables proxy.head.name proxy.own sound.1 sound.0;
   session_rules = sound_rules Session tables proxy.head.name proxy.own sound.1 sound.0;
+  choices = record { within = choices_within backends proxy.own; rise = choices_rise backends proxy.own sound.0 };
   default = some_default backends (setting_in line_default proxy);
 }
 

@@ -10,7 +10,7 @@ use Rattle.plan_types.specs.declared.plan.Plan.{Plan}
 use Rattle.plan_types.specs.declared.plan.Table.{Table}
 use Rattle.plan_core.specs.declared.proxies.Proxy.{Proxy}
 use Rattle.plan_core.specs.Proxies.{proxies, frontends, backends}
-use Rattle.plan_core.specs.Fields.{line_bind, line_default, line_server, line_rule, all_of, setting_in, limit_in, method_in, tables_in, backend_number}
+use Rattle.plan_core.specs.Fields.{line_bind, line_default, line_server, line_rule, line_choice, acls_in, all_of, setting_in, limit_in, method_in, tables_in, backend_number}
 use Rattle.plan_core.specs.Faults.{faults_of, least}
 
 -- a backend with its servers
@@ -39,7 +39,8 @@ frontend_of tables all proxy = record {
   limit_line = (limit_in proxy).line;
   connection_rules = all_of (line_rule Connection tables proxy.head.name) proxy.own;
   session_rules = all_of (line_rule Session tables proxy.head.name) proxy.own;
-  choices = [];
+  acls = acls_in proxy.own;
+  choices = all_of (line_choice all) proxy.own;
   default = default_number all (setting_in line_default proxy);
 }
 

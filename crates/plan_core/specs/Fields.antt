@@ -1,14 +1,18 @@
 -- What the lines of a frontend or backend say of each matter.
-use Rattle.std.specs.Prelude.{ℕ, Bool, true, false, ◌&&◌, List, [], ◌∷◌, position, unwrap_or, Option, Some, None, if◌then◌else◌}
+use Rattle.std.specs.Prelude.{ℕ, Bool, true, false, ◌&&◌, List, [], ◌∷◌, map, slice_get, position, unwrap_or, option_and_then, Option, Some, None, if◌then◌else◌}
 use Rattle.std.specs.List.{filter_map}
 use Rattle.std.specs.Option.{option_or, option_map}
 use Rattle.std.specs.Str.{bytes_eq}
+use Rattle.acl_core.specs.TestValue.{TestValue}
+use Rattle.acl_core.specs.declared.condition.Acl.{Acl}
 use Rattle.acl_core.specs.declared.condition.When.{When}
 use Rattle.conf_line.specs.declared.statement.Action as tree
 use Rattle.conf_line.specs.declared.statement.Action.TheVariants as words
 use Rattle.conf_tree.specs.declared.tree.ConfigLine.{ConfigLine}
+use Rattle.conf_tree.specs.Config.{acl_names}
 use Rattle.proxy_types.specs.declared.balance.Method.{Method}
 use Rattle.proxy_types.specs.declared.balance.Method.TheVariants.{RoundRobin}
+use Rattle.proxy_types.specs.declared.table.Stores.{Stores}
 use Rattle.conf_line.specs.declared.statement.Ruleset.{Ruleset}
 use Rattle.conf_line.specs.declared.statement.Ruleset.TheVariants.{Connection, Session}
 use Rattle.conf_line.specs.declared.statement.Statement.{Statement}
@@ -18,6 +22,7 @@ use Rattle.plan_types.specs.declared.plan.Action.{Action}
 use Rattle.plan_types.specs.declared.plan.Action.TheVariants as actions
 use Rattle.plan_types.specs.declared.plan.Backend.{Backend}
 use Rattle.plan_types.specs.declared.plan.Bind.{Bind}
+use Rattle.plan_types.specs.declared.plan.Choice.{Choice}
 use Rattle.plan_types.specs.declared.plan.Rule.{Rule}
 use Rattle.plan_types.specs.declared.plan.Server.{Server}
 use Rattle.plan_types.specs.declared.plan.Table.{Table}
@@ -109,11 +114,18 @@ tables_in all = filter_map table_in all
 abbrev pub is_table_of : List ℕ → Table → Bool
 is_table_of name table = is_frontend_section table.section && bytes_eq table.name name
 
--- the number of the table that a rule means in the frontend of that name: the frontend's own where none is
+-- the number of the table that a rule or a criterion means in the frontend of that name: the frontend's own where none is
 -- named, and else that of the section that is named
 abbrev pub table_number : List Table → List ℕ → Option (List ℕ) → Option ℕ
 table_number tables name None = position (is_table_of name) tables
 table_number tables name (Some other) = position (λ table. bytes_eq table.name other) tables
+
+abbrev pub stores_at : List Table → ℕ → Option Stores
+stores_at tables number = option_map (λ (table : Table). table.stores) (slice_get tables number)
+
+-- what the table that is meant stores, if it is there
+abbrev pub stores_meant : List Table → List ℕ → Option (List ℕ) → Option Stores
+stores_meant tables name named = option_and_then (stores_at tables) (table_number tables name named)
 
 -- Rules.
 
@@ -146,3 +158,26 @@ line_rule list tables name line other = None
 -- the number of the backend of that name
 abbrev pub backend_number : List Backend → List ℕ → Option ℕ
 backend_number backends name = position (λ backend. bytes_eq backend.name name) backends
+
+abbrev pub choice_with : ℕ → When → ℕ → Choice
+choice_with line when backend = record { line = line; when = when; backend = backend }
+
+-- the backend that a line uses, if it is there
+abbrev pub line_choice : List Backend → ℕ → Statement → Option Choice
+line_choice backends line (statements.UseBackend name when) = option_map (choice_with line when) (backend_number backends name)
+line_choice backends line other = None
+
+-- ACLs.
+
+-- the test that a line declares for that name
+abbrev pub line_test : List ℕ → ℕ → Statement → Option TestValue
+line_test name line (statements.Acl other test) = if bytes_eq other name then Some test else None
+line_test name line other = None
+
+-- a name with the tests of all its declarations
+abbrev pub acl_of : List ConfigLine → List ℕ → Acl
+acl_of own name = record { name = name; tests = all_of (line_test name) own }
+
+-- the names that some lines declare, in the order of their first declarations
+abbrev pub acls_in : List ConfigLine → List Acl
+acls_in own = map (acl_of own) (acl_names own)

@@ -3,14 +3,15 @@ ghost use Rattle.std.specs.Prelude.{◌≡◌, ◌≤◌, ◌<◌, length, flat_
 ghost use Rattle.std.specs.List.{list_any};
 ghost use Rattle.std.specs.Str.{bytes_eq};
 ghost use Rattle.plan_core.specs.Proxies.{is_frontend};
-ghost use Rattle.plan_core.specs.Fields.{all_of, backend_number};
-ghost use Rattle.plan_core.specs.Faults.{kind_number, is_before, earlier, earliest, least, IsLeast, bind_faults, default_faults, track_fault, frontend_faults, faults_in, no_frontend, faults_of};
+ghost use Rattle.plan_core.specs.Fields.{backend_number};
+ghost use Rattle.plan_core.specs.Faults.{kind_number, is_before, earlier, earliest, least, IsLeast, bind_faults, default_faults, backend_kind, track_fault, choice_fault, line_faults, own_faults, frontend_faults, faults_in, no_frontend, faults_of};
 
+use crate::criteria::{at_line, test_fault, when_fault};
 use crate::fault::{PlanFault, PlanKind};
 use crate::fields::{Named, default_in, last_bind};
 use crate::proxies::{Proxy, is_frontend};
 use crate::tables::{action_of, number_of};
-use conf_tree::{ConfigLine, Statement};
+use conf_tree::{Action, ConfigLine, Statement};
 use plan_types::{Backend, Table};
 use text_core::Word;
 
@@ -39,7 +40,7 @@ fn earlier(a: PlanFault, b: PlanFault) -> PlanFault
     if is_before(b, a) { b } else { a }
 }
 
-fn earliest(a: Option<PlanFault>, b: Option<PlanFault>) -> Option<PlanFault>
+pub fn earliest(a: Option<PlanFault>, b: Option<PlanFault>) -> Option<PlanFault>
     ensures { result ≡ earliest a b }
 {
     match (a, b) {
@@ -75,6 +76,16 @@ fn backend_place(backends: &[Backend], name: &Word) -> Option<usize>
     backends.iter().position(|backend| is_named(backend, name))
 }
 
+/// What is wrong where no backend has that name.
+pub fn backend_kind(backends: &[Backend], name: &Word) -> Option<PlanKind>
+    ensures { result ≡ backend_kind backends.now name.now }
+{
+    if backend_place(backends, name).is_some() {
+        return None;
+    }
+    Some(PlanKind::NoBackend)
+}
+
 /// The number of the backend of that name.
 pub fn backend_number(backends: &[Backend], name: &Word) -> Option<u16>
     requires { length backends.now ≤ 65535 }
@@ -99,55 +110,109 @@ fn default_fault(backends: &[Backend], setting: &Option<Named>) -> Option<PlanFa
     })
 }
 
-fn track_fault(tables: &[Table], name: &Word, item: &ConfigLine) -> Option<PlanFault>
+fn track_fault(tables: &[Table], name: &Word, line: u32, action: &Action) -> Option<PlanFault>
     requires { length tables.now ≤ 65535 }
-    ensures { result ≡ track_fault tables.now name.now item.now.line item.now.statement }
+    ensures { result ≡ track_fault tables.now name.now line action.now }
 {
+    if action_of(tables, name, action).is_some() {
+        return None;
+    }
+    Some(PlanFault {
+        line,
+        kind: PlanKind::NoTable,
+    })
+}
+
+fn choice_fault(backends: &[Backend], line: u32, backend: &Word) -> Option<PlanFault>
+    ensures { result ≡ choice_fault backends.now line backend.now }
+{
+    at_line(line, backend_kind(backends, backend))
+}
+
+/// The first fault of a line of the frontend of that name.
+#[tactic(auto, using(crate::proofs::FaultLemmas::one_and_more, crate::proofs::FaultLemmas::only_one))]
+fn line_fault(
+    tables: &[Table],
+    backends: &[Backend],
+    all: &[Proxy],
+    name: &Word,
+    item: &ConfigLine,
+) -> Option<PlanFault>
+    requires { length tables.now ≤ 65535 }
+    ensures { result ≡ least (line_faults tables.now backends.now all.now name.now item.now.line item.now.statement) }
+{
+    let line = item.line;
     match &item.statement {
-        Statement::Rule(_, action, _) => {
-            if action_of(tables, name, action).is_some() {
-                return None;
-            }
-            Some(PlanFault {
-                line: item.line,
-                kind: PlanKind::NoTable,
-            })
-        }
-        _ => None,
+        Statement::Acl(_, test) => test_fault(tables, backends, all, name, line, test),
+        Statement::Rule(_, action, when) => earliest(
+            track_fault(tables, name, line, action),
+            when_fault(tables, backends, all, name, line, when),
+        ),
+        Statement::UseBackend(backend, when) => earliest(
+            choice_fault(backends, line, backend),
+            when_fault(tables, backends, all, name, line, when),
+        ),
+        Statement::Nothing
+        | Statement::Global
+        | Statement::Defaults
+        | Statement::Frontend(_)
+        | Statement::Backend(_)
+        | Statement::MaxConn(_)
+        | Statement::DefaultBackend(_)
+        | Statement::Balance(_)
+        | Statement::Bind(_, _)
+        | Statement::StickTable(_)
+        | Statement::Server(_) => None,
     }
 }
 
-/// The first fault of the rules in some lines.
-fn track_fault_in(tables: &[Table], name: &Word, items: &[ConfigLine]) -> Option<PlanFault>
+/// The first fault of the lines of the frontend of that name.
+fn own_fault(
+    tables: &[Table],
+    backends: &[Backend],
+    all: &[Proxy],
+    name: &Word,
+    items: &[ConfigLine],
+) -> Option<PlanFault>
     requires { length tables.now ≤ 65535 }
-    ensures { result ≡ least (all_of (track_fault tables.now name.now) items.now) }
+    ensures { result ≡ least (own_faults tables.now backends.now all.now name.now items.now) }
 {
     let mut found = None;
     for item in items {
-        found = earliest(found, track_fault(tables, name, item));
+        found = earliest(found, line_fault(tables, backends, all, name, item));
     }
     found
 }
 
 /// The first fault of a frontend.
-fn frontend_fault(tables: &[Table], backends: &[Backend], proxy: &Proxy) -> Option<PlanFault>
+fn frontend_fault(
+    tables: &[Table],
+    backends: &[Backend],
+    all: &[Proxy],
+    proxy: &Proxy,
+) -> Option<PlanFault>
     requires tables { length tables.now ≤ 65535 }
     requires backends { length backends.now ≤ 65535 }
-    ensures { result ≡ least (frontend_faults tables.now backends.now proxy.now) }
+    ensures { result ≡ least (frontend_faults tables.now backends.now all.now proxy.now) }
 {
     let of_default = default_fault(backends, &default_in(proxy));
-    let of_rules = track_fault_in(tables, &proxy.head.name, proxy.own.items());
-    earliest(bind_fault(proxy), earliest(of_default, of_rules))
+    let of_lines = own_fault(tables, backends, all, &proxy.head.name, proxy.own.items());
+    earliest(bind_fault(proxy), earliest(of_default, of_lines))
 }
 
 /// The first fault of a section.
-fn fault_in(tables: &[Table], backends: &[Backend], proxy: &Proxy) -> Option<PlanFault>
+fn fault_in(
+    tables: &[Table],
+    backends: &[Backend],
+    all: &[Proxy],
+    proxy: &Proxy,
+) -> Option<PlanFault>
     requires tables { length tables.now ≤ 65535 }
     requires backends { length backends.now ≤ 65535 }
-    ensures { result ≡ least (faults_in tables.now backends.now proxy.now) }
+    ensures { result ≡ least (faults_in tables.now backends.now all.now proxy.now) }
 {
     if is_frontend(proxy) {
-        frontend_fault(tables, backends, proxy)
+        frontend_fault(tables, backends, all, proxy)
     } else {
         None
     }
@@ -157,11 +222,11 @@ fn fault_in(tables: &[Table], backends: &[Backend], proxy: &Proxy) -> Option<Pla
 fn fault_in_all(tables: &[Table], backends: &[Backend], all: &[Proxy]) -> Option<PlanFault>
     requires tables { length tables.now ≤ 65535 }
     requires backends { length backends.now ≤ 65535 }
-    ensures { result ≡ least (flat_map (faults_in tables.now backends.now) all.now) }
+    ensures { result ≡ least (flat_map (faults_in tables.now backends.now all.now) all.now) }
 {
     let mut found = None;
     for proxy in all {
-        found = earliest(found, fault_in(tables, backends, proxy));
+        found = earliest(found, fault_in(tables, backends, all, proxy));
     }
     found
 }

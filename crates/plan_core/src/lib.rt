@@ -9,8 +9,10 @@ pub use plan_types::{
 };
 pub use planning::compile;
 
+mod acls;
 mod binds;
 mod checking;
+mod criteria;
 mod fault;
 mod fields;
 mod planning;

@@ -7,6 +7,7 @@ ghost use Rattle.plan_core.specs.Fields.{tables_in};
 ghost use Rattle.plan_types.specs.Sound.{IsSoundPlan};
 ghost use Rattle.plan_core.specs.Proxies.{frontends, backends};
 
+use crate::acls::{acls_in, choices_in};
 use crate::checking::{backend_number, fault_of};
 use crate::fault::PlanFault;
 use crate::fields::{Named, binds_in, default_in, limit_in, method_in, servers_in};
@@ -75,7 +76,8 @@ fn frontend_of(
         limit_line: limit.line,
         connection_rules: rules_in(alloc, Ruleset::Connection, tables, name, own)?,
         session_rules: rules_in(alloc, Ruleset::Session, tables, name, own)?,
-        choices: Seq::new(alloc),
+        acls: acls_in(alloc, own)?,
+        choices: choices_in(alloc, backends, own)?,
         default: default_number(backends, &default_in(proxy)),
     })
 }

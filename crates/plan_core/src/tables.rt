@@ -2,13 +2,13 @@
 ghost use Rattle.std.specs.Prelude.{◌≡◌, ◌<◌, ◌≤◌, length, position, IfOk, IfSome};
 ghost use Rattle.std.specs.Option.{option_map, option_copied};
 ghost use Rattle.std.specs.Str.{bytes_eq};
-ghost use Rattle.plan_core.specs.Fields.{table_in, tables_in, is_table_of, table_number, action_of, is_in, line_rule, all_of};
+ghost use Rattle.plan_core.specs.Fields.{table_in, tables_in, is_table_of, table_number, stores_meant, action_of, is_in, line_rule, all_of};
 
 use crate::fields::last_table;
 use crate::proxies::Proxy;
 use conf_tree::{ConfigLine, Ruleset, Statement};
 use list_core::{Duplicate, Seq};
-use plan_types::{Action, Rule, Section, Table};
+use plan_types::{Action, Rule, Section, Stores, Table};
 use std::alloc::{AllocError, Global};
 use text_core::Word;
 
@@ -81,14 +81,32 @@ pub fn number_of(place: Option<usize>) -> Option<u16>
     }
 }
 
+/// The place of the table that a line of the frontend of that name means.
+fn table_place(tables: &[Table], name: &Word, named: &Option<Word>) -> Option<usize>
+    ensures value { result ≡ table_number tables.now name.now named.now }
+    ensures within { IfSome result (λ n. n < length tables.now) }
+{
+    match named {
+        Some(other) => named_place(tables, other),
+        None => own_place(tables, name),
+    }
+}
+
 /// The number of the table that a rule of the frontend of that name means.
 fn table_number(tables: &[Table], name: &Word, named: &Option<Word>) -> Option<u16>
     requires { length tables.now ≤ 65535 }
     ensures { result ≡ table_number tables.now name.now named.now }
 {
-    match named {
-        Some(other) => number_of(named_place(tables, other)),
-        None => number_of(own_place(tables, name)),
+    number_of(table_place(tables, name, named))
+}
+
+/// What the table stores that a criterion in the frontend of that name means.
+pub fn stores_meant(tables: &[Table], name: &Word, named: &Option<Word>) -> Option<Stores>
+    ensures { result ≡ stores_meant tables.now name.now named.now }
+{
+    match table_place(tables, name, named) {
+        Some(place) => Some(tables[place].stores),
+        None => None,
     }
 }
 

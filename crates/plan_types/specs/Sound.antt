@@ -4,6 +4,7 @@ use Rattle.std.specs.List.{AllByRecursion}
 use Rattle.plan_types.specs.declared.plan.Action.{Action}
 use Rattle.plan_types.specs.declared.plan.Action.TheVariants as actions
 use Rattle.plan_types.specs.declared.plan.Backend.{Backend}
+use Rattle.plan_types.specs.declared.plan.Choice.{Choice}
 use Rattle.plan_types.specs.declared.plan.Frontend.{Frontend}
 use Rattle.plan_types.specs.declared.plan.Plan.{Plan}
 use Rattle.plan_types.specs.declared.plan.Rule.{Rule}
@@ -55,6 +56,18 @@ pub record AreSoundRules (tables : ℕ) (rules : List Rule) : Type 0 where
   pub actions : AllByRecursion (λ rule. IsSoundAction tables rule.action) rules
   pub rise : RulesRise rules
 
+-- Choices.
+
+-- each choice's line is less than those of all choices after it
+abbrev pub ChoicesRise : List Choice → Type 0
+ChoicesRise [] = Unit {0}
+ChoicesRise (choice ∷ rest) = AllByRecursion (λ other. choice.line < other.line) rest × ChoicesRise rest
+
+-- the `use_backend` lines of a frontend, where there are so many backends
+pub record AreSoundChoices (backends : ℕ) (choices : List Choice) : Type 0 where
+  pub within : AllByRecursion (λ choice. choice.backend < backends) choices
+  pub rise : ChoicesRise choices
+
 -- Sections.
 
 -- from 1 to the greatest
@@ -66,6 +79,7 @@ pub record IsSoundFrontend (tables backends : ℕ) (frontend : Frontend) : Type 
   pub limit : IsWithin most_connections frontend.limit
   pub connection_rules : AreSoundRules tables frontend.connection_rules
   pub session_rules : AreSoundRules tables frontend.session_rules
+  pub choices : AreSoundChoices backends frontend.choices
   pub default : IfSome frontend.default (λ n. n < backends)
 
 pub record IsSoundServer (server : Server) : Type 0 where

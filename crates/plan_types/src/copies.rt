@@ -35,6 +35,7 @@ impl Duplicate for Frontend {
             limit_line: self.limit_line,
             connection_rules: self.connection_rules.duplicate(alloc)?,
             session_rules: self.session_rules.duplicate(alloc)?,
+            acls: self.acls.duplicate(alloc)?,
             choices: self.choices.duplicate(alloc)?,
             default: self.default,
         })

@@ -1,5 +1,5 @@
 //! Frontends with their rules, backends with their servers, and stick tables.
-use acl_core::When;
+use acl_core::{Acl, When};
 use addr_core::Endpoint;
 use list_core::Seq;
 use proxy_types::{KeyType, Method, Stores};
@@ -50,6 +50,9 @@ pub struct Frontend {
     pub limit_line: u32,
     pub connection_rules: Seq<Rule>,
     pub session_rules: Seq<Rule>,
+    /// The names that `acl` lines declare, in the order of their first declarations, each with the tests
+    /// of all its declarations. Conditions ask for them by their numbers in this list, from 0.
+    pub acls: Seq<Acl>,
     pub choices: Seq<Choice>,
     /// The number of the default backend.
     pub default: Option<u16>,

@@ -10,6 +10,6 @@ loop-proxy-preserved c =
     let there : drop c.loop-proxy.proxy-index c.args.all.now ≡ c.proxy-item.result ∷ drop (c.loop-proxy.proxy-index + 1) c.args.all.now =
     drop_more c.args.all.now c.loop-proxy.proxy-index c.proxy-item.result c.loop-proxy-test.true ∙ ap (λ x. x ∷ drop (c.loop-proxy.proxy-index + 1) c.args.all.now) (sym c.proxy-item.is) in
     rw (c.earliest-found.ensures, c.fault_in.ensures)
-    (some_more (faults_in c.args.tables.now c.args.backends.now) c.loop-proxy.found c.proxy-item.result (drop (c.loop-proxy.proxy-index + 1) c.args.all.now)
-    ∙ ap (λ all. earliest c.loop-proxy.found (least (flat_map (faults_in c.args.tables.now c.args.backends.now) all))) (sym there)
+    (some_more (faults_in c.args.tables.now c.args.backends.now c.args.all.now) c.loop-proxy.found c.proxy-item.result (drop (c.loop-proxy.proxy-index + 1) c.args.all.now)
+    ∙ ap (λ all. earliest c.loop-proxy.found (least (flat_map (faults_in c.args.tables.now c.args.backends.now c.args.all.now) all))) (sym there)
     ∙ c.loop-proxy.invariant)
