@@ -1,0 +1,47 @@
+-- In scenes that are alike a list of rules says the same.
+use Rattle.std.proofs.Common.{◌≡◌, ℕ, Bool, List, [], ◌∷◌, take, Some, None, refl, ap, ◌∙◌}
+use Rattle.std.specs.Prelude.{Option, find, ◌&&◌}
+use Rattle.std.specs.List.{enumerate_from}
+use Rattle.acl_core.specs.Truth.{applies}
+use Rattle.acl_core.proofs.TruthLemmas.{applies-same}
+use Rattle.plan_types.specs.declared.plan.Action.{Action}
+use Rattle.plan_types.specs.declared.plan.Action.TheVariants as actions
+use Rattle.plan_types.specs.declared.plan.Rule.{Rule}
+use Rattle.rule_engine.specs.Meaning.{SceneMeaning, AreAlike, present}
+use Rattle.rule_engine.specs.Judging.{Slots, no_tracks, is_true, after_action, after_rule, after_rules, is_final, decides, deciding_rule, judged_by, judged}
+
+is_true-same : (a b : SceneMeaning) → AreAlike a b → (tracks : Slots) (rule : Rule) → is_true a tracks rule ≡ is_true b tracks rule
+is_true-same a b alike tracks rule =
+    ap (λ acls. applies acls (a.worth (present tracks)) rule.when) alike.acls
+    ∙ applies-same b.acls (a.worth (present tracks)) (b.worth (present tracks)) (alike.worth (present tracks)) rule.when
+
+after_action-same : (a b : SceneMeaning) → AreAlike a b → (tracks : Slots) (action : Action) → after_action a tracks action ≡ after_action b tracks action
+after_action-same a b alike tracks actions.Accept = refl
+after_action-same a b alike tracks actions.Reject = refl
+after_action-same a b alike tracks (actions.Track counter number) = rw (alike.is_free counter, alike.key (present tracks) number) refl
+
+after_rule-same : (a b : SceneMeaning) → AreAlike a b → (tracks : Slots) (rule : Rule) → after_rule a tracks rule ≡ after_rule b tracks rule
+after_rule-same a b alike tracks rule = rw (is_true-same a b alike tracks rule, after_action-same a b alike tracks rule.action) refl
+
+after_rules-same : (a b : SceneMeaning) → AreAlike a b → (tracks : Slots) (rules : List Rule) → after_rules a tracks rules ≡ after_rules b tracks rules
+after_rules-same a b alike tracks [] = refl
+after_rules-same a b alike tracks (rule ∷ rules) =
+    ap (λ t. after_rules a t rules) (after_rule-same a b alike tracks rule) ∙ after_rules-same a b alike (after_rule b tracks rule) rules
+
+find-same : {X : Type 0} (p q : X → Bool) → ((x : X) → p x ≡ q x) → (xs : List X) → find p xs ≡ find q xs
+find-same p q same [] = refl
+find-same p q same (x ∷ xs) = rw (same x, find-same p q same xs) refl
+
+decides-same : (a b : SceneMeaning) → AreAlike a b → (tracks : Slots) (rules : List Rule) (item : ℕ × Rule) → decides a tracks rules item ≡ decides b tracks rules item
+decides-same a b alike tracks rules (place, rule) =
+    ap (λ t. is_final rule.action && is_true a t rule) (after_rules-same a b alike tracks (take place rules))
+    ∙ ap (λ truth. is_final rule.action && truth) (is_true-same a b alike (after_rules b tracks (take place rules)) rule)
+
+judged_by-same : (a b : SceneMeaning) → AreAlike a b → (tracks : Slots) (rules : List Rule) (decided : Option (ℕ × Rule)) → judged_by a tracks rules decided ≡ judged_by b tracks rules decided
+judged_by-same a b alike tracks rules None = rw (after_rules-same a b alike tracks rules) refl
+judged_by-same a b alike tracks rules (Some (place, rule)) = rw (after_rules-same a b alike tracks (take place rules)) refl
+
+pub judged-same : (a b : SceneMeaning) → AreAlike a b → (rules : List Rule) → judged a rules ≡ judged b rules
+judged-same a b alike rules =
+    ap (judged_by a no_tracks rules) (find-same (decides a no_tracks rules) (decides b no_tracks rules) (decides-same a b alike no_tracks rules) (enumerate_from 0 rules))
+    ∙ judged_by-same a b alike no_tracks rules (deciding_rule b no_tracks rules)

@@ -1,0 +1,118 @@
+//! Going through a list of rules.
+ghost use Rattle.std.specs.Prelude.{◌≡◌, ◌<◌, false, IsTrue};
+ghost use Rattle.rule_engine.specs.Meaning.{present};
+ghost use Rattle.rule_engine.specs.Judging.{is_true, is_free, after_track, judged};
+
+use crate::scene::{COUNTERS, Scene, Tracks};
+use acl_core::{Acl, Criterion, Value, View};
+use plan_types::{Action, Rule, Track};
+
+/// What a list of rules decides.
+#[derive(Clone, Copy, Debug, PartialEq, Eq)]
+pub enum Verdict {
+    Accept,
+    Reject,
+    /// No rule decided.
+    On,
+}
+
+/// What a list of rules says of a connection.
+#[derive(Clone, Copy, Debug, PartialEq, Eq)]
+pub struct Judged {
+    pub verdict: Verdict,
+    /// The line of the rule that decided, or 0.
+    pub line: u32,
+    /// The tracks made, by counter.
+    pub tracks: Tracks,
+    /// Whether a PROXY header has to come first: no action asks for one yet.
+    pub expects_header: bool,
+}
+
+/// A connection once those tracks are made.
+#[derive(Drop)]
+struct Place<'a, S> {
+    scene: &'a S,
+    tracks: &'a Tracks,
+}
+
+impl<'a, S: Scene> View for Place<'a, S> {
+    ghost worth = { λ place. (S.meaning place.scene.now).worth (present place.tracks.now) };
+
+    ghost acls = { λ place. (S.meaning place.scene.now).acls };
+
+    fn value(&self, criterion: &Criterion) -> Value {
+        self.scene.value(self.tracks, criterion)
+    }
+
+    fn acls(&self) -> &[Acl] {
+        self.scene.acls()
+    }
+}
+
+/// Whether the condition of the rule is true once those tracks are made.
+fn is_true<S: Scene>(scene: &S, tracks: &Tracks, rule: &Rule) -> bool
+    ensures { result ≡ is_true (S.meaning scene.now) tracks.now rule.now }
+{
+    rule.when.applies(&Place { scene, tracks })
+}
+
+/// Whether the counter tracks nothing.
+fn is_free<S: Scene>(scene: &S, tracks: &Tracks, counter: u8) -> bool
+    ensures free { result ≡ is_free (S.meaning scene.now) tracks.now counter }
+    ensures inside { IsTrue result → counter < COUNTERS }
+{
+    match tracks.get(usize::from(counter)) {
+        Some(slot) => slot.is_none() && scene.is_free(counter),
+        None => false,
+    }
+}
+
+/// The tracks once the counter tracks in the table of that number too, where it is free and there is a
+/// key to track.
+fn track<S: Scene>(scene: &S, tracks: Tracks, counter: u8, number: u16) -> Tracks
+    ensures { result ≡ after_track (S.meaning scene.now) tracks counter number }
+{
+    if !is_free(scene, &tracks, counter) {
+        return tracks;
+    }
+    let mut tracks = tracks;
+    if let Some((table, key)) = scene.key(&tracks, number) {
+        tracks[usize::from(counter)] = Some(Track {
+            counter,
+            table,
+            key,
+        });
+    }
+    tracks
+}
+
+fn outcome(verdict: Verdict, line: u32, tracks: Tracks) -> Judged
+    ensures { result ≡ record { verdict = verdict; line = line; tracks = tracks; expects_header = false } }
+{
+    Judged {
+        verdict,
+        line,
+        tracks,
+        expects_header: false,
+    }
+}
+
+/// What the list of rules says of the connection (HAProxy manual, `tcp-request connection`): the first
+/// rule decides that accepts or rejects and whose condition is true by then. The rules before it track
+/// where their condition is true, each where its counter is free and there is a key to track. A
+/// condition sees what was tracked before its rule.
+pub fn judge<S: Scene>(rules: &[Rule], scene: &S) -> Judged
+    ensures { result ≡ judged (S.meaning scene.now) rules.now }
+{
+    let mut tracks = [None; COUNTERS];
+    for rule in rules {
+        if is_true(scene, &tracks, rule) {
+            match rule.action {
+                Action::Accept => return outcome(Verdict::Accept, rule.line, tracks),
+                Action::Reject => return outcome(Verdict::Reject, rule.line, tracks),
+                Action::Track(counter, number) => tracks = track(scene, tracks, counter, number),
+            }
+        }
+    }
+    outcome(Verdict::On, 0, tracks)
+}
