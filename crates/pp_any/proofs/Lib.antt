@@ -10,3 +10,4 @@ pub mod Pieces
 pub mod Lines
 pub mod WrittenLines
 pub mod Same
+pub mod NextPiece

@@ -74,7 +74,7 @@ lacks_some b head waits version past says = by (nat_lt (length b) (16 + head.len
         let wrong : ◌≡◌ {A = Say} (Some (Ok (meaning_in head.declares (drop 16 (take (16 + head.len) b))))) None = sym ends ∙ waits_nowhere b waits (16 + head.len) (omega arith) full in
         absurd cc
 
-skip_some : (b : List ℕ) (m : ℕ) → IsRest b (Skip m) → 0 < m
+pub skip_some : (b : List ℕ) (m : ℕ) → IsRest b (Skip m) → 0 < m
 skip_some b m rest =
     let p = past_head b (Skip m) rest.1 (λ bytes wrong. absurd cc) in
     by p.head p.rest_is (lacks_some b p.head rest.0 p.version p.past p.says) p.head.declares refl
@@ -98,7 +98,7 @@ pair_some b family bytes m rest =
         let missing : 16 + head.len - length b ≡ m = cc in
         omega arith
 
-pair_inside : (b : List ℕ) (family : Family) (bytes : ArrayVec ℕ) (m : ℕ) → IsRest b (Block family bytes m) → IsInBlock family bytes.items m
+pub pair_inside : (b : List ℕ) (family : Family) (bytes : ArrayVec ℕ) (m : ℕ) → IsRest b (Block family bytes m) → IsInBlock family bytes.items m
 pair_inside b family bytes m rest =
     let some = pair_some b family bytes m rest in
     let d = declares b family bytes m rest.1 some in

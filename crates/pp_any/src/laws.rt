@@ -5,6 +5,7 @@ ghost use Rattle.pp_any.specs.declared.fault.HeaderFault.{HeaderFault};
 ghost use Rattle.pp_any.specs.Status.{Fault, Wait, Whole, decision, status};
 ghost use Rattle.pp_any.specs.declared.rest.Rest.{Rest};
 ghost use Rattle.pp_any.specs.Rest.{IsRest};
+ghost use Rattle.pp_any.specs.NextPiece.{rest_on, status_on};
 ghost use Rattle.pp_any.specs.Header.{IsBlock, IsDecidedAt, IsHeader, SaysInLine, shifted};
 
 /// The status of bytes is what the first of them decides that decides anything.
@@ -33,4 +34,13 @@ pub fn rest_decides()
         → (c : List ℕ) → shifted (length b) (status (a ++ c)) ≡ shifted (length a) (status (b ++ c)) }
     ensures rest { (a b : List ℕ) (rest : Rest) → IsRest a rest → IsRest b rest
         → (c : List ℕ) (more : Rest) → IsRest (a ++ c) more → IsRest (b ++ c) more }
+{}
+
+/// What follows some bytes can be judged by what a parser holds of them: the same is decided, at the same byte; and
+/// where nothing is decided, what a parser then holds follows from what it held.
+pub fn rest_goes_on()
+    ensures status { (b : List ℕ) (rest : Rest) → IsRest b rest → (c : List ℕ) → status (b ++ c) ≡ shifted (length b) (status_on rest c) }
+    ensures rest { (b : List ℕ) (rest : Rest) → IsRest b rest → (c : List ℕ) → status_on rest c ≡ Wait → IsRest (b ++ c) (rest_on rest c) }
+    ensures whole { (b : List ℕ) (rest : Rest) → IsRest b rest → (c : List ℕ) (used : ℕ) (meaning : Meaning) → status_on rest c ≡ Whole used meaning → used ≤ length c }
+    ensures fault { (b : List ℕ) (rest : Rest) → IsRest b rest → (c : List ℕ) (used : ℕ) (fault : HeaderFault) → status_on rest c ≡ Fault fault used → used ≤ length c }
 {}

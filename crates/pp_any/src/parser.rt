@@ -2,6 +2,7 @@
 ghost use Rattle.std.specs.Prelude.{◌≡◌, ◌^◌, ◌<◌, ◌≤◌, ℕ, List, [], length};
 ghost use Rattle.pp_any.specs.Rest.{IsRest, IsState, rest_in};
 ghost use Rattle.pp_any.specs.Fed.{Answers, bytes_of, used_in};
+ghost use Rattle.pp_any.specs.NextPiece.{Tells};
 
 use crate::block::Block;
 use crate::fault::HeaderFault;
@@ -91,6 +92,9 @@ impl Parser {
     pub fn feed(self, piece: &[u8]) -> Fed
         // A parser that was fed some bytes answers the status of those bytes and the piece together.
         ensures answers { (b : List ℕ) → IsRest b self → Answers b piece.now result }
+
+        // What it holds of those bytes is enough to say so.
+        ensures tells { (b : List ℕ) → IsRest b self → Tells self piece.now result }
 
         // The bytes used are of this piece.
         ensures used { used_in result ≤ length piece.now }

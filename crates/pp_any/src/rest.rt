@@ -4,7 +4,7 @@ use pp_v1::LINE_LIMIT;
 use pp_v2::Family;
 
 /// What a parser that waits holds of the bytes that it was fed.
-#[derive(Drop)]
+#[derive(Debug, Drop)]
 pub enum Rest {
     /// The bytes themselves, of version 1 or fewer than 16.
     Read(ArrayVec<u8, LINE_LIMIT>),
