@@ -8,7 +8,7 @@ use Rattle.std.proofs.lemmas.Bool.Decides.{nat_tests}
 use Rattle.plan_types.specs.declared.plan.Plan.{Plan}
 use Rattle.plan_types.specs.declared.track.Track.{Track}
 use Rattle.conn_model.specs.declared.event.OwnedEvent.{OwnedEvent}
-use Rattle.conn_model.specs.declared.event.OwnedEvent.TheVariants.{Accept, Close}
+use Rattle.conn_model.specs.declared.event.OwnedEvent.TheVariants.{Accept, Piece, Close, Expire}
 use Rattle.conn_model.specs.declared.plain.Phase.{Phase}
 use Rattle.conn_model.specs.declared.plain.Row.{Row}
 use Rattle.conn_model.specs.declared.plain.FrontendRows.{FrontendRows}
@@ -25,7 +25,9 @@ now_of-append s (e ∷ g) h = ap (λ m. max m e.moment) (now_of-append s g h)
 -- no event brings a version into force
 pub brings_none : (event : OwnedEvent) → version_of event ≡ None
 brings_none (Accept listener real) = refl
+brings_none (Piece id bytes) = refl
 brings_none (Close id why) = refl
+brings_none (Expire id) = refl
 
 pub in_force-same : (s : ℕ) (h : List Entry) → in_force s h ≡ s
 in_force-same s [] = refl

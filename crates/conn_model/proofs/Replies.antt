@@ -1,5 +1,5 @@
 -- What is known of a reply.
-use Rattle.std.specs.Prelude.{ℕ, Bool, true, false, max, List, length, slice_get, Option, Some, None, Result, Ok, Err, refl, ◌+◌, ◌≡◌, nat_lt, if◌then◌else◌}
+use Rattle.std.specs.Prelude.{ℕ, Bool, true, false, max, List, length, slice_get, Option, Some, None, Result, Ok, Err, refl, ◌+◌, ◌≡◌, nat_lt, nat_le, if◌then◌else◌}
 use Rattle.std.proofs.Common.{sym, ap, ◌∙◌}
 use Rattle.list_core.specs.Each.{◌>>=◌}
 use Rattle.addr_core.specs.PairValue.{PairValue}
@@ -7,21 +7,27 @@ use Rattle.plan_types.specs.declared.plan.Server.{Server}
 use Rattle.plan_types.specs.declared.plan.Frontend.{Frontend}
 use Rattle.conn_model.specs.declared.event.ConnId.{ConnId}
 use Rattle.conn_model.specs.declared.event.OwnedEvent.{OwnedEvent}
-use Rattle.conn_model.specs.declared.event.OwnedEvent.TheVariants.{Accept, Close}
+use Rattle.conn_model.specs.declared.event.OwnedEvent.TheVariants.{Accept, Piece, Close, Expire}
 use Rattle.conn_model.specs.declared.reply.Cause.{Cause}
+use Rattle.conn_model.specs.declared.reply.Cause.TheVariants.{Expired}
+use Rattle.conn_model.specs.declared.event.TheConstants.{HEADER_WAIT}
+use Rattle.pp_any.specs.declared.rest.Rest.{Rest}
+use Rattle.pp_any.specs.Status as statuses
+use Rattle.pp_any.specs.Status.{Status}
+use Rattle.pp_any.specs.NextPiece.{status_on}
 use Rattle.conn_model.specs.declared.reply.Said.{Said}
-use Rattle.conn_model.specs.declared.reply.Said.TheVariants.{Closed}
+use Rattle.conn_model.specs.declared.reply.Said.TheVariants.{Refuse, Closed}
 use Rattle.conn_model.specs.declared.reply.Reply.{Reply}
 use Rattle.conn_model.specs.declared.reply.StepFault.{StepFault}
-use Rattle.conn_model.specs.declared.reply.StepFault.TheVariants.{NoListener, NoSuch, Exhausted}
+use Rattle.conn_model.specs.declared.reply.StepFault.TheVariants.{NoListener, NoSuch, NotWaiting, NotDue, Exhausted}
 use Rattle.conn_model.specs.declared.plain.Row.{Row}
 use Rattle.conn_model.specs.declared.plain.FrontendRows.{FrontendRows}
 use Rattle.conn_model.specs.declared.plain.Listener.{Listener}
 use Rattle.conn_model.specs.declared.plain.Version.{Version}
 use Rattle.conn_model.specs.declared.plain.Plain.{Plain}
 use Rattle.conn_model.specs.Words.{newest, or_fault}
-use Rattle.conn_model.specs.Rules.{Candidate}
-use Rattle.conn_model.specs.Answer.{row_at, frontend_in, reply_of, verdict, said_of, candidate_at, admission, accept_answer, close_answer, answer_in}
+use Rattle.conn_model.specs.Rules.{Candidate, rejection}
+use Rattle.conn_model.specs.Answer.{candidate_worth, row_at, version_at, frontend_in, reply_of, verdict, said_of, decision, candidate_at, candidate_of, judged_pair, rest_in, waiting_row, entry_said, admission, header_said, accept_answer, piece_answer, close_answer, expire_answer, answer_in}
 use Rattle.conn_model.specs.History.{id_of}
 
 -- Answers in steps.
@@ -41,9 +47,29 @@ chosen false x y fault is = absurd (let wrong : Err fault ≡ Ok y = is in cc)
 
 -- Whom a reply speaks to.
 
-pub said_of-id : (id : ConnId) (judged : PairValue) (result : Result Server Cause) → id_of (said_of id judged result) ≡ Some id
-said_of-id id judged (Ok server) = refl
-said_of-id id judged (Err cause) = refl
+pub said_of-id : (id : ConnId) (used : ℕ) (judged : PairValue) (result : Result Server Cause) → id_of (said_of id used judged result) ≡ Some id
+said_of-id id used judged (Ok server) = refl
+said_of-id id used judged (Err cause) = refl
+
+pub decision-id : (candidate : Candidate) (used : ℕ) (judged : PairValue) → id_of (decision candidate used judged) ≡ Some candidate.id
+decision-id candidate used judged = said_of-id candidate.id used judged (verdict (candidate_worth candidate judged.source.addr) candidate.version candidate.frontend)
+
+pub header_said-id : (candidate : Candidate) (real : PairValue) (count : ℕ) (status : Status) → id_of (header_said candidate real count status) ≡ Some candidate.id
+header_said-id candidate real count statuses.Wait = refl
+header_said-id candidate real count (statuses.Fault fault used) = refl
+header_said-id candidate real count (statuses.Whole used meaning) = decision-id candidate used (judged_pair real meaning)
+
+entry_said-id : (candidate : Candidate) (accept_proxy : Bool) (real : PairValue) (line : Option ℕ) → id_of (entry_said candidate accept_proxy real line) ≡ Some candidate.id
+entry_said-id candidate accept_proxy real (Some line) = refl
+entry_said-id candidate true real None = refl
+entry_said-id candidate false real None = decision-id candidate 0 real
+
+pub admission-id : (candidate : Candidate) (accept_proxy : Bool) (real : PairValue) (others : ℕ) → id_of (admission candidate accept_proxy real others) ≡ Some candidate.id
+admission-id candidate accept_proxy real others = by (nat_le candidate.frontend.limit others) refl
+  where
+    by : (b : Bool) → nat_le candidate.frontend.limit others ≡ b → id_of (admission candidate accept_proxy real others) ≡ Some candidate.id
+    by true e = rw e refl
+    by false e = rw e (entry_said-id candidate accept_proxy real (rejection candidate.frontend.acls (candidate_worth candidate real.source.addr) candidate.frontend.connection_rules))
 
 -- What is known of an answer.
 
@@ -63,7 +89,9 @@ pub record IsOld (q : Plain) (id : ConnId) (said : Said) : Type 0 where
 
 abbrev pub Says : Plain → OwnedEvent → Said → Type 0
 Says q (Accept listener real) said = IsNew q said
+Says q (Piece id bytes) said = IsOld q id said
 Says q (Close id why) said = IsOld q id said
+Says q (Expire id) said = IsOld q id said
 
 -- what the answer to an accept looked up, and the reply that it gave
 pub record Accepted (q : Plain) (clock listener : ℕ) (real : PairValue) (reply : Reply) : Type 0 where
@@ -76,7 +104,7 @@ pub record Accepted (q : Plain) (clock listener : ℕ) (real : PairValue) (reply
   pub newest_is : newest q.versions ≡ Some version
   pub found : frontend_in version.plan own.name ≡ Some frontend
   pub fits : nat_lt own.serial 0xFFFF_FFFF_FFFF_FFFF ≡ true
-  pub reply_is : admission (candidate_at q clock at.frontend real own version frontend) real (length own.rows) ≡ reply
+  pub reply_is : reply_of (admission (candidate_at q clock at.frontend real own version frontend) at.accept_proxy real (length own.rows)) ≡ reply
 
 pub accepted : (q : Plain) (clock listener : ℕ) (real : PairValue) (reply : Reply) → accept_answer q clock listener real ≡ Ok reply → Accepted q clock listener real reply
 accepted q clock listener real reply is =
@@ -89,7 +117,7 @@ accepted q clock listener real reply is =
     let four = bind-ok (or_fault NoListener (frontend_in version.plan own.name)) _ reply three.2 in
     let frontend : Frontend = four.0 in
     let candidate : Candidate = candidate_at q clock at.frontend real own version frontend in
-    let last = chosen (nat_lt own.serial 0xFFFF_FFFF_FFFF_FFFF) (admission candidate real (length own.rows)) reply Exhausted four.2 in
+    let last = chosen (nat_lt own.serial 0xFFFF_FFFF_FFFF_FFFF) (reply_of (admission candidate at.accept_proxy real (length own.rows))) reply Exhausted four.2 in
     record {
       at = at;
       own = own;
@@ -108,7 +136,7 @@ new_at q clock listener real reply got =
     let candidate : Candidate = candidate_at q clock got.at.frontend real got.own got.version got.frontend in
     record {
       id = candidate.id;
-      speaks = ap (λ r. id_of r.said) (sym got.reply_is) ∙ said_of-id candidate.id real (verdict candidate real (length got.own.rows));
+      speaks = ap (λ r. id_of r.said) (sym got.reply_is) ∙ admission-id candidate got.at.accept_proxy real (length got.own.rows);
       own = got.own;
       there = got.there;
       next = refl;
@@ -120,7 +148,93 @@ closed q id said reply speaks is =
     let same : reply_of said ≡ reply = let it : Ok (reply_of said) ≡ Ok reply = one.2 in cc in
     record { speaks = ap (λ r. id_of r.said) (sym same) ∙ speaks; row = one.0; there = or_fault-ok NoSuch (row_at q.frontends id) one.0 one.1 }
 
+-- a connection that waits
+pub record IsWaiting (frontends : List FrontendRows) (id : ConnId) (row : Row) (rest : Rest) : Type 0 where
+  pub there : row_at frontends id ≡ Some row
+  pub holds : rest_in row.phase ≡ Some rest
+
+pub waiting : (frontends : List FrontendRows) (id : ConnId) (found : Row × Rest) → waiting_row frontends id ≡ Ok found → IsWaiting frontends id found.0 found.1
+waiting frontends id found is =
+    let one = bind-ok (or_fault NoSuch (row_at frontends id)) _ found is in
+    let two = bind-ok (or_fault NotWaiting (rest_in one.0.phase)) _ found one.2 in
+    let same : (one.0, two.0) ≡ found = let it : Ok (one.0, two.0) ≡ Ok found = two.2 in cc in
+    record {
+      there = or_fault-ok NoSuch (row_at frontends id) one.0 one.1 ∙ ap (λ w. Some w.0) same;
+      holds = ap (λ w. rest_in w.0.phase) (sym same) ∙ or_fault-ok NotWaiting (rest_in one.0.phase) two.0 two.1 ∙ ap (λ w. Some w.1) same;
+    }
+
+-- what the answer to a piece looked up, and the reply that it gave
+pub record Received (q : Plain) (id : ConnId) (piece : List ℕ) (reply : Reply) : Type 0 where
+  pub row : Row
+  pub rest : Rest
+  pub own : FrontendRows
+  pub version : Version
+  pub frontend : Frontend
+  pub row_is : row_at q.frontends id ≡ Some row
+  pub waits : rest_in row.phase ≡ Some rest
+  pub there : slice_get q.frontends id.frontend ≡ Some own
+  pub kept : version_at q.versions row.version ≡ Some version
+  pub found : frontend_in version.plan own.name ≡ Some frontend
+  pub reply_is : reply_of (header_said (candidate_of q id version frontend) row.real (length piece) (status_on rest piece)) ≡ reply
+
+pub received : (q : Plain) (id : ConnId) (piece : List ℕ) (reply : Reply) → piece_answer q id piece ≡ Ok reply → Received q id piece reply
+received q id piece reply is =
+    let one = bind-ok (waiting_row q.frontends id) _ reply is in
+    let row : Row = one.0.0 in
+    let rest : Rest = one.0.1 in
+    let three = bind-ok (or_fault NoSuch (slice_get q.frontends id.frontend)) _ reply one.2 in
+    let own : FrontendRows = three.0 in
+    let four = bind-ok (or_fault NoSuch (version_at q.versions row.version)) _ reply three.2 in
+    let version : Version = four.0 in
+    let five = bind-ok (or_fault NoSuch (frontend_in version.plan own.name)) _ reply four.2 in
+    let frontend : Frontend = five.0 in
+    let same : reply_of (header_said (candidate_of q id version frontend) row.real (length piece) (status_on rest piece)) ≡ reply =
+    let it : Ok (reply_of (header_said (candidate_of q id version frontend) row.real (length piece) (status_on rest piece))) ≡ Ok reply = five.2 in cc in
+    let waits = waiting q.frontends id one.0 one.1 in
+    record {
+      row = row;
+      rest = rest;
+      own = own;
+      version = version;
+      frontend = frontend;
+      row_is = waits.there;
+      waits = waits.holds;
+      there = or_fault-ok NoSuch (slice_get q.frontends id.frontend) own three.1;
+      kept = or_fault-ok NoSuch (version_at q.versions row.version) version four.1;
+      found = or_fault-ok NoSuch (frontend_in version.plan own.name) frontend five.1;
+      reply_is = same;
+    }
+
+old_piece : (q : Plain) (id : ConnId) (piece : List ℕ) (reply : Reply) → Received q id piece reply → IsOld q id reply.said
+old_piece q id piece reply got = record {
+  speaks = ap (λ r. id_of r.said) (sym got.reply_is) ∙ header_said-id (candidate_of q id got.version got.frontend) got.row.real (length piece) (status_on got.rest piece);
+  row = got.row;
+  there = got.row_is;
+}
+
+-- what the answer to an expiry looked up, and the reply that it gave
+pub record HasExpired (q : Plain) (clock : ℕ) (id : ConnId) (reply : Reply) : Type 0 where
+  pub row : Row
+  pub rest : Rest
+  pub row_is : row_at q.frontends id ≡ Some row
+  pub waits : rest_in row.phase ≡ Some rest
+  pub due : nat_le (row.accepted + HEADER_WAIT) clock ≡ true
+  pub reply_is : reply_of (Refuse id 0 Expired) ≡ reply
+
+pub expired : (q : Plain) (clock : ℕ) (id : ConnId) (reply : Reply) → expire_answer q clock id ≡ Ok reply → HasExpired q clock id reply
+expired q clock id reply is =
+    let one = bind-ok (waiting_row q.frontends id) _ reply is in
+    let row : Row = one.0.0 in
+    let last = chosen (nat_le (row.accepted + HEADER_WAIT) clock) (reply_of (Refuse id 0 Expired)) reply NotDue one.2 in
+    let waits = waiting q.frontends id one.0 one.1 in
+    record { row = row; rest = one.0.1; row_is = waits.there; waits = waits.holds; due = last.0; reply_is = last.1 }
+
+old_expired : (q : Plain) (clock : ℕ) (id : ConnId) (reply : Reply) → HasExpired q clock id reply → IsOld q id reply.said
+old_expired q clock id reply got = record { speaks = ap (λ r. id_of r.said) (sym got.reply_is); row = got.row; there = got.row_is }
+
 -- what is known of an answer
 pub answered : (q : Plain) (moment : ℕ) (event : OwnedEvent) (reply : Reply) → answer_in q moment event ≡ Ok reply → Says q event reply.said
 answered q moment (Accept listener real) reply is = new_at q (max q.clock moment) listener real reply (accepted q (max q.clock moment) listener real reply is)
+answered q moment (Piece id bytes) reply is = old_piece q id bytes reply (received q id bytes reply is)
 answered q moment (Close id why) reply is = closed q id (Closed id why) reply refl is
+answered q moment (Expire id) reply is = old_expired q (max q.clock moment) id reply (expired q (max q.clock moment) id reply is)

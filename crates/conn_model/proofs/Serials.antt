@@ -10,7 +10,7 @@ use Rattle.conn_model.specs.declared.plain.Row.{Row}
 use Rattle.conn_model.specs.declared.plain.FrontendRows.{FrontendRows}
 use Rattle.conn_model.specs.declared.plain.Plain.{Plain}
 use Rattle.addr_core.specs.PairValue.{PairValue}
-use Rattle.conn_model.specs.declared.event.OwnedEvent.TheVariants.{Accept, Close}
+use Rattle.conn_model.specs.declared.event.OwnedEvent.TheVariants.{Accept, Piece, Close, Expire}
 use Rattle.conn_model.specs.Words.{is_conn, Rise}
 use Rattle.conn_model.specs.Answer.{row_in, new_row}
 use Rattle.conn_model.specs.History.{now_of, id_of, speaks_to, in_force, newest_number, leaves_open, arrival_of, arrival, arrivals, has_ended, is_accept_at, accepts, row_after, frontend_after, frontends_after, after, Entry, IsLegal, IsFrontendWell}
@@ -38,7 +38,9 @@ arrival-all P q number clock version (Accept listener real) said new each =
   where
     same_number : (n : ℕ) → (n == n) ≡ true
     same_number n = eq-eqb n n refl
+arrival-all P q number clock version (Piece id bytes) said says each = tt
 arrival-all P q number clock version (Close id why) said says each = tt
+arrival-all P q number clock version (Expire id) said says each = tt
 
 -- an entry opens one row at most
 pub arrival-one : (number clock version : ℕ) (event : OwnedEvent) (said : Said) →
@@ -54,7 +56,9 @@ arrival-one number clock version (Accept listener real) said = by (id_of said)
         ((id' : ConnId) × (real' : PairValue) × (arrival_of number clock version real said id ≡ new_row id'.serial version real' clock ∷ []))
     by None = inl refl
     by (Some id) = one id (leaves_open said && (id.frontend == number))
+arrival-one number clock version (Piece id bytes) said = inl refl
 arrival-one number clock version (Close id why) said = inl refl
+arrival-one number clock version (Expire id) said = inl refl
 
 arrival-rise : (number clock version : ℕ) (event : OwnedEvent) (said : Said) → Rise (λ row. row.serial) (arrival number clock version event said)
 arrival-rise number clock version event said = elim (arrival-one number clock version event said) [
@@ -131,7 +135,9 @@ spoken_now p h (Accept listener real) said number own there facts new serial is 
     let next : new.id.serial ≡ own.serial + accepts number h + 1 = next_here p h number own said there new that.0 in
     let one : here_now number (Accept listener real) said ≡ 1 = accept_counts number listener real said new.id new.speaks that.0 in
     rw one (omega (arith, next, that.1))
+spoken_now p h (Piece id bytes) said number own there facts says serial is = old_now p h id said number own there facts says serial is
 spoken_now p h (Close id why) said number own there facts says serial is = old_now p h id said number own there facts says serial is
+spoken_now p h (Expire id) said number own there facts says serial is = old_now p h id said number own there facts says serial is
 
 facts_more : (p : Plain) (h : List Entry) (e : Entry) (number : ℕ) (own : FrontendRows) → slice_get p.frontends number ≡ Some own → FrontendFacts p h number own →
     Says (after p h) e.event e.reply.said → FrontendFacts p (e ∷ h) number own

@@ -10,18 +10,20 @@ use Rattle.std.proofs.lemmas.List.Elements.{filter-append}
 use Rattle.addr_core.specs.PairValue.{PairValue}
 use Rattle.plan_types.specs.declared.plan.Plan.{Plan}
 use Rattle.conn_model.specs.declared.event.ConnId.{ConnId}
-use Rattle.conn_model.specs.declared.event.Why.{Why}
-use Rattle.conn_model.specs.declared.event.OwnedEvent.TheVariants.{Accept, Close}
+use Rattle.conn_model.specs.declared.event.OwnedEvent.{OwnedEvent}
+use Rattle.conn_model.specs.declared.event.OwnedEvent.TheVariants.{Accept, Piece, Close, Expire}
 use Rattle.conn_model.specs.declared.reply.Said.{Said}
-use Rattle.conn_model.specs.declared.reply.Said.TheVariants.{Offer, Refuse, Closed}
+use Rattle.conn_model.specs.declared.reply.Said.TheVariants.{Wait, Offer, Refuse, Closed}
 use Rattle.conn_model.specs.declared.plain.Phase.TheVariants.{Offered}
 use Rattle.conn_model.specs.declared.plain.Row.{Row}
 use Rattle.conn_model.specs.declared.plain.FrontendRows.{FrontendRows}
 use Rattle.conn_model.specs.declared.plain.Version.{Version}
 use Rattle.conn_model.specs.declared.plain.Plain.{Plain}
 use Rattle.conn_model.specs.Words.{is_conn, map_from, newest, Rise}
-use Rattle.conn_model.specs.Answer.{row_in, reply_of, version_at}
-use Rattle.conn_model.specs.History.{id_of, speaks_to, newest_number, plan_of, identity_of, by_counter, is_accept_at, arrival, has_ended, row_after, frontend_after, after, entry, Entry, IsFrontendWell, IsWell}
+use Rattle.conn_model.specs.Counts.{change_row}
+use Rattle.conn_model.proofs.Parts.{brings_none}
+use Rattle.conn_model.specs.Answer.{row_in, reply_of, version_at, new_row}
+use Rattle.conn_model.specs.History.{id_of, speaks_to, newest_number, plan_of, identity_of, by_counter, phase_by, is_last, is_accept_at, arrival, has_ended, row_after, frontend_after, after, entry, Entry, IsFrontendWell, IsWell}
 use Rattle.conn_model.proofs.Lists.{all-more, all-at, all-both}
 
 -- Lists of which one item changes.
@@ -116,6 +118,7 @@ rows_left p clock real (Offer id used line server to judged send) =
       phase = Offered (record { server = identity_of (plan_of p [] (newest_number p)) line server to; line = line; judged = judged });
       tracks = [];
     } ∷ []
+rows_left p clock real (Wait id used) = new_row id.serial (newest_number p) real clock ∷ []
 rows_left p clock real (Refuse id used cause) = []
 rows_left p clock real (Closed id why) = []
 
@@ -128,6 +131,10 @@ new_rows_left : (p : Plain) (moment listener : ℕ) (real : PairValue) (said : S
     map (row_after p id.frontend (e ∷ [])) (filter (λ row. not (has_ended id.frontend (e ∷ []) row.serial)) (arrival id.frontend (max p.clock moment) (newest_number p) (Accept listener real) said))
     ≡ rows_left p (max p.clock moment) real said
 new_rows_left p moment listener real (Offer id' used line server to judged send) id whom =
+    let same : id' ≡ id = let it : Some id' ≡ Some id = whom in cc in
+    let front : id'.frontend ≡ id.frontend = ap (λ i. i.frontend) same in
+    rw (front, same_number id.frontend, same_number id'.serial, same_number id.frontend) refl
+new_rows_left p moment listener real (Wait id' used) id whom =
     let same : id' ≡ id = let it : Some id' ≡ Some id = whom in cc in
     let front : id'.frontend ≡ id.frontend = ap (λ i. i.frontend) same in
     rw (front, same_number id.frontend, same_number id'.serial, same_number id.frontend) refl
@@ -177,48 +184,113 @@ after-accept p well moment listener real said id own there whom next =
     (rw zero_plus (accept-here p moment listener real said id own (all-at (IsFrontendWell p.versions) p.frontends id.frontend own well.frontends there) whom next))
     (λ g y known differs. accept-elsewhere p moment listener real said id g y known whom (λ e. differs (omega arith))))
 
--- A close.
+-- An event of a connection that is open.
 
-close-here : (p : Plain) (moment : ℕ) (id : ConnId) (why : Why) (own : FrontendRows) → IsFrontendWell p.versions own →
-    frontend_after p (entry moment (Close id why) (reply_of (Closed id why)) ∷ []) id.frontend own ≡ record own { rows = filter (λ row. not (row.serial == id.serial)) own.rows }
-close-here p moment id why own well =
-    let e : Entry = entry moment (Close id why) (reply_of (Closed id why)) in
-    let f : Row → Row = row_after p id.frontend (e ∷ []) in
-    let g : Row → Bool = λ row. not (has_ended id.frontend (e ∷ []) row.serial) in
-    let g' : Row → Bool = λ row. not (row.serial == id.serial) in
-    let serial : own.serial + 0 ≡ own.serial = omega arith in
-    let rows : map f (filter g (own.rows ++ [])) ≡ filter g' own.rows =
-    ap (λ rs. map f (filter g rs)) (append-nil own.rows)
-    ∙ rows-left f g g' own.rows (all-more (λ row. by_counter row.tracks ≡ row.tracks) (λ row. (g row ≡ g' row) × (g' row ≡ true → f row ≡ row)) own.rows
-    (λ row sorted. (ends row, λ left. row-unspoken p id.frontend e row (speaks row left) sorted)) well.sorted) in
-    ap (λ n. record own { serial = n; rows = map f (filter g (own.rows ++ [])) }) serial ∙ ap (λ rs. record own { rows = rs }) rows
+-- the event is no accept
+abbrev pub IsOfOpen : OwnedEvent → Type 0
+IsOfOpen (Accept listener real) = ⊥
+IsOfOpen (Piece id bytes) = Unit {0}
+IsOfOpen (Close id why) = Unit {0}
+IsOfOpen (Expire id) = Unit {0}
+
+no_arrival : (number clock version : ℕ) (event : OwnedEvent) (said : Said) → IsOfOpen event → (arrival number clock version event said ≡ []) × (is_accept_at number event said ≡ false)
+no_arrival number clock version (Accept listener real) said old = absurd old
+no_arrival number clock version (Piece id bytes) said old = (refl, refl)
+no_arrival number clock version (Close id why) said old = (refl, refl)
+no_arrival number clock version (Expire id) said old = (refl, refl)
+
+-- the frontend of which the rows become these
+old-here : (p : Plain) (e : Entry) (number : ℕ) (own : FrontendRows) (rows : List Row) → IsOfOpen e.event →
+    map (row_after p number (e ∷ [])) (filter (λ row. not (has_ended number (e ∷ []) row.serial)) own.rows) ≡ rows →
+    frontend_after p (e ∷ []) number own ≡ record own { rows = rows }
+old-here p e number own rows old is =
+    let none = no_arrival number (max p.clock e.moment) (newest_number p) e.event e.reply.said old in
+    let serial : own.serial + (0 + 0) ≡ own.serial = omega arith in
+    let same : map (row_after p number (e ∷ [])) (filter (λ row. not (has_ended number (e ∷ []) row.serial)) (own.rows ++ [])) ≡ rows =
+    ap (λ rs. map (row_after p number (e ∷ [])) (filter (λ row. not (has_ended number (e ∷ []) row.serial)) rs)) (append-nil own.rows) ∙ is in
+    rw (none.1, none.0) (ap (λ n. record own { serial = n; rows = map (row_after p number (e ∷ [])) (filter (λ row. not (has_ended number (e ∷ []) row.serial)) (own.rows ++ [])) }) serial
+    ∙ ap (λ rs. record own { rows = rs }) same)
+
+old-elsewhere : (p : Plain) (e : Entry) (id : ConnId) (number : ℕ) (own : FrontendRows) → IsFrontendWell p.versions own → IsOfOpen e.event → id_of e.reply.said ≡ Some id → number ≢ id.frontend →
+    frontend_after p (e ∷ []) number own ≡ own
+old-elsewhere p e id number own well old whom differs =
+    let none = no_arrival number (max p.clock e.moment) (newest_number p) e.event e.reply.said old in
+    frontend-elsewhere p number e own well (λ serial. other_conn number serial e.reply.said id whom differs) none.1 none.0
+
+-- the state after an event that leaves these rows of the connection's frontend
+after-old : (p : Plain) → IsWell p → (e : Entry) (id : ConnId) (own : FrontendRows) (rows : List Row) → slice_get p.frontends id.frontend ≡ Some own → IsOfOpen e.event → id_of e.reply.said ≡ Some id →
+    map (row_after p id.frontend (e ∷ [])) (filter (λ row. not (has_ended id.frontend (e ∷ []) row.serial)) own.rows) ≡ rows →
+    after p (e ∷ []) ≡ record {
+      clock = max p.clock e.moment;
+      listeners = p.listeners;
+      frontends = slice_set p.frontends id.frontend (record own { rows = rows });
+      versions = p.versions;
+      tables = p.tables;
+    }
+after-old p well e id own rows there old whom is =
+    let zero_plus : 0 + id.frontend ≡ id.frontend = omega arith in
+    rw (brings_none e.event) (ap (λ fs. record { clock = max p.clock e.moment; listeners = p.listeners; frontends = fs; versions = p.versions; tables = p.tables })
+    (map_from-one (IsFrontendWell p.versions) (frontend_after p (e ∷ [])) 0 id.frontend p.frontends own _ well.frontends there
+    (rw zero_plus (old-here p e id.frontend own rows old is))
+    (λ g y known differs. old-elsewhere p e id g y known old whom (λ x. differs (omega arith)))))
+
+-- a reply that ends the connection
+ended-rows : (p : Plain) (e : Entry) (id : ConnId) (own : FrontendRows) → IsFrontendWell p.versions own → id_of e.reply.said ≡ Some id → is_last e.reply.said ≡ true →
+    map (row_after p id.frontend (e ∷ [])) (filter (λ row. not (has_ended id.frontend (e ∷ []) row.serial)) own.rows) ≡ filter (λ row. not (row.serial == id.serial)) own.rows
+ended-rows p e id own well whom last =
+    rows-left (row_after p id.frontend (e ∷ [])) (λ row. not (has_ended id.frontend (e ∷ []) row.serial)) (λ row. not (row.serial == id.serial)) own.rows
+    (all-more (λ row. by_counter row.tracks ≡ row.tracks) _ own.rows (λ row sorted. (ends row, λ left. row-unspoken p id.frontend e row (speaks row left) sorted)) well.sorted)
   where
-    ends : (row : Row) → not (has_ended id.frontend (entry moment (Close id why) (reply_of (Closed id why)) ∷ []) row.serial) ≡ not (row.serial == id.serial)
-    ends row = let on : (id.frontend == id.frontend) ≡ true = same_number id.frontend in grind (arith, nat_tests, on)
+    ends : (row : Row) → not (has_ended id.frontend (e ∷ []) row.serial) ≡ not (row.serial == id.serial)
+    ends row = rw (whom, last) (let on : (id.frontend == id.frontend) ≡ true = same_number id.frontend in grind (arith, nat_tests, on))
 
-    speaks : (row : Row) → not (row.serial == id.serial) ≡ true → speaks_to id.frontend row.serial (Closed id why) ≡ false
-    speaks row left = let on : (id.frontend == id.frontend) ≡ true = same_number id.frontend in grind (arith, nat_tests, on, left)
+    speaks : (row : Row) → not (row.serial == id.serial) ≡ true → speaks_to id.frontend row.serial e.reply.said ≡ false
+    speaks row left = rw whom (let on : (id.frontend == id.frontend) ≡ true = same_number id.frontend in grind (arith, nat_tests, on, left))
 
-close-elsewhere : (p : Plain) (moment : ℕ) (id : ConnId) (why : Why) (number : ℕ) (own : FrontendRows) → IsFrontendWell p.versions own → number ≢ id.frontend →
-    frontend_after p (entry moment (Close id why) (reply_of (Closed id why)) ∷ []) number own ≡ own
-close-elsewhere p moment id why number own well differs =
-    frontend-elsewhere p number (entry moment (Close id why) (reply_of (Closed id why))) own well (λ serial. other_conn number serial (Closed id why) id refl differs) refl refl
-
--- the state after a close alone
-pub after-close : (p : Plain) → IsWell p → (moment : ℕ) (id : ConnId) (why : Why) (own : FrontendRows) → slice_get p.frontends id.frontend ≡ Some own →
-    after p (entry moment (Close id why) (reply_of (Closed id why)) ∷ []) ≡ record {
-      clock = max p.clock moment;
+pub after-end : (p : Plain) → IsWell p → (e : Entry) (id : ConnId) (own : FrontendRows) → slice_get p.frontends id.frontend ≡ Some own → IsOfOpen e.event → id_of e.reply.said ≡ Some id → is_last e.reply.said ≡ true →
+    after p (e ∷ []) ≡ record {
+      clock = max p.clock e.moment;
       listeners = p.listeners;
       frontends = slice_set p.frontends id.frontend (record own { rows = filter (λ row. not (row.serial == id.serial)) own.rows });
       versions = p.versions;
       tables = p.tables;
     }
-after-close p well moment id why own there =
-    let zero_plus : 0 + id.frontend ≡ id.frontend = omega arith in
-    ap (λ fs. record { clock = max p.clock moment; listeners = p.listeners; frontends = fs; versions = p.versions; tables = p.tables })
-    (map_from-one (IsFrontendWell p.versions) (frontend_after p (entry moment (Close id why) (reply_of (Closed id why)) ∷ [])) 0 id.frontend p.frontends own _ well.frontends there
-    (rw zero_plus (close-here p moment id why own (all-at (IsFrontendWell p.versions) p.frontends id.frontend own well.frontends there)))
-    (λ g y known differs. close-elsewhere p moment id why g y known (λ e. differs (omega arith))))
+after-end p well e id own there old whom last =
+    after-old p well e id own _ there old whom (ended-rows p e id own (all-at (IsFrontendWell p.versions) p.frontends id.frontend own well.frontends there) whom last)
+
+-- a reply without tracks that leaves the connection open
+changed-rows : (p : Plain) (e : Entry) (id : ConnId) (rows : List Row) → AllByRecursion (λ row. by_counter row.tracks ≡ row.tracks) rows → id_of e.reply.said ≡ Some id → is_last e.reply.said ≡ false → e.reply.tracks.items ≡ [] →
+    map (row_after p id.frontend (e ∷ [])) (filter (λ row. not (has_ended id.frontend (e ∷ []) row.serial)) rows) ≡ change_row id.serial (λ row. record row { phase = phase_by (plan_of p [] row.version) e.event e.reply.said row.phase }) rows
+changed-rows p e id [] sorted whom last none = refl
+changed-rows p e id (row ∷ rows) sorted whom last none =
+    let rest = changed-rows p e id rows sorted.1 whom last none in
+    let stays : not (has_ended id.frontend (e ∷ []) row.serial) ≡ true = rw last refl in
+    rw stays (cc (here (row.serial == id.serial) refl, rest))
+  where
+    same : by_counter (row.tracks ++ []) ≡ row.tracks
+    same = ap by_counter (append-nil row.tracks) ∙ sorted.0
+
+    here : (b : Bool) → (row.serial == id.serial) ≡ b → row_after p id.frontend (e ∷ []) row ≡ (if row.serial == id.serial then record row { phase = phase_by (plan_of p [] row.version) e.event e.reply.said row.phase } else row)
+    here true is =
+        let serial : id.serial ≡ row.serial = sym (eqb-true row.serial id.serial is) in
+        let speaks : speaks_to id.frontend row.serial e.reply.said ≡ true = rw (whom, serial, same_number id.frontend, same_number row.serial) refl in
+        rw (is, speaks, none) (ap (λ ts. record row { phase = phase_by (plan_of p [] row.version) e.event e.reply.said row.phase; tracks = ts }) same)
+    here false is =
+        let other : (id.serial == row.serial) ≡ false = grind (arith, nat_tests, is) in
+        let speaks : speaks_to id.frontend row.serial e.reply.said ≡ false = rw (whom, other, and_false _) refl in
+        rw is (row-unspoken p id.frontend e row speaks sorted.0)
+
+pub after-change : (p : Plain) → IsWell p → (e : Entry) (id : ConnId) (own : FrontendRows) → slice_get p.frontends id.frontend ≡ Some own → IsOfOpen e.event → id_of e.reply.said ≡ Some id → is_last e.reply.said ≡ false →
+    e.reply.tracks.items ≡ [] →
+    after p (e ∷ []) ≡ record {
+      clock = max p.clock e.moment;
+      listeners = p.listeners;
+      frontends = slice_set p.frontends id.frontend (record own { rows = change_row id.serial (λ row. record row { phase = phase_by (plan_of p [] row.version) e.event e.reply.said row.phase }) own.rows });
+      versions = p.versions;
+      tables = p.tables;
+    }
+after-change p well e id own there old whom last none =
+    after-old p well e id own _ there old whom (changed-rows p e id own.rows (all-at (IsFrontendWell p.versions) p.frontends id.frontend own well.frontends there).sorted whom last none)
 
 -- where a connection is open, its frontend is there
 pub frontend_there : (frontends : List FrontendRows) (number serial : ℕ) (own : FrontendRows) → is_some (row_in serial (slice_get frontends number)) ≡ true → own ≡ get_or frontends number own → slice_get frontends number ≡ Some own

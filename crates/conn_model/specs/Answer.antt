@@ -1,28 +1,42 @@
 -- What a balancer in a plain state answers to an event.
-use Rattle.std.specs.Prelude.{ℕ, List, [], ◌∷◌, ◌++◌, length, max, find, slice_get, slice_set, Option, Some, None, Result, Ok, Err, ◌+◌, ◌==◌, nat_le, nat_lt, if◌then◌else◌}
+use Rattle.std.specs.Prelude.{ℕ, Bool, true, false, List, [], ◌∷◌, ◌++◌, length, max, find, slice_get, slice_set, Option, Some, None, Result, Ok, Err, ◌+◌, ◌==◌, nat_le, nat_lt, if◌then◌else◌}
 use Rattle.std.specs.Str.{bytes_eq}
 use Rattle.list_core.specs.Each.{◌>>=◌}
+use Rattle.addr_core.specs.declared.addr.Addr.{Addr}
+use Rattle.acl_core.specs.declared.criterion.Criterion.{Criterion}
+use Rattle.acl_core.specs.declared.criterion.Value.{Value}
 use Rattle.addr_core.specs.PairValue.{PairValue}
+use Rattle.pp_v1.specs.declared.meaning.Meaning.{Meaning}
+use Rattle.pp_v1.specs.declared.meaning.Meaning.TheVariants.{Real, Declared}
+use Rattle.pp_v1.specs.Line.{line_of}
+use Rattle.pp_v2.specs.Block.{header_of}
+use Rattle.pp_any.specs.declared.rest.Rest.{Rest}
+use Rattle.pp_any.specs.declared.rest.Rest.TheVariants.{Read}
+use Rattle.pp_any.specs.Status as statuses
+use Rattle.pp_any.specs.Status.{Status}
+use Rattle.pp_any.specs.NextPiece.{status_on}
 use Rattle.plan_types.specs.declared.plan.Server.{Server}
 use Rattle.plan_types.specs.declared.plan.Frontend.{Frontend}
 use Rattle.plan_types.specs.declared.plan.Plan.{Plan}
 use Rattle.conn_model.specs.declared.event.ConnId.{ConnId}
 use Rattle.conn_model.specs.declared.event.OwnedEvent.{OwnedEvent}
-use Rattle.conn_model.specs.declared.event.OwnedEvent.TheVariants.{Accept, Close}
+use Rattle.conn_model.specs.declared.event.OwnedEvent.TheVariants.{Accept, Piece, Close, Expire}
+use Rattle.conn_model.specs.declared.event.TheConstants.{HEADER_WAIT}
 use Rattle.conn_model.specs.declared.reply.Cause.{Cause}
-use Rattle.conn_model.specs.declared.reply.Cause.TheVariants.{Line, NoBackend, NoServer}
+use Rattle.conn_model.specs.declared.reply.Cause.TheVariants.{Line, Header, Expired, NoBackend, NoServer}
 use Rattle.conn_model.specs.declared.reply.Said.{Said}
-use Rattle.conn_model.specs.declared.reply.Said.TheVariants.{Offer, Refuse, Closed}
+use Rattle.conn_model.specs.declared.reply.Said.TheVariants.{Wait, Offer, Refuse, Closed}
 use Rattle.conn_model.specs.declared.reply.Reply.{Reply}
 use Rattle.conn_model.specs.declared.reply.StepFault.{StepFault}
-use Rattle.conn_model.specs.declared.reply.StepFault.TheVariants.{NoListener, NoSuch, Exhausted}
-use Rattle.conn_model.specs.declared.plain.Phase.TheVariants.{Waiting}
+use Rattle.conn_model.specs.declared.reply.StepFault.TheVariants.{NoListener, NoSuch, NotWaiting, NotDue, Exhausted}
+use Rattle.conn_model.specs.declared.plain.Phase.{Phase}
+use Rattle.conn_model.specs.declared.plain.Phase.TheVariants.{Waiting, Offered}
 use Rattle.conn_model.specs.declared.plain.Row.{Row}
 use Rattle.conn_model.specs.declared.plain.FrontendRows.{FrontendRows}
 use Rattle.conn_model.specs.declared.plain.Version.{Version}
 use Rattle.conn_model.specs.declared.plain.Plain.{Plain}
 use Rattle.conn_model.specs.Words.{newest, or_fault}
-use Rattle.conn_model.specs.Rules.{Candidate, RuleView, rule_view, rejection}
+use Rattle.conn_model.specs.Rules.{Candidate, rule_view, worth, rejection, backend_for}
 
 -- The state, looked up.
 
@@ -46,35 +60,45 @@ reply_of said = record { said = said; tracks = record { items = [] } }
 
 -- Judging a connection.
 
--- the server of the default backend, or why there is none
-abbrev pub server_for : Version → Frontend → Result Server Cause
-server_for version frontend = do
-  number ← or_fault (NoBackend frontend.line) frontend.default
+-- the first server of the backend of a connection of which the criteria have those values, or why there is none
+abbrev pub server_for : (Criterion → Value) → Version → Frontend → Result Server Cause
+server_for worth version frontend = do
+  number ← or_fault (NoBackend frontend.line) (backend_for worth frontend)
   backend ← or_fault (NoBackend frontend.line) (slice_get version.plan.backends number)
   or_fault (NoServer backend.line) (slice_get backend.servers 0)
 
--- a server, unless a line rejects the connection
-abbrev pub server_unless : Version → Frontend → Option ℕ → Result Server Cause
-server_unless version frontend (Some line) = Err (Line line)
-server_unless version frontend None = server_for version frontend
+-- the session rules first, which may reject by a line, then the backend and its server
+abbrev pub server_unless : (Criterion → Value) → Version → Frontend → Option ℕ → Result Server Cause
+server_unless worth version frontend (Some line) = Err (Line line)
+server_unless worth version frontend None = server_for worth version frontend
 
--- at the accept, where so many other connections of the frontend are open: the limit of the frontend
--- first, then the connection rules on the real source, then a server
-abbrev pub verdict : Candidate → PairValue → ℕ → Result Server Cause
-verdict candidate real others =
-    if nat_le candidate.frontend.limit others then Err (Line candidate.frontend.limit_line)
-    else server_unless candidate.version candidate.frontend (rejection (rule_view candidate real.source.addr) candidate.frontend.connection_rules)
+abbrev pub verdict : (Criterion → Value) → Version → Frontend → Result Server Cause
+verdict worth version frontend = server_unless worth version frontend (rejection frontend.acls worth frontend.session_rules)
 
--- an offer of the server, with nothing to send before the stream, or a refusal
-abbrev pub said_of : ConnId → PairValue → Result Server Cause → Said
-said_of id judged (Ok server) = Offer id 0 server.line 0 server.to judged (record { items = [] })
-said_of id judged (Err cause) = Refuse id 0 cause
+-- the values of the criteria for a candidate of that source
+abbrev pub candidate_worth : Candidate → Addr → Criterion → Value
+candidate_worth candidate source = worth (rule_view candidate source)
+
+-- what the server is sent before the stream: the header that states the judged pair, of version 2 where the
+-- server is to get that one
+abbrev pub header_sent : Server → PairValue → List ℕ
+header_sent server judged = if server.send_proxy_v2 then header_of judged else if server.send_proxy then line_of judged else []
+
+-- an offer of the server, or a refusal; so many bytes of the piece belong to the header
+abbrev pub said_of : ConnId → ℕ → PairValue → Result Server Cause → Said
+said_of id used judged (Ok server) = Offer id used server.line 0 server.to judged (record { items = header_sent server judged })
+said_of id used judged (Err cause) = Refuse id used cause
+
+-- once the header is whole, or where none is expected
+abbrev pub decision : Candidate → ℕ → PairValue → Said
+decision candidate used judged = said_of candidate.id used judged (verdict (candidate_worth candidate judged.source.addr) candidate.version candidate.frontend)
 
 -- An accept.
 
--- a connection that was accepted, and has no server yet
+-- a connection that was accepted: it has no server yet, and no byte of a header
 abbrev pub new_row : ℕ → ℕ → PairValue → ℕ → Row
-new_row serial version real clock = record { serial = serial; version = version; real = real; accepted = clock; phase = Waiting; tracks = [] }
+new_row serial version real clock =
+    record { serial = serial; version = version; real = real; accepted = clock; phase = Waiting (Read (record { items = [] })); tracks = [] }
 
 -- the state with one more row of the frontend of that number, which has these rows
 abbrev pub with_row : Plain → ℕ → FrontendRows → Row → Plain
@@ -89,9 +113,18 @@ candidate_at p clock number real own version frontend = record {
   id = record { frontend = number; serial = own.serial + 1 };
 }
 
--- the reply to a candidate, where so many other connections of its frontend are open
-abbrev pub admission : Candidate → PairValue → ℕ → Reply
-admission candidate real others = reply_of (said_of candidate.id real (verdict candidate real others))
+-- after the connection rules, which may reject by a line: the connection waits where its listener expects a header
+abbrev pub entry_said : Candidate → Bool → PairValue → Option ℕ → Said
+entry_said candidate accept_proxy real (Some line) = Refuse candidate.id 0 (Line line)
+entry_said candidate true real None = Wait candidate.id 0
+entry_said candidate false real None = decision candidate 0 real
+
+-- what is said to a candidate, where so many other connections of its frontend are open: the limit of the
+-- frontend first, then the connection rules on the real source
+abbrev pub admission : Candidate → Bool → PairValue → ℕ → Said
+admission candidate accept_proxy real others =
+    if nat_le candidate.frontend.limit others then Refuse candidate.id 0 (Line candidate.frontend.limit_line)
+    else entry_said candidate accept_proxy real (rejection candidate.frontend.acls (candidate_worth candidate real.source.addr) candidate.frontend.connection_rules)
 
 -- an accept is judged by the newest version, in the frontend of its listener
 abbrev pub accept_answer : Plain → ℕ → ℕ → PairValue → Result Reply StepFault
@@ -100,13 +133,61 @@ accept_answer p clock listener real = do
   own ← or_fault NoListener (slice_get p.frontends at.frontend)
   version ← or_fault NoListener (newest p.versions)
   frontend ← or_fault NoListener (frontend_in version.plan own.name)
-  if nat_lt own.serial 0xFFFF_FFFF_FFFF_FFFF then Ok (admission (candidate_at p clock at.frontend real own version frontend) real (length own.rows)) else Err Exhausted
+  if nat_lt own.serial 0xFFFF_FFFF_FFFF_FFFF then Ok (reply_of (admission (candidate_at p clock at.frontend real own version frontend) at.accept_proxy real (length own.rows))) else Err Exhausted
+
+-- A piece of a header.
+
+-- the pair that is judged: the one that the header declares, or the connection's own
+abbrev pub judged_pair : PairValue → Meaning → PairValue
+judged_pair real Real = real
+judged_pair real (Declared pair) = pair
+
+-- what a connection that waits holds of its header
+abbrev pub rest_in : Phase → Option Rest
+rest_in (Waiting rest) = Some rest
+rest_in (Offered assignment) = None
+
+-- the open connection of that name, with what it holds of the header that it waits for
+abbrev pub waiting_row : List FrontendRows → ConnId → Result (Row × Rest) StepFault
+waiting_row frontends id = do
+  row ← or_fault NoSuch (row_at frontends id)
+  rest ← or_fault NotWaiting (rest_in row.phase)
+  Ok (row, rest)
+
+-- an open connection, judged in a version of the configuration
+abbrev pub candidate_of : Plain → ConnId → Version → Frontend → Candidate
+candidate_of p id version frontend = record { state = p; version = version; frontend = frontend; id = id }
+
+-- what is said once a piece of that length came that decides this of the header
+abbrev pub header_said : Candidate → PairValue → ℕ → Status → Said
+header_said candidate real length statuses.Wait = Wait candidate.id length
+header_said candidate real length (statuses.Fault fault count) = Refuse candidate.id count (Header fault)
+header_said candidate real length (statuses.Whole count meaning) = decision candidate count (judged_pair real meaning)
+
+-- a piece is judged by the version of the connection's accept, in its own frontend
+abbrev pub piece_answer : Plain → ConnId → List ℕ → Result Reply StepFault
+piece_answer p id piece = do
+  waiting ← waiting_row p.frontends id
+  own ← or_fault NoSuch (slice_get p.frontends id.frontend)
+  version ← or_fault NoSuch (version_at p.versions waiting.0.version)
+  frontend ← or_fault NoSuch (frontend_in version.plan own.name)
+  Ok (reply_of (header_said (candidate_of p id version frontend) waiting.0.real (length piece) (status_on waiting.1 piece)))
+
+-- Other events.
 
 -- a connection that is open may be closed
 abbrev pub close_answer : Plain → ConnId → Said → Result Reply StepFault
 close_answer p id said = or_fault NoSuch (row_at p.frontends id) >>= λ row. Ok (reply_of said)
 
+-- a connection may wait for its header for so long, and not longer
+abbrev pub expire_answer : Plain → ℕ → ConnId → Result Reply StepFault
+expire_answer p clock id = do
+  waiting ← waiting_row p.frontends id
+  if nat_le (waiting.0.accepted + HEADER_WAIT) clock then Ok (reply_of (Refuse id 0 Expired)) else Err NotDue
+
 -- the reply to an event, or why it has none
 abbrev pub answer_in : Plain → ℕ → OwnedEvent → Result Reply StepFault
 answer_in p moment (Accept listener real) = accept_answer p (max p.clock moment) listener real
+answer_in p moment (Piece id bytes) = piece_answer p id bytes
 answer_in p moment (Close id why) = close_answer p id (Closed id why)
+answer_in p moment (Expire id) = expire_answer p (max p.clock moment) id

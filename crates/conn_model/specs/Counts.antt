@@ -1,15 +1,47 @@
 -- Counts of the open connections.
-use Rattle.std.specs.Prelude.{ℕ, List, length, slice_get, Option}
+use Rattle.std.specs.Prelude.{ℕ, Bool, true, false, List, [], ◌∷◌, length, map, filter, slice_get, Option, ◌+◌, ◌==◌, if◌then◌else◌}
+use Rattle.std.specs.Str.{bytes_eq}
 use Rattle.std.specs.Option.{option_map, option_map_or}
 use Rattle.conn_model.specs.declared.ask.Ask.{Ask}
 use Rattle.conn_model.specs.declared.ask.Ask.TheVariants as asks
 use Rattle.conn_model.specs.declared.ask.Counts.{Counts}
+use Rattle.conn_model.specs.declared.plain.Phase.{Phase}
+use Rattle.conn_model.specs.declared.plain.Phase.TheVariants.{Waiting, Offered}
+use Rattle.conn_model.specs.declared.plain.Row.{Row}
 use Rattle.conn_model.specs.declared.plain.FrontendRows.{FrontendRows}
 use Rattle.conn_model.specs.declared.plain.Plain.{Plain}
 
 -- how many connections of the frontend of that number are open
 abbrev pub open_in : List FrontendRows → ℕ → ℕ
 open_in frontends number = option_map_or (λ own. length own.rows) (slice_get frontends number) 0
+
+abbrev pub total : {X : Type 0} → (X → ℕ) → List X → ℕ
+total worth [] = 0
+total worth (x ∷ xs) = worth x + total worth xs
+
+-- of a frontend, if it has the name
+abbrev pub open_if : List ℕ → FrontendRows → ℕ
+open_if name own = if bytes_eq own.name name then length own.rows else 0
+
+-- how many connections of the frontend of that name are open
+abbrev pub open_named : List FrontendRows → List ℕ → ℕ
+open_named frontends name = total (open_if name) frontends
+
+-- the connection was offered a server of the backend of that name
+abbrev pub is_offered_to : List ℕ → Phase → Bool
+is_offered_to name (Waiting rest) = false
+is_offered_to name (Offered assignment) = bytes_eq assignment.server.backend name
+
+abbrev pub offered_in : List ℕ → FrontendRows → ℕ
+offered_in name own = length (filter (λ row. is_offered_to name row.phase) own.rows)
+
+-- how many open connections were offered a server of the backend of that name
+abbrev pub offered_to : List FrontendRows → List ℕ → ℕ
+offered_to frontends name = total (offered_in name) frontends
+
+-- the row of that serial changed, and the others as they are
+abbrev pub change_row : ℕ → (Row → Row) → List Row → List Row
+change_row serial change rows = map (λ row. if row.serial == serial then change row else row) rows
 
 abbrev pub open_of : FrontendRows → Counts
 open_of own = record { cur = length own.rows; cnt = 0 }

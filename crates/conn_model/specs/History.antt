@@ -5,6 +5,7 @@ use Rattle.std.specs.Option.{option_map_or}
 use Rattle.addr_core.specs.declared.addr.Endpoint.{Endpoint}
 use Rattle.addr_core.specs.PairValue.{PairValue}
 use Rattle.proxy_types.specs.declared.server.ServerIdentity.{ServerIdentity}
+use Rattle.pp_any.specs.NextPiece.{rest_on}
 use Rattle.plan_types.specs.declared.plan.Frontend.{Frontend}
 use Rattle.plan_types.specs.declared.plan.Backend.{Backend}
 use Rattle.plan_types.specs.declared.plan.Plan.{Plan}
@@ -14,14 +15,14 @@ use Rattle.conn_model.specs.declared.event.ConnId.{ConnId}
 use Rattle.conn_model.specs.declared.event.Event.{Event}
 use Rattle.conn_model.specs.declared.event.Event.TheVariants as events
 use Rattle.conn_model.specs.declared.event.OwnedEvent.{OwnedEvent}
-use Rattle.conn_model.specs.declared.event.OwnedEvent.TheVariants.{Accept, Close}
+use Rattle.conn_model.specs.declared.event.OwnedEvent.TheVariants.{Accept, Piece, Close, Expire}
 use Rattle.conn_model.specs.declared.reply.Said.{Said}
-use Rattle.conn_model.specs.declared.reply.Said.TheVariants.{Offer, Refuse, Closed}
+use Rattle.conn_model.specs.declared.reply.Said.TheVariants.{Wait, Offer, Refuse, Closed}
 use Rattle.conn_model.specs.declared.reply.Reply.{Reply}
 use Rattle.conn_model.specs.declared.reply.StepFault.{StepFault}
 use Rattle.conn_model.specs.declared.reply.StepFault.TheVariants.{NoMemory}
 use Rattle.conn_model.specs.declared.plain.Phase.{Phase}
-use Rattle.conn_model.specs.declared.plain.Phase.TheVariants.{Offered}
+use Rattle.conn_model.specs.declared.plain.Phase.TheVariants.{Waiting, Offered}
 use Rattle.conn_model.specs.declared.plain.Row.{Row}
 use Rattle.conn_model.specs.declared.plain.FrontendRows.{FrontendRows}
 use Rattle.conn_model.specs.declared.plain.Listener.{Listener}
@@ -53,6 +54,7 @@ now_of start (e ∷ h) = max (now_of start h) e.moment
 -- Of whom a reply speaks.
 
 abbrev pub id_of : Said → Option ConnId
+id_of (Wait id used) = Some id
 id_of (Offer id used line server to judged send) = Some id
 id_of (Refuse id used cause) = Some id
 id_of (Closed id why) = Some id
@@ -66,7 +68,9 @@ speaks_to number serial said = option_map_or (is_conn number serial) (id_of said
 -- the version that an event brings into force, with its plan
 abbrev pub version_of : OwnedEvent → Option (ℕ × Plan)
 version_of (Accept listener real) = None
+version_of (Piece id bytes) = None
 version_of (Close id why) = None
+version_of (Expire id) = None
 
 -- the number of the version in force: of the last that was brought, else of the newest at the start
 abbrev pub in_force : ℕ → List Entry → ℕ
@@ -96,17 +100,30 @@ nobody to = record { backend = []; name = []; to = to }
 abbrev pub identity_of : Option Plan → ℕ → ℕ → Endpoint → ServerIdentity
 identity_of plan line n to = option_map_or (identity_at n to) (option_and_then (λ plan. find (has_line line) plan.backends) plan) (nobody to)
 
--- the phase after a reply that speaks to the connection
-abbrev pub phase_by : Option Plan → Said → Phase → Phase
-phase_by plan (Offer id used line server to judged send) phase = Offered (record { server = identity_of plan line server to; line = line; judged = judged })
-phase_by plan (Refuse id used cause) phase = phase
-phase_by plan (Closed id why) phase = phase
+-- the bytes that came with an event
+abbrev pub piece_of : OwnedEvent → List ℕ
+piece_of (Accept listener real) = []
+piece_of (Piece id bytes) = bytes
+piece_of (Close id why) = []
+piece_of (Expire id) = []
+
+-- a connection that waits, and waits on once a piece came
+abbrev pub phase_on : List ℕ → Phase → Phase
+phase_on piece (Waiting rest) = Waiting (rest_on rest piece)
+phase_on piece (Offered assignment) = Offered assignment
+
+-- the phase after a reply to an event that speaks to the connection
+abbrev pub phase_by : Option Plan → OwnedEvent → Said → Phase → Phase
+phase_by plan event (Wait id used) phase = phase_on (piece_of event) phase
+phase_by plan event (Offer id used line server to judged send) phase = Offered (record { server = identity_of plan line server to; line = line; judged = judged })
+phase_by plan event (Refuse id used cause) phase = phase
+phase_by plan event (Closed id why) phase = phase
 
 abbrev pub phase_after : Plain → ℕ → ℕ → ℕ → Phase → List Entry → Phase
 phase_after p number serial version start [] = start
 phase_after p number serial version start (e ∷ h) =
     if speaks_to number serial e.reply.said
-    then phase_by (plan_of p h version) e.reply.said (phase_after p number serial version start h)
+    then phase_by (plan_of p h version) e.event e.reply.said (phase_after p number serial version start h)
     else phase_after p number serial version start h
 
 -- the tracks that were made for a connection, the oldest first
@@ -122,12 +139,14 @@ by_counter tracks = filter (λ track. track.counter == 0) tracks ++ filter (λ t
 
 -- the reply is a last one
 abbrev pub is_last : Said → Bool
+is_last (Wait id used) = false
 is_last (Offer id used line server to judged send) = false
 is_last (Refuse id used cause) = true
 is_last (Closed id why) = true
 
 -- the reply to an accept leaves the connection open
 abbrev pub leaves_open : Said → Bool
+leaves_open (Wait id used) = true
 leaves_open (Offer id used line server to judged send) = true
 leaves_open (Refuse id used cause) = false
 leaves_open (Closed id why) = false
@@ -139,7 +158,9 @@ arrival_of number clock version real said (Some id) = if leaves_open said && (id
 -- the row that an event opens in the frontend, as it is at its accept
 abbrev pub arrival : ℕ → ℕ → ℕ → OwnedEvent → Said → List Row
 arrival number clock version (Accept listener real) said = arrival_of number clock version real said (id_of said)
+arrival number clock version (Piece id bytes) said = []
 arrival number clock version (Close id why) said = []
+arrival number clock version (Expire id) said = []
 
 -- all that were opened in a frontend, the oldest first, each as it was at its accept
 abbrev pub arrivals : Plain → ℕ → List Entry → List Row
@@ -152,7 +173,9 @@ has_ended number h serial = list_any (λ e. is_last e.reply.said && speaks_to nu
 
 abbrev pub is_accept_at : ℕ → OwnedEvent → Said → Bool
 is_accept_at number (Accept listener real) said = option_map_or (λ id. id.frontend == number) (id_of said) false
+is_accept_at number (Piece id bytes) said = false
 is_accept_at number (Close id why) said = false
+is_accept_at number (Expire id) said = false
 
 -- the accepts of the frontend that were answered
 abbrev pub accepts : ℕ → List Entry → ℕ
@@ -258,9 +281,13 @@ opening plan last = record {
 -- an event as a history keeps it
 abbrev pub owned_event : Event → OwnedEvent
 owned_event (events.Accept listener real) = Accept listener real
+owned_event (events.Piece id bytes) = Piece id bytes.now
 owned_event (events.Close id why) = Close id why
+owned_event (events.Expire id) = Expire id
 
--- the event ends a connection, and asks for no memory
+-- the event is of a connection that is open, and asks for no memory
 abbrev pub NeedsNoMemory : Event → Type 0
 NeedsNoMemory (events.Accept listener real) = ⊥
+NeedsNoMemory (events.Piece id bytes) = Unit {0}
 NeedsNoMemory (events.Close id why) = Unit {0}
+NeedsNoMemory (events.Expire id) = Unit {0}

@@ -1,20 +1,23 @@
 -- How a list of rules decides.
-use Rattle.std.specs.Prelude.{ℕ, Bool, true, false, List, find, Option, Some, None, option_and_then, ◌&&◌}
+use Rattle.std.specs.Prelude.{ℕ, Bool, true, false, List, find, Option, Some, None, option_map, option_and_then, ◌&&◌}
+use Rattle.std.specs.Option.{option_or}
 use Rattle.addr_core.specs.declared.addr.Addr.{Addr}
 use Rattle.acl_core.specs.declared.criterion.Criterion.{Criterion}
 use Rattle.acl_core.specs.declared.criterion.Criterion.TheVariants as criteria
 use Rattle.acl_core.specs.declared.criterion.Value.{Value}
 use Rattle.acl_core.specs.declared.criterion.Value.TheVariants as values
-use Rattle.acl_core.specs.declared.condition.When.{When}
+use Rattle.acl_core.specs.declared.condition.Acl.{Acl}
 use Rattle.acl_core.specs.Truth.{applies}
-use Rattle.plan_types.specs.declared.plan.Action.{Action}
-use Rattle.plan_types.specs.declared.plan.Action.TheVariants.{Accept, Reject, Track}
+use Rattle.rule_engine.specs.Meaning.{SceneMeaning}
+use Rattle.rule_engine.specs.Judging.{judged}
+use Rattle.rule_engine.specs.declared.judging.Verdict.{Verdict}
+use Rattle.rule_engine.specs.declared.judging.Verdict.TheVariants as verdicts
 use Rattle.plan_types.specs.declared.plan.Rule.{Rule}
 use Rattle.plan_types.specs.declared.plan.Frontend.{Frontend}
 use Rattle.conn_model.specs.declared.event.ConnId.{ConnId}
 use Rattle.conn_model.specs.declared.plain.Version.{Version}
 use Rattle.conn_model.specs.declared.plain.Plain.{Plain}
-use Rattle.conn_model.specs.Counts.{open_in}
+use Rattle.conn_model.specs.Counts.{open_in, open_named, offered_to}
 
 -- Where a connection is judged: in a state in which it is one of the rows, by a frontend of a version
 -- of the configuration.
@@ -32,33 +35,30 @@ pub record RuleView : Type 0 where
 abbrev pub rule_view : Candidate → Addr → RuleView
 rule_view candidate source = record { candidate = candidate; source = source }
 
--- the value of a criterion in the view
+-- the value of a criterion in the view; nothing is tracked yet
 abbrev pub worth : RuleView → Criterion → Value
 worth v criteria.Source = values.Source v.source
-worth v criteria.FrontendConnections = values.Number (open_in v.candidate.state.frontends v.candidate.id.frontend)
+worth v (criteria.TrackedConnections counter) = values.Absent
+worth v (criteria.TrackedTotal counter) = values.Absent
+worth v (criteria.SourceConnections table) = values.Number 0
+worth v (criteria.SourceTotal table) = values.Number 0
+worth v (criteria.FrontendConnections None) = values.Number (open_in v.candidate.state.frontends v.candidate.id.frontend)
+worth v (criteria.FrontendConnections (Some name)) = values.Number (open_named v.candidate.state.frontends name)
+worth v (criteria.BackendConnections name) = values.Number (offered_to v.candidate.state.frontends name)
 
-abbrev pub applies_in : RuleView → When → Bool
-applies_in v when = applies (worth v) when
+-- a connection before a list of rules; nothing can be tracked yet
+abbrev pub scene_of : List Acl → (Criterion → Value) → SceneMeaning
+scene_of acls worth = record { is_free = λ counter. true; acls = acls; worth = λ made. worth; key = λ made table. None }
 
--- such a rule ends its list
-abbrev pub is_final : Action → Bool
-is_final Accept = true
-is_final Reject = true
-is_final (Track counter table) = false
-
--- the rule ends the list in the view
-abbrev pub decides : RuleView → Rule → Bool
-decides v rule = is_final rule.action && applies_in v rule.when
-
--- the rule that decides: the first in written order that ends the list
-abbrev pub deciding : RuleView → List Rule → Option Rule
-deciding v rules = find (decides v) rules
-
-abbrev pub reject_line : Action → ℕ → Option ℕ
-reject_line Accept line = None
-reject_line Reject line = Some line
-reject_line (Track counter table) line = None
+abbrev pub reject_line : Verdict → ℕ → Option ℕ
+reject_line verdicts.Accept line = None
+reject_line verdicts.Reject line = Some line
+reject_line verdicts.On line = None
 
 -- the line that rejects the connection, if the list does
-abbrev pub rejection : RuleView → List Rule → Option ℕ
-rejection v rules = option_and_then (λ rule. reject_line rule.action rule.line) (deciding v rules)
+abbrev pub rejection : List Acl → (Criterion → Value) → List Rule → Option ℕ
+rejection acls worth rules = let says = judged (scene_of acls worth) rules in reject_line says.verdict says.line
+
+-- the number of the backend: that of the first `use_backend` line that applies, or else the default one
+abbrev pub backend_for : (Criterion → Value) → Frontend → Option ℕ
+backend_for worth frontend = option_or (option_map (λ choice. choice.backend) (find (λ choice. applies frontend.acls worth choice.when) frontend.choices)) frontend.default

@@ -1,5 +1,6 @@
 //! What happens to a balancer.
 use addr_core::Pair;
+use list_core::Seq;
 
 /// The name of a connection.
 #[derive(Clone, Copy, Debug, PartialEq, Eq)]
@@ -19,18 +20,30 @@ pub enum Why {
     Failed,
 }
 
+/// The most bytes of a piece.
+pub const PIECE_LIMIT: usize = 65_536;
+
+/// How long a connection may wait for its header from its accept on, in ms.
+pub const HEADER_WAIT: u64 = 3_000;
+
 /// An event as it is handed in.
 #[derive(Clone, Copy, Debug)]
-pub enum Event {
+pub enum Event<'a> {
     /// A connection came to a listener, by its number; the pair is its peer and its local end.
     Accept(u16, Pair),
+    /// The next bytes of a connection that waits for its header, at most `PIECE_LIMIT`.
+    Piece(ConnId, &'a [u8]),
     /// A connection ended.
     Close(ConnId, Why),
+    /// A connection may have waited for its header for too long.
+    Expire(ConnId),
 }
 
 /// An event with memory of its own, as a history keeps it.
 #[derive(Debug, Drop)]
 pub enum OwnedEvent {
     Accept(u16, Pair),
+    Piece(ConnId, Seq<u8>),
     Close(ConnId, Why),
+    Expire(ConnId),
 }

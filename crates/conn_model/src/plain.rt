@@ -2,6 +2,7 @@
 use addr_core::{Addr, Endpoint, Pair};
 use list_core::Seq;
 use plan_types::{Plan, Table, TableId, Track};
+use pp_any::Rest;
 use proxy_types::{Place, ServerIdentity};
 
 /// The server that a connection was given.
@@ -17,8 +18,8 @@ pub struct Assignment {
 /// How far a connection is.
 #[derive(Debug, Drop)]
 pub enum Phase {
-    /// It was accepted, and has no server yet.
-    Waiting,
+    /// It has no server yet; what is held of its PROXY header so far.
+    Waiting(Rest),
     /// It was offered a server.
     Offered(Assignment),
 }

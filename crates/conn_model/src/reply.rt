@@ -3,12 +3,17 @@ use crate::event::{ConnId, Why};
 use addr_core::{Endpoint, Pair};
 use arrayvec::ArrayVec;
 use plan_types::Track;
+use pp_any::HeaderFault;
 
 /// Why a connection is refused.
 #[derive(Clone, Copy, Debug, PartialEq, Eq)]
 pub enum Cause {
     /// The rule of that line rejects it.
     Line(u32),
+    /// Its PROXY header has that fault.
+    Header(HeaderFault),
+    /// No whole header came in time.
+    Expired,
     /// No backend is named for it; the line of the frontend.
     NoBackend(u32),
     /// The backend has no server for it; the line of the backend.
@@ -18,6 +23,12 @@ pub enum Cause {
 /// What is said to a connection.
 #[derive(Debug, Drop)]
 pub enum Said {
+    /// It has to wait for its PROXY header, or for the rest of it.
+    Wait {
+        id: ConnId,
+        /// How many bytes of the piece belong to the header.
+        used: u64,
+    },
     /// It is given to a server.
     Offer {
         id: ConnId,
@@ -61,6 +72,10 @@ pub enum StepFault {
     NoListener,
     /// No open connection has the name.
     NoSuch,
+    /// The connection does not wait for a header.
+    NotWaiting,
+    /// The connection may wait longer for its header.
+    NotDue,
     /// The serial 2^64 - 1 was given out.
     Exhausted,
     NoMemory,
