@@ -1,0 +1,36 @@
+-- Rows that are fed.
+use Rattle.std.proofs.Common.{◌≡◌, ℕ, List, [], ◌++◌, Option, Some, None, refl, sym}
+use Rattle.std.specs.Prelude.{find, IsSome, option_and_then}
+use Rattle.pp_any.specs.declared.rest.Rest.{Rest}
+use Rattle.pp_any.specs.declared.rest.Rest.TheVariants.{Read}
+use Rattle.pp_any.specs.Status.{Status, Wait, Whole, Fault}
+use Rattle.pp_any.specs.Rest.{IsRest}
+use Rattle.pp_any.specs.NextPiece.{rest_on, status_on}
+use Rattle.pp_any.proofs.NextPiece.{goes_on}
+use Rattle.conn_rows.specs.declared.row.Stage.{Stage}
+use Rattle.conn_rows.specs.declared.row.Stage.TheVariants.{Waiting, Offered}
+use Rattle.conn_rows.specs.declared.row.StoredRow.{StoredRow}
+use Rattle.conn_rows.specs.Stored.{IsHeld, has_serial, rest_kept, rest_within}
+use Rattle.conn_rows.specs.Changes.{held_under, stage_fed}
+
+-- nothing is held of nothing
+pub none_held : (rest : Rest) → IsRest [] rest → rest ≡ Read (record { items = [] })
+none_held rest is = sym is.1
+
+-- what is held after a piece is of some bytes again
+pub fed_held : (stage : Stage) (piece : List ℕ) → IsHeld stage → IsHeld (stage_fed piece stage)
+fed_held (Offered seat) piece held = tt
+fed_held (Waiting rest) piece (b, is) = by (status_on rest piece) refl
+  where
+    by : (s : Status) → status_on rest piece ≡ s → (bytes : List ℕ) × IsRest bytes (held_under s (rest_on rest piece))
+    by Wait waits = (b ++ piece, (goes_on b piece rest is).holds waits)
+    by (Whole count meaning) decided = ([], (refl, refl))
+    by (Fault fault count) decided = ([], (refl, refl))
+
+-- a connection that waits is open
+pub found_waiting : (serial : ℕ) (rows : List StoredRow) → IsSome (rest_kept serial rows) → IsSome (find (has_serial serial) rows)
+found_waiting serial rows some = by (find (has_serial serial) rows) some
+  where
+    by : (o : Option StoredRow) → IsSome (option_and_then (λ row. rest_within row.stage) o) → IsSome o
+    by None some = absurd (cc)
+    by (Some row) some = refl

@@ -1,0 +1,5 @@
+pub mod Serials
+pub mod Fed
+pub mod Plain
+pub mod Totals
+pub mod Changes

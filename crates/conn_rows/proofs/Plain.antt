@@ -1,0 +1,216 @@
+-- The plain state of what is stored.
+use Rattle.std.proofs.Common.{◌≡◌, ℕ, zero, suc, ◌+◌, ◌<◌, Bool, true, false, not, List, [], ◌∷◌, ◌++◌, length, map, set, get_or, Option, Some, None, refl, sym, ap, subst, ◌∙◌}
+use Rattle.std.specs.Prelude.{slice_get, slice_set, filter, find, ◌==◌, if◌then◌else◌, IsSome, option_map, option_and_then}
+use Rattle.std.specs.Prelude.{Result, Ok, Err, OnOk}
+use Rattle.std.specs.Option.{option_map_or}
+use Rattle.std.proofs.lemmas.List.{map-append, map-set}
+use Rattle.std.proofs.lemmas.Option.{get_or_from_slice_get, slice_get_read}
+use Rattle.addr_core.specs.PairValue.{PairValue}
+use Rattle.conn_model.specs.declared.event.ConnId.{ConnId}
+use Rattle.conn_model.specs.declared.plain.Row.{Row}
+use Rattle.conn_model.specs.declared.plain.FrontendRows.{FrontendRows}
+use Rattle.plan_types.specs.declared.plan.Frontend.{Frontend}
+use Rattle.plan_types.specs.declared.plan.Plan.{Plan}
+use Rattle.conn_model.specs.History.{new_version, opening}
+use Rattle.conn_model.specs.declared.plain.TableState.{TableState}
+use Rattle.conn_model.specs.declared.plain.Version.{Version}
+use Rattle.conn_model.specs.Answer.{row_at, row_in, rest_in}
+use Rattle.conn_rows.specs.declared.rows.RowsState.{RowsState}
+use Rattle.conn_rows.specs.Summaries.{is_waiting, rows_of, stored_summary, summary_of}
+use Rattle.conn_rows.specs.declared.row.Seat.{Seat}
+use Rattle.conn_rows.specs.declared.row.Stage.{Stage}
+use Rattle.conn_rows.specs.declared.row.Stage.TheVariants.{Waiting, Offered}
+use Rattle.conn_rows.specs.declared.row.StoredRow.{StoredRow}
+use Rattle.conn_rows.specs.Stored.{StoredFrontend, at_stage, has_serial, phase_of, plan_at, plain_frontend, plain_row, rest_kept, rest_within, stored_arrival, stored_in, waits, with_stored}
+use Rattle.conn_rows.specs.Changes.{rest_at, row_fed, row_offered, stored_fed, phase_fed, stage_fed, with_arrival, with_item, with_row, without_row}
+
+pub get-map : {X Y : Type 0} (f : X → Y) (xs : List X) (n : ℕ) → slice_get (map f xs) n ≡ option_map f (slice_get xs n)
+get-map f [] n = refl
+get-map f (x ∷ xs) zero = refl
+get-map f (x ∷ xs) (suc n) = get-map f xs n
+
+-- one item changed in both
+pub set-map : {X Y : Type 0} (f : X → Y) (change : Y → Y) (xs : List X) (n : ℕ) (x next : X) → slice_get xs n ≡ Some x → f next ≡ change (f x) → map f (set xs n next) ≡ with_item n change (map f xs)
+set-map f change xs n x next there is =
+    let here : slice_get (map f xs) n ≡ Some (f x) = get-map f xs n ∙ ap (option_map f) there in
+    map-set f xs n next ∙ ap (λ y. set (map f xs) n y) is ∙ sym (ap (λ o. option_map_or (λ y. slice_set (map f xs) n (change y)) o (map f xs)) here)
+
+pub none-map : {X Y : Type 0} (f : X → Y) (change : Y → Y) (xs : List X) (n : ℕ) → slice_get xs n ≡ None → map f xs ≡ with_item n change (map f xs)
+none-map f change xs n none =
+    let nowhere : slice_get (map f xs) n ≡ None = get-map f xs n ∙ ap (option_map f) none in
+    sym (ap (λ o. option_map_or (λ y. slice_set (map f xs) n (change y)) o (map f xs)) nowhere)
+
+-- ---- the rows of one frontend
+
+find-plain : (versions : List Version) (serial : ℕ) (rows : List StoredRow) → find (λ row. row.serial == serial) (map (plain_row versions) rows) ≡ option_map (plain_row versions) (find (has_serial serial) rows)
+find-plain versions serial [] = refl
+find-plain versions serial (row ∷ rows) = by (row.serial == serial) refl (find-plain versions serial rows)
+  where
+    by : (b : Bool) → (row.serial == serial) ≡ b → find (λ row. row.serial == serial) (map (plain_row versions) rows) ≡ option_map (plain_row versions) (find (has_serial serial) rows) →
+        find (λ row. row.serial == serial) (map (plain_row versions) (row ∷ rows)) ≡ option_map (plain_row versions) (find (has_serial serial) (row ∷ rows))
+    by true is more = rw is refl
+    by false is more = rw is more
+
+with-plain : (versions : List Version) (serial : ℕ) (change : StoredRow → StoredRow) (plain : Row → Row) (rows : List StoredRow) → ((row : StoredRow) → plain_row versions (change row) ≡ plain (plain_row versions row)) →
+    map (plain_row versions) (with_stored serial change rows) ≡ map (λ row. if row.serial == serial then plain row else row) (map (plain_row versions) rows)
+with-plain versions serial change plain [] same = refl
+with-plain versions serial change plain (row ∷ rows) same = by (row.serial == serial) refl (with-plain versions serial change plain rows same)
+  where
+    by : (b : Bool) → (row.serial == serial) ≡ b →
+        map (plain_row versions) (with_stored serial change rows) ≡ map (λ row. if row.serial == serial then plain row else row) (map (plain_row versions) rows) →
+        map (plain_row versions) (with_stored serial change (row ∷ rows)) ≡ map (λ row. if row.serial == serial then plain row else row) (map (plain_row versions) (row ∷ rows))
+    by true is more = let here = same row in rw is (cc (here, more))
+    by false is more = rw is (ap (λ rs. plain_row versions row ∷ rs) more)
+
+others-plain : (versions : List Version) (serial : ℕ) (rows : List StoredRow) →
+    map (plain_row versions) (filter (λ row. not (has_serial serial row)) rows) ≡ filter (λ row. not (row.serial == serial)) (map (plain_row versions) rows)
+others-plain versions serial [] = refl
+others-plain versions serial (row ∷ rows) = by (row.serial == serial) refl (others-plain versions serial rows)
+  where
+    by : (b : Bool) → (row.serial == serial) ≡ b →
+        map (plain_row versions) (filter (λ row. not (has_serial serial row)) rows) ≡ filter (λ row. not (row.serial == serial)) (map (plain_row versions) rows) →
+        map (plain_row versions) (filter (λ row. not (has_serial serial row)) (row ∷ rows)) ≡ filter (λ row. not (row.serial == serial)) (map (plain_row versions) (row ∷ rows))
+    by true is more = rw is more
+    by false is more = rw is (ap (λ rs. plain_row versions row ∷ rs) more)
+
+-- ---- the changes
+
+pub arrival_plain : (versions : List Version) (own : StoredFrontend) (version accepted : ℕ) (real : PairValue) →
+    plain_frontend versions (record own { serial = own.serial + 1; rows = own.rows ++ stored_arrival (own.serial + 1) version real accepted ∷ [] }) ≡ with_arrival version real accepted (plain_frontend versions own)
+arrival_plain versions own version accepted real =
+    ap (λ rows. record { name = own.name; serial = own.serial + 1; rows = rows }) (map-append (plain_row versions) own.rows (stored_arrival (own.serial + 1) version real accepted ∷ []))
+
+pub fed_plain : (versions : List Version) (own : StoredFrontend) (serial : ℕ) (piece : List ℕ) →
+    plain_frontend versions (record own { rows = with_stored serial (stored_fed piece) own.rows }) ≡ with_row serial (row_fed piece) (plain_frontend versions own)
+fed_plain versions own serial piece =
+    ap (λ rows. record { name = own.name; serial = own.serial; rows = rows }) (with-plain versions serial (stored_fed piece) (row_fed piece) own.rows same)
+  where
+    same : (row : StoredRow) → plain_row versions (stored_fed piece row) ≡ row_fed piece (plain_row versions row)
+    same row = ap (λ phase. record (plain_row versions row) { phase = phase }) (by row.stage)
+      where
+        by : (stage : Stage) → phase_of (plan_at versions row.version) (stage_fed piece stage) ≡ phase_fed piece (phase_of (plan_at versions row.version) stage)
+        by (Waiting rest) = refl
+        by (Offered seat) = refl
+
+pub offered_plain : (versions : List Version) (own : StoredFrontend) (serial : ℕ) (seat : Seat) →
+    plain_frontend versions (record own { rows = with_stored serial (at_stage (Offered seat)) own.rows }) ≡ with_row serial (row_offered versions seat) (plain_frontend versions own)
+offered_plain versions own serial seat =
+    ap (λ rows. record { name = own.name; serial = own.serial; rows = rows }) (with-plain versions serial (at_stage (Offered seat)) (row_offered versions seat) own.rows (λ row. refl))
+
+pub others_plain : (versions : List Version) (own : StoredFrontend) (serial : ℕ) →
+    plain_frontend versions (record own { rows = filter (λ row. not (has_serial serial row)) own.rows }) ≡ without_row serial (plain_frontend versions own)
+others_plain versions own serial = ap (λ rows. record { name = own.name; serial = own.serial; rows = rows }) (others-plain versions serial own.rows)
+
+-- ---- what is looked up
+
+pub row_is : (versions : List Version) (frontends : List StoredFrontend) (id : ConnId) → row_at (map (plain_frontend versions) frontends) id ≡ option_map (plain_row versions) (stored_in id.serial (slice_get frontends id.frontend))
+row_is versions frontends id = ap (row_in id.serial) (get-map (plain_frontend versions) frontends id.frontend) ∙ by (slice_get frontends id.frontend)
+  where
+    by : (o : Option StoredFrontend) → row_in id.serial (option_map (plain_frontend versions) o) ≡ option_map (plain_row versions) (stored_in id.serial o)
+    by None = refl
+    by (Some own) = find-plain versions id.serial own.rows
+
+pub rest_is : (versions : List Version) (frontends : List StoredFrontend) (id : ConnId) (own : StoredFrontend) → slice_get frontends id.frontend ≡ Some own → rest_at (map (plain_frontend versions) frontends) id ≡ rest_kept id.serial own.rows
+rest_is versions frontends id own there =
+    ap (option_and_then (λ row. rest_in row.phase)) (row_is versions frontends id ∙ ap (λ o. option_map (plain_row versions) (stored_in id.serial o)) there) ∙ by (find (has_serial id.serial) own.rows)
+  where
+    stage : (row : StoredRow) (s : Stage) → rest_in (phase_of (plan_at versions row.version) s) ≡ rest_within s
+    stage row (Waiting rest) = refl
+    stage row (Offered seat) = refl
+
+    by : (o : Option StoredRow) → option_and_then (λ row. rest_in row.phase) (option_map (plain_row versions) o) ≡ option_and_then (λ row. rest_within row.stage) o
+    by None = refl
+    by (Some row) = stage row row.stage
+
+-- ---- the whole state
+
+abbrev pub state_of : List StoredFrontend → List Version → List TableState → RowsState
+state_of frontends versions tables = record { frontends = map (plain_frontend versions) frontends; versions = versions; tables = tables }
+
+some_below : {X Y : Type 0} (f : X → Y) (o : Option X) → IsSome (option_map f o) → IsSome o
+some_below f None some = absurd (cc)
+some_below f (Some x) some = refl
+
+-- the frontend that is read at a number, where there is one
+pub own_there : (frontends : List StoredFrontend) (versions : List Version) (tables : List TableState) (state : RowsState) (n number : ℕ) (own : StoredFrontend) →
+    state_of frontends versions tables ≡ state → n ≡ number → own ≡ get_or frontends n own → IsSome (slice_get state.frontends number) → slice_get frontends number ≡ Some own
+own_there frontends versions tables state n number own state_is n_is value some = by (slice_get frontends number) refl below
+  where
+    stored : slice_get state.frontends number ≡ option_map (plain_frontend versions) (slice_get frontends number)
+    stored = ap (λ s. slice_get s.frontends number) (sym state_is) ∙ get-map (plain_frontend versions) frontends number
+
+    below : IsSome (slice_get frontends number)
+    below = some_below (plain_frontend versions) (slice_get frontends number) (subst IsSome stored some)
+
+    by : (o : Option StoredFrontend) → slice_get frontends number ≡ o → IsSome o → o ≡ Some own
+    by None is some = absurd (cc)
+    by (Some x) is some = ap (λ x. Some x) (sym (value ∙ ap (λ n. get_or frontends n own) n_is ∙ get_or_from_slice_get frontends number x own is))
+
+-- one frontend changed
+pub changed : (frontends : List StoredFrontend) (versions : List Version) (tables : List TableState) (state : RowsState) (n number : ℕ) (own next : StoredFrontend) (change : List Version → FrontendRows → FrontendRows) →
+    state_of frontends versions tables ≡ state → n ≡ number → slice_get frontends number ≡ Some own → plain_frontend versions next ≡ change versions (plain_frontend versions own) →
+    state_of (set frontends n next) versions tables ≡ record state { frontends = with_item number (change state.versions) state.frontends }
+changed frontends versions tables state n number own next change state_is n_is there is =
+    let P : RowsState → Type 0 = λ s. state_of (set frontends n next) versions tables ≡ record s { frontends = with_item number (change s.versions) s.frontends } in
+    subst P state_is
+    (ap (λ fs. record { frontends = fs; versions = versions; tables = tables })
+    (ap (λ n. map (plain_frontend versions) (set frontends n next)) n_is ∙ set-map (plain_frontend versions) (change versions) frontends number own next there is))
+
+pub rest_of_state : (frontends : List StoredFrontend) (versions : List Version) (tables : List TableState) (state : RowsState) (id : ConnId) (own : StoredFrontend) →
+    state_of frontends versions tables ≡ state → slice_get frontends id.frontend ≡ Some own → rest_at state.frontends id ≡ rest_kept id.serial own.rows
+rest_of_state frontends versions tables state id own state_is there = ap (λ s. rest_at s.frontends id) (sym state_is) ∙ rest_is versions frontends id own there
+
+pub row_of_state : (frontends : List StoredFrontend) (versions : List Version) (tables : List TableState) (state : RowsState) (id : ConnId) →
+    state_of frontends versions tables ≡ state → row_at state.frontends id ≡ option_map (plain_row versions) (stored_in id.serial (slice_get frontends id.frontend))
+row_of_state frontends versions tables state id state_is = ap (λ s. row_at s.frontends id) (sym state_is) ∙ row_is versions frontends id
+
+pub stored_open : (frontends : List StoredFrontend) (versions : List Version) (tables : List TableState) (state : RowsState) (id : ConnId) (own : StoredFrontend) →
+    state_of frontends versions tables ≡ state → slice_get frontends id.frontend ≡ Some own → IsSome (row_at state.frontends id) → IsSome (find (has_serial id.serial) own.rows)
+stored_open frontends versions tables state id own state_is there some =
+    some_below (plain_row versions) (find (has_serial id.serial) own.rows)
+    (subst IsSome (row_of_state frontends versions tables state id state_is ∙ ap (λ o. option_map (plain_row versions) (stored_in id.serial o)) there) some)
+
+-- where a connection is open there is its frontend
+pub row_there : (frontends : List FrontendRows) (id : ConnId) → IsSome (row_at frontends id) → IsSome (slice_get frontends id.frontend)
+row_there frontends id some = by (slice_get frontends id.frontend) some
+  where
+    by : (o : Option FrontendRows) → IsSome (row_in id.serial o) → IsSome o
+    by None some = absurd (cc)
+    by (Some own) some = refl
+
+pub rest_there : (frontends : List FrontendRows) (id : ConnId) → IsSome (rest_at frontends id) → IsSome (slice_get frontends id.frontend)
+rest_there frontends id some = row_there frontends id (by (row_at frontends id) some)
+  where
+    by : (o : Option Row) → IsSome (option_and_then (λ row. rest_in row.phase) o) → IsSome o
+    by None some = absurd (cc)
+    by (Some row) some = refl
+
+-- frontends of which nothing is open
+pub empty_plain : (versions : List Version) (frontends : List Frontend) (last : ℕ) →
+    map (plain_frontend versions) (map (λ frontend. record { name = frontend.name; serial = last; rows = [] }) frontends) ≡ map (λ frontend. record { name = frontend.name; serial = last; rows = [] }) frontends
+empty_plain versions [] last = refl
+empty_plain versions (f ∷ frontends) last = ap (λ fs. record { name = f.name; serial = last; rows = [] } ∷ fs) (empty_plain versions frontends last)
+
+-- what is said of a row
+pub summed : (versions : List Version) (row : StoredRow) → stored_summary row ≡ summary_of (plain_row versions row)
+summed versions row = ap (λ b. record { version = row.version; real = row.real; accepted = row.accepted; waits = b }) (by row.stage)
+  where
+    by : (stage : Stage) → waits stage ≡ is_waiting (phase_of (plan_at versions row.version) stage)
+    by (Waiting rest) = refl
+    by (Offered seat) = refl
+
+pub on_ok : {X E P Q : Type 0} (r : Result X E) → (P → Q) → OnOk r P → OnOk r Q
+on_ok (Ok x) more p = more p
+on_ok (Err e) more p = tt
+
+pub own_below : (frontends : List StoredFrontend) (n number : ℕ) (own : StoredFrontend) → n ≡ number → own ≡ get_or frontends n own → n < length frontends → slice_get frontends number ≡ Some own
+own_below frontends n number own n_is value less =
+    ap (λ i. slice_get frontends i) (sym n_is) ∙ slice_get_read frontends (length frontends) n own refl less value
+
+-- what there is when a plan is opened
+pub opened : (plan : Plan) (last : ℕ) (frontends : List StoredFrontend) (versions : List Version) (tables : List TableState) →
+    frontends ≡ map (λ frontend. record { name = frontend.name; serial = last; rows = [] }) plan.frontends → versions ≡ new_version 1 plan ∷ [] → tables ≡ [] →
+    state_of frontends versions tables ≡ rows_of (opening plan last)
+opened plan last frontends versions tables frontends_are versions_are tables_are =
+    rw (versions_are, tables_are, frontends_are)
+    (ap (λ fs. record { frontends = fs; versions = new_version 1 plan ∷ []; tables = [] }) (empty_plain (new_version 1 plan ∷ []) plan.frontends last))

@@ -1,0 +1,30 @@
+use Rattle.std.proofs.Common.{◌≡◌, Some, sym, subst, ◌∙◌}
+use Rattle.std.specs.Prelude.{slice_get, IsSome}
+use Rattle.conn_rows.specs.Stored.{with_stored}
+use Rattle.conn_rows.specs.Changes.{row_fed, stored_fed, with_row}
+use Rattle.conn_rows.proofs.Plain.{changed, fed_plain, own_there, rest_of_state, rest_there}
+use Rattle.conn_rows.proofs.rows.Rows.feed.Goals as goal
+
+there : (c : goal.After-index_mut) → slice_get c.self.inside.frontends.items c.args.id.frontend ≡ Some c.index_mut.result.now
+there c =
+    own_there c.self.inside.frontends.items c.self.inside.versions c.self.inside.tables c.args.self.now c.from.result c.args.id.frontend c.index_mut.result.now c.self.view_is c.from.ensures c.index_mut.ensures.value
+    (rest_there c.args.self.now.frontends c.args.id c.requires)
+
+there_after : (c : goal.After-self-1) → slice_get c.self.inside.frontends.items c.args.id.frontend ≡ Some c.index_mut.result.now
+there_after c =
+    own_there c.self.inside.frontends.items c.self.inside.versions c.self.inside.tables c.args.self.now c.from.result c.args.id.frontend c.index_mut.result.now c.self.view_is c.from.ensures c.index_mut.ensures.value
+    (rest_there c.args.self.now.frontends c.args.id c.requires)
+
+pub feed-requires : goal.feed-requires
+feed-requires c = subst IsSome (rest_of_state c.self.inside.frontends.items c.self.inside.versions c.self.inside.tables c.args.self.now c.args.id c.index_mut.result.now c.self.view_is (there c)) c.requires
+
+pub returns-clause-status : goal.returns-clause-status
+returns-clause-status c = λ rest is. c.feed.ensures.status rest (sym (rest_of_state c.self.inside.frontends.items c.self.inside.versions c.self.inside.tables c.args.self.now c.args.id c.index_mut.result.now c.self.view_is (there_after c)) ∙ is)
+
+pub returns-clause-new : goal.returns-clause-new
+returns-clause-new c =
+    let own = c.index_mut.result.now in
+    rw c.feed.ensures.new
+    (changed c.self.inside.frontends.items c.self.inside.versions c.self.inside.tables c.args.self.now c.from.result c.args.id.frontend own (record own { rows = with_stored c.args.id.serial (stored_fed c.args.piece.now) own.rows })
+    (λ versions. with_row c.args.id.serial (row_fed c.args.piece.now)) c.self.view_is c.from.ensures (there_after c)
+    (fed_plain c.self.inside.versions own c.args.id.serial c.args.piece.now))

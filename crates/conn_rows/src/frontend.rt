@@ -1,0 +1,269 @@
+//! The open connections of one frontend.
+ghost use Rattle.std.specs.Prelude.{◌≡◌, ◌+◌, ◌^◌, ◌<◌, ◌≤◌, ℕ, List, [], ◌∷◌, ◌++◌, length, not, filter, find, map, IfOk, OnOk, OnErr, IsSome, Some};
+ghost use Rattle.std.specs.List.{position, AllByRecursion};
+ghost use Rattle.std.specs.Option.{option_copied};
+ghost use Rattle.pp_any.specs.declared.rest.Rest.{Rest};
+ghost use Rattle.pp_any.specs.Rest.{IsRest};
+ghost use Rattle.pp_any.specs.NextPiece.{status_on};
+ghost use Rattle.conn_model.specs.Words.{Rise};
+ghost use Rattle.conn_rows.specs.declared.row.Stage.TheVariants.{Offered};
+ghost use Rattle.conn_rows.specs.Stored.{IsHeld, at_stage, has_serial, plain_frontend, plain_row, rest_kept, rest_within, stored_arrival, with_stored};
+ghost use Rattle.conn_rows.specs.Changes.{held_after, stage_fed, status_of, stored_fed, used_by};
+
+use crate::row::{Seat, Stage, StoredRow};
+use addr_core::Pair;
+use conn_model::plain::{FrontendRows, Row, Version};
+use list_core::{Duplicate, Seq};
+use pp_any::{Fed, HeaderFault, Parser};
+use pp_v1::Meaning;
+use std::alloc::{AllocError, Global};
+use std::marker::Model;
+use std::mem;
+
+/// What a piece says of the PROXY header of a connection. Counts are of bytes of the piece.
+#[derive(Clone, Copy, Debug, PartialEq, Eq)]
+pub enum HeaderStatus {
+    /// Nothing is decided yet.
+    Wait,
+    /// The header ends after so many bytes.
+    Whole(Meaning, usize),
+    /// The header has a fault, which the last of so many bytes makes certain.
+    Bad(HeaderFault, usize),
+}
+
+/// The rows of one frontend, in the order of their serials. It cannot be dropped: it ends by `end`.
+pub struct FrontendState {
+    name: Seq<u8>,
+    serial: u64,
+    rows: Vec<StoredRow>,
+}
+
+impl Model for FrontendState {
+    ghost use Rattle.conn_rows.specs.Stored.{AreOpen, StoredFrontend};
+
+    ghost Value = { StoredFrontend };
+
+    ghost view = { λ f. record { name = f.name; serial = f.serial; rows = f.rows.items } };
+
+    ghost invariant = { λ f. AreOpen f.serial f.rows.items };
+}
+
+impl FrontendState {
+    /// A frontend of which nothing is open.
+    pub fn new(alloc: Global, name: Seq<u8>, serial: u64) -> Self
+        ensures { result ≡ record { name = name; serial = serial; rows = [] } }
+    {
+        FrontendState {
+            name,
+            serial,
+            rows: Vec::new(alloc),
+        }
+    }
+
+    pub fn name(&self) -> &[u8]
+        ensures { result.now ≡ self.now.name }
+    {
+        self.name.as_slice()
+    }
+
+    /// The last serial that was given out.
+    pub fn serial(&self) -> u64
+        ensures { result ≡ self.now.serial }
+    {
+        self.serial
+    }
+
+    /// How many connections are open.
+    pub fn count(&self) -> u64
+        ensures value { result ≡ length self.now.rows }
+        ensures few { result < 2 ^ 56 }
+    {
+        self.rows.as_slice().len() as u64
+    }
+
+    pub fn rows(&self) -> &[StoredRow]
+        ensures { result.now ≡ self.now.rows }
+    {
+        self.rows.as_slice()
+    }
+
+    /// The row of that serial.
+    pub fn row(&self, serial: u64) -> Option<&StoredRow>
+        ensures { option_copied result ≡ find (has_serial serial) self.now.rows }
+    {
+        self.rows.iter().find(|row| row.serial == serial)
+    }
+
+    /// Gives out the next serial to a connection that is refused.
+    pub fn skip(&mut self)
+        requires { self.old.serial + 1 < 2 ^ 64 }
+        ensures { self.new ≡ record self.old { serial = self.old.serial + 1 } }
+    {
+        self.serial += 1;
+    }
+
+    /// Gives out the next serial to a connection that waits from now on.
+    pub fn insert(&mut self, version: u64, real: Pair, accepted: u64) -> Result<u64, AllocError>
+        requires { self.old.serial + 1 < 2 ^ 64 }
+        ensures serial { IfOk result (λ serial. serial ≡ self.old.serial + 1) }
+        ensures ok { OnOk result (self.new ≡ record self.old { serial = self.old.serial + 1; rows = self.old.rows ++ stored_arrival (self.old.serial + 1) version real accepted ∷ [] }) }
+        ensures err { OnErr result (self.new ≡ self.old) }
+    {
+        self.rows.reserve(1)?;
+        let serial = self.serial + 1;
+        self.rows
+            .push_reserved(StoredRow::new(serial, version, real, accepted));
+        self.serial = serial;
+        Ok(serial)
+    }
+
+    /// Feeds a piece to a connection that waits. Once something is decided, nothing is held of the header.
+    pub fn feed(&mut self, serial: u64, piece: &[u8]) -> HeaderStatus
+        requires { IsSome (rest_kept serial self.old.rows) }
+        ensures status { (rest : Rest) → rest_kept serial self.old.rows ≡ Some rest → status_of result ≡ status_on rest piece.now }
+        ensures used { used_by result ≤ length piece.now }
+        ensures new { self.new ≡ record self.old { rows = with_stored serial (stored_fed piece.now) self.old.rows } }
+    {
+        feed_row(&mut self.rows, serial, piece)
+    }
+
+    /// Gives a connection to a server.
+    pub fn offer(&mut self, serial: u64, seat: Seat)
+        requires { IsSome (find (has_serial serial) self.old.rows) }
+        ensures { self.new ≡ record self.old { rows = with_stored serial (at_stage (Offered seat)) self.old.rows } }
+    {
+        put_stage(&mut self.rows, serial, Stage::Offered(seat)).end();
+    }
+
+    /// Ends a connection.
+    pub fn remove(&mut self, serial: u64)
+        ensures { self.new ≡ record self.old { rows = filter (λ row. not (has_serial serial row)) self.old.rows } }
+    {
+        if let Some(row) = take_row(&mut self.rows, serial) {
+            row.end();
+        }
+    }
+
+    /// Equal rows, as plain data, by the plans of these versions.
+    pub fn plain(&self, alloc: Global, versions: &[Version]) -> Result<FrontendRows, AllocError>
+        ensures { IfOk result (λ own. own ≡ plain_frontend versions.now self.now) }
+    {
+        Ok(FrontendRows {
+            name: self.name.duplicate(alloc)?,
+            serial: self.serial,
+            rows: plain_rows(alloc, versions, self.rows.as_slice())?,
+        })
+    }
+
+    /// Ends the frontend with its rows.
+    pub fn end(self) {
+        let FrontendState {
+            name: _name,
+            serial: _,
+            mut rows,
+        } = self;
+        while let Some(row) = rows.pop() {
+            row.end();
+        }
+        rows.destroy_empty();
+    }
+}
+
+/// Ends all frontends with their rows.
+pub fn end_all(mut frontends: Vec<FrontendState>) {
+    while let Some(own) = frontends.pop() {
+        own.end();
+    }
+    frontends.destroy_empty();
+}
+
+fn plain_rows(
+    alloc: Global,
+    versions: &[Version],
+    rows: &[StoredRow],
+) -> Result<Seq<Row>, AllocError>
+    ensures { IfOk result (λ copies. copies ≡ map (plain_row versions.now) rows.now) }
+{
+    let mut copies = Vec::with_capacity(alloc, rows.len())?;
+    for row in rows {
+        copies.push(row.plain(alloc, versions)?)?;
+    }
+    Ok(Seq::of(copies))
+}
+
+fn place_of(rows: &[StoredRow], serial: u64) -> Option<usize>
+    ensures { result ≡ position (has_serial serial) rows.now }
+{
+    rows.iter().position(|row| row.serial == serial)
+}
+
+fn place_there(rows: &[StoredRow], serial: u64) -> usize
+    requires { IsSome (find (has_serial serial) rows.now) }
+    ensures place { Some result ≡ position (has_serial serial) rows.now }
+    ensures within { result < length rows.now }
+{
+    let Some(place) = place_of(rows, serial) else {
+        unreachable!()
+    };
+    place
+}
+
+/// Takes the row of that serial out.
+fn take_row(rows: &mut Vec<StoredRow>, serial: u64) -> Option<StoredRow>
+    requires { Rise (λ row. row.serial) rows.old.items }
+    ensures { rows.new.items ≡ filter (λ row. not (has_serial serial row)) rows.old.items }
+{
+    let place = place_of(rows.as_slice(), serial)?;
+    Some(rows.remove(place))
+}
+
+/// Puts a stage in place of that of a row, and hands out what was there.
+fn put_stage(rows: &mut Vec<StoredRow>, serial: u64, stage: Stage) -> Stage
+    requires rise { Rise (λ row. row.serial) rows.old.items }
+    requires there { IsSome (find (has_serial serial) rows.old.items) }
+    ensures { rows.new.items ≡ with_stored serial (at_stage stage) rows.old.items }
+{
+    let place = place_there(rows.as_slice(), serial);
+    mem::replace(&mut rows[place].stage, stage)
+}
+
+fn feed_row(rows: &mut Vec<StoredRow>, serial: u64, piece: &[u8]) -> HeaderStatus
+    requires rise { Rise (λ row. row.serial) rows.old.items }
+    requires held { AllByRecursion (λ row. IsHeld row.stage) rows.old.items }
+    requires waits { IsSome (rest_kept serial rows.old.items) }
+    ensures status { (rest : Rest) → rest_kept serial rows.old.items ≡ Some rest → status_of result ≡ status_on rest piece.now }
+    ensures used { used_by result ≤ length piece.now }
+    ensures rows { rows.new.items ≡ with_stored serial (stored_fed piece.now) rows.old.items }
+{
+    let place = place_there(rows.as_slice(), serial);
+    feed_stage(&mut rows[place].stage, piece)
+}
+
+fn feed_stage(stage: &mut Stage, piece: &[u8]) -> HeaderStatus
+    requires held { IsHeld stage.old }
+    requires waits { IsSome (rest_within stage.old) }
+    ensures status { (rest : Rest) → rest_within stage.old ≡ Some rest → status_of result ≡ status_on rest piece.now }
+    ensures used { used_by result ≤ length piece.now }
+    ensures new { stage.new ≡ stage_fed piece.now stage.old }
+{
+    match stage {
+        Stage::Waiting(parser) => feed_parser(parser, piece),
+        Stage::Offered(_) => unreachable!(),
+    }
+}
+
+fn feed_parser(parser: &mut Parser, piece: &[u8]) -> HeaderStatus
+    requires { (b : List ℕ) × IsRest b parser.old }
+    ensures status { status_of result ≡ status_on parser.old piece.now }
+    ensures used { used_by result ≤ length piece.now }
+    ensures new { parser.new ≡ held_after parser.old piece.now }
+{
+    match mem::take(parser).feed(piece) {
+        Fed::More(next) => {
+            *parser = next;
+            HeaderStatus::Wait
+        }
+        Fed::Whole(meaning, used) => HeaderStatus::Whole(meaning, used),
+        Fed::Bad(fault, used) => HeaderStatus::Bad(fault, used),
+    }
+}

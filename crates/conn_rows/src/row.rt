@@ -1,0 +1,233 @@
+//! One open connection.
+ghost use Rattle.std.specs.Prelude.{◌≡◌, [], IfOk, find, option_and_then, slice_get};
+ghost use Rattle.std.specs.Option.{option_copied, option_map_or};
+ghost use Rattle.plan_types.specs.Lines.{has_line};
+ghost use Rattle.conn_model.specs.Answer.{version_at};
+ghost use Rattle.conn_model.specs.History.{identity_at, nobody};
+ghost use Rattle.conn_rows.specs.Summaries.{stored_summary};
+ghost use Rattle.conn_rows.specs.Stored.{assignment_in, phase_of, plan_at, plain_row, stored_arrival, waits};
+
+use addr_core::{Endpoint, Pair};
+use conn_model::plain::{Assignment, Phase, Row, Version};
+use list_core::{Duplicate, Seq};
+use plan_types::{Backend, Plan, Server};
+use pp_any::Parser;
+use proxy_types::ServerIdentity;
+use std::alloc::{AllocError, Global};
+
+/// The server that a connection was offered.
+#[derive(Clone, Copy, Debug, PartialEq, Eq)]
+pub struct Seat {
+    /// The number of the server in its backend, from 0.
+    pub server: u16,
+    /// The line of the server in the configuration.
+    pub line: u32,
+    pub to: Endpoint,
+    /// The source and the destination by which the connection was judged.
+    pub judged: Pair,
+}
+
+/// What is said of an open connection.
+#[derive(Clone, Copy, Debug, PartialEq, Eq)]
+pub struct RowSummary {
+    /// The version of the configuration that judges it.
+    pub version: u64,
+    /// Its peer and its local end.
+    pub real: Pair,
+    /// The moment of its accept, in ms.
+    pub accepted: u64,
+    /// Whether it waits for its PROXY header.
+    pub waits: bool,
+}
+
+/// How far a connection is.
+pub enum Stage {
+    /// It waits for its PROXY header, or for the rest of it.
+    Waiting(Parser),
+    /// It was offered a server.
+    Offered(Seat),
+}
+
+impl Stage {
+    pub fn waits(&self) -> bool
+        ensures { result ≡ waits self.now }
+    {
+        match self {
+            Stage::Waiting(_) => true,
+            Stage::Offered(_) => false,
+        }
+    }
+
+    /// The same as plain data, by that plan.
+    fn plain(&self, alloc: Global, plan: Option<&Plan>) -> Result<Phase, AllocError>
+        ensures { IfOk result (λ phase. phase ≡ phase_of (option_copied plan.entry) self.now) }
+    {
+        match self {
+            Stage::Waiting(parser) => Ok(Phase::Waiting(parser.rest())),
+            Stage::Offered(seat) => Ok(Phase::Offered(assignment(alloc, plan, seat)?)),
+        }
+    }
+
+    pub fn end(self) {
+        match self {
+            Stage::Waiting(parser) => {
+                let _parser = parser;
+            }
+            Stage::Offered(_) => {}
+        }
+    }
+}
+
+/// An open connection. It cannot be dropped: it ends by `end`.
+pub struct StoredRow {
+    /// From 1, in the order of the frontend's accepts.
+    pub serial: u64,
+    /// The version of the configuration that judges it.
+    pub version: u64,
+    /// Its peer and its local end.
+    pub real: Pair,
+    /// The moment of its accept, in ms.
+    pub accepted: u64,
+    pub stage: Stage,
+}
+
+impl StoredRow {
+    /// A connection that waits, of which no byte came yet.
+    pub fn new(serial: u64, version: u64, real: Pair, accepted: u64) -> StoredRow
+        ensures { result ≡ stored_arrival serial version real accepted }
+    {
+        StoredRow {
+            serial,
+            version,
+            real,
+            accepted,
+            stage: Stage::Waiting(Parser::new()),
+        }
+    }
+
+    pub fn summary(&self) -> RowSummary
+        ensures { result ≡ stored_summary self.now }
+    {
+        RowSummary {
+            version: self.version,
+            real: self.real,
+            accepted: self.accepted,
+            waits: self.stage.waits(),
+        }
+    }
+
+    /// An equal row, as plain data, by the plans of these versions.
+    pub fn plain(&self, alloc: Global, versions: &[Version]) -> Result<Row, AllocError>
+        ensures { IfOk result (λ row. row ≡ plain_row versions.now self.now) }
+    {
+        let plan = plan_at(versions, self.version);
+        Ok(Row {
+            serial: self.serial,
+            version: self.version,
+            real: self.real,
+            accepted: self.accepted,
+            phase: self.stage.plain(alloc, plan)?,
+            tracks: Seq::new(alloc),
+        })
+    }
+
+    pub fn end(self) {
+        let StoredRow {
+            serial: _,
+            version: _,
+            real: _,
+            accepted: _,
+            stage,
+        } = self;
+        stage.end();
+    }
+}
+
+/// The item of that number.
+pub fn item<T>(items: &[T], number: u16) -> Option<&T>
+    ensures { option_copied result ≡ slice_get items.now number }
+{
+    items.get(usize::from(number))
+}
+
+/// The version of that number.
+pub fn version_at(versions: &[Version], number: u64) -> Option<&Version>
+    ensures { option_copied result ≡ version_at versions.now number }
+{
+    versions.iter().find(|version| version.number == number)
+}
+
+/// The plan of the version of that number.
+pub fn plan_at(versions: &[Version], number: u64) -> Option<&Plan>
+    ensures { option_copied result ≡ plan_at versions.now number }
+{
+    let version = version_at(versions, number)?;
+    Some(&version.plan)
+}
+
+/// The backend that has the server of that line.
+pub fn backend_of(plan: Option<&Plan>, line: u32) -> Option<&Backend>
+    ensures { option_copied result ≡ option_and_then (λ plan. find (has_line line) plan.backends) (option_copied plan.entry) }
+{
+    let plan = plan?;
+    backend_in(plan, line)
+}
+
+fn backend_in(plan: &Plan, line: u32) -> Option<&Backend>
+    ensures { option_copied result ≡ find (has_line line) plan.now.backends }
+{
+    plan.backends
+        .as_slice()
+        .iter()
+        .find(|backend| has_line(backend, line))
+}
+
+fn has_line(backend: &Backend, line: u32) -> bool
+    ensures { result ≡ has_line line backend.now }
+{
+    backend
+        .servers
+        .as_slice()
+        .iter()
+        .any(|server| server.line == line)
+}
+
+fn assignment(alloc: Global, plan: Option<&Plan>, seat: &Seat) -> Result<Assignment, AllocError>
+    ensures { IfOk result (λ assignment. assignment ≡ assignment_in (option_copied plan.entry) seat.now) }
+{
+    Ok(Assignment {
+        server: identity(alloc, backend_of(plan, seat.line), seat)?,
+        line: seat.line,
+        judged: seat.judged,
+    })
+}
+
+fn identity(
+    alloc: Global,
+    backend: Option<&Backend>,
+    seat: &Seat,
+) -> Result<ServerIdentity, AllocError>
+    ensures { IfOk result (λ server. server ≡ option_map_or (identity_at seat.now.server seat.now.to) (option_copied backend.entry) (nobody seat.now.to)) }
+{
+    let Some(backend) = backend else {
+        return Ok(ServerIdentity {
+            backend: Seq::new(alloc),
+            name: Seq::new(alloc),
+            to: seat.to,
+        });
+    };
+    Ok(ServerIdentity {
+        backend: backend.name.duplicate(alloc)?,
+        name: server_name(alloc, item(backend.servers.as_slice(), seat.server))?,
+        to: seat.to,
+    })
+}
+
+fn server_name(alloc: Global, server: Option<&Server>) -> Result<Seq<u8>, AllocError>
+    ensures { IfOk result (λ name. name ≡ option_map_or (λ server. server.name) (option_copied server.entry) []) }
+{
+    match server {
+        Some(server) => server.name.duplicate(alloc),
+        None => Ok(Seq::new(alloc)),
+    }
+}

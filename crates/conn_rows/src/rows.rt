@@ -1,0 +1,247 @@
+//! The open connections of all frontends.
+ghost use Rattle.std.specs.Prelude.{◌≡◌, ◌+◌, ◌^◌, ◌<◌, ◌≤◌, length, slice_get, option_map, option_and_then, IfOk, IfSome, IfNone, OnOk, OnErr, IsSome, Some, map};
+ghost use Rattle.std.specs.Option.{option_copied};
+ghost use Rattle.pp_any.specs.declared.rest.Rest.{Rest};
+ghost use Rattle.pp_any.specs.NextPiece.{status_on};
+ghost use Rattle.plan_types.specs.Sound.{most_frontends};
+ghost use Rattle.conn_model.specs.declared.plain.FrontendRows.{FrontendRows};
+ghost use Rattle.conn_model.specs.Words.{newest};
+ghost use Rattle.conn_model.specs.Answer.{row_at, version_at};
+ghost use Rattle.conn_model.specs.History.{opening};
+ghost use Rattle.conn_rows.specs.Stored.{plain_frontend, stored_in};
+ghost use Rattle.conn_rows.specs.Changes.{rest_at, row_fed, row_offered, status_of, used_by, with_arrival, with_conn, with_item, with_refusal, without_conn};
+ghost use Rattle.conn_model.specs.Counts.{offered_to, open_named};
+ghost use Rattle.conn_rows.specs.Summaries.{Sums, rows_of, summary_of};
+
+use crate::counts;
+use crate::frontend::{FrontendState, HeaderStatus, end_all};
+use crate::opening::{cursors, frontends};
+use crate::row::{RowSummary, Seat, StoredRow, item, version_at};
+use addr_core::Pair;
+use conn_model::event::ConnId;
+use conn_model::plain::{FrontendRows, TableState, Version};
+use list_core::{Duplicate, Seq, newest};
+use plan_types::Plan;
+use std::alloc::{AllocError, Global};
+use std::marker::Model;
+
+/// What the rows keep, as plain data.
+#[derive(Debug, Drop)]
+pub struct RowsState {
+    /// By the number of the frontend.
+    pub frontends: Seq<FrontendRows>,
+    /// By number, the newest last.
+    pub versions: Seq<Version>,
+    /// By incarnation.
+    pub tables: Seq<TableState>,
+}
+
+/// What is said of a frontend.
+#[derive(Clone, Copy, Debug)]
+pub struct FrontendSummary<'a> {
+    pub name: &'a [u8],
+    /// The last serial that was given out.
+    pub serial: u64,
+    /// How many connections are open.
+    pub connections: u64,
+}
+
+/// The open connections of all frontends, and the versions that are kept. Open rows change by its calls alone. It
+/// cannot be dropped: it ends by `end`.
+pub struct Rows {
+    frontends: Vec<FrontendState>,
+    versions: Seq<Version>,
+    tables: Seq<TableState>,
+}
+
+impl Model for Rows {
+    ghost use Rattle.std.specs.Prelude.{◌≤◌, length, map};
+    ghost use Rattle.plan_types.specs.Sound.{most_frontends};
+    ghost use Rattle.conn_rows.specs.declared.rows.RowsState.{RowsState};
+    ghost use Rattle.conn_rows.specs.Stored.{plain_frontend};
+
+    ghost Value = { RowsState };
+
+    ghost view = { λ r. record { frontends = map (plain_frontend r.versions) r.frontends.items; versions = r.versions; tables = r.tables } };
+
+    ghost invariant = { λ r. length r.frontends.items ≤ most_frontends };
+}
+
+impl Rows {
+    /// What there is when a plan is opened: its version is the first, and nothing is open. The first serial of each
+    /// frontend is one more than `last`.
+    pub fn new(alloc: Global, plan: Plan, last: u64) -> Result<Rows, AllocError>
+        requires { length plan.frontends ≤ most_frontends }
+        ensures { IfOk result (λ rows. rows ≡ rows_of (opening plan last)) }
+    {
+        let cursors = cursors(alloc, plan.backends.as_slice())?;
+        let mut versions = Vec::with_capacity(alloc, 1)?;
+        let frontends = frontends(alloc, plan.frontends.as_slice(), last)?;
+        versions.push_reserved(Version {
+            number: 1,
+            tables: Seq::new(alloc),
+            cursors,
+            plan,
+        });
+        Ok(Rows {
+            frontends,
+            versions: Seq::of(versions),
+            tables: Seq::new(alloc),
+        })
+    }
+
+    /// The newest version.
+    pub fn newest(&self) -> Option<&Version>
+        ensures { option_copied result ≡ newest self.now.versions }
+    {
+        newest(self.versions.as_slice())
+    }
+
+    /// The version of that number.
+    pub fn version(&self, number: u64) -> Option<&Version>
+        ensures { option_copied result ≡ version_at self.now.versions number }
+    {
+        version_at(self.versions.as_slice(), number)
+    }
+
+    /// The frontend of that number.
+    pub fn frontend(&self, number: u16) -> Option<FrontendSummary<'_>>
+        ensures some { IfSome result (λ summary. (own : FrontendRows) × (slice_get self.now.frontends number ≡ Some own) × Sums own summary) }
+        ensures none { IfNone result (slice_get self.now.frontends number ≡ None) }
+        ensures few { IfSome result (λ summary. summary.connections < 2 ^ 56) }
+    {
+        let own = item(self.frontends.as_slice(), number)?;
+        Some(FrontendSummary {
+            name: own.name(),
+            serial: own.serial(),
+            connections: own.count(),
+        })
+    }
+
+    /// The open connection of that name.
+    pub fn row(&self, id: ConnId) -> Option<RowSummary>
+        ensures { result ≡ option_map summary_of (row_at self.now.frontends id) }
+    {
+        let row = find_row(self.frontends.as_slice(), id)?;
+        Some(row.summary())
+    }
+
+    /// How many connections of the frontend of that number are open.
+    pub fn open_in(&self, number: u16) -> Option<u64>
+        ensures { result ≡ option_map (λ own. length own.rows) (slice_get self.now.frontends number) }
+    {
+        let own = item(self.frontends.as_slice(), number)?;
+        Some(own.count())
+    }
+
+    /// How many connections of the frontends of that name are open.
+    pub fn open_named(&self, name: &[u8]) -> u64
+        ensures value { result ≡ open_named self.now.frontends name.now }
+        ensures few { result < 2 ^ 63 }
+    {
+        counts::open_named(self.frontends.as_slice(), name)
+    }
+
+    /// How many connections were offered a server of a backend of that name.
+    pub fn offered_to(&self, name: &[u8]) -> u64
+        ensures { result ≡ offered_to self.now.frontends name.now }
+    {
+        counts::offered_to(self.frontends.as_slice(), self.versions.as_slice(), name)
+    }
+
+    /// Gives out the next serial of a frontend to a connection that is refused.
+    pub fn skip(&mut self, number: u16)
+        requires there { IsSome (slice_get self.old.frontends number) }
+        requires fits { IfSome (slice_get self.old.frontends number) (λ own. own.serial + 1 < 2 ^ 64) }
+        ensures { self.new ≡ record self.old { frontends = with_item number with_refusal self.old.frontends } }
+    {
+        self.frontends[usize::from(number)].skip();
+    }
+
+    /// Opens a connection that waits for its header, under the next serial of a frontend.
+    pub fn insert(
+        &mut self,
+        number: u16,
+        version: u64,
+        real: Pair,
+        accepted: u64,
+    ) -> Result<u64, AllocError>
+        requires there { IsSome (slice_get self.old.frontends number) }
+        requires fits { IfSome (slice_get self.old.frontends number) (λ own. own.serial + 1 < 2 ^ 64) }
+        ensures serial { IfOk result (λ serial. Some serial ≡ option_map (λ own. own.serial + 1) (slice_get self.old.frontends number)) }
+        ensures ok { OnOk result (self.new ≡ record self.old { frontends = with_item number (with_arrival version real accepted) self.old.frontends }) }
+        ensures err { OnErr result (self.new ≡ self.old) }
+    {
+        self.frontends[usize::from(number)].insert(version, real, accepted)
+    }
+
+    /// Feeds a piece to a connection that waits. Once something is decided, nothing is held of its header.
+    pub fn feed(&mut self, id: ConnId, piece: &[u8]) -> HeaderStatus
+        requires { IsSome (rest_at self.old.frontends id) }
+        ensures status { (rest : Rest) → rest_at self.old.frontends id ≡ Some rest → status_of result ≡ status_on rest piece.now }
+        ensures used { used_by result ≤ length piece.now }
+        ensures new { self.new ≡ record self.old { frontends = with_conn id (row_fed piece.now) self.old.frontends } }
+    {
+        self.frontends[usize::from(id.frontend)].feed(id.serial, piece)
+    }
+
+    /// Gives a connection to a server.
+    pub fn offer(&mut self, id: ConnId, seat: Seat)
+        requires { IsSome (row_at self.old.frontends id) }
+        ensures { self.new ≡ record self.old { frontends = with_conn id (row_offered self.old.versions seat) self.old.frontends } }
+    {
+        self.frontends[usize::from(id.frontend)].offer(id.serial, seat);
+    }
+
+    /// Ends a connection, if it is open.
+    pub fn remove(&mut self, id: ConnId)
+        ensures { self.new ≡ record self.old { frontends = without_conn id self.old.frontends } }
+    {
+        let number = usize::from(id.frontend);
+        if number < self.frontends.len() {
+            self.frontends[number].remove(id.serial);
+        }
+    }
+
+    /// The same as plain data.
+    pub fn plain(&self, alloc: Global) -> Result<RowsState, AllocError>
+        ensures { IfOk result (λ state. state ≡ self.now) }
+    {
+        Ok(RowsState {
+            frontends: plain_frontends(alloc, self.versions.as_slice(), self.frontends.as_slice())?,
+            versions: self.versions.duplicate(alloc)?,
+            tables: self.tables.duplicate(alloc)?,
+        })
+    }
+
+    /// Ends all connections.
+    pub fn end(self) {
+        let Rows {
+            frontends,
+            versions: _versions,
+            tables: _tables,
+        } = self;
+        end_all(frontends);
+    }
+}
+
+fn plain_frontends(
+    alloc: Global,
+    versions: &[Version],
+    frontends: &[FrontendState],
+) -> Result<Seq<FrontendRows>, AllocError>
+    ensures { IfOk result (λ copies. copies ≡ map (plain_frontend versions.now) frontends.now) }
+{
+    let mut copies = Seq::new(alloc);
+    for own in frontends {
+        copies.push(own.plain(alloc, versions)?)?;
+    }
+    Ok(copies)
+}
+
+fn find_row(frontends: &[FrontendState], id: ConnId) -> Option<&StoredRow>
+    ensures { option_copied result ≡ stored_in id.serial (slice_get frontends.now id.frontend) }
+{
+    let own = item(frontends, id.frontend)?;
+    own.row(id.serial)
+}
