@@ -1,4 +1,6 @@
-mod RowLemmas
-mod LineLemmas
+mod CountLemmas
+mod StateLemmas
 mod AcceptLemmas
-mod StepLemmas
+mod PieceLemmas
+mod RowLemmas
+mod EnterLemmas

@@ -1,3 +1,6 @@
 pub mod Judging
+pub mod Outcome
+pub mod Changes
+pub mod Counts
 pub mod Machine
 pub use Rattle.config_core.specs.Meaning

@@ -4,8 +4,10 @@
 pub use config_core::OpenFault;
 pub use machine::Core;
 
-mod admission;
+mod entering;
+mod facts;
 mod judging;
 mod machine;
 mod opening;
-mod rows;
+mod outcome;
+mod receiving;

@@ -1,28 +1,36 @@
 //! The decision core.
-ghost use Rattle.std.specs.Prelude.{◌≡◌, ◌≢◌, ◌⊎◌, ◌+◌, ◌-◌, ◌^◌, ◌<◌, ◌≤◌, length, ℕ, List, [], ◌∷◌, ◌++◌, Option, Some, IfOk, IfErr, IfSome, OnOk, OnErr, slice_get, Ok, Err, is_some, option_to_list};
+ghost use Rattle.std.specs.Prelude.{◌≡◌, ◌≢◌, ◌⊎◌, ◌+◌, ◌-◌, ◌^◌, ◌<◌, ◌≤◌, length, ℕ, List, [], ◌∷◌, ◌++◌, Option, Some, IfSome, IfNone, IfOk, IfErr, OnOk, OnErr, nat_le, Ok, Err};
 ghost use Rattle.std.specs.Option.{option_map};
 ghost use Rattle.plan_types.specs.Sound.{IsSoundPlan};
-ghost use Rattle.conn_model.specs.Answer.{answer_in, accept_answer, row_at, reply_of};
+ghost use Rattle.pp_any.specs.declared.rest.Rest.{Rest};
+ghost use Rattle.conn_model.specs.declared.event.TheConstants.{HEADER_WAIT};
+ghost use Rattle.conn_model.specs.declared.plain.Row.{Row};
+ghost use Rattle.conn_model.specs.Answer.{answer_in, accept_answer, piece_answer, waiting_row, reply_of};
+ghost use Rattle.conn_rows.specs.Summaries.{summary_of};
 ghost use Rattle.conn_model.specs.Counts.{counts_in, open_of};
 ghost use Rattle.conn_model.specs.History.{after, answer, counts, owned_event, opening, entry, NeedsNoMemory, IsFault, IsLegal, IsWell, Entry};
 ghost use Rattle.conn_model.specs.declared.event.OwnedEvent.TheVariants as owned;
 ghost use Rattle.conn_model.specs.declared.plain.FrontendRows.{FrontendRows};
 ghost use Rattle.conn_model.specs.declared.plain.Plain.{Plain};
 ghost use Rattle.config_core.specs.Meaning.{meaning};
-ghost use Rattle.conn_core.specs.Machine.{IsOpened, Next};
+ghost use Rattle.conn_core.specs.Outcome.{said_by};
+ghost use Rattle.conn_core.specs.Machine.{IsOpened, IsNext};
 
-use crate::admission::{Admission, Arrival, admission_of};
-use crate::judging::{frontend_named, item, judge};
-use crate::opening::{cursors, frontends, listeners};
-use crate::rows::{FrontendState, OpenRow, end_all, row_of};
+use crate::entering::{Arrival, enter};
+use crate::facts::RuleFacts;
+use crate::judging::{admission, frontend_named, item};
+use crate::opening::listeners;
+use crate::outcome::{Outcome, said};
+use crate::receiving::{can_judge, receive};
 use addr_core::Pair;
 use arrayvec::ArrayVec;
 use config_core::{OpenFault, read_plan};
 use conn_model::ask::{Ask, Counts};
-use conn_model::event::{ConnId, Event, Why};
-use conn_model::plain::{FrontendRows, Listener, Plain, TableState, Version};
-use conn_model::reply::{Reply, Said, StepFault};
-use list_core::{Duplicate, Seq, newest};
+use conn_model::event::{ConnId, Event, HEADER_WAIT, Why};
+use conn_model::plain::{Listener, Plain};
+use conn_model::reply::{Cause, Reply, Said, StepFault};
+use conn_rows::{RowSummary, Rows};
+use list_core::{Duplicate, Seq};
 use plan_types::Plan;
 use std::alloc::{AllocError, Global};
 use std::marker::Model;
@@ -32,20 +40,18 @@ pub struct Core {
     alloc: Global,
     clock: u64,
     listeners: Seq<Listener>,
-    frontends: Vec<FrontendState>,
-    versions: Seq<Version>,
-    tables: Seq<TableState>,
+    rows: Rows,
 }
 
 impl Model for Core {
     ghost use Rattle.conn_model.specs.declared.plain.Plain.{Plain};
-    ghost use Rattle.conn_core.specs.Machine.{IsCoreState};
+    ghost use Rattle.conn_core.specs.Machine.{IsCoreState, state_of};
 
     ghost Value = { Plain };
 
-    ghost view = { λ c. record { clock = c.clock; listeners = c.listeners; frontends = c.frontends.items; versions = c.versions; tables = c.tables } };
+    ghost view = { λ c. state_of c.clock c.listeners c.rows };
 
-    ghost invariant = { λ c. IsCoreState (record { clock = c.clock; listeners = c.listeners; frontends = c.frontends.items; versions = c.versions; tables = c.tables }) };
+    ghost invariant = { λ c. IsCoreState (state_of c.clock c.listeners c.rows) };
 }
 
 impl Core {
@@ -82,22 +88,12 @@ impl Core {
         ensures fault { IfErr result (λ f. f ≡ OpenFault.NoMemory) }
     {
         let listeners = listeners(alloc, plan.frontends.as_slice())?;
-        let cursors = cursors(alloc, plan.backends.as_slice())?;
-        let mut versions = Vec::with_capacity(alloc, 1)?;
-        let frontends = frontends(alloc, plan.frontends.as_slice(), last)?;
-        versions.push_reserved(Version {
-            number: 1,
-            tables: Seq::new(alloc),
-            cursors,
-            plan,
-        });
+        let rows = Rows::new(alloc, plan, last)?;
         Ok(Core {
             alloc,
             clock: 0,
             listeners,
-            frontends,
-            versions: Seq::of(versions),
-            tables: Seq::new(alloc),
+            rows,
         })
     }
 
@@ -135,7 +131,10 @@ impl Core {
         ensures plain { result ≡ counts_in self.now ask.now }
     {
         match *ask {
-            Ask::Frontend(number) => frontend_counts(self.frontends.as_slice(), number),
+            Ask::Frontend(number) => {
+                let cur = self.rows.open_in(number)?;
+                Some(Counts { cur, cnt: 0 })
+            }
         }
     }
 
@@ -144,12 +143,13 @@ impl Core {
         ensures plain { IfOk result (λ plain. plain ≡ self.now) }
         ensures well { IsWell self.now }
     {
+        let rows = self.rows.plain(self.alloc)?;
         Ok(Plain {
             clock: self.clock(),
             listeners: self.listeners.duplicate(self.alloc)?,
-            frontends: plain_frontends(self.alloc, self.frontends.as_slice())?,
-            versions: self.versions.duplicate(self.alloc)?,
-            tables: self.tables.duplicate(self.alloc)?,
+            frontends: rows.frontends,
+            versions: rows.versions,
+            tables: rows.tables,
         })
     }
 
@@ -159,11 +159,9 @@ impl Core {
             alloc: _,
             clock: _,
             listeners: _listeners,
-            frontends,
-            versions: _versions,
-            tables: _tables,
+            rows,
         } = self;
-        end_all(frontends);
+        rows.end();
     }
 
     /// The greatest moment so far, in ms. Of each core it is known that every history can be continued.
@@ -174,7 +172,7 @@ impl Core {
         self.clock
     }
 
-    fn work(&mut self, moment: u64, event: &Event) -> Result<Reply, StepFault>
+    fn work(&mut self, moment: u64, event: &Event<'_>) -> Result<Reply, StepFault>
         ensures reply { IfOk result (λ r. answer_in self.old moment (owned_event event.now) ≡ Ok r) }
         ensures new { IfOk result (λ r. self.new ≡ after self.old (entry moment (owned_event event.now) r ∷ [])) }
         ensures fault { IfErr result (λ f. IsFault (answer_in self.old moment (owned_event event.now)) f) }
@@ -183,7 +181,9 @@ impl Core {
     {
         match *event {
             Event::Accept(listener, real) => self.accept(moment, listener, real),
+            Event::Piece(id, piece) => self.piece(moment, id, piece),
             Event::Close(id, why) => self.close(moment, id, why),
+            Event::Expire(id) => self.expire(moment, id),
         }
     }
 
@@ -194,49 +194,104 @@ impl Core {
         ensures err { OnErr result (self.new ≡ self.old) }
     {
         let now = self.clock.max(moment);
-        let Admission { id, said, row } = self.admit(now, listener, real)?;
-        settle(&mut self.frontends[usize::from(id.frontend)], row)?;
+        let Admission {
+            id,
+            version,
+            outcome,
+        } = self.admit(now, listener, real)?;
+        let arrival = Arrival {
+            version,
+            real,
+            accepted: now,
+        };
+        let Ok(()) = enter(&mut self.rows, id, &arrival, &outcome) else {
+            return Err(StepFault::NoMemory);
+        };
         self.clock = now;
+        Ok(Reply {
+            said: said(id, 0, outcome),
+            tracks: ArrayVec::new(),
+        })
+    }
+
+    /// What becomes of a connection at its accept, the name that it gets, and the version that judges it.
+    fn admit(&self, now: u64, listener: u16, real: Pair) -> Result<Admission, StepFault>
+        ensures reply { IfOk result (λ a. accept_answer self.now now listener real ≡ Ok (reply_of (said_by a.id 0 a.outcome))) }
+        ensures fault { IfErr result (λ f. accept_answer self.now now listener real ≡ Err f) }
+        ensures next { IfOk result (λ a. (own : FrontendRows) × IsNext self.now a own) }
+    {
+        let Some(listener) = item(self.listeners.as_slice(), listener) else {
+            return Err(StepFault::NoListener);
+        };
+        let Some(own) = self.rows.frontend(listener.frontend) else {
+            return Err(StepFault::NoListener);
+        };
+        let Some(version) = self.rows.newest() else {
+            return Err(StepFault::NoListener);
+        };
+        let Some(frontend) = frontend_named(&version.plan, own.name) else {
+            return Err(StepFault::NoListener);
+        };
+        let Some(serial) = next_serial(own.serial) else {
+            return Err(StepFault::Exhausted);
+        };
+        let facts = RuleFacts {
+            rows: &self.rows,
+            frontend,
+            name: own.name,
+            connections: own.connections + 1,
+            arriving: true,
+            source: real.source().addr,
+        };
+        let outcome = admission(
+            version,
+            listener.accept_proxy,
+            real,
+            own.connections,
+            &facts,
+        );
+        Ok(Admission {
+            id: ConnId {
+                frontend: listener.frontend,
+                serial,
+            },
+            version: version.number,
+            outcome,
+        })
+    }
+
+    fn piece(&mut self, moment: u64, id: ConnId, piece: &[u8]) -> Result<Reply, StepFault>
+        ensures reply { IfOk result (λ r. piece_answer self.old id piece.now ≡ Ok r) }
+        ensures new { IfOk result (λ r. self.new ≡ after self.old (entry moment (owned.Piece id piece.now) r ∷ [])) }
+        ensures fault { IfErr result (λ f. piece_answer self.old id piece.now ≡ Err f) }
+        ensures no_memory { result ≢ Err StepFault.NoMemory }
+        ensures err { OnErr result (self.new ≡ self.old) }
+    {
+        let row = self.waiting_row(id)?;
+        if !can_judge(&self.rows, id, row.version) {
+            return Err(StepFault::NoSuch);
+        }
+        let said = receive(&mut self.rows, id, &row, piece);
+        self.clock = self.clock.max(moment);
         Ok(Reply {
             said,
             tracks: ArrayVec::new(),
         })
     }
 
-    /// What an accept is answered, the name that the connection gets, and the row that it leaves.
-    fn admit(&self, now: u64, listener: u16, real: Pair) -> Result<Admission, StepFault>
-        ensures reply { IfOk result (λ a. accept_answer self.now now listener real ≡ Ok (reply_of a.said)) }
-        ensures fault { IfErr result (λ f. IsFault (accept_answer self.now now listener real) f) }
-        ensures next { IfOk result (λ a. (own : FrontendRows) × Next self.now now real a.id a.said a.row own) }
+    /// The open connection of that name, which has to wait for its header.
+    fn waiting_row(&self, id: ConnId) -> Result<RowSummary, StepFault>
+        ensures ok { IfOk result (λ summary. (found : Row × Rest) × (waiting_row self.now.frontends id ≡ Ok found) × (summary ≡ summary_of found.0)) }
+        ensures fault { IfErr result (λ f. waiting_row self.now.frontends id ≡ Err f) }
+        ensures no_memory { result ≢ Err StepFault.NoMemory }
     {
-        let Some(listener) = item(self.listeners.as_slice(), listener) else {
-            return Err(StepFault::NoListener);
+        let Some(row) = self.rows.row(id) else {
+            return Err(StepFault::NoSuch);
         };
-        let Some(own) = item(self.frontends.as_slice(), listener.frontend) else {
-            return Err(StepFault::NoListener);
-        };
-        let Some(version) = newest(self.versions.as_slice()) else {
-            return Err(StepFault::NoListener);
-        };
-        let Some(frontend) = frontend_named(&version.plan, own.name()) else {
-            return Err(StepFault::NoListener);
-        };
-        let last = own.serial();
-        if last == u64::MAX {
-            return Err(StepFault::Exhausted);
+        if !row.waits {
+            return Err(StepFault::NotWaiting);
         }
-        let arrival = Arrival {
-            id: ConnId {
-                frontend: listener.frontend,
-                serial: last + 1,
-            },
-            version: version.number,
-            real,
-            accepted: now,
-        };
-        let verdict = judge(version, frontend, real.source().addr, own.count());
-        let admission = admission_of(self.alloc, &arrival, &verdict)?;
-        Ok(admission)
+        Ok(row)
     }
 
     fn close(&mut self, moment: u64, id: ConnId, why: Why) -> Result<Reply, StepFault>
@@ -246,10 +301,10 @@ impl Core {
         ensures no_memory { result ≢ Err StepFault.NoMemory }
         ensures err { OnErr result (self.new ≡ self.old) }
     {
-        if !self.has(id) {
+        let Some(_row) = self.rows.row(id) else {
             return Err(StepFault::NoSuch);
-        }
-        self.frontends[usize::from(id.frontend)].close(id.serial);
+        };
+        self.rows.remove(id);
         self.clock = self.clock.max(moment);
         Ok(Reply {
             said: Said::Closed { id, why },
@@ -257,56 +312,58 @@ impl Core {
         })
     }
 
-    /// Whether a connection of that name is open.
-    fn has(&self, id: ConnId) -> bool
-        ensures { result ≡ is_some (row_at self.now.frontends id) }
+    fn expire(&mut self, moment: u64, id: ConnId) -> Result<Reply, StepFault>
+        ensures reply { IfOk result (λ r. answer_in self.old moment (owned.Expire id) ≡ Ok r) }
+        ensures new { IfOk result (λ r. self.new ≡ after self.old (entry moment (owned.Expire id) r ∷ [])) }
+        ensures fault { IfErr result (λ f. answer_in self.old moment (owned.Expire id) ≡ Err f) }
+        ensures no_memory { result ≢ Err StepFault.NoMemory }
+        ensures err { OnErr result (self.new ≡ self.old) }
     {
-        match item(self.frontends.as_slice(), id.frontend) {
-            Some(own) => row_of(own, id.serial).is_some(),
-            None => false,
+        let row = self.waiting_row(id)?;
+        let now = self.clock.max(moment);
+        if !is_due(row.accepted, now) {
+            return Err(StepFault::NotDue);
         }
+        self.rows.remove(id);
+        self.clock = now;
+        Ok(Reply {
+            said: Said::Refuse {
+                id,
+                used: 0,
+                cause: Cause::Expired,
+            },
+            tracks: ArrayVec::new(),
+        })
     }
 }
 
-/// Keeps what an accept left.
-fn settle(own: &mut FrontendState, row: Option<OpenRow>) -> Result<(), StepFault>
-    requires fits { own.old.serial + 1 < 2 ^ 64 }
-    requires next { IfSome row (λ r. r.serial ≡ own.old.serial + 1) }
-    ensures ok { OnOk result (own.new ≡ record own.old { serial = own.old.serial + 1; rows = own.old.rows ++ option_to_list row }) }
-    ensures err { OnErr result (own.new ≡ own.old) }
-    ensures fault { IfErr result (λ f. f ≡ StepFault.NoMemory) }
+/// The serial after that one, if there is one.
+fn next_serial(last: u64) -> Option<u64>
+    ensures next { IfSome result (λ serial. (serial ≡ last + 1) × (last + 1 < 2 ^ 64)) }
+    ensures none { IfNone result (last ≡ 0xFFFF_FFFF_FFFF_FFFF) }
 {
-    match row {
-        Some(row) => {
-            if own.open(row).is_err() {
-                return Err(StepFault::NoMemory);
-            }
-        }
-        None => own.skip(),
+    if last == u64::MAX {
+        None
+    } else {
+        Some(last + 1)
     }
-    Ok(())
 }
 
-fn frontend_counts(frontends: &[FrontendState], number: u16) -> Option<Counts>
-    ensures { result ≡ option_map open_of (slice_get frontends.now number) }
+/// Whether a connection may not wait for its header any longer. Moments are in ms.
+fn is_due(accepted: u64, now: u64) -> bool
+    ensures { result ≡ nat_le (accepted + HEADER_WAIT) now }
 {
-    let own = item(frontends, number)?;
-    Some(Counts {
-        cur: own.count(),
-        cnt: 0,
-    })
+    match now.checked_sub(accepted) {
+        Some(waited) => waited >= HEADER_WAIT,
+        None => false,
+    }
 }
 
-/// Equal frontends, as plain data.
-fn plain_frontends(
-    alloc: Global,
-    frontends: &[FrontendState],
-) -> Result<Seq<FrontendRows>, AllocError>
-    ensures { IfOk result (λ copies. copies ≡ frontends.now) }
-{
-    let mut copies = Seq::new(alloc);
-    for own in frontends {
-        copies.push(own.plain(alloc)?)?;
-    }
-    Ok(copies)
+/// What becomes of a connection at its accept.
+#[derive(Drop)]
+struct Admission {
+    id: ConnId,
+    /// The version of the configuration that judges it.
+    version: u64,
+    outcome: Outcome,
 }

@@ -1,13 +1,11 @@
 //! The state in which a plan is opened.
-ghost use Rattle.std.specs.Prelude.{◌≡◌, ◌≤◌, ◌<◌, ◌++◌, ◌∷◌, [], map, flat_map, length, None, IfOk, OnOk};
+ghost use Rattle.std.specs.Prelude.{◌≡◌, ◌≤◌, ◌++◌, flat_map, length, IfOk, OnOk};
 ghost use Rattle.std.specs.List.{enumerate_from};
 ghost use Rattle.conn_model.specs.History.{listeners_of};
 
-use crate::rows::{FrontendState, end_all};
 use conn_model::plain::Listener;
-use list_core::{Duplicate, Seq};
-use plan_types::{Backend, Frontend};
-use proxy_types::Place;
+use list_core::Seq;
+use plan_types::Frontend;
 use std::alloc::{AllocError, Global};
 
 /// Adds where a frontend listens.
@@ -38,52 +36,4 @@ pub fn listeners(alloc: Global, frontends: &[Frontend]) -> Result<Seq<Listener>,
         push_listeners(&mut all, number as u16, frontend)?;
     }
     Ok(all)
-}
-
-/// Adds a frontend of which nothing is open.
-fn push_frontend(
-    alloc: Global,
-    states: &mut Vec<FrontendState>,
-    frontend: &Frontend,
-    last: u64,
-) -> Result<(), AllocError>
-    ensures { OnOk result (states.new.items ≡ states.old.items ++ record { name = frontend.now.name; serial = last; rows = [] } ∷ []) }
-{
-    let name = frontend.name.duplicate(alloc)?;
-    match states.push(FrontendState::new(alloc, name, last)) {
-        Ok(()) => Ok(()),
-        Err(failed) => {
-            failed.value.end();
-            Err(AllocError)
-        }
-    }
-}
-
-/// All frontends, of which nothing is open.
-pub fn frontends(
-    alloc: Global,
-    frontends: &[Frontend],
-    last: u64,
-) -> Result<Vec<FrontendState>, AllocError>
-    ensures { IfOk result (λ states. states.items ≡ map (λ frontend. record { name = frontend.name; serial = last; rows = [] }) frontends.now) }
-{
-    let mut states = Vec::new(alloc);
-    for frontend in frontends {
-        if let Err(error) = push_frontend(alloc, &mut states, frontend, last) {
-            end_all(states);
-            return Err(error);
-        }
-    }
-    Ok(states)
-}
-
-/// A cursor for each backend, unset.
-pub fn cursors(alloc: Global, backends: &[Backend]) -> Result<Seq<Option<Place>>, AllocError>
-    ensures { IfOk result (λ cursors. cursors ≡ map (λ backend. None) backends.now) }
-{
-    let mut cursors = Seq::new(alloc);
-    for _backend in backends {
-        cursors.push(None)?;
-    }
-    Ok(cursors)
 }

@@ -1,55 +1,42 @@
-use Rattle.std.proofs.Common.{◌≡◌, ◌+◌, ◌<◌, ◌^◌, ◌∙◌, Some, Ok, length, ap, sym, subst, arith}
+use Rattle.std.proofs.Common.{◌≡◌, ◌+◌, ◌<◌, ◌^◌, ◌∙◌, Some, Ok, true, length, ap, sym, refl, arith}
 use Rattle.std.specs.Prelude.{slice_get}
-use Rattle.conn_model.specs.Words.{newest}
-use Rattle.conn_model.specs.Answer.{frontend_in, reply_of, said_of}
-use Rattle.conn_model.specs.History.{id_of}
-use Rattle.conn_model.proofs.Replies.{said_of-id}
-use Rattle.conn_model.proofs.Steps.{rows_left}
-use Rattle.conn_core.specs.Judging.{worth_of, verdict_by, result_of}
-use Rattle.conn_core.specs.Machine.{IsCoreState}
+use Rattle.conn_model.specs.declared.plain.FrontendRows.{FrontendRows}
+use Rattle.conn_model.specs.declared.plain.Plain.{Plain}
+use Rattle.conn_model.specs.Answer.{accept_answer, admission, candidate_at, frontend_in, new_row, reply_of, with_row}
+use Rattle.conn_core.specs.declared.facts.RuleFacts.{RuleFacts}
+use Rattle.conn_core.specs.Machine.{state_of}
+use Rattle.conn_core.specs.Outcome.{said_by}
 use Rattle.conn_core.proofs.AcceptLemmas.{Found, answer_is}
-use Rattle.conn_core.proofs.LineLemmas.{left_is}
+use Rattle.conn_core.proofs.CountLemmas.{worth_at_accept}
 use Rattle.conn_core.proofs.machine.Core.admit.Goals as goal
-
-found : (c : goal.In_ok-admission) → Found c.args.self.now c.args.listener c.in-Some.listener.now c.in-Some-item.own.now c.in-Some-newest.version.now c.in-Some-frontend_named.frontend.now
-found c = record {
-  listens = sym (c.in-Some.ensures ∙ ap (λ xs. slice_get xs c.args.listener) (c.as_slice.ensures ∙ ap (λ p. p.listeners) c.self.view_is));
-  there = sym (c.in-Some-item.ensures ∙ ap (λ xs. slice_get xs c.in-Some.listener.now.frontend) (c.as_slice-2.ensures.value ∙ ap (λ p. p.frontends) c.self.view_is));
-  newest_is = sym (c.in-Some-newest.ensures ∙ ap (λ xs. newest xs) (c.as_slice-3.ensures ∙ ap (λ p. p.versions) c.self.view_is));
-  named = sym (c.in-Some-frontend_named.ensures ∙ ap (λ n. frontend_in c.in-Some-newest.version.now.plan n) c.name.ensures);
-}
-
-said : (c : goal.In_ok-admission) →
-    c.in_ok-admission.admission.said ≡ said_of (record { frontend = c.in-Some.listener.now.frontend; serial = c.in-Some-item.own.now.serial + 1 }) c.args.real (result_of c.judge-verdict.result)
-said c =
-    c.in_ok-admission.ensures.said
-    ∙ ap (λ n. said_of (record { frontend = c.in-Some.listener.now.frontend; serial = n + 1 }) c.args.real (result_of c.judge-verdict.result)) c.serial-last.ensures
-
-fits : (c : goal.In_ok-admission) → c.in-Some-item.own.now.serial + 1 < 2 ^ 64
-fits c = let last = c.serial-last.ensures in omega (arith, last)
 
 pub returns-clause-reply : goal.returns-clause-reply
 returns-clause-reply c =
-    let own = c.in-Some-item.own.now in
+    let q : Plain = state_of c.self.inside.clock c.self.inside.listeners c.self.inside.rows in
+    let own : FrontendRows = c.in-Some-frontend.ensures.some.0 in
+    let there : slice_get c.self.inside.rows.frontends c.in-Some.listener.now.frontend ≡ Some own = c.in-Some-frontend.ensures.some.1 in
+    let sums = c.in-Some-frontend.ensures.some.2 in
     let version = c.in-Some-newest.version.now in
     let frontend = c.in-Some-frontend_named.frontend.now in
-    let is : result_of c.judge-verdict.result ≡ verdict_by (worth_of c.args.real.source.addr (length own.rows + 1)) version frontend (length own.rows) =
-    c.judge-verdict.ensures.verdict
-    ∙ ap (λ s. verdict_by (worth_of s.addr (c.count.result + 1)) version frontend c.count.result) c.source.ensures.value
-    ∙ ap (λ n. verdict_by (worth_of c.args.real.source.addr (n + 1)) version frontend n) c.count.ensures in
-    answer_is c.args.self.now c.args.now c.args.listener c.args.real c.in-Some.listener.now own version frontend (found c) (fits c) (result_of c.judge-verdict.result) is
-    ∙ sym (ap (λ s. Ok (reply_of s)) (said c))
-
-pub returns-clause-next : goal.returns-clause-next
-returns-clause-next c = (
-  c.in-Some-item.own.now,
-  record {
-    there = ap (λ i. slice_get c.args.self.now.frontends i.frontend) c.in_ok-admission.ensures.id ∙ (found c).there;
-    serial = ap (λ i. i.serial) c.in_ok-admission.ensures.id ∙ ap (λ n. n + 1) c.serial-last.ensures;
-    fits = fits c;
-    says = ap (λ s. id_of s) c.in_ok-admission.ensures.said ∙ said_of-id _ c.args.real (result_of c.judge-verdict.result) ∙ ap (λ i. Some i) (sym c.in_ok-admission.ensures.id);
-    left = c.in_ok-admission.ensures.row
-        ∙ left_is c.args.self.now (subst IsCoreState c.self.view_is c.self.invariant) c.in-Some-newest.version.now (found c).newest_is _ (λ i. c.in-Some-newest.version.now.number) c.judge-verdict.result c.judge-verdict.ensures.found
-        ∙ ap (λ s. rows_left c.args.self.now c.args.now c.args.real s) (sym c.in_ok-admission.ensures.said);
-  },
-)
+    let found : Found q c.args.listener c.in-Some.listener.now own version frontend = record {
+      listens = sym (c.in-Some.ensures ∙ ap (λ xs. slice_get xs c.args.listener) c.as_slice.ensures);
+      there = there;
+      newest_is = sym c.in-Some-newest.ensures;
+      named = sym (c.in-Some-frontend_named.ensures ∙ ap (λ n. frontend_in version.plan n) sums.name);
+    } in
+    let facts : RuleFacts = record { rows = record { ref_ptr = c.args.self.ref_ptr; now = c.self.inside.rows }; frontend = c.in-Some-frontend_named.frontend; name = c.in-Some-frontend.own.name; connections = c.in-Some-frontend.own.connections + 1; arriving = true; source = c.source.result.addr } in
+    let worth = worth_at_accept q c.args.now c.in-Some.listener.now.frontend c.args.real own version frontend facts there (record {
+      rows = refl;
+      name = sums.name;
+      connections = ap (λ n. n + 1) sums.connections;
+      arriving = refl;
+      judged = ap (λ e. e.addr) c.source.ensures.value;
+    }) in
+    let said : said_by (record { frontend = c.in-Some.listener.now.frontend; serial = own.serial + 1 }) 0 c.admission-outcome.result
+    ≡ admission (candidate_at q c.args.now c.in-Some.listener.now.frontend c.args.real own version frontend) c.in-Some.listener.now.accept_proxy c.args.real (length own.rows) =
+    c.admission-outcome.ensures (with_row q c.in-Some.listener.now.frontend own (new_row (own.serial + 1) version.number c.args.real c.args.now)) (record { frontend = c.in-Some.listener.now.frontend; serial = own.serial + 1 }) worth
+    ∙ ap (λ n. admission (candidate_at q c.args.now c.in-Some.listener.now.frontend c.args.real own version frontend) c.in-Some.listener.now.accept_proxy c.args.real n) sums.connections in
+    let fits : own.serial + 1 < 2 ^ 64 = let s = sums.serial in let next = c.in-Some-next_serial.ensures.next.1 in omega (arith, s, next) in
+    ap (λ s. accept_answer s c.args.now c.args.listener c.args.real) (sym c.self.view_is)
+    ∙ answer_is q c.args.now c.args.listener c.args.real c.in-Some.listener.now own version frontend found fits (said_by (record { frontend = c.in-Some.listener.now.frontend; serial = own.serial + 1 }) 0 c.admission-outcome.result) said
+    ∙ ap (λ n. Ok (reply_of (said_by (record { frontend = c.in-Some.listener.now.frontend; serial = n }) 0 c.admission-outcome.result))) (ap (λ n. n + 1) (sym sums.serial) ∙ sym c.in-Some-next_serial.ensures.next.0)

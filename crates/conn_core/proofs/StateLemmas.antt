@@ -1,0 +1,97 @@
+-- The state of a core after one event.
+use Rattle.std.proofs.Common.{◌≡◌, ℕ, ◌+◌, [], ◌∷◌, List, Bool, true, false, Option, Some, None, Ok, refl, max, sym, ap, subst, ◌∙◌}
+use Rattle.std.specs.Prelude.{slice_get, slice_set, find, map, option_map, ◌==◌}
+use Rattle.std.proofs.Math.Path.{fun_ext}
+use Rattle.plan_types.specs.declared.plan.Plan.{Plan}
+use Rattle.conn_model.specs.declared.event.ConnId.{ConnId}
+use Rattle.conn_model.specs.declared.event.OwnedEvent.{OwnedEvent}
+use Rattle.conn_model.specs.declared.reply.Said.{Said}
+use Rattle.conn_model.specs.declared.plain.Row.{Row}
+use Rattle.conn_model.specs.declared.plain.FrontendRows.{FrontendRows}
+use Rattle.conn_model.specs.declared.plain.Version.{Version}
+use Rattle.conn_model.specs.declared.plain.Plain.{Plain}
+use Rattle.conn_model.specs.Counts.{change_row}
+use Rattle.conn_model.specs.Answer.{answer_in, reply_of, row_at, row_in}
+use Rattle.conn_model.specs.History.{after, entry, id_of, is_last, phase_by, plan_of, Entry}
+use Rattle.conn_model.proofs.Parts.{versions-same}
+use Rattle.conn_model.proofs.Well.{after-nil, well_after}
+use Rattle.conn_model.proofs.Steps.{after-change, after-end, IsOfOpen}
+use Rattle.conn_rows.specs.Stored.{plan_at}
+use Rattle.conn_core.specs.Changes.{row_by, spoken}
+use Rattle.conn_core.specs.Machine.{AreSound, IsCoreState}
+
+-- an answered event leaves a state that a core can be in
+kept : (q : Plain) → IsCoreState q → (e : Entry) → answer_in q e.moment e.event ≡ Ok e.reply → IsCoreState (after q (e ∷ []))
+kept q known e is = record {
+  well = well_after q known.well (e ∷ []) (tt, subst (λ s. answer_in s e.moment e.event ≡ Ok e.reply) (sym (after-nil q known.well)) is);
+  plans = subst AreSound (sym (versions-same q (e ∷ []))) known.plans;
+}
+
+-- a state is the one after an entry, and one that a core can be in
+pub record IsAfter (q : Plain) (e : Entry) (new' : Plain) : Type 0 where
+  pub same : new' ≡ after q (e ∷ [])
+  pub known : IsCoreState new'
+
+pub is_after : (q : Plain) → IsCoreState q → (e : Entry) (new' : Plain) → answer_in q e.moment e.event ≡ Ok e.reply → new' ≡ after q (e ∷ []) → IsAfter q e new'
+is_after q known e new' is same = record { same = same; known = subst IsCoreState (sym same) (kept q known e is) }
+
+-- the plan of a version is the one by which the replies to its rows are read
+pub plan_is : (p : Plain) (n : ℕ) → plan_of p [] n ≡ plan_at p.versions n
+plan_is p n = by p.versions
+  where
+    by : (versions : List Version) → option_map (λ (pair : ℕ × Plan). pair.1) (find {X = ℕ × Plan} (λ pair. pair.0 == n) (map (λ version. (version.number, version.plan)) versions)) ≡ plan_at versions n
+    by [] = refl
+    by (v ∷ versions) = one (v.number == n) refl (by versions)
+      where
+        one : (b : Bool) → (v.number == n) ≡ b → option_map (λ (pair : ℕ × Plan). pair.1) (find {X = ℕ × Plan} (λ pair. pair.0 == n) (map (λ version. (version.number, version.plan)) versions)) ≡ plan_at versions n →
+            option_map (λ (pair : ℕ × Plan). pair.1) (find {X = ℕ × Plan} (λ pair. pair.0 == n) (map (λ version. (version.number, version.plan)) (v ∷ versions))) ≡ plan_at (v ∷ versions) n
+        one true is rest = rw is refl
+        one false is rest = rw is rest
+
+-- where a connection is open, its frontend is there
+pub frontend_of : (frontends : List FrontendRows) (id : ConnId) (row : Row) → row_at frontends id ≡ Some row → (own : FrontendRows) × (slice_get frontends id.frontend ≡ Some own)
+frontend_of frontends id row is = by (slice_get frontends id.frontend) refl
+  where
+    by : (o : Option FrontendRows) → slice_get frontends id.frontend ≡ o → (own : FrontendRows) × (slice_get frontends id.frontend ≡ Some own)
+    by None none = absurd (let wrong : None ≡ Some row = ap (row_in id.serial) (sym none) ∙ is in cc)
+    by (Some own) there = (own, there)
+
+-- the state once something without tracks is said to a connection that is open
+pub after_spoken : (p : Plain) → IsCoreState p → (moment : ℕ) (event : OwnedEvent) (id : ConnId) (said : Said) (row : Row) → row_at p.frontends id ≡ Some row →
+    IsOfOpen event → id_of said ≡ Some id → answer_in p moment event ≡ Ok (reply_of said) →
+    IsAfter p (entry moment event (reply_of said)) (record {
+      clock = max p.clock moment;
+      listeners = p.listeners;
+      frontends = spoken p.versions event id said p.frontends;
+      versions = p.versions;
+      tables = p.tables;
+    })
+after_spoken p known moment event id said row open_now old whom is =
+    is_after p known (entry moment event (reply_of said)) _ is (by (is_last said) refl)
+  where
+    own : FrontendRows
+    own = (frontend_of p.frontends id row open_now).0
+
+    there : slice_get p.frontends id.frontend ≡ Some own
+    there = (frontend_of p.frontends id row open_now).1
+
+    changes : (λ row. record row { phase = phase_by (plan_of p [] row.version) event said row.phase }) ≡ row_by p.versions event said
+    changes = fun_ext (λ (r : Row). ap (λ plan. record r { phase = phase_by plan event said r.phase }) (plan_is p r.version))
+
+    by : (b : Bool) → is_last said ≡ b → record {
+      clock = max p.clock moment;
+      listeners = p.listeners;
+      frontends = spoken p.versions event id said p.frontends;
+      versions = p.versions;
+      tables = p.tables;
+    } ≡ after p (entry moment event (reply_of said) ∷ [])
+    by true last = rw (last, there) (sym (after-end p known.well (entry moment event (reply_of said)) id own there old whom last))
+    by false last =
+        rw (last, there) (ap (λ f. record {
+          clock = max p.clock moment;
+          listeners = p.listeners;
+          frontends = slice_set p.frontends id.frontend (record own { rows = change_row id.serial f own.rows });
+          versions = p.versions;
+          tables = p.tables;
+        }) (sym changes)
+        ∙ sym (after-change p known.well (entry moment event (reply_of said)) id own there old whom last refl))

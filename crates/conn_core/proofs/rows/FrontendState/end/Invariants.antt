@@ -1,5 +1,0 @@
-use Rattle.std.proofs.Common.{vec_len}
-use Rattle.conn_core.proofs.rows.FrontendState.end.Given as goal
-
-abbrev pub decreases-loop-row : goal.decreases-loop-row
-decreases-loop-row l = vec_len l.rows

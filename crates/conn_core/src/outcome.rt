@@ -1,0 +1,91 @@
+//! What becomes of a connection.
+ghost use Rattle.std.specs.Prelude.{◌≡◌, ◌≤◌, length};
+ghost use Rattle.conn_model.specs.Answer.{header_sent};
+ghost use Rattle.conn_core.specs.Outcome.{said_by};
+
+use addr_core::Pair;
+use arrayvec::ArrayVec;
+use conn_model::event::ConnId;
+use conn_model::reply::{Cause, Said};
+use conn_rows::Seat;
+use plan_types::Server;
+use pp_any::{write_v1, write_v2};
+use pp_v1::LINE_LIMIT;
+
+/// A server for a connection.
+#[derive(Drop)]
+pub struct Offer {
+    pub seat: Seat,
+    /// What the server is sent before the stream.
+    pub send: ArrayVec<u8, LINE_LIMIT>,
+}
+
+/// What becomes of a connection.
+#[derive(Drop)]
+pub enum Outcome {
+    /// It waits for its PROXY header.
+    Wait,
+    Offer(Offer),
+    Refuse(Cause),
+}
+
+/// What is said to a connection of that outcome. So many bytes of the piece belong to its header.
+pub fn said(id: ConnId, used: u64, outcome: Outcome) -> Said
+    ensures { result ≡ said_by id used outcome }
+{
+    match outcome {
+        Outcome::Wait => Said::Wait { id, used },
+        Outcome::Offer(Offer { seat, send }) => Said::Offer {
+            id,
+            used,
+            line: seat.line,
+            server: seat.server,
+            to: seat.to,
+            judged: seat.judged,
+            send,
+        },
+        Outcome::Refuse(cause) => Said::Refuse { id, used, cause },
+    }
+}
+
+/// The offer of the first server of a backend.
+pub fn offer_of(server: &Server, judged: Pair) -> Offer
+    ensures { result ≡ record {
+      seat = record { server = 0; line = server.now.line; to = server.now.to; judged = judged };
+      send = record { items = header_sent server.now judged };
+    } }
+{
+    Offer {
+        seat: Seat {
+            server: 0,
+            line: server.line,
+            to: server.to,
+            judged,
+        },
+        send: header(server, judged),
+    }
+}
+
+/// The header that the server is sent, which states the judged pair (proxy-protocol.txt, section 2).
+fn header(server: &Server, judged: Pair) -> ArrayVec<u8, LINE_LIMIT>
+    ensures { result ≡ record { items = header_sent server.now judged } }
+{
+    if server.send_proxy_v2 {
+        in_line(write_v2(&judged).as_slice())
+    } else if server.send_proxy {
+        write_v1(&judged)
+    } else {
+        ArrayVec::new()
+    }
+}
+
+fn in_line(bytes: &[u8]) -> ArrayVec<u8, LINE_LIMIT>
+    requires { length bytes.now ≤ LINE_LIMIT }
+    ensures { result ≡ record { items = bytes.now } }
+{
+    let mut copy = ArrayVec::new();
+    match copy.try_extend_from_slice(bytes) {
+        Ok(()) => copy,
+        Err(_) => unreachable!(),
+    }
+}
