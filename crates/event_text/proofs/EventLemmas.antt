@@ -1,7 +1,8 @@
 -- The line that writes an event hands it in.
-use Rattle.std.proofs.Common.{◌≡◌, ℕ, ◌<◌, ◌^◌, Bool, true, false, eqb, List, [], ◌∷◌, ◌++◌, Some, Ok, refl, ap, sym, ◌∙◌, append_assoc, arith}
-use Rattle.std.specs.Prelude.{codes, option_map}
+use Rattle.std.proofs.Common.{◌≡◌, ℕ, zero, suc, ◌*◌, ◌/◌, ◌%◌, ◌≤◌, ◌<◌, ◌^◌, length, Bool, true, false, eqb, List, [], ◌∷◌, ◌++◌, Some, Ok, refl, ap, sym, subst, ◌∙◌, append_assoc, arith}
+use Rattle.std.specs.Prelude.{codes, option_map, slice_index, nat_lt, ◌==◌, ◌&&◌, ◌||◌}
 use Rattle.std.specs.Str.{bytes_eq}
+use Rattle.std.specs.Result.{result_ok}
 use Rattle.std.specs.List.{list_all, list_any, slice_split, join_with_byte, All, AllByRecursion}
 use Rattle.std.specs.Char.{is_ascii_digit}
 use Rattle.std.proofs.lemmas.Bool.Decides.{nat_tests}
@@ -20,10 +21,13 @@ use Rattle.addr_core.proofs.GroupLemmas.{groups_text_all}
 use Rattle.text_core.proofs.DecimalLemmas.{are_digits_decimal, decimal_of_written}
 use Rattle.conn_model.specs.declared.event.ConnId.{ConnId}
 use Rattle.conn_model.specs.declared.event.OwnedEvent.{OwnedEvent}
-use Rattle.conn_model.specs.declared.event.OwnedEvent.TheVariants.{Accept, Close}
+use Rattle.conn_model.specs.declared.event.OwnedEvent.TheVariants.{Accept, Piece, Close, Expire}
+use Rattle.conn_model.specs.declared.event.TheConstants.{PIECE_LIMIT}
+use Rattle.hex.specs.Hex.{encode_lower, encode_with, lower_digits, decode_sized, IsBytes}
+use Rattle.hex.proofs.HexLemmas.{length-encode_with, decode_sized-encode_lower}
 use Rattle.conn_model.specs.declared.event.Why.{Why}
 use Rattle.conn_model.specs.declared.event.Why.TheVariants.{Done, Fault, Stopped, Failed}
-use Rattle.event_text.specs.Script.{ends_of, event_line, event_of, event_words, id_of, id_in, id_text, is_mark, why_of, why_text, wanted_of, words_of, IsHandedIn, Wanted}
+use Rattle.event_text.specs.Script.{bytes_in, bytes_of, bytes_text, ends_of, event_line, event_of, event_words, id_of, id_in, id_text, is_mark, is_upper_digit, why_of, why_text, wanted_of, words_of, IsHandedIn, Wanted}
 
 -- no byte is the mark
 abbrev Lacks : ℕ → List ℕ → Type 0
@@ -85,6 +89,59 @@ why_lacks Fault = word_lacks (codes "fault") refl
 why_lacks Stopped = word_lacks (codes "stopped") refl
 why_lacks Failed = word_lacks (codes "failed") refl
 
+or_false : (a b : Bool) → (a || b) ≡ false → (a ≡ false) × (b ≡ false)
+or_false true b is = let wrong : true ≡ false = is in absurd cc
+or_false false b is = (refl, is)
+
+-- what no byte is, none at a place is
+none_at : (test : ℕ → Bool) → test 0 ≡ false → (text : List ℕ) → list_any test text ≡ false → (n : ℕ) → test (slice_index text n) ≡ false
+none_at test past [] none n = past
+none_at test past (b ∷ text) none zero = (or_false (test b) (list_any test text) none).0
+none_at test past (b ∷ text) none (suc n) = none_at test past text (or_false (test b) (list_any test text) none).1 n
+
+-- bytes in hexadecimal
+hex_lacks : (bytes : List ℕ) → Lacks 0x20 (encode_lower bytes)
+unfolding encode_with
+hex_lacks [] = All-nil (λ b. is_mark 0x20 b ≡ false)
+hex_lacks (b ∷ bytes) =
+    and_lacks 0x20 (slice_index lower_digits (b / 16)) (slice_index lower_digits (b % 16) ∷ encode_lower bytes) (none_at (is_mark 0x20) refl lower_digits refl (b / 16))
+    (and_lacks 0x20 (slice_index lower_digits (b % 16)) (encode_lower bytes) (none_at (is_mark 0x20) refl lower_digits refl (b % 16)) (hex_lacks bytes))
+
+text_of-bytes : (b : ℕ) (bytes : List ℕ) → bytes_text (b ∷ bytes) ≡ encode_lower (b ∷ bytes)
+text_of-bytes b bytes = let some : (length (b ∷ bytes) == 0) ≡ false = grind (arith, nat_tests) in rw some refl
+
+bytes_lack : (bytes : List ℕ) → Lacks 0x20 (bytes_text bytes)
+bytes_lack [] = word_lacks (codes "-") refl
+bytes_lack (b ∷ bytes) = subst (Lacks 0x20) (sym (text_of-bytes b bytes)) (hex_lacks (b ∷ bytes))
+
+-- none is of upper case
+hex_lower : (bytes : List ℕ) → list_any is_upper_digit (encode_lower bytes) ≡ false
+unfolding encode_with
+hex_lower [] = refl
+hex_lower (b ∷ bytes) = rw (none_at is_upper_digit refl lower_digits refl (b / 16), none_at is_upper_digit refl lower_digits refl (b % 16)) (hex_lower bytes)
+
+-- a text in hexadecimal is not a dash
+not_dash : (text : List ℕ) → 2 ≤ length text → bytes_eq text (codes "-") ≡ false
+not_dash [] long = absurd (omega arith)
+not_dash (b ∷ []) long = absurd (omega arith)
+not_dash (b ∷ c ∷ text) long = by (eqb b 45)
+  where
+    by : (t : Bool) → (t && false) ≡ false
+    by true = refl
+    by false = refl
+
+bytes_of-written : (bytes : List ℕ) → length bytes ≤ PIECE_LIMIT → IsBytes bytes → bytes_of PIECE_LIMIT (bytes_text bytes) ≡ Some bytes
+bytes_of-written [] few are = refl
+bytes_of-written (b ∷ bytes) few are =
+    let all : List ℕ = b ∷ bytes in
+    let twice : length (encode_lower all) ≡ 2 * length all = length-encode_with lower_digits all in
+    let half : length (encode_lower all) / 2 ≡ length all = omega (arith, twice) in
+    let some : (length (encode_lower all) == 0) ≡ false = grind (arith, nat_tests, twice) in
+    let within : nat_lt PIECE_LIMIT (length (encode_lower all) / 2) ≡ false = rw half (grind (arith, nat_tests, few)) in
+    let sized : bytes_in PIECE_LIMIT (encode_lower all) ≡ Some all =
+    rw (hex_lower all, within) (ap result_ok (ap (decode_sized (encode_lower all)) half ∙ decode_sized-encode_lower all (length all) refl are)) in
+    ap (bytes_of PIECE_LIMIT) (text_of-bytes b bytes) ∙ rw (not_dash (encode_lower all) (omega (arith, twice)), some) sized
+
 -- words joined by spaces are read apart
 words_of-joined : (word : List ℕ) (words : List (List ℕ)) → AllByRecursion (Lacks 0x20) (word ∷ words) → words_of (join_with_byte 0x20 (word ∷ words)) ≡ word ∷ words
 words_of-joined word [] lack = slice_split_none (is_mark 0x20) word lack.0
@@ -126,6 +183,9 @@ words_lack moment (Accept listener real) = (
 )
 words_lack moment (Close id why) =
     (_, _, refl, (decimal_lacks 0x20 moment (omega arith), (word_lacks (codes "close") refl, (id_lacks id, (why_lacks why, tt)))))
+words_lack moment (Piece id bytes) =
+    (_, _, refl, (decimal_lacks 0x20 moment (omega arith), (word_lacks (codes "piece") refl, (id_lacks id, (bytes_lack bytes, tt)))))
+words_lack moment (Expire id) = (_, _, refl, (decimal_lacks 0x20 moment (omega arith), (word_lacks (codes "expire") refl, (id_lacks id, tt))))
 
 words_of-line : (moment : ℕ) (event : OwnedEvent) → words_of (event_line moment event) ≡ event_words moment event
 words_of-line moment event =
@@ -140,6 +200,12 @@ event_of-words moment (Accept listener real) short given =
 event_of-words moment (Close id why) short given =
     let at : decimal_of (decimal moment) 0xFFFF_FFFF_FFFF_FFFF ≡ Some moment = decimal_of_written (decimal moment) 0xFFFF_FFFF_FFFF_FFFF moment (omega arith) refl in
     rw (at, id_of-written id given.0 given.1, why_of-written why) refl
+event_of-words moment (Piece id bytes) short given =
+    let at : decimal_of (decimal moment) 0xFFFF_FFFF_FFFF_FFFF ≡ Some moment = decimal_of_written (decimal moment) 0xFFFF_FFFF_FFFF_FFFF moment (omega arith) refl in
+    rw (at, id_of-written id given.0.0 given.0.1, bytes_of-written bytes given.1 given.2) refl
+event_of-words moment (Expire id) short given =
+    let at : decimal_of (decimal moment) 0xFFFF_FFFF_FFFF_FFFF ≡ Some moment = decimal_of_written (decimal moment) 0xFFFF_FFFF_FFFF_FFFF moment (omega arith) refl in
+    rw (at, id_of-written id given.0 given.1) refl
 
 -- the line that writes an event hands it in
 pub event_of-line : (line : List ℕ) (moment : ℕ) (event : OwnedEvent) → moment < 2 ^ 64 → IsHandedIn event → line ≡ event_line moment event → event_of (words_of line) ≡ Some (moment, event)
@@ -160,6 +226,10 @@ wanted_of-words moment (Accept listener real) short given =
     rw (digits_differ (decimal moment) (are_digits_decimal moment).digits) (ap (option_map (λ timed. Wanted.reply timed)) (event_of-words moment (Accept listener real) short given))
 wanted_of-words moment (Close id why) short given =
     rw (digits_differ (decimal moment) (are_digits_decimal moment).digits) (ap (option_map (λ timed. Wanted.reply timed)) (event_of-words moment (Close id why) short given))
+wanted_of-words moment (Piece id bytes) short given =
+    rw (digits_differ (decimal moment) (are_digits_decimal moment).digits) (ap (option_map (λ timed. Wanted.reply timed)) (event_of-words moment (Piece id bytes) short given))
+wanted_of-words moment (Expire id) short given =
+    rw (digits_differ (decimal moment) (are_digits_decimal moment).digits) (ap (option_map (λ timed. Wanted.reply timed)) (event_of-words moment (Expire id) short given))
 
 -- and wants an answer to it
 pub wanted_of-line : (line : List ℕ) (moment : ℕ) (event : OwnedEvent) → moment < 2 ^ 64 → IsHandedIn event → line ≡ event_line moment event

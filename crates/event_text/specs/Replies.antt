@@ -1,32 +1,43 @@
 -- Replies and counts as lines.
-use Rattle.std.specs.Prelude.{ℕ, ◌==◌, List, ◌++◌, length, codes, Option, Some, None, if◌then◌else◌}
+use Rattle.std.specs.Prelude.{ℕ, List, ◌++◌, codes, Option, Some, None}
 use Rattle.std.specs.List.{flat_map}
-use Rattle.hex.specs.Hex.{encode_lower}
 use Rattle.text_core.specs.Decimal.{decimal}
 use Rattle.addr_core.specs.Text.{endpoint_text, text_of}
+use Rattle.pp_any.specs.declared.fault.HeaderFault.{HeaderFault}
+use Rattle.pp_any.specs.declared.fault.HeaderFault.TheVariants as faults
 use Rattle.plan_types.specs.declared.track.Track.{Track}
 use Rattle.conn_model.specs.declared.ask.Ask.{Ask}
 use Rattle.conn_model.specs.declared.ask.Ask.TheVariants as asks
 use Rattle.conn_model.specs.declared.ask.Counts.{Counts}
 use Rattle.conn_model.specs.declared.reply.Cause.{Cause}
-use Rattle.conn_model.specs.declared.reply.Cause.TheVariants.{Line, NoBackend, NoServer}
+use Rattle.conn_model.specs.declared.reply.Cause.TheVariants.{Line, Header, Expired, NoBackend, NoServer}
 use Rattle.conn_model.specs.declared.reply.Said.{Said}
-use Rattle.conn_model.specs.declared.reply.Said.TheVariants.{Offer, Refuse, Closed}
+use Rattle.conn_model.specs.declared.reply.Said.TheVariants.{Wait, Offer, Refuse, Closed}
 use Rattle.conn_model.specs.declared.reply.Reply.{Reply}
 use Rattle.conn_model.specs.declared.reply.StepFault.{StepFault}
-use Rattle.conn_model.specs.declared.reply.StepFault.TheVariants.{NoListener, NoSuch, Exhausted, NoMemory}
-use Rattle.event_text.specs.Script.{id_text, why_text}
+use Rattle.conn_model.specs.declared.reply.StepFault.TheVariants.{NoListener, NoSuch, NotWaiting, NotDue, Exhausted, NoMemory}
+use Rattle.event_text.specs.Script.{bytes_text, id_text, why_text}
 
--- bytes in hexadecimal, two digits each
-abbrev pub bytes_text : List ℕ → List ℕ
-bytes_text bytes = if length bytes == 0 then codes "-" else encode_lower bytes
+abbrev pub header_fault_text : HeaderFault → List ℕ
+header_fault_text faults.NotProxy = codes "NotProxy"
+header_fault_text faults.TooLong = codes "TooLong"
+header_fault_text faults.BadLine = codes "BadLine"
+header_fault_text faults.BadAddress = codes "BadAddress"
+header_fault_text faults.BadPort = codes "BadPort"
+header_fault_text faults.BadVersion = codes "BadVersion"
+header_fault_text faults.BadCommand = codes "BadCommand"
+header_fault_text faults.BadFamily = codes "BadFamily"
+header_fault_text faults.ShortBlock = codes "ShortBlock"
 
 abbrev pub cause_text : Cause → List ℕ
 cause_text (Line line) = codes "line " ++ decimal line
+cause_text (Header fault) = codes "header " ++ header_fault_text fault
+cause_text Expired = codes "expired"
 cause_text (NoBackend line) = codes "nobackend line " ++ decimal line
 cause_text (NoServer line) = codes "noserver line " ++ decimal line
 
 abbrev pub said_text : Said → List ℕ
+said_text (Wait id used) = codes "wait " ++ id_text id ++ codes " used " ++ decimal used
 said_text (Offer id used line server to judged send) =
     codes "offer " ++ id_text id ++ codes " used " ++ decimal used ++ codes " line " ++ decimal line ++ codes " to " ++ endpoint_text to
     ++ codes " src " ++ endpoint_text judged.source ++ codes " dst " ++ endpoint_text judged.destination ++ codes " send " ++ bytes_text send.items
@@ -46,6 +57,8 @@ reply_line reply = said_text reply.said ++ flat_map track_text reply.tracks.item
 abbrev pub fault_name : StepFault → List ℕ
 fault_name NoListener = codes "NoListener"
 fault_name NoSuch = codes "NoSuch"
+fault_name NotWaiting = codes "NotWaiting"
+fault_name NotDue = codes "NotDue"
 fault_name Exhausted = codes "Exhausted"
 fault_name NoMemory = codes "NoMemory"
 

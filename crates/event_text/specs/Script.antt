@@ -1,8 +1,9 @@
 -- Scripts: the lines that hand in events, and those that ask for counts.
-use Rattle.std.specs.Prelude.{◌≡◌, ℕ, Bool, true, ◌<◌, ◌^◌, ◌==◌, List, [], ◌∷◌, ◌++◌, codes, Option, Some, None, option_map, if◌then◌else◌}
-use Rattle.std.specs.List.{join_with_byte, slice_split}
+use Rattle.std.specs.Prelude.{◌≡◌, ℕ, Bool, true, ◌<◌, ◌≤◌, ◌/◌, ◌^◌, ◌==◌, ◌&&◌, ◌||◌, nat_le, nat_lt, List, [], ◌∷◌, ◌++◌, length, take, codes, Option, Some, None, option_map, if◌then◌else◌}
+use Rattle.std.specs.List.{join_with_byte, list_any, slice_split}
 use Rattle.std.specs.Result.{result_ok}
 use Rattle.std.specs.Str.{bytes_eq}
+use Rattle.hex.specs.Hex.{decode_sized, encode_lower, IsBytes}
 use Rattle.text_core.specs.Decimal.{decimal, decimal_of}
 use Rattle.addr_core.specs.PairValue.{PairValue, pair_of}
 use Rattle.addr_core.specs.Text.{endpoint_of, endpoint_text, IsEndpoint}
@@ -10,12 +11,13 @@ use Rattle.addr_core.specs.Family.{same_family}
 use Rattle.conn_model.specs.declared.ask.Ask.{Ask}
 use Rattle.conn_model.specs.declared.ask.Ask.TheVariants as asks
 use Rattle.conn_model.specs.declared.event.ConnId.{ConnId}
-use Rattle.conn_model.specs.declared.event.Event.{Event}
+use Rattle.conn_model.specs.declared.event.TheConstants.{PIECE_LIMIT}
 use Rattle.conn_model.specs.declared.event.OwnedEvent.{OwnedEvent}
-use Rattle.conn_model.specs.declared.event.OwnedEvent.TheVariants.{Accept, Close}
+use Rattle.conn_model.specs.declared.event.OwnedEvent.TheVariants.{Accept, Piece, Close, Expire}
 use Rattle.conn_model.specs.declared.event.Why.{Why}
 use Rattle.conn_model.specs.declared.event.Why.TheVariants.{Done, Fault, Stopped, Failed}
-use Rattle.conn_model.specs.History.{owned_event}
+use Rattle.event_text.specs.declared.script.EventRequest.{EventRequest}
+use Rattle.event_text.specs.declared.script.EventRequest.TheVariants as reads
 use Rattle.event_text.specs.declared.script.Request.{Request}
 use Rattle.event_text.specs.declared.script.Request.TheVariants as requests
 
@@ -31,11 +33,17 @@ why_text Fault = codes "fault"
 why_text Stopped = codes "stopped"
 why_text Failed = codes "failed"
 
+-- bytes in hexadecimal, two digits each
+abbrev pub bytes_text : List ℕ → List ℕ
+bytes_text bytes = if length bytes == 0 then codes "-" else encode_lower bytes
+
 -- the words of the line that hands in an event at a moment
 abbrev pub event_words : ℕ → OwnedEvent → List (List ℕ)
 event_words moment (Accept listener real) =
     decimal moment ∷ codes "accept" ∷ decimal listener ∷ endpoint_text real.source ∷ endpoint_text real.destination ∷ []
+event_words moment (Piece id bytes) = decimal moment ∷ codes "piece" ∷ id_text id ∷ bytes_text bytes ∷ []
 event_words moment (Close id why) = decimal moment ∷ codes "close" ∷ id_text id ∷ why_text why ∷ []
+event_words moment (Expire id) = decimal moment ∷ codes "expire" ∷ id_text id ∷ []
 
 -- the line, with one space between each two words
 abbrev pub event_line : ℕ → OwnedEvent → List ℕ
@@ -81,6 +89,19 @@ ends_of peer local = do
   destination ← result_ok (endpoint_of local)
   pair_of source destination
 
+-- a digit of hexadecimal in upper case, which is not taken
+abbrev pub is_upper_digit : ℕ → Bool
+is_upper_digit byte = nat_le 65 byte && nat_le byte 70
+
+-- the bytes of a text in hexadecimal, which are at most so many
+abbrev pub bytes_in : ℕ → List ℕ → Option (List ℕ)
+bytes_in most text =
+    if list_any is_upper_digit text || nat_lt most (length text / 2) then None else result_ok (decode_sized text (length text / 2))
+
+-- the bytes of a word: none are written as a dash
+abbrev pub bytes_of : ℕ → List ℕ → Option (List ℕ)
+bytes_of most word = if bytes_eq word (codes "-") then Some [] else if length word == 0 then None else bytes_in most word
+
 abbrev pub accept_of : List (List ℕ) → Option OwnedEvent
 accept_of (listener ∷ peer ∷ local ∷ []) = do
   number ← decimal_of listener 0xFFFF
@@ -95,11 +116,26 @@ close_of (name ∷ note ∷ []) = do
   Some (Close id why)
 close_of words = None
 
+abbrev pub piece_of : List (List ℕ) → Option OwnedEvent
+piece_of (name ∷ bytes ∷ []) = do
+  id ← id_of name
+  piece ← bytes_of PIECE_LIMIT bytes
+  Some (Piece id piece)
+piece_of words = None
+
+abbrev pub expire_of : List (List ℕ) → Option OwnedEvent
+expire_of (name ∷ []) = do
+  id ← id_of name
+  Some (Expire id)
+expire_of words = None
+
 -- the event of a verb and the words after it
 abbrev pub event_by_verb : List ℕ → List (List ℕ) → Option OwnedEvent
 event_by_verb verb words =
     if bytes_eq verb (codes "accept") then accept_of words
+    else if bytes_eq verb (codes "piece") then piece_of words
     else if bytes_eq verb (codes "close") then close_of words
+    else if bytes_eq verb (codes "expire") then expire_of words
     else None
 
 abbrev pub at_moment : ℕ → Option OwnedEvent → Option (ℕ × OwnedEvent)
@@ -110,9 +146,15 @@ abbrev pub event_of : List (List ℕ) → Option (ℕ × OwnedEvent)
 event_of (moment ∷ verb ∷ words) = decimal_of moment 0xFFFF_FFFF_FFFF_FFFF >>= λ number. at_moment number (event_by_verb verb words)
 event_of words = None
 
--- the same of an event that was read
-abbrev pub timed_event : ℕ × Event → ℕ × OwnedEvent
-timed_event timed = (timed.0, owned_event timed.1)
+-- the same of an event that was read, where a piece is so many bytes in front of a buffer
+abbrev pub event_read : List ℕ → EventRequest → OwnedEvent
+event_read buffer (reads.Accept listener real) = Accept listener real
+event_read buffer (reads.Piece id length) = Piece id (take length buffer)
+event_read buffer (reads.Close id why) = Close id why
+event_read buffer (reads.Expire id) = Expire id
+
+abbrev pub timed_event : List ℕ → ℕ × EventRequest → ℕ × OwnedEvent
+timed_event buffer timed = (timed.0, event_read buffer timed.1)
 
 -- what is asked for by the words after `ask`
 abbrev pub ask_of : List (List ℕ) → Option Ask
@@ -132,12 +174,17 @@ wanted_of (word ∷ words) =
     else option_map (λ timed. Wanted.reply timed) (event_of (word ∷ words))
 
 -- the same of a request that was read
-abbrev pub wanted : Request → Wanted
-wanted (requests.Event moment event) = Wanted.reply (moment, owned_event event)
-wanted (requests.Ask ask) = Wanted.count ask
+abbrev pub wanted : List ℕ → Request → Wanted
+wanted buffer (requests.Event moment event) = Wanted.reply (moment, event_read buffer event)
+wanted buffer (requests.Ask ask) = Wanted.count ask
 
--- the numbers of an event are in range, and its pair is of one family
+-- the numbers of an event are in range, its pair is of one family, and its piece is not too long
+abbrev pub IsId : ConnId → Type 0
+IsId id = (id.frontend < 2 ^ 16) × (id.serial < 2 ^ 64)
+
 abbrev pub IsHandedIn : OwnedEvent → Type 0
 IsHandedIn (Accept listener real) =
     (listener < 2 ^ 16) × IsEndpoint real.source × IsEndpoint real.destination × (same_family real.source.addr real.destination.addr ≡ true)
-IsHandedIn (Close id why) = (id.frontend < 2 ^ 16) × (id.serial < 2 ^ 64)
+IsHandedIn (Piece id bytes) = IsId id × (length bytes ≤ PIECE_LIMIT) × IsBytes bytes
+IsHandedIn (Close id why) = IsId id
+IsHandedIn (Expire id) = IsId id

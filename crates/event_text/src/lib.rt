@@ -3,7 +3,7 @@
 #![tactic(auto)]
 
 pub use replies::{write_counts, write_fault, write_reply};
-pub use script::{Request, read_request};
+pub use script::{EventRequest, Request, read_request};
 
 mod replies;
 mod script;

@@ -5,14 +5,15 @@ ghost use Rattle.hex.specs.Hex.{encode_lower};
 ghost use Rattle.text_core.specs.Decimal.{decimal};
 ghost use Rattle.addr_core.specs.declared.addr.Addr.TheVariants.{V4};
 ghost use Rattle.addr_core.specs.Text.{endpoint_text, host_text, text_of};
-ghost use Rattle.event_text.specs.Script.{id_text, why_text};
-ghost use Rattle.event_text.specs.Replies.{bytes_text, cause_text, count_line, fault_line, fault_name, reply_line, said_text, track_text};
+ghost use Rattle.event_text.specs.Script.{bytes_text, id_text, why_text};
+ghost use Rattle.event_text.specs.Replies.{cause_text, count_line, fault_line, fault_name, header_fault_text, reply_line, said_text, track_text};
 
 use addr_core::{Addr, Endpoint, Pair};
 use conn_model::ask::{Ask, Counts};
 use conn_model::event::{ConnId, Why};
 use conn_model::reply::{Cause, Reply, Said, StepFault};
 use plan_types::Track;
+use pp_any::HeaderFault;
 use std::alloc::AllocError;
 use text_core::decimal::append_decimal;
 
@@ -120,11 +121,30 @@ fn write_place(out: &mut Vec<u8>, name: &[u8], endpoint: &Endpoint) -> Result<()
     write_endpoint(out, endpoint)
 }
 
+fn write_header_fault(out: &mut Vec<u8>, fault: HeaderFault) -> Result<(), AllocError>
+    ensures { OnOk result (out.new.items ≡ out.old.items ++ (codes "header " ++ header_fault_text fault)) }
+{
+    write_text(out, b"header ")?;
+    match fault {
+        HeaderFault::NotProxy => write_text(out, b"NotProxy"),
+        HeaderFault::TooLong => write_text(out, b"TooLong"),
+        HeaderFault::BadLine => write_text(out, b"BadLine"),
+        HeaderFault::BadAddress => write_text(out, b"BadAddress"),
+        HeaderFault::BadPort => write_text(out, b"BadPort"),
+        HeaderFault::BadVersion => write_text(out, b"BadVersion"),
+        HeaderFault::BadCommand => write_text(out, b"BadCommand"),
+        HeaderFault::BadFamily => write_text(out, b"BadFamily"),
+        HeaderFault::ShortBlock => write_text(out, b"ShortBlock"),
+    }
+}
+
 fn write_cause(out: &mut Vec<u8>, cause: &Cause) -> Result<(), AllocError>
     ensures { OnOk result (out.new.items ≡ out.old.items ++ cause_text cause.now) }
 {
     match *cause {
         Cause::Line(line) => write_field(out, b"line ", u64::from(line)),
+        Cause::Header(fault) => write_header_fault(out, fault),
+        Cause::Expired => write_text(out, b"expired"),
         Cause::NoBackend(line) => write_field(out, b"nobackend line ", u64::from(line)),
         Cause::NoServer(line) => write_field(out, b"noserver line ", u64::from(line)),
     }
@@ -153,6 +173,11 @@ fn write_said(out: &mut Vec<u8>, said: &Said) -> Result<(), AllocError>
     ensures { OnOk result (out.new.items ≡ out.old.items ++ said_text said.now) }
 {
     match said {
+        Said::Wait { id, used } => {
+            write_text(out, b"wait ")?;
+            write_id(out, id)?;
+            write_field(out, b" used ", *used)
+        }
         Said::Offer {
             id,
             used,
@@ -233,6 +258,8 @@ fn write_name(out: &mut Vec<u8>, fault: &StepFault) -> Result<(), AllocError>
     match *fault {
         StepFault::NoListener => write_text(out, b"NoListener"),
         StepFault::NoSuch => write_text(out, b"NoSuch"),
+        StepFault::NotWaiting => write_text(out, b"NotWaiting"),
+        StepFault::NotDue => write_text(out, b"NotDue"),
         StepFault::Exhausted => write_text(out, b"Exhausted"),
         StepFault::NoMemory => write_text(out, b"NoMemory"),
     }

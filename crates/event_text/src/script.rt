@@ -1,9 +1,11 @@
 //! Scripts: the lines that hand in events, and those that ask for counts.
-ghost use Rattle.std.specs.Prelude.{◌≡◌, ◌==◌, ◌∷◌, ◌<◌, ◌^◌, ℕ, [], IfSome, IfNone, option_map};
+ghost use Rattle.std.specs.Prelude.{◌≡◌, ◌==◌, ◌∷◌, ◌<◌, ◌^◌, ℕ, List, [], length, take, IfSome, IfNone, option_map};
+ghost use Rattle.std.specs.List.{list_any};
 ghost use Rattle.std.specs.Str.{bytes_eq};
 ghost use Rattle.conn_model.specs.declared.event.OwnedEvent.{OwnedEvent};
+ghost use Rattle.conn_model.specs.declared.event.TheConstants.{PIECE_LIMIT};
 ghost use Rattle.conn_model.specs.History.{owned_event};
-ghost use Rattle.event_text.specs.Script.{accept_of, ask_of, close_of, ends_of, event_line, event_of, event_by_verb, id_of, timed_event, wanted, wanted_of, why_of, words_of, Wanted, IsHandedIn};
+ghost use Rattle.event_text.specs.Script.{accept_of, ask_of, bytes_in, bytes_of, close_of, ends_of, event_line, event_of, event_by_verb, event_read, expire_of, id_of, is_upper_digit, piece_of, timed_event, wanted, wanted_of, why_of, words_of, Wanted, IsHandedIn};
 
 use addr_core::{Pair, read_endpoint};
 use conn_model::ask::Ask;
@@ -11,11 +13,42 @@ use conn_model::event::{ConnId, Event, Why};
 use text_core::cut_at;
 use text_core::decimal::read_decimal;
 
+/// An event that a line hands in. The bytes of a piece are in a buffer of the caller's.
+#[derive(Clone, Copy)]
+pub enum EventRequest {
+    Accept(u16, Pair),
+    /// A piece of so many bytes.
+    Piece(ConnId, usize),
+    Close(ConnId, Why),
+    Expire(ConnId),
+}
+
+impl EventRequest {
+    /// The event, whose piece is in front of the buffer.
+    pub fn event<'a>(&self, buffer: &'a [u8]) -> Event<'a>
+        ensures { owned_event result ≡ event_read buffer.now self.now }
+    {
+        match *self {
+            EventRequest::Accept(listener, real) => Event::Accept(listener, real),
+            EventRequest::Piece(id, length) => Event::Piece(id, front(buffer, length)),
+            EventRequest::Close(id, why) => Event::Close(id, why),
+            EventRequest::Expire(id) => Event::Expire(id),
+        }
+    }
+}
+
+/// At most so many bytes from the beginning.
+fn front(buffer: &[u8], length: usize) -> &[u8]
+    ensures { result.now ≡ take length buffer.now }
+{
+    &buffer[..length.min(buffer.len())]
+}
+
 /// What a line asks for.
 #[derive(Clone, Copy)]
 pub enum Request {
-    /// An answer to an event, which is handed in at that moment.
-    Event(u64, Event),
+    /// An answer to an event, which is handed in at that moment, in ms.
+    Event(u64, EventRequest),
     /// Counts of what is open.
     Ask(Ask),
 }
@@ -74,8 +107,8 @@ fn read_ends(peer: &[u8], local: &[u8]) -> Option<Pair>
     Pair::of(source, destination)
 }
 
-fn read_accept(rest: &[u8]) -> Option<Event>
-    ensures { option_map owned_event result ≡ accept_of (words_of rest.now) }
+fn read_accept(rest: &[u8]) -> Option<EventRequest>
+    ensures { (buffer : List ℕ) → option_map (event_read buffer) result ≡ accept_of (words_of rest.now) }
 {
     let (listener, rest) = cut_word(rest)?;
     let (peer, local) = cut_word(rest)?;
@@ -84,11 +117,11 @@ fn read_accept(rest: &[u8]) -> Option<Event>
     }
     let listener = read_decimal(listener, 65535)?;
     let real = read_ends(peer, local)?;
-    Some(Event::Accept(listener as u16, real))
+    Some(EventRequest::Accept(listener as u16, real))
 }
 
-fn read_close(rest: &[u8]) -> Option<Event>
-    ensures { option_map owned_event result ≡ close_of (words_of rest.now) }
+fn read_close(rest: &[u8]) -> Option<EventRequest>
+    ensures { (buffer : List ℕ) → option_map (event_read buffer) result ≡ close_of (words_of rest.now) }
 {
     let (name, note) = cut_word(rest)?;
     if let Some((_last, _more)) = cut_word(note) {
@@ -96,28 +129,99 @@ fn read_close(rest: &[u8]) -> Option<Event>
     }
     let id = read_id(name)?;
     let why = read_why(note)?;
-    Some(Event::Close(id, why))
+    Some(EventRequest::Close(id, why))
 }
 
-fn read_event_words(verb: &[u8], rest: &[u8]) -> Option<Event>
-    ensures { option_map owned_event result ≡ event_by_verb verb.now (words_of rest.now) }
+fn read_expire(rest: &[u8]) -> Option<EventRequest>
+    ensures { (buffer : List ℕ) → option_map (event_read buffer) result ≡ expire_of (words_of rest.now) }
+{
+    if let Some((_name, _more)) = cut_word(rest) {
+        return None;
+    }
+    let id = read_id(rest)?;
+    Some(EventRequest::Expire(id))
+}
+
+/// Reads bytes in lower-case hexadecimal into the front of a buffer, if there is room, and says how many
+/// they are.
+fn read_hex(text: &[u8], buffer: &mut [u8]) -> Option<usize>
+    ensures bytes { option_map (λ length. take length buffer.new) result ≡ bytes_in (length buffer.old) text.now }
+    ensures room { length buffer.new ≡ length buffer.old }
+{
+    let count = text.len() / 2;
+    if has_upper(text) || count > buffer.len() {
+        return None;
+    }
+    let front = &mut buffer[..count];
+    match hex::decode_to_slice(text, front) {
+        Ok(()) => Some(count),
+        Err(_) => None,
+    }
+}
+
+fn has_upper(text: &[u8]) -> bool
+    ensures { result ≡ list_any is_upper_digit text.now }
+{
+    text.iter().any(|byte| b'A' <= *byte && *byte <= b'F')
+}
+
+/// The bytes of a word, into the front of a buffer; none are written as a dash.
+fn read_bytes(word: &[u8], buffer: &mut [u8]) -> Option<usize>
+    ensures bytes { option_map (λ length. take length buffer.new) result ≡ bytes_of (length buffer.old) word.now }
+    ensures room { length buffer.new ≡ length buffer.old }
+{
+    if is(word, b"-") {
+        return Some(0);
+    }
+    if word.is_empty() {
+        return None;
+    }
+    read_hex(word, buffer)
+}
+
+fn read_piece(rest: &[u8], buffer: &mut [u8]) -> Option<EventRequest>
+    requires { length buffer.old ≡ PIECE_LIMIT }
+    ensures event { option_map (event_read buffer.new) result ≡ piece_of (words_of rest.now) }
+    ensures room { length buffer.new ≡ length buffer.old }
+{
+    let (name, bytes) = cut_word(rest)?;
+    if let Some((_last, _more)) = cut_word(bytes) {
+        return None;
+    }
+    let id = read_id(name)?;
+    let length = read_bytes(bytes, buffer)?;
+    Some(EventRequest::Piece(id, length))
+}
+
+fn read_event_words(verb: &[u8], rest: &[u8], buffer: &mut [u8]) -> Option<EventRequest>
+    requires { length buffer.old ≡ PIECE_LIMIT }
+    ensures event { option_map (event_read buffer.new) result ≡ event_by_verb verb.now (words_of rest.now) }
+    ensures room { length buffer.new ≡ length buffer.old }
 {
     if is(verb, b"accept") {
         return read_accept(rest);
     }
+    if is(verb, b"piece") {
+        return read_piece(rest, buffer);
+    }
     if is(verb, b"close") {
         return read_close(rest);
+    }
+    if is(verb, b"expire") {
+        return read_expire(rest);
     }
     None
 }
 
-fn event_in(line: &[u8]) -> Option<(u64, Event)>
-    ensures { option_map timed_event result ≡ event_of (words_of line.now) }
+fn event_in(line: &[u8], buffer: &mut [u8]) -> Option<(u64, EventRequest)>
+    requires { length buffer.old ≡ PIECE_LIMIT }
+    ensures event { option_map (timed_event buffer.new) result ≡ event_of (words_of line.now) }
+    ensures room { length buffer.new ≡ length buffer.old }
 {
     let (moment, rest) = cut_word(line)?;
     let (verb, rest) = cut_word(rest)?;
     let moment = read_decimal(moment, u64::MAX)?;
-    let event = read_event_words(verb, rest)?;
+    let event = read_event_words(verb, rest, buffer)?;
     Some((moment, event))
 }
 
@@ -136,41 +240,48 @@ fn read_ask(rest: &[u8]) -> Option<Ask>
     Some(Ask::Frontend(number as u16))
 }
 
-fn timed_request(line: &[u8]) -> Option<Request>
-    ensures { option_map wanted result ≡ option_map (λ timed. Wanted.reply timed) (event_of (words_of line.now)) }
+fn timed_request(line: &[u8], buffer: &mut [u8]) -> Option<Request>
+    requires { length buffer.old ≡ PIECE_LIMIT }
+    ensures request { option_map (wanted buffer.new) result ≡ option_map (λ timed. Wanted.reply timed) (event_of (words_of line.now)) }
+    ensures room { length buffer.new ≡ length buffer.old }
 {
-    let (moment, event) = event_in(line)?;
+    let (moment, event) = event_in(line, buffer)?;
     Some(Request::Event(moment, event))
 }
 
 fn count_request(rest: &[u8]) -> Option<Request>
-    ensures { option_map wanted result ≡ option_map (λ ask. Wanted.count ask) (ask_of (words_of rest.now)) }
+    ensures { (buffer : List ℕ) → option_map (wanted buffer) result ≡ option_map (λ ask. Wanted.count ask) (ask_of (words_of rest.now)) }
 {
     let ask = read_ask(rest)?;
     Some(Request::Ask(ask))
 }
 
-fn request_in(line: &[u8]) -> Option<Request>
-    ensures { option_map wanted result ≡ wanted_of (words_of line.now) }
+fn request_in(line: &[u8], buffer: &mut [u8]) -> Option<Request>
+    requires { length buffer.old ≡ PIECE_LIMIT }
+    ensures request { option_map (wanted buffer.new) result ≡ wanted_of (words_of line.now) }
+    ensures room { length buffer.new ≡ length buffer.old }
 {
     match cut_word(line) {
         Some((word, rest)) => {
             if is(word, b"ask") {
                 return count_request(rest);
             }
-            timed_request(line)
+            timed_request(line, buffer)
         }
         None => None,
     }
 }
 
-/// What a line asks for.
-pub fn read_request(line: &[u8]) -> Option<Request>
-    ensures exact { option_map wanted result ≡ wanted_of (words_of line.now) }
+/// What a line asks for. The bytes of a piece, which are at most `PIECE_LIMIT`, are read into the front of the
+/// buffer, which has that length.
+pub fn read_request(line: &[u8], buffer: &mut [u8]) -> Option<Request>
+    requires { length buffer.old ≡ PIECE_LIMIT }
+    ensures exact { option_map (wanted buffer.new) result ≡ wanted_of (words_of line.now) }
+    ensures room { length buffer.new ≡ length buffer.old }
 
     // The line that writes an event hands it in.
     ensures again { (moment : ℕ) (event : OwnedEvent) → moment < 2 ^ 64 → IsHandedIn event →
-        line.now ≡ event_line moment event → option_map wanted result ≡ Some (Wanted.reply (moment, event)) }
+        line.now ≡ event_line moment event → option_map (wanted buffer.new) result ≡ Some (Wanted.reply (moment, event)) }
 {
-    request_in(line)
+    request_in(line, buffer)
 }

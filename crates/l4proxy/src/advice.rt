@@ -42,7 +42,7 @@ fn of_words(kind: &ConfKind) -> &'static str {
         ConfKind::Duplicate => { "an earlier line has this name, endpoint or table" }
         ConfKind::Acl(fault) => of_condition(fault),
         ConfKind::Limit => {
-            "too many or too much: at most 64 frontends and 64 backends, 64 bind lines or servers in one, 256 rules in a frontend, 1048576 for maxconn and size"
+            "too many or too much: at most 64 frontends and 64 backends, 64 bind lines or servers in one, 256 acl lines in a frontend, 256 of its tcp-request and use_backend lines together, 1048576 for maxconn and size"
         }
         ConfKind::NoMemory => NO_MEMORY,
     }
@@ -67,9 +67,11 @@ fn of_characters(kind: &LineKind) -> &'static str {
 
 fn of_condition(fault: &AclFault) -> &'static str {
     match fault {
-        AclFault::UnknownCriterion => { "no criterion that is known here; src and fe_conn are" }
+        AclFault::UnknownCriterion => {
+            "no criterion that is known here; src, fe_conn, fe_conn(frontend), be_conn(backend), src_conn_cur, src_conn_cnt, src_conn_cur(table), src_conn_cnt(table), sc0_conn_cur and sc0_conn_cnt are, and those of sc1 and sc2"
+        }
         AclFault::BadPattern => {
-            "a value that the criterion does not take: src takes a network, as 192.0.2.0/24, and fe_conn a number, a range, as 10:20, or an operator and numbers, as gt 10"
+            "a value that the criterion does not take: src takes a network, as 192.0.2.0/24, and a count a number, a range, as 10:20, or an operator and numbers, as gt 10"
         }
         AclFault::NoPattern => {
             "a value is missing after the criterion or the operator, as in { src 192.0.2.0/24 }"
@@ -78,7 +80,9 @@ fn of_condition(fault: &AclFault) -> &'static str {
         AclFault::BadBraces => {
             "a test is in a pair of braces, each a word of its own, as in { src 192.0.2.0/24 }"
         }
-        AclFault::EmptyGroup => { "a condition is missing here, as { src 192.0.2.0/24 }" }
+        AclFault::EmptyGroup => {
+            "a condition is missing here: the name of an acl, or a test, as { src 192.0.2.0/24 }"
+        }
         AclFault::BadName => {
             "no name: a name has letters, digits, -, _, . and : only, and is not TRUE, FALSE or or"
         }
@@ -92,7 +96,9 @@ fn of_plan(kind: &PlanKind) -> &'static str {
             "there is no such table: the section that is meant has no stick-table line"
         }
         PlanKind::NoBackend => { "no backend has this name" }
-        PlanKind::NotStored => { "the table does not store this count" }
+        PlanKind::NotStored => {
+            "the table does not store this count: src_conn_cur needs store conn_cur, and src_conn_cnt store conn_cnt"
+        }
         PlanKind::NoBind => "this frontend has no bind line, as bind :80",
         PlanKind::NoFrontend => { "the file has no frontend section" }
         PlanKind::NoMemory => NO_MEMORY,

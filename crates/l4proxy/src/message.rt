@@ -62,6 +62,7 @@ fn reason(alloc: Global, fault: &OpenFault, quoted: &Quote<'_>) -> Result<String
         },
         OpenFault::Plan(fault) => match fault.kind {
             PlanKind::NoBackend => format!(in alloc; "no backend is named `{word}`"),
+            PlanKind::NoFrontend => format!(in alloc; "no frontend is named `{word}`"),
             _ => format!(in alloc; "{}", sentence(&OpenFault::Plan(*fault))),
         },
         OpenFault::NoMemory => format!(in alloc; "{}", sentence(fault)),

@@ -74,57 +74,88 @@ fn first_word(line: &str) -> &str {
     code_of(line).split_ascii_whitespace().next().unwrap_or("")
 }
 
+fn opens_section(line: &str) -> bool {
+    matches!(
+        first_word(line),
+        "global" | "defaults" | "frontend" | "backend"
+    )
+}
+
 /// The line that opens the section of the line of that number.
 fn section_of(text: &str, number: u32) -> Option<&str> {
     let mut section = None;
     let before = number.saturating_sub(1) as usize;
     for line in text.lines().take(before) {
-        if matches!(
-            first_word(line),
-            "global" | "defaults" | "frontend" | "backend"
-        ) {
+        if opens_section(line) {
             section = Some(line);
         }
     }
     section
 }
 
-/// What the reader finds wrong on the second line of a text.
-fn kind_on_second_line(alloc: Global, text: &str) -> Option<ConfKind> {
-    match read_config(alloc, text) {
-        Ok(_tree) => None,
+/// Lines in whose light a line is read: the one that opens its section, and the `acl` lines of the section above it.
+#[derive(Drop)]
+struct Context {
+    text: String,
+    lines: u32,
+}
+
+/// The context of the line of that number.
+fn context_of(alloc: Global, text: &str, number: u32) -> Result<Context, AllocError> {
+    let mut context = Context {
+        text: String::new(alloc),
+        lines: 0,
+    };
+    let before = number.saturating_sub(1) as usize;
+    for line in text.lines().take(before) {
+        if opens_section(line) {
+            context = Context {
+                text: format!(in alloc; "{line}\n")?,
+                lines: 1,
+            };
+        } else if first_word(line) == "acl" {
+            context.text.push_str(line)?;
+            context.text.push('\n')?;
+            context.lines = context.lines.saturating_add(1);
+        }
+    }
+    Ok(context)
+}
+
+/// What the reader finds wrong on a line in that context.
+fn kind_in(alloc: Global, context: &Context, line: &str) -> Result<Option<ConfKind>, AllocError> {
+    let text = format!(in alloc; "{}{line}\n", context.text)?;
+    match read_config(alloc, text.as_str()) {
+        Ok(_tree) => Ok(None),
         Err(fault) => {
-            if fault.line == 2 {
-                return Some(fault.kind);
+            if fault.line == context.lines.saturating_add(1) {
+                return Ok(Some(fault.kind));
             }
-            None
+            Ok(None)
         }
     }
 }
 
-/// The first word at which the reader finds that fault. It reads a line from the left, so it finds the fault on the
-/// front of the line that ends with this word, and on no shorter front.
+/// The first word from which on the reader finds that fault. It reads a line from the left, so it finds the fault on
+/// each front of the line that ends with this word or a later one.
 fn first_wrong_word(
     alloc: Global,
-    section: &str,
+    context: &Context,
     line: &str,
     words: &[Span],
     kind: ConfKind,
 ) -> Result<Option<Span>, AllocError> {
+    let mut found = None;
     for word in words {
         let front = line.get(..word.to).unwrap_or(line);
-        let text = format!(in alloc; "{section}\n{front}\n")?;
-        if kind_on_second_line(alloc, text.as_str()) == Some(kind) {
-            return Ok(Some(*word));
-        }
+        let is_wrong = kind_in(alloc, context, front)? == Some(kind);
+        found = match found {
+            None if is_wrong => Some(*word),
+            Some(first) if is_wrong => Some(first),
+            _ => None,
+        };
     }
-    Ok(None)
-}
-
-/// Whether the reader finds nothing wrong on a line of that section.
-fn is_right_alone(alloc: Global, section: &str, line: &str) -> Result<bool, AllocError> {
-    let text = format!(in alloc; "{section}\n{line}\n")?;
-    Ok(kind_on_second_line(alloc, text.as_str()).is_none())
+    Ok(found)
 }
 
 fn is_quoting(byte: u8) -> bool {
@@ -163,15 +194,76 @@ fn end_of(words: &[Span]) -> Option<Span> {
 /// The word that has the name or the endpoint of a line.
 fn name_of(line: &str, words: &[Span]) -> Option<Span> {
     match first_word(line) {
-        "frontend" | "backend" | "bind" | "server" | "default_backend" => words.get(1).copied(),
+        "frontend" | "backend" | "bind" | "server" | "default_backend" | "use_backend" => {
+            words.get(1).copied()
+        }
         _ => None,
     }
+}
+
+/// Whether a line opens a section of that kind and name.
+fn opens(line: &str, kind: &str, name: &str) -> bool {
+    let mut words = code_of(line).split_ascii_whitespace();
+    words.next() == Some(kind) && words.next() == Some(name)
+}
+
+fn has_section(text: &str, kind: &str, name: &str) -> bool {
+    text.lines().any(|line| opens(line, kind, name))
+}
+
+/// What stands in the brackets of a word that begins so.
+fn argument_of(line: &str, word: &Span, criterion: &str) -> Option<Span> {
+    if !text_of(line, word).starts_with(criterion) {
+        return None;
+    }
+    Some(Span {
+        from: word.from.saturating_add(criterion.len()),
+        to: word.to.saturating_sub(1),
+    })
+}
+
+/// The name of a section that the text lacks, in the brackets of a criterion.
+fn missing_argument(
+    text: &str,
+    line: &str,
+    words: &[Span],
+    criterion: &str,
+    kind: &str,
+) -> Option<Span> {
+    for word in words {
+        if let Some(name) = argument_of(line, word, criterion) {
+            if !has_section(text, kind, text_of(line, &name)) {
+                return Some(name);
+            }
+        }
+    }
+    None
+}
+
+/// The name of a backend that the text lacks.
+fn missing_backend(text: &str, line: &str, words: &[Span]) -> Option<Span> {
+    match name_of(line, words) {
+        Some(name) if !has_section(text, "backend", text_of(line, &name)) => Some(name),
+        _ => missing_argument(text, line, words, "be_conn(", "backend"),
+    }
+}
+
+/// The word after its marks.
+fn without_marks(line: &str, word: Span) -> Span {
+    let mut from = word.from;
+    for byte in text_of(line, &word).bytes() {
+        if byte != b'!' {
+            break;
+        }
+        from = from.saturating_add(1);
+    }
+    Span { from, to: word.to }
 }
 
 /// The word that is wrong by the words of its line alone.
 fn word_of_kind(
     alloc: Global,
-    section: Option<&str>,
+    context: &Context,
     line: &str,
     words: &[Span],
     kind: ConfKind,
@@ -188,26 +280,31 @@ fn word_of_kind(
         | ConfKind::ExtraWord
         | ConfKind::BadNumber
         | ConfKind::BadAddress
-        | ConfKind::Acl(_) => match section {
-            Some(section) => first_wrong_word(alloc, section, line, words, kind),
-            None => Ok(None),
-        },
+        | ConfKind::Acl(_) => {
+            let word = first_wrong_word(alloc, context, line, words, kind)?;
+            Ok(word.map(|word| without_marks(line, word)))
+        }
     }
 }
 
 /// The word of a line that a fault is about, where it is known.
 fn wrong_word(
     alloc: Global,
-    section: Option<&str>,
+    text: &str,
+    context: &Context,
     line: &str,
     words: &[Span],
     fault: &OpenFault,
 ) -> Result<Option<Span>, AllocError> {
     match fault {
-        OpenFault::Config(fault) => word_of_kind(alloc, section, line, words, fault.kind),
+        OpenFault::Config(fault) => word_of_kind(alloc, context, line, words, fault.kind),
         OpenFault::Plan(fault) => match fault.kind {
-            PlanKind::NoBackend | PlanKind::NoBind => Ok(name_of(line, words)),
-            _ => Ok(None),
+            PlanKind::NoBackend => Ok(missing_backend(text, line, words)),
+            PlanKind::NoBind => Ok(name_of(line, words)),
+            PlanKind::NoFrontend => {
+                Ok(missing_argument(text, line, words, "fe_conn(", "frontend"))
+            }
+            PlanKind::NoTable | PlanKind::NotStored | PlanKind::NoMemory => Ok(None),
         },
         OpenFault::NoMemory => Ok(None),
     }
@@ -225,11 +322,9 @@ pub fn find_quote<'a>(
     };
     let section = section_of(text, number);
     let words = words_of(alloc, line)?;
-    let word = wrong_word(alloc, section, line, words.as_slice(), fault)?;
-    let is_right = match section {
-        Some(section) => is_right_alone(alloc, section, line)?,
-        None => false,
-    };
+    let context = context_of(alloc, text, number)?;
+    let word = wrong_word(alloc, text, &context, line, words.as_slice(), fault)?;
+    let is_right = section.is_some() && kind_in(alloc, &context, line)?.is_none();
     let whole = Span {
         from: words.first().map_or(0, |word| word.from),
         to: words.last().map_or(0, |word| word.to),

@@ -78,7 +78,7 @@ Ends sent s script left held lines Read = IsCut sent s script left held
 Ends sent s script left held lines Write = IsCut sent s script left held ⊎ IsCutAfterAll sent s script left held
 Ends sent s script left held lines NoMemory = IsCut sent s script left held
 
--- A reader gave up: it failed once in the call, or it did not and its patience ran out, or it was request_at as often as it may be.
+-- A reader gave up: it failed once in the call, or it did not and its patience ran out, or it was asked as often as it may be.
 abbrev pub IsSpent : ℕ → ℕ → ℕ → ℕ → ℕ → ℕ → Type 0
 IsSpent before failures blocked stalls called calls =
     (failures ≡ raised before) ⊎ ((failures ≡ before) × (IsWornOut blocked stalls ⊎ (calls ≡ raised_by MOST_READS called)))

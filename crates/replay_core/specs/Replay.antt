@@ -54,10 +54,10 @@ script_fault number lines.TooLong = TooLong number
 script_fault number lines.Read = Read
 script_fault number lines.NoMemory = NoMemory
 
--- what was read of a line
-abbrev pub request_read : Result (Option Request) ReplayFault → Result (Option Wanted) ReplayFault
-request_read (Ok request) = Ok (option_map wanted request)
-request_read (Err fault) = Err fault
+-- what was read of a line, where the bytes of a piece are in front of a buffer
+abbrev pub request_read : List ℕ → Result (Option Request) ReplayFault → Result (Option Wanted) ReplayFault
+request_read buffer (Ok request) = Ok (option_map (wanted buffer) request)
+request_read buffer (Err fault) = Err fault
 
 -- ---- the lines of a script
 

@@ -4,6 +4,7 @@ ghost use Rattle.device_core.specs.Device.{raised_by};
 ghost use Rattle.device_core.specs.declared.patience.TheConstants.{MOST_READS};
 ghost use Rattle.plan_types.specs.declared.plan.Plan.{Plan};
 ghost use Rattle.conn_model.specs.History.{IsWell};
+ghost use Rattle.conn_model.specs.declared.event.TheConstants.{PIECE_LIMIT};
 ghost use Rattle.config_core.specs.Meaning.{meaning};
 ghost use Rattle.conn_core.specs.Machine.{IsOpened};
 ghost use Rattle.config_core.specs.declared.fault.OpenFault.{OpenFault};
@@ -15,9 +16,10 @@ use crate::fault::ReplayFault;
 use crate::reading::answer_all;
 use crate::session::Session;
 use conn_core::{Core, OpenFault};
+use conn_model::event::PIECE_LIMIT;
 use device_core::{Input, Output};
 use line_reader::LineReader;
-use std::alloc::Global;
+use std::alloc::{AllocError, Global};
 
 /// What a replay did.
 #[derive(Clone, Copy)]
@@ -95,6 +97,13 @@ fn open_core(alloc: Global, config: &str) -> Result<Core, ReplayFault>
     }
 }
 
+/// Room for the piece of a line.
+fn piece_buffer(alloc: Global) -> Result<Vec<u8>, AllocError>
+    ensures { IfOk result (λ piece. length piece.items ≡ PIECE_LIMIT) }
+{
+    Ok(vec![in alloc; 0; PIECE_LIMIT]?)
+}
+
 /// Opens a core on the configuration and answers each event of the script with one line. A line that
 /// hands in no event ends the replay, after the answers to all events before it. At most
 /// `device_core::MOST_READS` reads are made.
@@ -119,11 +128,14 @@ pub fn run_replay<I: Input, O: Output>(
     ensures spent { result ≡ Err ReplayFault.Read → IsSpent (I.failures reader.old) (I.failures reader.new) (I.stalls reader.old) (I.stalls reader.new) (I.calls reader.old) (I.calls reader.new) }
     ensures gave_up { result ≡ Err ReplayFault.Write → GaveUp (O.failures writer.old) (O.failures writer.new) (O.stalls writer.old) (O.stalls writer.new) }
 {
+    let Ok(piece) = piece_buffer(alloc) else {
+        return Err(ReplayFault::NoMemory);
+    };
     let core = match open_core(alloc, config) {
         Ok(core) => core,
         Err(fault) => return Err(fault),
     };
-    let mut session = Session::new(alloc, core);
+    let mut session = Session::new(alloc, core, piece);
     let replayed = answer_and_send(alloc, &mut session, reader, writer);
     let lines = session.end();
     match replayed {

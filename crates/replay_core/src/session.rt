@@ -6,6 +6,7 @@ ghost use Rattle.conn_model.specs.Answer.{answer_in};
 ghost use Rattle.conn_model.specs.Counts.{counts_in};
 ghost use Rattle.event_text.specs.Replies.{count_line};
 ghost use Rattle.conn_model.specs.History.{owned_event};
+ghost use Rattle.conn_model.specs.declared.event.TheConstants.{PIECE_LIMIT};
 ghost use Rattle.replay_core.specs.Replay.{answer_text, request_at, request_read, final_outcome, script_fault};
 ghost use Rattle.replay_core.specs.Turns.{plain_after};
 ghost use Rattle.replay_core.specs.Progress.{total, total_of_lines, GaveUp, Continues, IsFrontOf, IsLineFault};
@@ -34,24 +35,29 @@ pub struct Session {
     before: u64,
     answered: u64,
     unsent: Vec<u8>,
+    /// The bytes of the piece of a line.
+    piece: Vec<u8>,
 }
 
 impl Model for Session {
-    ghost use Rattle.std.specs.Prelude.{◌≤◌};
+    ghost use Rattle.std.specs.Prelude.{◌≡◌, ◌≤◌, length};
     ghost use Rattle.replay_core.specs.Progress.{Progress};
     ghost use Rattle.replay_core.specs.declared.session.TheConstants.{MOST_LINES};
+    ghost use Rattle.conn_model.specs.declared.event.TheConstants.{PIECE_LIMIT};
 
     ghost Value = { Progress };
 
     ghost view = { λ s. record { plain = s.core; before = s.before; answered = s.answered; unsent = s.unsent.items } };
 
-    ghost invariant = { λ s. (s.before ≤ MOST_LINES) × (s.answered ≤ s.before) };
+    ghost invariant = { λ s. (s.before ≤ MOST_LINES) × (s.answered ≤ s.before) × (length s.piece.items ≡ PIECE_LIMIT) };
 }
 
 /// What a line asks for.
-fn read_line(number: u64, line: &[u8]) -> Result<Option<Request>, ReplayFault>
-    requires { length line.now ≤ MOST_LINE_BYTES }
-    ensures exact { request_read result ≡ request_at number line.now }
+fn read_line(number: u64, line: &[u8], piece: &mut [u8]) -> Result<Option<Request>, ReplayFault>
+    requires short { length line.now ≤ MOST_LINE_BYTES }
+    requires room { length piece.old ≡ PIECE_LIMIT }
+    ensures exact { request_read piece.new result ≡ request_at number line.now }
+    ensures room { length piece.new ≡ length piece.old }
     ensures small { IfOk result (λ _. number ≤ MOST_LINES) }
     ensures kind { IfErr result IsLineFault }
 {
@@ -61,7 +67,7 @@ fn read_line(number: u64, line: &[u8]) -> Result<Option<Request>, ReplayFault>
     if line.is_empty() || line[0] == b'#' {
         return Ok(None);
     }
-    match read_request(line) {
+    match read_request(line, piece) {
         Some(request) => Ok(Some(request)),
         None => Err(ReplayFault::Format(number)),
     }
@@ -72,7 +78,7 @@ fn answer(
     core: &mut Core,
     unsent: &mut Vec<u8>,
     moment: u64,
-    event: &Event,
+    event: &Event<'_>,
 ) -> Result<(), ReplayFault>
     ensures text { OnOk result (unsent.new.items ≡ unsent.old.items ++ answer_text (answer_in core.old moment (owned_event event.now))) }
     ensures plain { OnOk result (core.new ≡ plain_after core.old moment (owned_event event.now) (answer_in core.old moment (owned_event event.now))) }
@@ -89,7 +95,7 @@ fn answer(
     Ok(())
 }
 
-/// Collects the line of the counts that are request_at for.
+/// Collects the line of the counts that are asked for.
 fn count(core: &Core, unsent: &mut Vec<u8>, ask: &Ask) -> Result<(), ReplayFault>
     ensures text { OnOk result (unsent.new.items ≡ unsent.old.items ++ count_line ask.now (counts_in core.now ask.now)) }
     ensures err { IfErr result (λ f. f ≡ ReplayFault.NoMemory) }
@@ -103,7 +109,8 @@ fn count(core: &Core, unsent: &mut Vec<u8>, ask: &Ask) -> Result<(), ReplayFault
 impl Session {
     ghost use Rattle.replay_core.specs.declared.fault.ReplayFault.TheVariants.{NoMemory};
 
-    pub fn new(alloc: Global, core: Core) -> Self
+    pub fn new(alloc: Global, core: Core, piece: Vec<u8>) -> Self
+        requires { length piece.items ≡ PIECE_LIMIT }
         ensures { result ≡ record { plain = core; before = 0; answered = 0; unsent = [] } }
     {
         Session {
@@ -111,6 +118,7 @@ impl Session {
             before: 0,
             answered: 0,
             unsent: Vec::new(alloc),
+            piece,
         }
     }
 
@@ -134,6 +142,7 @@ impl Session {
             before: _,
             answered,
             unsent: _unsent,
+            piece: _piece,
         } = self;
         core.end();
         answered
@@ -147,8 +156,9 @@ impl Session {
         ensures err { IfErr result (λ f. (f ≡ ReplayFault.NoMemory) ⊎ (IsLineFault f
             × ((sent : List ℕ) (more : List (List ℕ)) → total sent self.new (final_outcome (Some f)) ≡ total_of_lines sent self.old (line.now ∷ more)))) }
     {
-        match read_line(self.before + 1, line)? {
-            Some(Request::Event(moment, event)) => {
+        match read_line(self.before + 1, line, &mut self.piece)? {
+            Some(Request::Event(moment, request)) => {
+                let event = request.event(&self.piece);
                 answer(&mut self.core, &mut self.unsent, moment, &event)?;
             }
             Some(Request::Ask(ask)) => count(&self.core, &mut self.unsent, &ask)?,

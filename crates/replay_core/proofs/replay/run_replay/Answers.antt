@@ -13,8 +13,8 @@ begun p = record { plain = p; before = 0; answered = 0; unsent = [] }
 pub returns-in-Ok-replayed-clause-ok : goal.returns-in-Ok-replayed-clause-ok
 unfolding begun
 returns-in-Ok-replayed-clause-ok g c = λ script sent left held.
-    let opened = c.in-Ok.ensures.ok in
-    let well : IsWell (opening opened.0 0) = subst IsWell opened.2 c.in-Ok.ensures.well in
+    let opened = c.in-Ok-open_core.ensures.ok in
+    let well : IsWell (opening opened.0 0) = subst IsWell opened.2 c.in-Ok-open_core.ensures.well in
     let is : c.new-session.result ≡ start opened.0 = c.new-session.ensures ∙ ap begun opened.2 in
     let wrote : WritesAll sent c.new-session.result script (g.O.Output.held c.answer_and_send-replayed.new.writer) c.answer_and_send-replayed.new.session.answered None = c.in-Ok-replayed.ensures.ok script sent left held in
     rw c.end-lines.ensures
@@ -24,8 +24,8 @@ returns-in-Ok-replayed-clause-ok g c = λ script sent left held.
 pub returns-in-Err-replayed-clause-early_end : goal.returns-in-Err-replayed-clause-early_end
 unfolding begun
 returns-in-Err-replayed-clause-early_end g c = λ script sent left held.
-    let opened = c.in-Ok.ensures.ok in
-    let well : IsWell (opening opened.0 0) = subst IsWell opened.2 c.in-Ok.ensures.well in
+    let opened = c.in-Ok-open_core.ensures.ok in
+    let well : IsWell (opening opened.0 0) = subst IsWell opened.2 c.in-Ok-open_core.ensures.well in
     let is : c.new-session.result ≡ start opened.0 = c.new-session.ensures ∙ ap begun opened.2 in
     let early = c.in-Err-replayed.ensures.early_end script sent left held in
     ends_by c.args.config.now script sent (g.I.Input.left c.answer_and_send-replayed.new.reader) (g.O.Output.held c.answer_and_send-replayed.new.writer) c.answer_and_send-replayed.new.session.answered c.in-Err-replayed.fault opened.0 opened.1 well
