@@ -10,8 +10,8 @@ use std::test::Fail;
 const EXAMPLE: &str =
     "frontend f\nbind 127.0.0.1:9000\nmaxconn 2\ndefault_backend b\nbackend b\nserver s 10.0.0.20:80\n";
 
-/// An accept from 192.0.2.5 at 127.0.0.1:9000.
-fn accept_from(port: u16) -> Result<Event, Fail> {
+/// The addresses of a connection from a port of 192.0.2.5 to 127.0.0.1:9000.
+fn pair_from(port: u16) -> Result<Pair, Fail> {
     let source = Endpoint {
         addr: Addr::V4(0xc000_0205),
         port,
@@ -20,13 +20,12 @@ fn accept_from(port: u16) -> Result<Event, Fail> {
         addr: Addr::V4(0x7f00_0001),
         port: 9000,
     };
-    let pair = Pair::of(source, destination).ok_or("two families")?;
-    Ok(Event::Accept(0, pair))
+    Ok(Pair::of(source, destination).ok_or("two families")?)
 }
 
-/// The serial that an accept is offered a server with.
-fn offer(core: &mut Core, moment: u64, event: &Event) -> Option<u64> {
-    match core.step(moment, event) {
+/// The serial that a connection is offered a server with.
+fn offer(core: &mut Core, moment: u64, pair: Pair) -> Option<u64> {
+    match core.step(moment, &Event::Accept(0, pair)) {
         Ok(reply) => match &reply.said {
             Said::Offer { id, .. } => Some(id.serial),
             _ => None,
@@ -35,17 +34,30 @@ fn offer(core: &mut Core, moment: u64, event: &Event) -> Option<u64> {
     }
 }
 
-#[test]
-fn state_of_a_core(rt: HostRuntime) -> Result<(), Fail> {
-    let (first, second) = (accept_from(4000)?, accept_from(4001)?);
-    let mut core = Core::open(rt.alloc(), EXAMPLE).expect(&rt, "the example opens");
-    assert_eq!(rt; offer(&mut core, 7, &first), Some(1));
-    assert_eq!(rt; offer(&mut core, 5, &second), Some(2));
+/// Whether a connection is refused since the serials have come to an end.
+fn is_exhausted(core: &mut Core, moment: u64, pair: Pair) -> bool {
+    matches!(
+        core.step(moment, &Event::Accept(0, pair)),
+        Err(StepFault::Exhausted)
+    )
+}
+
+/// Whether the connection with a serial is closed.
+fn close(core: &mut Core, moment: u64, serial: u64) -> bool {
     let id = ConnId {
         frontend: 0,
-        serial: 1,
+        serial,
     };
-    assert!(rt; core.step(9, &Event::Close(id, Why::Failed)).is_ok());
+    core.step(moment, &Event::Close(id, Why::Failed)).is_ok()
+}
+
+#[test]
+fn state_of_a_core(rt: HostRuntime) -> Result<(), Fail> {
+    let (first, second) = (pair_from(4000)?, pair_from(4001)?);
+    let mut core = Core::open(rt.alloc(), EXAMPLE).expect(&rt, "the example opens");
+    assert_eq!(rt; offer(&mut core, 7, first), Some(1));
+    assert_eq!(rt; offer(&mut core, 5, second), Some(2));
+    assert!(rt; close(&mut core, 9, 1));
     assert_eq!(rt;
         core.counts(&Ask::Frontend(0)),
         Some(Counts { cur: 1, cnt: 0 })
@@ -73,17 +85,17 @@ fn state_of_a_core(rt: HostRuntime) -> Result<(), Fail> {
             assert_eq!(rt; assignment.server.backend.as_slice(), b"b".as_slice());
             assert_eq!(rt; assignment.server.name.as_slice(), b"s".as_slice());
         }
-        Phase::Waiting => assert!(rt; false, "the row has a server"),
+        Phase::Waiting(_) => assert!(rt; false, "the row has a server"),
     }
     Ok(())
 }
 
 #[test]
 fn last_serial(rt: HostRuntime) -> Result<(), Fail> {
-    let accept = accept_from(4000)?;
+    let pair = pair_from(4000)?;
     let mut core = Core::open_at(rt.alloc(), EXAMPLE, u64::MAX).expect(&rt, "the example opens");
-    assert_eq!(rt; offer(&mut core, 0, &accept), Some(u64::MAX));
-    assert!(rt; matches!(core.step(0, &accept), Err(StepFault::Exhausted)));
+    assert_eq!(rt; offer(&mut core, 0, pair), Some(u64::MAX));
+    assert!(rt; is_exhausted(&mut core, 0, pair));
     core.end();
     Ok(())
 }
