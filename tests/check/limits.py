@@ -23,6 +23,11 @@ def main():
     both([], lambda n: f'backend b{n}', 64)
     both(['frontend g'], lambda n: f'bind 10.0.0.1:{n + 1}', 64, [])
     both(own, lambda n: f'tcp-request {("connection", "session")[n % 2]} accept if {{ fe_conn {n} }}', 256, [])
+    both([*own, 'backend b', 'frontend g', 'bind :81'], lambda n: ('use_backend b', 'tcp-request session accept')[n % 2], 256, [])
+    both(own, lambda n: f'acl a{n % 200} fe_conn {n}', 256, [])
+    named = [*own, *(f'acl a{n} fe_conn {n}' for n in range(256))]
+    both(named, lambda n: f'tcp-request connection accept if a{n % 256}', 256, [])
+    both([*named, *(f'tcp-request connection accept if !a{n}' for n in range(256)), 'frontend g', 'bind :81'], lambda n: f'acl a{n} fe_conn {n}', 256, [])
     both([*own, 'backend b'], lambda n: f'server s{n} 10.0.0.1:80', 64, [])
     both([*own, 'backend b', 'server s 10.0.0.1:80', 'backend c'], lambda n: f'server s{n} 10.0.0.1:80', 64, [])
     case('ok', [*own, *('maxconn 5' for _ in range(1000))])
