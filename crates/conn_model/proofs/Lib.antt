@@ -5,3 +5,4 @@ pub mod Serials
 pub mod Goes
 pub mod Well
 pub mod Steps
+pub mod Joined

@@ -1,9 +1,9 @@
 -- What holds of each item of a list, and lists changed by number.
-use Rattle.std.specs.Prelude.{ℕ, zero, suc, Bool, true, false, List, [], length, map, filter, find, slice_get, Option, Some, refl, ◌+◌, ◌≤◌, ◌<◌, ◌≡◌, ◌⊎◌, ◌&&◌, ◌||◌, ◌∷◌, ◌++◌}
+use Rattle.std.specs.Prelude.{ℕ, zero, suc, Bool, true, false, List, [], length, map, filter, find, slice_get, Some, refl, ◌+◌, ◌≤◌, ◌<◌, ◌≡◌, ◌⊎◌, ◌&&◌, ◌||◌, ◌∷◌, ◌++◌}
 use Rattle.std.specs.List.{AllByRecursion}
 use Rattle.std.proofs.Common.{sym, ap, ◌∙◌, subst, arith, inl, inr}
 use Rattle.std.proofs.lemmas.Bool.{false≢true}
-use Rattle.conn_model.specs.Words.{map_from, newest, Rise}
+use Rattle.conn_model.specs.Words.{map_from, Rise}
 
 pub or_true : (a b : Bool) → (a || b) ≡ true → (a ≡ true) ⊎ (b ≡ true)
 or_true true b is = inl refl

@@ -1,5 +1,5 @@
 -- A history in two parts.
-use Rattle.std.specs.Prelude.{ℕ, suc, Bool, true, false, not, max, List, [], map, filter, slice_get, Option, Some, None, refl, ◌+◌, ◌≡◌, ◌≢◌, ◌==◌, ◌&&◌, ◌||◌, ◌∷◌, ◌++◌, if◌then◌else◌, option_to_list}
+use Rattle.std.specs.Prelude.{ℕ, suc, Bool, true, false, not, max, List, [], map, filter, slice_get, Some, None, refl, ◌+◌, ◌≡◌, ◌≢◌, ◌==◌, ◌&&◌, ◌||◌, ◌∷◌, ◌++◌, if◌then◌else◌, option_to_list}
 use Rattle.std.specs.List.{list_any, AllByRecursion}
 use Rattle.std.proofs.Common.{sym, ap, ◌∙◌, arith, append_assoc, append-nil}
 use Rattle.std.proofs.lemmas.List.{map-append}
@@ -13,7 +13,7 @@ use Rattle.conn_model.specs.declared.plain.Phase.{Phase}
 use Rattle.conn_model.specs.declared.plain.Row.{Row}
 use Rattle.conn_model.specs.declared.plain.FrontendRows.{FrontendRows}
 use Rattle.conn_model.specs.declared.plain.Plain.{Plain}
-use Rattle.conn_model.specs.Words.{newest, map_from}
+use Rattle.conn_model.specs.Words.{map_from}
 use Rattle.conn_model.specs.History.{now_of, speaks_to, version_of, in_force, newest_number, plans, plan_of, phase_after, tracks_of, by_counter, is_last, arrival, arrivals, has_ended, accepts, row_after, frontend_after, frontends_after, versions_after, tables_after, after, Entry}
 
 -- What goes on one entry after the other.
@@ -132,7 +132,7 @@ row_after-append p number g h row =
 abbrev pub is_spoken_to : ℕ → List Entry → ℕ → Bool
 is_spoken_to number h serial = list_any (λ e. speaks_to number serial e.reply.said) h
 
-either_false : (a b : Bool) → (a || b) ≡ false → (a ≡ false) × (b ≡ false)
+pub either_false : (a b : Bool) → (a || b) ≡ false → (a ≡ false) × (b ≡ false)
 either_false true b e = absurd (elim_true e)
   where
     elim_true : true ≡ false → ⊥

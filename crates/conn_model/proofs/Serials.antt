@@ -107,7 +107,7 @@ old_here p h number own id said there facts is_old here =
     omega (arith, it.0, same)
 
 -- whom a reply speaks to
-speaks_that : (number serial : ℕ) (said : Said) (id : ConnId) → id_of said ≡ Some id → speaks_to number serial said ≡ true → (id.frontend ≡ number) × (id.serial ≡ serial)
+pub speaks_that : (number serial : ℕ) (said : Said) (id : ConnId) → id_of said ≡ Some id → speaks_to number serial said ≡ true → (id.frontend ≡ number) × (id.serial ≡ serial)
 speaks_that number serial said id whom is =
     let it : is_conn number serial id ≡ true = rw whom at is in
     let both : ((id.frontend == number) ≡ true) × ((id.serial == serial) ≡ true) = and_true (id.frontend == number) (id.serial == serial) it in
@@ -191,7 +191,7 @@ arrivals-later q (e ∷ g) number own there legal =
     let next : new.id.serial ≡ own.serial + accepts number g + 1 = next_here q g number own e.reply.said there new here in
     omega (arith, next)))
 
-not_yet : (b : Bool) (serial given : ℕ) → (b ≡ true → serial ≤ given) → given < serial → b ≡ false
+pub not_yet : (b : Bool) (serial given : ℕ) → (b ≡ true → serial ≤ given) → given < serial → b ≡ false
 not_yet true serial given past above = absurd (let le : serial ≤ given = past refl in omega (arith, le, above))
 not_yet false serial given past above = refl
 

@@ -1,9 +1,9 @@
 -- The state after one event.
-use Rattle.std.specs.Prelude.{ℕ, zero, suc, Bool, true, false, not, max, List, [], map, filter, find, slice_get, slice_set, is_some, Option, Some, None, refl, ◌+◌, ◌≤◌, ◌<◌, ◌≡◌, ◌≢◌, ◌==◌, ◌&&◌, ◌||◌, ◌∷◌, ◌++◌, if◌then◌else◌}
+use Rattle.std.specs.Prelude.{ℕ, zero, suc, Bool, true, false, not, max, List, [], map, filter, find, slice_get, slice_set, is_some, Some, None, refl, ◌+◌, ◌≤◌, ◌<◌, ◌≡◌, ◌≢◌, ◌==◌, ◌&&◌, ◌∷◌, ◌++◌, if◌then◌else◌}
 use Rattle.std.specs.List.{AllByRecursion}
 use Rattle.std.specs.Option.{option_map_or}
 use Rattle.std.proofs.Common.{sym, ap, ◌∙◌, arith, append-nil, get_or}
-use Rattle.std.proofs.lemmas.Bool.{false≢true, eq-eqb, eqb-true}
+use Rattle.std.proofs.lemmas.Bool.{eq-eqb, eqb-true}
 use Rattle.std.proofs.lemmas.Bool.Decides.{nat_tests}
 use Rattle.std.proofs.lemmas.List.{map-append}
 use Rattle.std.proofs.lemmas.List.Elements.{filter-append}
@@ -19,7 +19,7 @@ use Rattle.conn_model.specs.declared.plain.Row.{Row}
 use Rattle.conn_model.specs.declared.plain.FrontendRows.{FrontendRows}
 use Rattle.conn_model.specs.declared.plain.Version.{Version}
 use Rattle.conn_model.specs.declared.plain.Plain.{Plain}
-use Rattle.conn_model.specs.Words.{is_conn, map_from, newest, Rise}
+use Rattle.conn_model.specs.Words.{map_from, newest, Rise}
 use Rattle.conn_model.specs.Counts.{change_row}
 use Rattle.conn_model.proofs.Parts.{brings_none}
 use Rattle.conn_model.specs.Answer.{row_in, reply_of, version_at, new_row}

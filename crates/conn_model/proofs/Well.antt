@@ -1,8 +1,8 @@
 -- A legal history keeps what is known of a state, and an opening state has it.
-use Rattle.std.specs.Prelude.{ℕ, Bool, true, false, not, List, [], map, filter, find, length, slice_get, Option, Some, None, IsSome, IfOk, IfErr, Result, Ok, Err, refl, ◌+◌, ◌≤◌, ◌≡◌, ◌⊎◌, ◌==◌, ◌∷◌, ◌++◌}
+use Rattle.std.specs.Prelude.{ℕ, Bool, true, false, not, List, [], map, filter, slice_get, Option, Some, None, IsSome, IfOk, IfErr, Result, Ok, Err, refl, ◌+◌, ◌≡◌, ◌==◌, ◌∷◌, ◌++◌}
 use Rattle.std.specs.List.{AllByRecursion}
 use Rattle.std.specs.Option.{option_map_or}
-use Rattle.std.proofs.Common.{sym, ap, ◌∙◌, subst, arith, inl, inr, append_assoc, append-nil}
+use Rattle.std.proofs.Common.{sym, ap, ◌∙◌, subst, arith, append-nil}
 use Rattle.std.proofs.lemmas.Bool.{false≢true, eq-eqb}
 use Rattle.std.proofs.lemmas.List.{length-map}
 use Rattle.plan_types.specs.declared.plan.Frontend.{Frontend}
@@ -14,10 +14,10 @@ use Rattle.conn_model.specs.declared.plain.Row.{Row}
 use Rattle.conn_model.specs.declared.plain.FrontendRows.{FrontendRows}
 use Rattle.conn_model.specs.declared.plain.Version.{Version}
 use Rattle.conn_model.specs.declared.plain.Plain.{Plain}
-use Rattle.conn_model.specs.Words.{newest, Rise}
+use Rattle.conn_model.specs.Words.{newest}
 use Rattle.conn_model.specs.Answer.{version_at, answer_in}
-use Rattle.conn_model.specs.History.{now_of, in_force, newest_number, tracks_of, by_counter, arrival, arrivals, has_ended, row_after, frontend_after, new_version, after, answer, entry, Entry, IsFault, IsLegal, IsFrontendWell, IsWell, opening}
-use Rattle.conn_model.proofs.Lists.{all-append, all-more, all-each, all-filter, all-map, all-from_zero, rise-filter, rise-map, map_from-same}
+use Rattle.conn_model.specs.History.{now_of, in_force, newest_number, tracks_of, by_counter, arrival, arrivals, has_ended, row_after, frontend_after, after, answer, entry, Entry, IsFault, IsLegal, IsFrontendWell, IsWell, opening}
+use Rattle.conn_model.proofs.Lists.{all-append, all-each, all-filter, all-map, all-from_zero, rise-filter, rise-map, map_from-same}
 use Rattle.conn_model.proofs.Parts.{in_force-same, versions-same, by_counter-append}
 use Rattle.conn_model.proofs.Replies.{answered}
 use Rattle.conn_model.proofs.Serials.{FrontendFacts, facts_of, rows_given, arrival-all}

@@ -239,6 +239,18 @@ counts p h ask = counts_in (after p h) ask
 abbrev pub IsFault : Result Reply StepFault → StepFault → Type 0
 IsFault answer fault = (answer ≡ Err fault) ⊎ ((fault ≡ NoMemory) × ((reply : Reply) × (answer ≡ Ok reply)))
 
+-- the bytes of an event, if it is a piece of that connection
+abbrev pub piece_for : ConnId → OwnedEvent → List ℕ
+piece_for id (Accept listener real) = []
+piece_for id (Piece other bytes) = if is_conn id.frontend id.serial other then bytes else []
+piece_for id (Close other why) = []
+piece_for id (Expire other) = []
+
+-- all the bytes that came of a connection, joined
+abbrev pub joined : ConnId → List Entry → List ℕ
+joined id [] = []
+joined id (e ∷ h) = joined id h ++ piece_for id e.event
+
 -- each reply is the answer after what was before it
 abbrev pub IsLegal : Plain → List Entry → Type 0
 IsLegal p [] = Unit {0}

@@ -1,5 +1,5 @@
 -- How a list of rules decides.
-use Rattle.std.specs.Prelude.{ℕ, Bool, true, false, List, find, Option, Some, None, option_map, option_and_then, ◌&&◌}
+use Rattle.std.specs.Prelude.{ℕ, true, List, find, Option, Some, None, option_map}
 use Rattle.std.specs.Option.{option_or}
 use Rattle.addr_core.specs.declared.addr.Addr.{Addr}
 use Rattle.acl_core.specs.declared.criterion.Criterion.{Criterion}

@@ -1,6 +1,15 @@
 //! Laws of the definitions, which every body meets that does by them.
-ghost use Rattle.std.specs.Prelude.{◌≡◌, ℕ, List, [], ◌++◌, ◌∷◌};
-ghost use Rattle.conn_model.specs.History.{after, answer, counts, opening, IsLegal, IsWell, Entry};
+ghost use Rattle.std.specs.Prelude.{◌≡◌, ℕ, List, [], Some, length, ◌++◌, ◌∷◌};
+ghost use Rattle.pp_any.specs.declared.rest.Rest.{Rest};
+ghost use Rattle.pp_any.specs.Header.{shifted};
+ghost use Rattle.pp_any.specs.NextPiece.{status_on};
+ghost use Rattle.pp_any.specs.Rest.{IsRest};
+ghost use Rattle.pp_any.specs.Status.{status};
+ghost use Rattle.conn_model.specs.Answer.{row_at};
+ghost use Rattle.conn_model.specs.History.{after, answer, counts, joined, opening, IsLegal, IsWell, Entry};
+ghost use Rattle.conn_model.specs.declared.event.ConnId.{ConnId};
+ghost use Rattle.conn_model.specs.declared.plain.Phase.TheVariants.{Waiting};
+ghost use Rattle.conn_model.specs.declared.plain.Row.{Row};
 ghost use Rattle.conn_model.specs.declared.plain.Plain.{Plain};
 ghost use Rattle.plan_types.specs.declared.plan.Plan as plans;
 ghost use Rattle.conn_model.specs.declared.event.OwnedEvent.{OwnedEvent};
@@ -27,4 +36,15 @@ pub fn stays_well()
     ensures opens { (plan : plans.Plan) (last : ℕ) → IsWell (opening plan last) }
     ensures keeps { (p : Plain) → IsWell p → (h : List Entry) → IsLegal p h → IsWell (after p h) }
     ensures nothing { (p : Plain) → IsWell p → after p [] ≡ p }
+{}
+
+/// A connection that waits for its header is judged by all the bytes that came of it, however they were cut: it
+/// holds what a parser holds of the joined bytes, which decide nothing yet; and its next piece decides what the
+/// joined bytes with the piece decide, at the same byte.
+pub fn pieces_are_judged_joined()
+    ensures holds { (plan : plans.Plan) (last : ℕ) (h : List Entry) → IsLegal (opening plan last) h → (id : ConnId) (row : Row) (rest : Rest) →
+        row_at (after (opening plan last) h).frontends id ≡ Some row → row.phase ≡ Waiting rest → IsRest (joined id h) rest }
+    ensures decides { (plan : plans.Plan) (last : ℕ) (h : List Entry) → IsLegal (opening plan last) h → (id : ConnId) (row : Row) (rest : Rest) →
+        row_at (after (opening plan last) h).frontends id ≡ Some row → row.phase ≡ Waiting rest → (piece : List ℕ) →
+        status (joined id h ++ piece) ≡ shifted (length (joined id h)) (status_on rest piece) }
 {}
