@@ -39,6 +39,12 @@ HEADERS = {
 # More headers, and the pair that is judged.
 MORE_HEADERS = [
     (b'PROXY UNKNOWN ' + b'x' * 91 + b'\r\n', REAL),
+    (b'PROXY UNKNOWN \r\n', REAL),
+    (b'PROXY UNKNOWN ' + b'ffff:' * 7 + b'ffff ' + b'ffff:' * 7 + b'ffff 65535 65535\r\n', REAL),
+    # the greatest line of IPv4, and the example, of proxy-protocol.txt, section 2.1
+    (b'PROXY TCP4 255.255.255.255 255.255.255.255 65535 65535\r\n', 'src 255.255.255.255:65535 dst 255.255.255.255:65535'),
+    (b'PROXY TCP4 192.168.0.1 192.168.0.11 56324 443\r\n', 'src 192.168.0.1:56324 dst 192.168.0.11:443'),
+    (b'PROXY TCP6 ::1 ::FFFF:1.2.3.4 1 0\r\n', 'src [::1]:1 dst [::ffff:102:304]:0'),
     (b'PROXY UNKNOWN  TCP4 1.2.3.4\r\n', REAL),
     (b'PROXY UNKNOWN \r\r\n', REAL),
     (b'PROXY TCP6 ' + b'ffff:' * 7 + b'ffff ' + b'ffff:' * 7 + b'ffff 65535 65535\r\n',
@@ -47,6 +53,8 @@ MORE_HEADERS = [
     (b'PROXY TCP6 2001:DB8:0:0:0:0:0:1 ::1.2.3.4 1 2\r\n', 'src [2001:db8::1]:1 dst [::102:304]:2'),
     (second(0x20, 0x00, b''), REAL),
     (second(0x20, 0x11, b''), REAL),
+    (second(0x20, 0xff, b'abc'), REAL),
+    (second(0x21, 0x31, b'abc'), REAL),
     (second(0x20, 0x11, BLOCK_OF_FOUR), REAL),
     (second(0x21, 0x00, b''), REAL),
     (second(0x21, 0x10, BLOCK_OF_FOUR), REAL),
@@ -64,10 +72,19 @@ FAULTS = [
     (b'PROXY\r\n', 'NotProxy', 6),
     (b'GET / HTTP/1.1\r\n', 'NotProxy', 1),
     (b'\n', 'NotProxy', 1),
+    (b'proxy UNKNOWN\r\n', 'NotProxy', 1),
+    (b'PROXy ', 'NotProxy', 5),
+    (SIGNATURE[:11] + b'\r', 'NotProxy', 12),
     (b'PROXY UNKNOWN ' + b'x' * 93, 'TooLong', 107),
     (b'PROXY UNKNOWN ' + b'x' * 92 + b'\r\n', 'TooLong', 107),
     (b'PROXY TCP4 1.2.3.4 5.6.7.8 4000 443\n' + b'\n' * 71, 'TooLong', 107),
     (b'PROXY \r\n', 'BadLine', 8),
+    (b'PROXY  UNKNOWN\r\n', 'BadLine', 16),
+    (b'PROXY UNKNOWN\r\r\n', 'BadLine', 16),
+    (b'PROXY UNKNOWN4\r\n', 'BadLine', 16),
+    (b'PROXY UDP4 1.2.3.4 5.6.7.8 4000 443\r\n', 'BadLine', 37),
+    (b'PROXY TCP4\t1.2.3.4 5.6.7.8 4000 443\r\n', 'BadLine', 37),
+    (b'PROXY TCP4 1.2.3.4  5.6.7.8 4000 443\r\n', 'BadLine', 38),
     (b'PROXY unknown\r\n', 'BadLine', 15),
     (b'PROXY UNKNOWNX\r\n', 'BadLine', 16),
     (b'PROXY TCP5 1.2.3.4 5.6.7.8 4000 443\r\n', 'BadLine', 37),
@@ -79,10 +96,14 @@ FAULTS = [
     (b'PROXY TCP4 1.2.3.256 5.6.7.8 4000 443\r\n', 'BadAddress', 39),
     (b'PROXY TCP4 1.2.3.4 5.6.7 4000 443\r\n', 'BadAddress', 35),
     (b'PROXY TCP4 ::1 5.6.7.8 4000 443\r\n', 'BadAddress', 33),
+    (b'PROXY TCP4 01.2.3.4 5.6.7.8 4000 443\r\n', 'BadAddress', 38),
+    (b'PROXY TCP4 1.2.3.4 5.6.7.08 04000 443\r\n', 'BadAddress', 39),
+    (b'PROXY TCP6 1.2.3.4 5.6.7.8 4000 443\r\n', 'BadAddress', 37),
     (b'PROXY TCP6 ::1 5.6.7.8 4000 443\r\n', 'BadAddress', 33),
     (b'PROXY TCP4 1.2.3.04 5.6.7.8 04000 443\r\n', 'BadAddress', 39),
     (b'PROXY TCP4 1.2.3.4 5.6.7.8 04000 443\r\n', 'BadPort', 38),
     (b'PROXY TCP4 1.2.3.4 5.6.7.8 4000 65536\r\n', 'BadPort', 39),
+    (b'PROXY TCP4 1.2.3.4 5.6.7.8 4000 +443\r\n', 'BadPort', 38),
     (b'PROXY TCP4 1.2.3.4 5.6.7.8 4000 443\r\r\n', 'BadPort', 38),
     (SIGNATURE + b'\x11', 'BadVersion', 13),
     (SIGNATURE + b'\x30', 'BadVersion', 13),
@@ -117,6 +138,9 @@ class Run:
 
     def is_offered(self, piece, used, pair):
         self.piece(piece, f'offer 0.{self.serial} used {used} line 5 to 10.0.0.11:443 {pair} send -')
+        self.close()
+
+    def close(self):
         self.script.append(f'0 close 0.{self.serial} done')
         self.answers.append(f'closed 0.{self.serial} done')
 
@@ -176,6 +200,60 @@ def faults():
     return run
 
 
+def lines_of_each_length():
+    """Lines that declare nothing and have no end yet: they wait until the greatest length."""
+    run = Run()
+    for length in range(15, 120):
+        line = b'PROXY UNKNOWN '.ljust(length, b'x')
+        for pieces in ([line], [line[at:at + 1] for at in range(min(length, LONGEST))]):
+            run.accept()
+            for piece in pieces[:-1]:
+                run.waits(piece)
+            if length < LONGEST:
+                run.waits(pieces[-1])
+                run.close()
+            else:
+                run.is_refused(pieces[-1], LONGEST - len(b''.join(pieces[:-1])), 'TooLong')
+    return run
+
+
+def commands_and_families():
+    """All pairs of bytes 13 and 14, with an empty block, by the table of proxy-protocol.txt, section 2.2."""
+    run = Run()
+    for command in range(256):
+        for family in range(256):
+            header = second(command, family, b'')
+            run.accept()
+            if command >> 4 != 2:
+                run.is_refused(header, 13, 'BadVersion')
+            elif command & 15 > 1:
+                run.is_refused(header, 13, 'BadCommand')
+            elif command & 15 == 0:
+                run.is_offered(header, 16, REAL)
+            elif family >> 4 > 3 or family & 15 > 2:
+                run.is_refused(header, 14, 'BadFamily')
+            elif family in (0x11, 0x21):
+                run.is_refused(header, 16, 'ShortBlock')
+            else:
+                run.is_offered(header, 16, REAL)
+    return run
+
+
+def greatest_block():
+    """A block of the greatest length, with its pair or skipped, in pieces of several lengths."""
+    run = Run()
+    block = BLOCK_OF_FOUR + b'\7' * (65535 - len(BLOCK_OF_FOUR))
+    for command, pair in ((0x21, FOUR), (0x20, REAL)):
+        header = second(command, 0x11, block)
+        for size in (1, 20, 1460, 65536):
+            run.accept()
+            pieces = [header[at:at + size] for at in range(0, len(header), size)]
+            for piece in pieces[:-1]:
+                run.waits(piece)
+            run.is_offered(pieces[-1] + b'PROXY', len(pieces[-1]), pair)
+    return run
+
+
 def long_pieces():
     """Pieces of the greatest length, with the header in front, and inside a block of the greatest length."""
     run = Run()
@@ -206,7 +284,8 @@ def too_long():
 
 
 def main():
-    for make in (cut_in_two, byte_by_byte, whole, faults, long_pieces, too_long):
+    for make in (cut_in_two, byte_by_byte, whole, faults, lines_of_each_length, commands_and_families, greatest_block,
+                 long_pieces, too_long):
         make().write(sys.argv[1], make.__name__.replace('_', '-'))
 
 
