@@ -1,3 +1,4 @@
 pub mod Key
 pub mod Entries
 pub mod Listing
+pub mod PlainEntries

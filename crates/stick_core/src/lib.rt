@@ -2,7 +2,7 @@
 //! (HAProxy manual, `stick-table`, `tcp-request connection track-sc0`).
 #![tactic(auto)]
 
-pub use entries::Entry;
+pub use entries::{Entry, TableEntry};
 pub use proxy_types::{KeyType, Stores};
 pub use table::{Table, Tracked};
 

@@ -1,11 +1,13 @@
 //! A table of tracked sources.
-ghost use Rattle.std.specs.Prelude.{◌≡◌, ◌+◌, ◌<◌, ◌≤◌, ◌^◌, ◌-◌, [], length, map, false, nat_lt, is_some, IfOk, OnOk, OnErr, IsOk};
+ghost use Rattle.std.specs.Prelude.{◌≡◌, ◌+◌, ◌<◌, ◌≤◌, ◌^◌, ◌-◌, ℕ, [], Some, length, nat_lt, is_some, IfOk, OnOk, OnErr, IsOk};
 ghost use Rattle.addr_core.specs.declared.addr.Addr.{Addr};
-ghost use Rattle.stick_core.specs.Key.{same_key};
-ghost use Rattle.stick_core.specs.Entries.{cur_of, released, key_and_count};
-ghost use Rattle.stick_core.specs.Listing.{IsSound, key_taken, entries_after, cur_at, cnt_at};
+ghost use Rattle.stick_core.specs.Entries.{cur_of, released};
+ghost use Rattle.stick_core.specs.Listing.{IsSound, can_list, key_taken, entries_after, cur_at, cnt_at};
+ghost use Rattle.stick_core.specs.PlainEntries.{plain, AreTrackers, KeysDiffer, tracked_key, with_trackings, touched, trackings_of};
 
-use crate::entries::{Entry, cnt_in, cur_in, entry_of, has_free, listed, purge, put_last};
+use crate::entries::{
+    Entry, TableEntry, cnt_in, cur_in, entry_of, has_free, listed, purge, put_last,
+};
 use crate::key::key_of;
 use addr_core::Addr;
 use list_core::Seq;
@@ -77,8 +79,11 @@ impl Table {
         self.kind
     }
 
+    /// How many entries there may be. There are no more, and no two have one key.
     pub fn size(&self) -> u64
-        ensures { result ≡ self.now.size }
+        ensures value { result ≡ self.now.size }
+        ensures sound { IsSound self.now.size self.now.entries }
+        ensures keys { KeysDiffer (plain self.now.entries) }
     {
         self.size
     }
@@ -120,20 +125,41 @@ impl Table {
     pub fn takes(&self, addr: &Addr) -> bool
         ensures { result ≡ is_some (key_taken self.now addr.now) }
     {
+        self.listed_key(addr).is_some()
+    }
+
+    /// The key under which the address would be tracked, if it could be.
+    pub fn key_for(&self, addr: &Addr) -> Option<Addr>
+        ensures value { result ≡ key_taken self.now addr.now }
+
+        // The same of plain entries, where so many track each key.
+        ensures plain_value { (trackers : Addr → ℕ) → AreTrackers trackers self.now.entries →
+            result ≡ tracked_key trackers self.now.kind self.now.size (plain self.now.entries) addr.now }
+    {
+        self.listed_key(addr)
+    }
+
+    fn listed_key(&self, addr: &Addr) -> Option<Addr>
+        ensures value { result ≡ key_taken self.now addr.now }
+        ensures sound { IsSound self.now.size self.now.entries }
+    {
         match key_of(self.kind, addr) {
-            Some(key) => {
-                entry_of(self.entries.as_slice(), &key).is_some()
-                    || self.has_room()
-                    || has_free(self.entries.as_slice())
-            }
-            None => false,
+            Some(key) => self.can_list(&key).then_some(key),
+            None => None,
         }
     }
 
+    fn can_list(&self, key: &Addr) -> bool
+        ensures { result ≡ can_list self.now.size self.now.entries key.now }
+    {
+        entry_of(self.entries.as_slice(), key).is_some()
+            || self.has_room()
+            || has_free(self.entries.as_slice())
+    }
+
     /// The keys in the order of their last touch, each with how often it was tracked.
-    pub fn entries(&self, alloc: Global) -> Result<Seq<(Addr, u64)>, AllocError>
-        ensures list { IfOk result (λ list. list ≡ map key_and_count self.now.entries) }
-        ensures sound { IsSound self.now.size self.now.entries }
+    pub fn entries(&self, alloc: Global) -> Result<Seq<TableEntry>, AllocError>
+        ensures { IfOk result (λ list. list ≡ plain self.now.entries) }
     {
         listed(alloc, self.entries.as_slice())
     }
@@ -152,14 +178,36 @@ impl Table {
     /// entry without trackers that was touched longest ago; where each has some, nothing is tracked.
     pub fn track(&mut self, addr: &Addr) -> Result<Option<Tracked>, AllocError>
         requires { cur_at self.old addr.now < 2 ^ 64 - 1 }
-        ensures tracked { IfOk result (λ t. t ≡ key_taken self.old addr.now) }
+        ensures tracked { IfOk result (λ tracked. tracked ≡ key_taken self.old addr.now) }
         ensures entries { OnOk result (self.new.entries ≡ entries_after self.old addr.now) }
         ensures same { self.new ≡ record self.old { entries = self.new.entries; spare = self.new.spare } }
+
+        // Each key has one tracker more for each tracking of it.
+        ensures counts { IfOk result (λ tracked. (key : Addr) → cur_of key self.new.entries ≡ cur_of key self.old.entries + trackings_of key tracked) }
+
+        // The same of plain entries, where so many track each key.
+        ensures plain_key { IfOk result (λ tracked. (trackers : Addr → ℕ) → AreTrackers trackers self.old.entries →
+            tracked ≡ tracked_key trackers self.old.kind self.old.size (plain self.old.entries) addr.now) }
+        ensures plain_entries { IfOk result (λ tracked. (trackers : Addr → ℕ) → AreTrackers trackers self.old.entries →
+            plain self.new.entries ≡ with_trackings trackers self.old.size tracked (plain self.old.entries)) }
 
         // Only here memory is taken, for one entry.
         ensures spare { self.old.spare ≤ self.new.spare + 1 }
         ensures reserved { 0 < self.old.spare → IsOk result }
         ensures err { OnErr result ((self.new.entries ≡ self.old.entries) × (self.old.spare ≤ self.new.spare)) }
+    {
+        self.track_key(addr)
+    }
+
+    fn track_key(&mut self, addr: &Addr) -> Result<Option<Tracked>, AllocError>
+        requires { cur_at self.old addr.now < 2 ^ 64 - 1 }
+        ensures tracked { IfOk result (λ tracked. tracked ≡ key_taken self.old addr.now) }
+        ensures entries { OnOk result (self.new.entries ≡ entries_after self.old addr.now) }
+        ensures same { self.new ≡ record self.old { entries = self.new.entries; spare = self.new.spare } }
+        ensures spare { self.old.spare ≤ self.new.spare + 1 }
+        ensures reserved { 0 < self.old.spare → IsOk result }
+        ensures err { OnErr result ((self.new.entries ≡ self.old.entries) × (self.old.spare ≤ self.new.spare)) }
+        ensures sound { IsSound self.old.size self.old.entries }
     {
         let Some(key) = key_of(self.kind, addr) else {
             return Ok(None);
@@ -185,11 +233,19 @@ impl Table {
     /// Ends a tracking, without taking memory.
     pub fn release(&mut self, tracked: Tracked)
         requires { 0 < cur_of tracked self.old.entries }
-        ensures entries { self.new.entries ≡ released tracked self.old.entries }
-        ensures own { cur_of tracked self.new.entries + 1 ≡ cur_of tracked self.old.entries }
-        ensures others { (key : Addr) → same_key key tracked ≡ false → cur_of key self.new.entries ≡ cur_of key self.old.entries }
-        ensures same { self.new ≡ record self.old { entries = self.new.entries; spare = self.new.spare } }
-        ensures spare { self.old.spare ≤ self.new.spare }
+        ensures value { self.new ≡ record self.old { entries = released tracked self.old.entries } }
+
+        // The key has one tracker less, and no other key has.
+        ensures counts { (key : Addr) → cur_of key self.new.entries + trackings_of key (Some tracked) ≡ cur_of key self.old.entries }
+        ensures plain_entries { plain self.new.entries ≡ touched tracked (plain self.old.entries) }
+    {
+        self.release_key(tracked)
+    }
+
+    fn release_key(&mut self, tracked: Tracked)
+        requires { 0 < cur_of tracked self.old.entries }
+        ensures value { self.new ≡ record self.old { entries = released tracked self.old.entries } }
+        ensures sound { IsSound self.old.size self.old.entries }
     {
         let Tracked { key } = tracked;
         if let Some(entry) = entry_of(self.entries.as_slice(), &key) {

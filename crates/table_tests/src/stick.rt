@@ -2,7 +2,7 @@ use addr_core::Addr;
 use std::alloc::Global;
 use std::process::Abort;
 use std::test::Fail;
-use stick_core::{Entry, KeyType, Stores, Table, Tracked};
+use stick_core::{Entry, KeyType, Stores, Table, TableEntry, Tracked};
 
 const BOTH: Stores = Stores {
     cur: true,
@@ -40,9 +40,9 @@ fn assert_entries(
 ) -> Result<(), Fail> {
     let entries = table.entries(alloc)?;
     assert_eq!(rt; entries.len(), wanted.len());
-    for ((key, cnt), (n, wanted)) in entries.as_slice().iter().zip(wanted) {
-        assert_eq!(rt; *key, source(*n));
-        assert_eq!(rt; cnt, wanted);
+    for (entry, (n, wanted)) in entries.as_slice().iter().zip(wanted) {
+        assert_eq!(rt; entry.key, source(*n));
+        assert_eq!(rt; entry.cnt, *wanted);
     }
     Ok(())
 }
@@ -100,7 +100,7 @@ fn assert_same_key(rt: &impl Abort, alloc: Global, addr: Addr, key: Addr) -> Res
     assert_eq!(rt; table.cur(&addr), 1);
     assert_eq!(rt; table.cnt(&key), 1);
     let entries = table.entries(alloc).expect(rt, "memory");
-    assert_eq!(rt; entries.as_slice(), [(key, 1)].as_slice());
+    assert_eq!(rt; entries.as_slice(), [TableEntry { key, cnt: 1 }].as_slice());
     let tracked = tracked.expect(rt, "a tracking");
     assert_eq!(rt; tracked.key(), key);
     release(rt, &mut table, Some(tracked));
@@ -117,6 +117,7 @@ fn keys_of_addresses(rt: HostRuntime) -> Result<(), Fail> {
     // In a table of `type ip` an address of IPv6 is no key.
     let mut table = Table::new(rt.alloc(), KeyType::Ip, 2, BOTH);
     assert!(rt; !table.takes(&mapped));
+    assert_eq!(rt; table.key_for(&source(7)), Some(source(7)));
     assert_eq!(rt; (table.cur(&mapped), table.cnt(&mapped)), (0, 0));
     let none = table.track(&mapped).expect(&rt, "memory");
     assert!(rt; none.is_none());

@@ -1,45 +1,40 @@
-use Rattle.std.proofs.Common.{◌≡◌, Some, None, find, refl, sym, ap, arith, ◌∙◌, ℕ, ◌<◌, true, length, length-append, nat_lt}
-use Rattle.std.proofs.lemmas.Bool.Decides.{nat_tests}
-use Rattle.stick_core.specs.Entries.{is_of, once_more, without_first_free}
-use Rattle.stick_core.proofs.TouchLemmas.{once-touched, once-added, once-replaced}
+use Rattle.std.proofs.Common.{◌≡◌, Option, List, sym, subst, ℕ, ◌+◌}
+use Rattle.std.specs.Prelude.{Result, Ok, Err, IfOk, OnOk}
+use Rattle.addr_core.specs.declared.addr.Addr.{Addr}
+use Rattle.stick_core.specs.declared.entries.Entry.{Entry}
+use Rattle.stick_core.specs.Entries.{cur_of}
+use Rattle.stick_core.specs.Listing.{key_taken, entries_after}
+use Rattle.stick_core.specs.PlainEntries.{plain, AreTrackers, tracked_key, with_trackings, trackings_of}
+use Rattle.stick_core.proofs.PlainLemmas.{taken_plain, after_plain, counts_after}
 use Rattle.stick_core.proofs.table.Table.track.Goals as goal
-use Rattle.stick_core.proofs.table.Table.track.Goals.{then-has_room+in_ok-reserve-in-None, else-has_room+else-not-purge}
 
-pub invariant_of-self : goal.invariant_of-self
-invariant_of-self c =
-    let entries = c.self.inside.entries.items in
-    let there : find (is_of c.in-Some.key) entries ≡ Some c.in-Some-entry_of.entry = sym (rw c.as_slice.ensures.value at c.in-Some-entry_of.ensures) in
-    record {
-      fits = omega (arith, c.put_last.ensures.len, c.put_last.new.entries.ok, c.self.inside.entries.ok, c.self.invariant.fits);
-      once =
-          rw (c.put_last.ensures.items, c.raised.ensures) (once-touched once_more (λ e. refl) c.in-Some.key entries c.in-Some-entry_of.entry there c.self.invariant.once);
-    }
+-- what holds of the key that is tracked and of the entries that are left holds of what was answered
+answered : {F : Type 0} (result : Result (Option Addr) F) (left entries : List Entry) (key : Option Addr) (P : Option Addr → List Entry → Type 0)
+    → IfOk result (λ tracked. tracked ≡ key) → OnOk result (left ≡ entries) → P key entries → IfOk result (λ tracked. P tracked left)
+answered (Ok tracked) left entries key P is after holds =
+    let with_key : P tracked entries = subst (λ t. P t entries) (sym is) holds in
+    subst (λ l. P tracked l) (sym after) with_key
+answered (Err fault) left entries key P is after holds = tt
 
-less : (m n : ℕ) → nat_lt m n ≡ true → m < n
-less m n e = grind (arith, nat_tests)
+pub returns-clause-counts : goal.returns-clause-counts
+returns-clause-counts c =
+    answered c.track_key.result c.track_key.new.self.entries (entries_after c.args.self.now c.args.addr.now) (key_taken c.args.self.now c.args.addr.now)
+    (λ tracked left. (key : Addr) → cur_of key left ≡ cur_of key c.args.self.now.entries + trackings_of key tracked)
+    c.track_key.ensures.tracked c.track_key.ensures.entries
+    (counts_after c.args.self.now c.args.addr.now c.track_key.ensures.sound)
 
-pub invariant_of-self-in-None : goal.invariant_of-self-in-None
-invariant_of-self-in-None c =
-    let entries = c.self.inside.entries.items in
-    let none : find (is_of c.in-Some.key) entries ≡ None = sym (rw c.as_slice.ensures.value at c.in-None.ensures) in
-    elim c.if-has_room.branch [
-      | then-has_room+in_ok-reserve-in-None w ↦
-          let items : c.if-has_room.self-inside.entries.items ≡ entries = ap (λ s. s.entries.items) w.self-inside-is ∙ w.reserve.ensures.items in
-          let size : c.if-has_room.self-inside.size ≡ c.self.inside.size = ap (λ s. s.size) w.self-inside-is in
-          let room : length entries < c.self.inside.size =
-          less (length entries) c.self.inside.size (rw (← ap (λ t. t.entries) c.self.view_is, ← ap (λ t. t.size) c.self.view_is) at (sym c.has_room.ensures ∙ w.if-has_room.true)) in
-          rw (c.push_reserved.ensures.items, items, size)
-          (record { fits = rw (length-append entries) (omega (arith, room)); once = once-added c.in-Some.key entries none c.self.invariant.once })
-      | else-has_room+else-not-purge w ↦
-          let yes : w.purge.result ≡ true = w.if-not-purge.false in
-          let left : w.purge.new.entries.items ≡ without_first_free entries = w.purge.ensures.items yes in
-          let items : c.if-has_room.self-inside.entries.items ≡ without_first_free entries = ap (λ s. s.entries.items) w.self-inside-is ∙ left in
-          let size : c.if-has_room.self-inside.size ≡ c.self.inside.size = ap (λ s. s.size) w.self-inside-is in
-          let fewer : length (without_first_free entries) < length entries =
-          omega (arith, ap length left, w.purge.ensures.len yes, w.purge.new.entries.ok, c.self.inside.entries.ok) in
-          rw (c.push_reserved.ensures.items, items, size)
-          (record {
-            fits = rw (length-append (without_first_free entries)) (omega (arith, fewer, c.self.invariant.fits));
-            once = once-replaced c.in-Some.key entries none c.self.invariant.once;
-          })
-    ]
+pub returns-clause-plain_key : goal.returns-clause-plain_key
+returns-clause-plain_key c =
+    answered c.track_key.result c.track_key.new.self.entries (entries_after c.args.self.now c.args.addr.now) (key_taken c.args.self.now c.args.addr.now)
+    (λ tracked left. (trackers : Addr → ℕ) → AreTrackers trackers c.args.self.now.entries →
+    tracked ≡ tracked_key trackers c.args.self.now.kind c.args.self.now.size (plain c.args.self.now.entries) c.args.addr.now)
+    c.track_key.ensures.tracked c.track_key.ensures.entries
+    (λ trackers agree. taken_plain trackers c.args.self.now c.args.addr.now c.track_key.ensures.sound agree)
+
+pub returns-clause-plain_entries : goal.returns-clause-plain_entries
+returns-clause-plain_entries c =
+    answered c.track_key.result c.track_key.new.self.entries (entries_after c.args.self.now c.args.addr.now) (key_taken c.args.self.now c.args.addr.now)
+    (λ tracked left. (trackers : Addr → ℕ) → AreTrackers trackers c.args.self.now.entries →
+    plain left ≡ with_trackings trackers c.args.self.now.size tracked (plain c.args.self.now.entries))
+    c.track_key.ensures.tracked c.track_key.ensures.entries
+    (λ trackers agree. after_plain trackers c.args.self.now c.args.addr.now c.track_key.ensures.sound agree)
