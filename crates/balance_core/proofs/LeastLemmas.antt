@@ -9,7 +9,8 @@ use Rattle.std.proofs.lemmas.List.{append-nil}
 use Rattle.std.proofs.lemmas.List.Elements.{filter-append}
 use Rattle.balance_core.specs.declared.load.ServerLoad.{ServerLoad}
 use Rattle.balance_core.specs.Loads.{weight_at, connections_at, is_ready_at, first_after, going_round}
-use Rattle.balance_core.specs.Least.{is_lighter, lesser, least, lightest, IsLightest}
+use Rattle.balance_core.specs.Orders.{lesser, least}
+use Rattle.balance_core.specs.Least.{is_lighter, lightest, IsLightest}
 
 -- among the items that pass, where no item that passes comes before one that another does not come before
 abbrev Goes : {X : Type 0} → (X → X → Bool) → (X → Bool) → Type 0

@@ -1,3 +1,6 @@
+pub mod OrderLemmas
+pub mod RoomLemmas
 pub mod RangeLemmas
 pub mod RankLemmas
+pub mod RoundLemmas
 pub mod LeastLemmas

@@ -1,16 +1,9 @@
 -- Least connections.
-use Rattle.std.specs.Prelude.{◌≡◌, ℕ, Bool, true, false, List, [], ◌∷◌, length, filter, Option, Some, None, ◌*◌, nat_lt, if◌then◌else◌}
+use Rattle.std.specs.Prelude.{◌≡◌, ℕ, Bool, true, false, List, length, filter, slice_get, Option, Some, None, option_map, ◌*◌, ◌&&◌, nat_lt, if◌then◌else◌}
 use Rattle.balance_core.specs.declared.load.ServerLoad.{ServerLoad}
+use Rattle.balance_core.specs.declared.least.Candidate.{Candidate}
 use Rattle.balance_core.specs.Loads.{weight_at, connections_at, is_ready_at, going_round}
-
-abbrev pub lesser : {X : Type 0} → (X → X → Bool) → X → Option X → Option X
-lesser before x None = Some x
-lesser before x (Some y) = Some (if before y x then y else x)
-
--- the item that no other comes before, the first of those that are level
-abbrev pub least : {X : Type 0} → (X → X → Bool) → List X → Option X
-least before [] = None
-least before (x ∷ xs) = lesser before x (least before xs)
+use Rattle.balance_core.specs.Orders.{least}
 
 -- fewer connections for its weight
 abbrev pub is_lighter : List ServerLoad → ℕ → ℕ → Bool
@@ -24,3 +17,22 @@ lightest servers last = least (is_lighter servers) (filter (is_ready_at servers)
 pub record IsLightest (servers : List ServerLoad) (n : ℕ) : Type 0 where
   pub ready : is_ready_at servers n ≡ true
   pub least : (m : ℕ) → is_ready_at servers m ≡ true → is_lighter servers m n ≡ false
+
+-- What is seen of servers.
+
+abbrev pub is_ready : ServerLoad → Bool
+is_ready server = nat_lt 0 server.weight && server.has_room
+
+abbrev pub carries_less : ServerLoad → ServerLoad → Bool
+carries_less one other = nat_lt (one.connections * other.weight) (other.connections * one.weight)
+
+abbrev pub number_of : Option Candidate → Option ℕ
+number_of candidate = option_map (λ c. c.number) candidate
+
+-- the load is that of the server
+abbrev pub IsSeen : List ServerLoad → Candidate → Type 0
+IsSeen servers candidate = slice_get servers candidate.number ≡ Some candidate.server
+
+abbrev pub lighter_of : Option Candidate → Candidate → Candidate
+lighter_of None candidate = candidate
+lighter_of (Some other) candidate = if carries_less other.server candidate.server then other else candidate

@@ -30,3 +30,7 @@ first_after (Some last) count = min (last + 1) count
 -- the numbers below count in the order in which they come after last, going round
 abbrev pub going_round : Option ℕ → ℕ → List ℕ
 going_round last count = range_with_len (first_after last count) (count - first_after last count) ++ range_with_len 0 (first_after last count)
+
+-- whether a server has room, by a list of answers
+abbrev pub room_in : List Bool → ℕ → Bool
+room_in rooms n = option_map_or (λ room. room) (slice_get rooms n) false

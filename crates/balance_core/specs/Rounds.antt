@@ -1,12 +1,11 @@
--- Round robin.
-use Rattle.std.specs.Prelude.{ℕ, Bool, false, List, [], ◌∷◌, ◌++◌, length, map, find, slice_get, slice_index, Option, option_map, ◌+◌, ◌*◌, ◌==◌, ◌&&◌, ◌||◌, nat_lt}
+-- Round robin: the turns of the servers, and their order.
+use Rattle.std.specs.Prelude.{ℕ, Bool, true, List, [], ◌∷◌, ◌++◌, map, filter, slice_index, Option, Some, None, ◌+◌, ◌*◌, ◌==◌, ◌&&◌, ◌||◌, nat_lt}
 use Rattle.std.specs.List.{range_with_len}
-use Rattle.std.specs.List.Sorted.{IsPermutation, IsSortedBy}
-use Rattle.std.specs.Option.{option_map_or}
+use Rattle.std.specs.Option.{option_or}
 use Rattle.balance_core.specs.declared.load.ServerLoad.{ServerLoad}
 use Rattle.proxy_types.specs.declared.balance.Place.{Place}
-use Rattle.balance_core.specs.declared.round.Placed.{Placed}
-use Rattle.balance_core.specs.Loads.{has_room_at, going_round}
+use Rattle.balance_core.specs.Loads.{has_room_at}
+use Rattle.balance_core.specs.Orders.{least}
 
 abbrev pub turn_of : ℕ → ℕ → Place
 turn_of server turn = record { server = server; turn = turn }
@@ -15,6 +14,13 @@ turn_of server turn = record { server = server; turn = turn }
 abbrev pub turns_from : ℕ → List ℕ → List Place
 turns_from server [] = []
 turns_from server (weight ∷ weights) = map (turn_of server) (range_with_len 0 weight) ++ turns_from (server + 1) weights
+
+abbrev pub weights_of : List ServerLoad → List ℕ
+weights_of servers = map (λ server. server.weight) servers
+
+-- all turns
+abbrev pub turns : List ServerLoad → List Place
+turns servers = turns_from 0 (weights_of servers)
 
 abbrev pub weight_in : List ℕ → ℕ → ℕ
 weight_in weights server = slice_index weights server
@@ -26,21 +32,21 @@ comes_before weights a b =
     let right = (2 * b.turn + 1) * weight_in weights a.server in
     nat_lt left right || ((left == right) && nat_lt a.server b.server)
 
--- each turn of each server is there once, in that order
-pub record IsRound (weights : List ℕ) (cycle : List Place) : Type 0 where
-  pub turns : IsPermutation (turns_from 0 weights) cycle
-  pub sorted : IsSortedBy (comes_before weights) cycle
+abbrev pub is_after : List ℕ → Option Place → Place → Bool
+is_after weights None turn = true
+is_after weights (Some last) turn = comes_before weights last turn
 
-abbrev pub server_at : List Place → ℕ → ℕ
-server_at cycle n = option_map_or (λ place. place.server) (slice_get cycle n) 0
+-- of some turns, the first after the one last used, going round
+abbrev pub next_of : List ℕ → Option Place → List Place → Option Place
+next_of weights last some = option_or (least (comes_before weights) (filter (is_after weights last) some)) (least (comes_before weights) some)
 
-abbrev pub placed_at : List Place → ℕ → Placed
-placed_at cycle n = record { place = n; server = server_at cycle n }
+abbrev pub can_take : List ServerLoad → Place → Bool
+can_take servers turn = has_room_at servers turn.server
 
-abbrev pub can_take : List ServerLoad → List Place → ℕ → Bool
-can_take servers cycle n = option_map_or (λ place. has_room_at servers place.server) (slice_get cycle n) false
+-- the first turn after the one last used, going round, whose server has room
+abbrev pub next_turn : List ServerLoad → Option Place → Option Place
+next_turn servers last = next_of (weights_of servers) last (filter (can_take servers) (turns servers))
 
--- the first place after the last one used, going round, whose server has room
-abbrev pub next_in_round : List ServerLoad → List Place → Option ℕ → Option Placed
-next_in_round servers cycle last =
-    option_map (placed_at cycle) (find (can_take servers cycle) (going_round last (length cycle)))
+-- the turn that was used where that server was offered
+abbrev pub used_turn : List ℕ → Option Place → ℕ → Option Place
+used_turn weights last server = next_of weights last (filter (λ turn. turn.server == server) (turns_from 0 weights))

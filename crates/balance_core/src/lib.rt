@@ -3,12 +3,13 @@
 
 pub use cycle::Cycle;
 pub use least::pick_least;
-pub use load::{Load, ServerLoad};
+pub use load::{Load, MAX_SERVERS, ServerLoad};
 pub use proxy_types::{Method, Place};
 pub use round::{Placed, pick_round};
 pub use source::pick_source;
 
 mod cycle;
+pub mod laws;
 mod least;
 mod load;
 mod round;

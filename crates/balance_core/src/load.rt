@@ -1,7 +1,13 @@
 //! What a pick looks at.
-ghost use Rattle.std.specs.Prelude.{◌≡◌, List, length, slice_get};
+ghost use Rattle.std.specs.Prelude.{◌≡◌, ◌≤◌, ℕ, List, length, slice_get};
 ghost use Rattle.balance_core.specs.declared.load.ServerLoad.{ServerLoad};
-ghost use Rattle.balance_core.specs.Loads.{weight_at, connections_at, has_room_at, is_ready_at};
+ghost use Rattle.balance_core.specs.Loads.{weight_at, has_room_at};
+ghost use Rattle.balance_core.specs.declared.load.TheConstants.{MAX_SERVERS};
+
+use std::marker::Model;
+
+/// A backend has at most so many servers.
+pub const MAX_SERVERS: u16 = 64;
 
 /// What a pick looks at of a server.
 #[derive(Clone, Copy, Debug, PartialEq, Eq)]
@@ -20,7 +26,8 @@ pub trait Load {
 
     /// How many servers there are.
     fn count(&self) -> u16
-        ensures { result ≡ length (servers self.now) };
+        ensures value { result ≡ length (servers self.now) }
+        ensures few { result ≤ MAX_SERVERS };
 
     /// The server of that number.
     fn server(&self, number: u16) -> Option<ServerLoad>
@@ -37,16 +44,6 @@ pub fn weight_of<L: Load>(load: &L, number: u16) -> u16
     }
 }
 
-/// The open connections of a server.
-pub fn connections_of<L: Load>(load: &L, number: u16) -> u64
-    ensures { result ≡ connections_at (L.servers load.now) number }
-{
-    match load.server(number) {
-        Some(server) => server.connections,
-        None => 0,
-    }
-}
-
 /// Whether there is such a server, and it has room.
 pub fn has_room<L: Load>(load: &L, number: u16) -> bool
     ensures { result ≡ has_room_at (L.servers load.now) number }
@@ -57,9 +54,49 @@ pub fn has_room<L: Load>(load: &L, number: u16) -> bool
     }
 }
 
-/// Whether the server is usable and has room.
-pub fn is_ready<L: Load>(load: &L, number: u16) -> bool
-    ensures { result ≡ is_ready_at (L.servers load.now) number }
-{
-    weight_of(load, number) > 0 && has_room(load, number)
+/// Which servers have room, by their numbers.
+#[derive(Drop)]
+pub struct Rooms {
+    rooms: [bool; 64],
+}
+
+impl Model for Rooms {
+    ghost use Rattle.std.specs.Prelude.{List, Bool};
+
+    ghost Value = { List Bool };
+
+    ghost view = { λ r. r.rooms };
+}
+
+impl Rooms {
+    ghost use Rattle.std.specs.List.{list_any};
+    ghost use Rattle.balance_core.specs.Loads.{room_in};
+
+    /// Asks each server once.
+    pub fn of<L: Load>(load: &L) -> Rooms
+        ensures { (number : ℕ) → room_in result number ≡ has_room_at (L.servers load.now) number }
+    {
+        let mut rooms = [false; 64];
+        for number in 0..load.count() {
+            rooms[usize::from(number)] = has_room(load, number);
+        }
+        Rooms { rooms }
+    }
+
+    /// Whether some server has room.
+    pub fn any(&self) -> bool
+        ensures { result ≡ list_any (λ room. room) self.now }
+    {
+        self.rooms.iter().any(|room| *room)
+    }
+
+    /// Whether the server has room.
+    pub fn has(&self, number: u16) -> bool
+        ensures { result ≡ room_in self.now number }
+    {
+        match self.rooms.get(usize::from(number)) {
+            Some(has_room) => *has_room,
+            None => false,
+        }
+    }
 }

@@ -1,11 +1,12 @@
 //! Round robin.
-ghost use Rattle.std.specs.Prelude.{◌≡◌, ◌-◌, ◌≤◌, length, find, option_map};
+ghost use Rattle.std.specs.Prelude.{◌≡◌, ◌-◌, ◌≤◌, length, find, option_map, option_and_then, slice_get, Some, IfSome};
 ghost use Rattle.std.specs.List.{range_with_len};
-ghost use Rattle.balance_core.specs.Loads.{first_after};
-ghost use Rattle.balance_core.specs.Rounds.{placed_at, can_take, next_in_round};
+ghost use Rattle.balance_core.specs.Loads.{first_after, has_room_at, room_in};
+ghost use Rattle.balance_core.specs.Rounds.{weights_of, next_turn};
+ghost use Rattle.balance_core.specs.Cycles.{IsRound, turn_at, placed_at, passes_at, next_place};
 
 use crate::cycle::Cycle;
-use crate::load::{Load, has_room};
+use crate::load::{Load, Rooms};
 use proxy_types::Place;
 
 /// A place of the cycle, counted from 0, and its server.
@@ -15,15 +16,32 @@ pub struct Placed {
     pub server: u16,
 }
 
-/// The first place after the last one used, going round, whose server has room.
+/// The first place after the last one used, going round, whose server has room. Its turn is the next one
+/// of the servers, where the cycle is of their weights.
 pub fn pick_round<L: Load>(cycle: &Cycle, last: Option<usize>, load: &L) -> Option<Placed>
-    ensures { result ≡ next_in_round (L.servers load.now) cycle.now last }
+    ensures turn { IsRound (weights_of (L.servers load.now)) cycle.now → turn_at cycle.now (option_map (λ placed. placed.place) result) ≡ next_turn (L.servers load.now) (turn_at cycle.now last) }
+    ensures server { IfSome result (λ placed. option_map (λ turn. turn.server) (slice_get cycle.now placed.place) ≡ Some placed.server) }
 {
-    let places = cycle.places();
+    place_after(cycle, last, load)
+}
+
+fn place_after<L: Load>(cycle: &Cycle, last: Option<usize>, load: &L) -> Option<Placed>
+    ensures { result ≡ next_place (has_room_at (L.servers load.now)) cycle.now last }
+{
+    let rooms = Rooms::of(load);
+    place_with_room(cycle.places(), last, &rooms)
+}
+
+fn place_with_room(places: &[Place], last: Option<usize>, rooms: &Rooms) -> Option<Placed>
+    ensures { result ≡ next_place (room_in rooms.now) places.now last }
+{
+    if !rooms.any() {
+        return None;
+    }
     let begin = begin_after(last, places.len());
-    match first_with_room(places, begin, places.len(), load) {
+    match first_with_room(places, begin, places.len(), rooms) {
         Some(placed) => Some(placed),
-        None => first_with_room(places, 0, begin, load),
+        None => first_with_room(places, 0, begin, rooms),
     }
 }
 
@@ -38,13 +56,13 @@ fn begin_after(last: Option<usize>, count: usize) -> usize
 }
 
 /// The first place from `begin` up to `end` whose server has room.
-fn first_with_room<L: Load>(places: &[Place], begin: usize, end: usize, load: &L) -> Option<Placed>
+fn first_with_room(places: &[Place], begin: usize, end: usize, rooms: &Rooms) -> Option<Placed>
     requires { end ≤ length places.now }
-    ensures { result ≡ option_map (placed_at places.now) (find (can_take (L.servers load.now) places.now) (range_with_len begin (end - begin))) }
+    ensures { result ≡ option_map (placed_at places.now) (find (passes_at (room_in rooms.now) places.now) (range_with_len begin (end - begin))) }
 {
     for n in begin..end {
         let server = places[n].server;
-        if has_room(load, server) {
+        if rooms.has(server) {
             return Some(Placed { place: n, server });
         }
     }

@@ -46,10 +46,13 @@ fn last_word(number: u128) -> u32
 fn server_at<L: Load>(number: u64, load: &L) -> Option<u16>
     ensures { result ≡ share_of (L.servers load.now) number }
 {
+    let mut rest = number;
     for server in 0..load.count() {
-        if number < weight_up_to(load, server + 1) {
+        let weight = u64::from(weight_of(load, server));
+        if rest < weight {
             return Some(server);
         }
+        rest -= weight;
     }
     None
 }

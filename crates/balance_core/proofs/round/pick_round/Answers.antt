@@ -1,24 +1,15 @@
-use Rattle.std.proofs.Common.{◌-◌, ℕ, Bool, length, ◌∙◌}
-use Rattle.std.specs.List.{range_with_len}
-use Rattle.std.proofs.Math.Nat.{sub-zero}
-use Rattle.balance_core.specs.Loads.{first_after}
-use Rattle.balance_core.specs.Rounds.{can_take, placed_at}
-use Rattle.balance_core.proofs.RangeLemmas.{found_first, found_then}
+use Rattle.std.proofs.Common.{ap, ◌∙◌}
+use Rattle.std.specs.Prelude.{option_map}
+use Rattle.balance_core.specs.Loads.{has_room_at}
+use Rattle.balance_core.specs.Cycles.{turn_at}
+use Rattle.balance_core.proofs.RoundLemmas.{next_is, place_has_server}
 use Rattle.balance_core.proofs.round.pick_round.Goals as goal
 
-pub returns-in-Some : goal.returns-in-Some
-returns-in-Some g c =
-    let cycle = c.args.cycle.now in
-    let test : ℕ → Bool = can_take (g.L.Load.servers c.args.load.now) cycle in
-    let begin = first_after c.args.last (length cycle) in
-    found_first (placed_at cycle) test (range_with_len begin (length cycle - begin)) (range_with_len 0 begin) c.in-Some.placed
-    (rw (c.begin_after-begin.ensures, c.places-places.ensures) at c.in-Some.ensures)
+pub returns-clause-turn : goal.returns-clause-turn
+returns-clause-turn g c = λ round.
+    ap (λ o. turn_at c.args.cycle.now (option_map (λ placed. placed.place) o)) c.place_after.ensures
+    ∙ next_is (g.L.Load.servers c.args.load.now) c.args.cycle.now c.args.last round
 
-pub returns-in-None : goal.returns-in-None
-returns-in-None g c =
-    let cycle = c.args.cycle.now in
-    let test : ℕ → Bool = can_take (g.L.Load.servers c.args.load.now) cycle in
-    let begin = first_after c.args.last (length cycle) in
-    rw (c.begin_after-begin.ensures, c.places-places.ensures, sub-zero begin) at c.first_with_room-in-None.ensures
-    ∙ found_then (placed_at cycle) test (range_with_len begin (length cycle - begin)) (range_with_len 0 begin)
-    (rw (c.begin_after-begin.ensures, c.places-places.ensures) at c.in-None.ensures)
+pub returns-clause-server : goal.returns-clause-server
+returns-clause-server g c =
+    rw c.place_after.ensures (place_has_server (has_room_at (g.L.Load.servers c.args.load.now)) c.args.cycle.now c.args.last)
