@@ -10,6 +10,7 @@ use Rattle.std.proofs.lemmas.List.Elements.{filter-append}
 use Rattle.balance_core.specs.declared.load.ServerLoad.{ServerLoad}
 use Rattle.balance_core.specs.Loads.{weight_at, connections_at, is_ready_at, first_after, going_round}
 use Rattle.balance_core.specs.Orders.{lesser, least}
+use Rattle.balance_core.proofs.OrderLemmas.{all_map, not_itself}
 use Rattle.balance_core.specs.Least.{is_lighter, lightest, IsLightest}
 
 -- among the items that pass, where no item that passes comes before one that another does not come before
@@ -56,10 +57,6 @@ lighter_not servers a b e = less_back (connections_at servers a * weight_at serv
     less_back : (m n : ℕ) → nat_lt m n ≡ true → nat_lt n m ≡ false
     less_back m n e = grind (arith, nat_tests)
 
-all_map : {X : Type 0} {P Q : X → Type 0} → ((x : X) → P x → Q x) → (xs : List X) → AllByRecursion P xs → AllByRecursion Q xs
-all_map f [] all = tt
-all_map f (x ∷ xs) all = (f x all.0, all_map f xs all.1)
-
 none_is : {X : Type 0} (before : X → X → Bool) (ready : X → Bool) (xs : List X) → least before (filter ready xs) ≡ None → AllByRecursion (λ m. ready m ≡ false) xs
 none_is before ready [] e = tt
 none_is {X} before ready (x ∷ xs) e = by (ready x) refl e (none_is before ready xs)
@@ -72,13 +69,6 @@ none_is {X} before ready (x ∷ xs) e = by (ready x) refl e (none_is before read
         → AllByRecursion (λ m. ready m ≡ false) (x ∷ xs)
     by true is e more = absurd (never (least before (filter ready xs)) (rw is at e))
     by false is e more = (is, more (rw is at e))
-
-not_itself : {X : Type 0} (before : X → X → Bool) → ((a b : X) → before a b ≡ true → before b a ≡ false) → (x : X) → before x x ≡ false
-not_itself {X} before back x = by (before x x) refl
-  where
-    by : (b : Bool) → before x x ≡ b → before x x ≡ false
-    by false is = is
-    by true is = back x x is
 
 chosen : {X : Type 0} (before : X → X → Bool) (ready : X → Bool) → Goes before ready → ((a b : X) → before a b ≡ true → before b a ≡ false) → (x : X) (xs : List X) (y : X) (t : Bool)
     → before y x ≡ t → ready x ≡ true → IsLeast before ready xs y → IsLeast before ready (x ∷ xs) (if t then y else x)

@@ -8,7 +8,7 @@ use Rattle.balance_core.specs.Orders.{lesser, least, IsInOrder}
 abbrev pub IsOneWay : {X : Type 0} → (X → X → Bool) → Type 0
 IsOneWay {X} before = (a b : X) → before a b ≡ true → before b a ≡ false
 
-not_itself : {X : Type 0} (before : X → X → Bool) → IsOneWay before → (x : X) → before x x ≡ false
+pub not_itself : {X : Type 0} (before : X → X → Bool) → IsOneWay before → (x : X) → before x x ≡ false
 not_itself {X} before back x = by (before x x) refl
   where
     by : (b : Bool) → before x x ≡ b → before x x ≡ false

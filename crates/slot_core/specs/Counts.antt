@@ -1,9 +1,10 @@
 -- Counts of open connections, in the order in which their identities were added.
-use Rattle.std.specs.Prelude.{ℕ, Bool, List, [], ◌∷◌, ◌++◌, slice_get, slice_set, Option, option_map, if◌then◌else◌}
+use Rattle.std.specs.Prelude.{◌≡◌, ℕ, Bool, false, ◌==◌, List, [], ◌∷◌, ◌++◌, slice_get, slice_set, Option, option_map, if◌then◌else◌}
 use Rattle.std.specs.Option.{is_some, option_map_or}
-use Rattle.std.specs.List.{position}
+use Rattle.std.specs.List.{position, AllByRecursion}
 use Rattle.proxy_types.specs.declared.server.ServerIdentity.{ServerIdentity}
 use Rattle.slot_core.specs.declared.slots.Count.{Count}
+use Rattle.slot_core.specs.declared.slots.SlotIx.{SlotIx}
 use Rattle.proxy_types.specs.ServerIdentity.{same_server}
 
 abbrev pub is_of : ServerIdentity → Count → Bool
@@ -16,9 +17,12 @@ place_of identity counts = position (is_of identity) counts
 abbrev pub with_identity : ServerIdentity → List Count → List Count
 with_identity identity counts = if is_some (place_of identity counts) then counts else counts ++ record { identity = identity; connections = 0 } ∷ []
 
--- the open connections of the count at a place
-abbrev pub open_at : ℕ → List Count → Option ℕ
-open_at place counts = option_map (λ count. count.connections) (slice_get counts place)
+-- the open connections of the count at a place, 0 where there is none
+abbrev pub open_at : ℕ → List Count → ℕ
+open_at place counts = option_map_or (λ count. count.connections) (slice_get counts place) 0
+
+abbrev pub identity_at : ℕ → List Count → Option ServerIdentity
+identity_at place counts = option_map (λ count. count.identity) (slice_get counts place)
 
 abbrev pub changed : (ℕ → ℕ) → Count → Count
 changed change count = record count { connections = change count.connections }
@@ -26,3 +30,12 @@ changed change count = record count { connections = change count.connections }
 -- one count changed, and no other
 abbrev pub with_open : (ℕ → ℕ) → ℕ → List Count → List Count
 with_open change place counts = option_map_or (λ count. slice_set counts place (changed change count)) (slice_get counts place) counts
+
+-- by how much one slot raises the count at a place
+abbrev pub slots_at : ℕ → SlotIx → ℕ
+slots_at place slot = if slot.place == place then 1 else 0
+
+-- no two counts are of one server
+abbrev pub IdentitiesDiffer : List Count → Type 0
+IdentitiesDiffer [] = Unit {0}
+IdentitiesDiffer (count ∷ counts) = AllByRecursion (λ other. same_server count.identity other.identity ≡ false) counts × IdentitiesDiffer counts

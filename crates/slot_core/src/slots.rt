@@ -1,7 +1,7 @@
 //! Counts of open connections.
-ghost use Rattle.std.specs.Prelude.{◌≡◌, ◌↔◌, IsTrue, ◌+◌, ◌-◌, ◌<◌, ◌^◌, [], length, Some, IfSome, IfOk, OnOk, OnErr};
+ghost use Rattle.std.specs.Prelude.{◌≡◌, ◌↔◌, IsTrue, ◌+◌, ◌-◌, ◌<◌, ◌^◌, ℕ, [], length, Some, IfOk, OnOk, OnErr};
 ghost use Rattle.std.specs.List.{position};
-ghost use Rattle.slot_core.specs.Counts.{is_of, place_of, with_identity, open_at, with_open};
+ghost use Rattle.slot_core.specs.Counts.{is_of, place_of, with_identity, identity_at, open_at, with_open, slots_at, IdentitiesDiffer};
 
 use list_core::Duplicate;
 use proxy_types::ServerIdentity;
@@ -53,10 +53,13 @@ pub struct Slots {
 impl Model for Slots {
     ghost use Rattle.std.specs.Prelude.{List};
     ghost use Rattle.slot_core.specs.declared.slots.Count.{Count};
+    ghost use Rattle.slot_core.specs.Counts.{IdentitiesDiffer};
 
     ghost Value = { List Count };
 
     ghost view = { λ s. s.counts.items };
+
+    ghost invariant = { λ s. IdentitiesDiffer s.counts.items };
 }
 
 impl Slots {
@@ -70,9 +73,10 @@ impl Slots {
         }
     }
 
-    /// How many identities were added.
+    /// How many identities were added. No two of them are one.
     pub fn len(&self) -> usize
-        ensures { result ≡ length self.now }
+        ensures value { result ≡ length self.now }
+        ensures apart { IdentitiesDiffer self.now }
     {
         self.counts.len()
     }
@@ -88,6 +92,8 @@ impl Slots {
     pub fn add(&mut self, identity: &ServerIdentity) -> Result<SlotIx, AllocError>
         ensures ix { IfOk result (λ ix. Some ix.place ≡ place_of identity.now self.new) }
         ensures counts { OnOk result (self.new ≡ with_identity identity.now self.old) }
+        ensures open { (place : ℕ) → open_at place self.new ≡ open_at place self.old }
+        ensures kept { (place : ℕ) → place < length self.old → identity_at place self.new ≡ identity_at place self.old }
         ensures err { OnErr result (self.new ≡ self.old) }
     {
         if let Some(place) = find(self.counts.as_slice(), identity) {
@@ -101,10 +107,18 @@ impl Slots {
         Ok(SlotIx { place })
     }
 
+    /// Which server is counted there.
+    pub fn identity(&self, ix: SlotIx) -> &ServerIdentity
+        requires { ix.place < length self.now }
+        ensures { Some result.now ≡ identity_at ix.place self.now }
+    {
+        &self.counts[ix.place].identity
+    }
+
     /// How many connections are open.
     pub fn count(&self, ix: SlotIx) -> u64
         requires { ix.place < length self.now }
-        ensures { Some result ≡ open_at ix.place self.now }
+        ensures { result ≡ open_at ix.place self.now }
     {
         self.counts[ix.place].connections
     }
@@ -112,9 +126,12 @@ impl Slots {
     /// Counts one more open connection, without taking memory.
     pub fn take(&mut self, ix: SlotIx) -> Slot
         requires there { ix.place < length self.old }
-        requires below { IfSome (open_at ix.place self.old) (λ n. n < 2 ^ 64 - 1) }
+        requires below { open_at ix.place self.old < 2 ^ 64 - 1 }
         ensures slot { result ≡ ix }
         ensures counts { self.new ≡ with_open (λ n. n + 1) ix.place self.old }
+
+        // Each count is one higher for each slot of it.
+        ensures open { (place : ℕ) → open_at place self.new ≡ open_at place self.old + slots_at place result }
     {
         self.counts[ix.place].connections += 1;
         Slot { ix }
@@ -122,9 +139,9 @@ impl Slots {
 
     /// Counts one open connection less, without taking memory.
     pub fn give_back(&mut self, slot: Slot)
-        requires there { slot.place < length self.old }
-        requires counted { IfSome (open_at slot.place self.old) (λ n. 0 < n) }
-        ensures { self.new ≡ with_open (λ n. n - 1) slot.place self.old }
+        requires { 0 < open_at slot.place self.old }
+        ensures counts { self.new ≡ with_open (λ n. n - 1) slot.place self.old }
+        ensures open { (place : ℕ) → open_at place self.new + slots_at place slot ≡ open_at place self.old }
     {
         let Slot { ix } = slot;
         self.counts[ix.place].connections -= 1;

@@ -7,9 +7,9 @@ use Rattle.addr_core.specs.declared.addr.Addr.{Addr}
 use Rattle.stick_core.specs.declared.entries.Entry.{Entry}
 use Rattle.stick_core.specs.Key.{same_key, key_in}
 use Rattle.stick_core.specs.Entries.{is_of, is_free, is_listed, others, once_more, once_less, tracked, released, added, without_first_free, cur_of, cnt_of, HasKeysOnce}
-use Rattle.stick_core.specs.Listing.{Listing, IsSound, can_list, entries_with, key_taken, entries_after}
+use Rattle.stick_core.specs.Listing.{Listing, IsSound, can_list, entries_with, key_taken, entries_after, cur_at, cnt_at}
 use Rattle.stick_core.specs.PlainEntries as plains
-use Rattle.stick_core.specs.PlainEntries.{has_key, is_in, count_in, is_idle, can_track, tracked_key, without_first, counted, with_tracking, with_trackings, KeysDiffer, plain_entry, plain, AreTrackers, trackings_of}
+use Rattle.stick_core.specs.PlainEntries.{has_key, is_in, count_in, count_at, trackers_at, is_idle, can_track, tracked_key, without_first, counted, with_tracking, with_trackings, KeysDiffer, plain_entry, plain, AreTrackers, trackings_of}
 use Rattle.stick_core.proofs.KeyLemmas.{same_key-is, same_key-refl, same_key-sym}
 use Rattle.stick_core.proofs.TouchLemmas.{find-passes, find-gone, gone-here, gone-past, cur_of-released, cur_of-released-other}
 use Rattle.stick_core.proofs.TrackLemmas.{own_after, others_after}
@@ -31,6 +31,21 @@ count_is key (e ∷ es) = by (is_of key e) refl (count_is key es)
     by : (b : Bool) → is_of key e ≡ b → cnt_of key es ≡ count_in key (plain es) → cnt_of key (e ∷ es) ≡ count_in key (plain (e ∷ es))
     by true is more = rw is refl
     by false is more = rw is more
+
+-- both counts of an address
+pub count_at_is : (table : Listing) (addr : Addr) → cnt_at table addr ≡ count_at table.kind (plain table.entries) addr
+count_at_is table addr = by (key_in table.kind addr)
+  where
+    by : (o : Option Addr) → option_map_or (λ key. cnt_of key table.entries) o 0 ≡ option_map_or (λ key. count_in key (plain table.entries)) o 0
+    by None = refl
+    by (Some key) = count_is key table.entries
+
+pub trackers_at_is : (trackers : Addr → ℕ) (table : Listing) (addr : Addr) → AreTrackers trackers table.entries → cur_at table addr ≡ trackers_at trackers table.kind addr
+trackers_at_is trackers table addr agree = by (key_in table.kind addr)
+  where
+    by : (o : Option Addr) → option_map_or (λ key. cur_of key table.entries) o 0 ≡ option_map_or trackers o 0
+    by None = refl
+    by (Some key) = agree key
 
 -- each entry has the trackers of its key
 abbrev pub HaveTrackers : (Addr → ℕ) → List Entry → Type 0

@@ -22,6 +22,14 @@ is_in key entries = list_any (has_key key) entries
 abbrev pub count_in : Addr → List TableEntry → ℕ
 count_in key entries = option_map_or (λ entry. entry.cnt) (find (has_key key) entries) 0
 
+-- and an address: what is no key never was
+abbrev pub count_at : KeyType → List TableEntry → Addr → ℕ
+count_at kind entries addr = option_map_or (λ key. count_in key entries) (key_in kind addr) 0
+
+-- how many track an address
+abbrev pub trackers_at : (Addr → ℕ) → KeyType → Addr → ℕ
+trackers_at trackers kind addr = option_map_or trackers (key_in kind addr) 0
+
 -- nobody tracks the key
 abbrev pub is_idle : (Addr → ℕ) → TableEntry → Bool
 is_idle trackers entry = trackers entry.key == 0

@@ -8,5 +8,4 @@ pub use table::{Table, Tracked};
 
 mod entries;
 mod key;
-pub mod laws;
 mod table;

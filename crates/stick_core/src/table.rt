@@ -3,7 +3,7 @@ ghost use Rattle.std.specs.Prelude.{◌≡◌, ◌+◌, ◌<◌, ◌≤◌, ◌^
 ghost use Rattle.addr_core.specs.declared.addr.Addr.{Addr};
 ghost use Rattle.stick_core.specs.Entries.{cur_of, released};
 ghost use Rattle.stick_core.specs.Listing.{IsSound, can_list, key_taken, entries_after, cur_at, cnt_at};
-ghost use Rattle.stick_core.specs.PlainEntries.{plain, AreTrackers, KeysDiffer, tracked_key, with_trackings, touched, trackings_of};
+ghost use Rattle.stick_core.specs.PlainEntries.{plain, AreTrackers, count_at, trackers_at, KeysDiffer, tracked_key, with_trackings, touched, trackings_of};
 
 use crate::entries::{
     Entry, TableEntry, cnt_in, cur_in, entry_of, has_free, listed, purge, put_last,
@@ -96,6 +96,13 @@ impl Table {
 
     /// How many counters of open connections track the address. What is no key is tracked by none.
     pub fn cur(&self, addr: &Addr) -> u64
+        ensures value { result ≡ cur_at self.now addr.now }
+        ensures plain_value { (trackers : Addr → ℕ) → AreTrackers trackers self.now.entries → result ≡ trackers_at trackers self.now.kind addr.now }
+    {
+        self.count_trackers(addr)
+    }
+
+    fn count_trackers(&self, addr: &Addr) -> u64
         ensures { result ≡ cur_at self.now addr.now }
     {
         match key_of(self.kind, addr) {
@@ -106,6 +113,13 @@ impl Table {
 
     /// How often the address was tracked, 2^64 - 1 for more. What is no key never was.
     pub fn cnt(&self, addr: &Addr) -> u64
+        ensures value { result ≡ cnt_at self.now addr.now }
+        ensures plain_value { result ≡ count_at self.now.kind (plain self.now.entries) addr.now }
+    {
+        self.count_trackings(addr)
+    }
+
+    fn count_trackings(&self, addr: &Addr) -> u64
         ensures { result ≡ cnt_at self.now addr.now }
     {
         match key_of(self.kind, addr) {

@@ -52,6 +52,8 @@ fn counts_of_servers(rt: HostRuntime) -> Result<(), Fail> {
     assert_eq!(rt; slots.add(&server(alloc, b'c', b's', 80)?)?, by_backend);
     assert_eq!(rt; slots.len(), 4);
     let (a, b) = (first, by_port);
+    assert!(rt; b.place < slots.len());
+    assert_eq!(rt; slots.identity(b).to.port, 81);
     let one = take(&rt, &mut slots, a);
     let another = take(&rt, &mut slots, a);
     let other = take(&rt, &mut slots, b);
