@@ -1,2 +1,3 @@
 pub mod LongLemmas
+pub mod DigitLemmas
 pub mod EventLemmas

@@ -50,6 +50,10 @@ track_text track =
     codes " sc" ++ decimal track.counter ++ codes "=" ++ decimal track.table.version ++ codes "." ++ decimal track.table.position
     ++ codes "/" ++ text_of track.key
 
+-- a reply, without the end of its line
+abbrev pub reply_text : Reply → List ℕ
+reply_text reply = said_text reply.said ++ flat_map track_text reply.tracks.items
+
 -- the line that a reply is
 abbrev pub reply_line : Reply → List ℕ
 reply_line reply = said_text reply.said ++ flat_map track_text reply.tracks.items ++ codes "\n"

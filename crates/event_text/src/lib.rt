@@ -2,8 +2,13 @@
 //! written.
 #![tactic(auto)]
 
-pub use replies::{write_counts, write_fault, write_reply};
-pub use script::{EventRequest, Request, read_request};
+pub use events::write_event;
+pub use replies::{
+    write_cause, write_counts, write_endpoint, write_fault, write_id, write_reply,
+    write_reply_text, write_why,
+};
+pub use script::{EventRequest, Request, read_event, read_request};
 
+mod events;
 mod replies;
 mod script;

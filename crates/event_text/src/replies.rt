@@ -6,7 +6,7 @@ ghost use Rattle.text_core.specs.Decimal.{decimal};
 ghost use Rattle.addr_core.specs.declared.addr.Addr.TheVariants.{V4};
 ghost use Rattle.addr_core.specs.Text.{endpoint_text, host_text, text_of};
 ghost use Rattle.event_text.specs.Script.{bytes_text, id_text, why_text};
-ghost use Rattle.event_text.specs.Replies.{cause_text, count_line, fault_line, fault_name, header_fault_text, reply_line, said_text, track_text};
+ghost use Rattle.event_text.specs.Replies.{cause_text, count_line, fault_line, fault_name, header_fault_text, reply_line, reply_text, said_text, track_text};
 
 use addr_core::{Addr, Endpoint, Pair};
 use conn_model::ask::{Ask, Counts};
@@ -17,7 +17,7 @@ use pp_any::HeaderFault;
 use std::alloc::AllocError;
 use text_core::decimal::append_decimal;
 
-fn write_text(out: &mut Vec<u8>, text: &[u8]) -> Result<(), AllocError>
+pub fn write_text(out: &mut Vec<u8>, text: &[u8]) -> Result<(), AllocError>
     ensures { OnOk result (out.new.items ≡ out.old.items ++ text.now) }
 {
     out.extend_from_slice(text)
@@ -58,7 +58,7 @@ fn write_host(out: &mut Vec<u8>, addr: &Addr) -> Result<(), AllocError>
     }
 }
 
-fn write_endpoint(out: &mut Vec<u8>, endpoint: &Endpoint) -> Result<(), AllocError>
+pub fn write_endpoint(out: &mut Vec<u8>, endpoint: &Endpoint) -> Result<(), AllocError>
     ensures { OnOk result (out.new.items ≡ out.old.items ++ endpoint_text endpoint.now) }
 {
     write_host(out, &endpoint.addr)?;
@@ -66,7 +66,7 @@ fn write_endpoint(out: &mut Vec<u8>, endpoint: &Endpoint) -> Result<(), AllocErr
     append_decimal(out, u64::from(endpoint.port))
 }
 
-fn write_id(out: &mut Vec<u8>, id: &ConnId) -> Result<(), AllocError>
+pub fn write_id(out: &mut Vec<u8>, id: &ConnId) -> Result<(), AllocError>
     ensures { OnOk result (out.new.items ≡ out.old.items ++ id_text id.now) }
 {
     append_decimal(out, u64::from(id.frontend))?;
@@ -74,7 +74,7 @@ fn write_id(out: &mut Vec<u8>, id: &ConnId) -> Result<(), AllocError>
     append_decimal(out, id.serial)
 }
 
-fn write_why(out: &mut Vec<u8>, why: &Why) -> Result<(), AllocError>
+pub fn write_why(out: &mut Vec<u8>, why: &Why) -> Result<(), AllocError>
     ensures { OnOk result (out.new.items ≡ out.old.items ++ why_text why.now) }
 {
     match *why {
@@ -106,7 +106,7 @@ fn write_bytes(out: &mut Vec<u8>, bytes: &[u8]) -> Result<(), AllocError>
 }
 
 /// A word and a number after it.
-fn write_field(out: &mut Vec<u8>, name: &[u8], number: u64) -> Result<(), AllocError>
+pub fn write_field(out: &mut Vec<u8>, name: &[u8], number: u64) -> Result<(), AllocError>
     ensures { OnOk result (out.new.items ≡ out.old.items ++ (name.now ++ decimal number)) }
 {
     write_text(out, name)?;
@@ -114,7 +114,7 @@ fn write_field(out: &mut Vec<u8>, name: &[u8], number: u64) -> Result<(), AllocE
 }
 
 /// A word and an endpoint after it.
-fn write_place(out: &mut Vec<u8>, name: &[u8], endpoint: &Endpoint) -> Result<(), AllocError>
+pub fn write_place(out: &mut Vec<u8>, name: &[u8], endpoint: &Endpoint) -> Result<(), AllocError>
     ensures { OnOk result (out.new.items ≡ out.old.items ++ (name.now ++ endpoint_text endpoint.now)) }
 {
     write_text(out, name)?;
@@ -138,7 +138,7 @@ fn write_header_fault(out: &mut Vec<u8>, fault: HeaderFault) -> Result<(), Alloc
     }
 }
 
-fn write_cause(out: &mut Vec<u8>, cause: &Cause) -> Result<(), AllocError>
+pub fn write_cause(out: &mut Vec<u8>, cause: &Cause) -> Result<(), AllocError>
     ensures { OnOk result (out.new.items ≡ out.old.items ++ cause_text cause.now) }
 {
     match *cause {
@@ -225,6 +225,14 @@ fn write_tracks(out: &mut Vec<u8>, tracks: &[Track]) -> Result<(), AllocError>
         write_track(out, track)?;
     }
     Ok(())
+}
+
+/// Appends a reply, without the end of its line. Where memory runs out, the front of it may be there.
+pub fn write_reply_text(out: &mut Vec<u8>, reply: &Reply) -> Result<(), AllocError>
+    ensures { OnOk result (out.new.items ≡ out.old.items ++ reply_text reply.now) }
+{
+    write_said(out, &reply.said)?;
+    write_tracks(out, reply.tracks.as_slice())
 }
 
 /// Appends the line of a reply. Where memory runs out, the front of that line may be there.

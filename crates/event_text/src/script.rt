@@ -225,6 +225,20 @@ fn event_in(line: &[u8], buffer: &mut [u8]) -> Option<(u64, EventRequest)>
     Some((moment, event))
 }
 
+/// The event that a line hands in, with its moment in ms. The bytes of a piece are read into the front of the buffer,
+/// which has the length `PIECE_LIMIT`.
+pub fn read_event(line: &[u8], buffer: &mut [u8]) -> Option<(u64, EventRequest)>
+    requires { length buffer.old ≡ PIECE_LIMIT }
+    ensures exact { option_map (timed_event buffer.new) result ≡ event_of (words_of line.now) }
+    ensures room { length buffer.new ≡ length buffer.old }
+
+    // An event that was written is read again.
+    ensures again { (moment : ℕ) (event : OwnedEvent) → moment < 2 ^ 64 → IsHandedIn event →
+        line.now ≡ event_line moment event → option_map (timed_event buffer.new) result ≡ Some (moment, event) }
+{
+    event_in(line, buffer)
+}
+
 /// What is asked for after `ask`.
 fn read_ask(rest: &[u8]) -> Option<Ask>
     ensures { result ≡ ask_of (words_of rest.now) }

@@ -1,0 +1,76 @@
+//! Events as lines.
+ghost use Rattle.std.specs.Prelude.{◌≡◌, ◌/◌, ◌%◌, ◌++◌, ◌∷◌, [], slice_index, codes, OnOk};
+ghost use Rattle.hex.specs.Hex.{encode_lower, lower_digits};
+ghost use Rattle.event_text.specs.Script.{bytes_text, event_line};
+
+use crate::replies::{write_field, write_id, write_place, write_text, write_why};
+use conn_model::event::OwnedEvent;
+use std::alloc::AllocError;
+use text_core::decimal::append_decimal;
+
+const DIGITS: [u8; 16] = *b"0123456789abcdef";
+
+/// A byte as two digits.
+fn write_byte(out: &mut Vec<u8>, byte: u8) -> Result<(), AllocError>
+    ensures { OnOk result (out.new.items ≡ out.old.items ++ slice_index lower_digits (byte / 16) ∷ slice_index lower_digits (byte % 16) ∷ []) }
+{
+    let high = DIGITS[usize::from(byte / 16)];
+    let low = DIGITS[usize::from(byte % 16)];
+    out.extend_from_slice(&[high, low])
+}
+
+fn write_digits(out: &mut Vec<u8>, bytes: &[u8]) -> Result<(), AllocError>
+    ensures { OnOk result (out.new.items ≡ out.old.items ++ encode_lower bytes.now) }
+{
+    for byte in bytes {
+        write_byte(out, *byte)?;
+    }
+    Ok(())
+}
+
+fn write_piece(out: &mut Vec<u8>, bytes: &[u8]) -> Result<(), AllocError>
+    ensures { OnOk result (out.new.items ≡ out.old.items ++ bytes_text bytes.now) }
+{
+    if bytes.is_empty() {
+        return write_text(out, b"-");
+    }
+    write_digits(out, bytes)
+}
+
+fn write_words(out: &mut Vec<u8>, moment: u64, event: &OwnedEvent) -> Result<(), AllocError>
+    ensures { OnOk result (out.new.items ≡ out.old.items ++ event_line moment event.now) }
+{
+    append_decimal(out, moment)?;
+    match event {
+        OwnedEvent::Accept(listener, real) => {
+            write_field(out, b" accept ", u64::from(*listener))?;
+            write_place(out, b" ", &real.source())?;
+            write_place(out, b" ", &real.destination())
+        }
+        OwnedEvent::Piece(id, bytes) => {
+            write_text(out, b" piece ")?;
+            write_id(out, id)?;
+            write_text(out, b" ")?;
+            write_piece(out, bytes.as_slice())
+        }
+        OwnedEvent::Close(id, why) => {
+            write_text(out, b" close ")?;
+            write_id(out, id)?;
+            write_text(out, b" ")?;
+            write_why(out, why)
+        }
+        OwnedEvent::Expire(id) => {
+            write_text(out, b" expire ")?;
+            write_id(out, id)
+        }
+    }
+}
+
+/// Appends the line that hands in an event at a moment, in ms. Where memory runs out, the front of that line may be
+/// there.
+pub fn write_event(out: &mut Vec<u8>, moment: u64, event: &OwnedEvent) -> Result<(), AllocError>
+    ensures { OnOk result (out.new.items ≡ out.old.items ++ (event_line moment event.now ++ codes "\n")) }
+{
+    write_words(out, moment, event)?;
+    write_text(out, b"\n")
+}
