@@ -1,0 +1,30 @@
+use Rattle.std.proofs.lemmas.Result.{IfErr-weaker, IfOk-weaker}
+use Rattle.audit_core.proofs.EndLemmas.{checked_from, right_from, wrong_from}
+use Rattle.audit_core.proofs.PassLemmas.{never_wrong}
+use Rattle.audit_core.proofs.check.check_record.Goals as goal
+
+pub returns-in-Ok-clause-checked : goal.returns-in-Ok-clause-checked
+returns-in-Ok-clause-checked g c =
+    IfOk-weaker c.check_and_count-checked.result _ _
+    (λ checked is text left. checked_from c.args.config.now text checked c.in-Ok.auditor c.in-Ok.ensures.ok (is text left))
+    c.check_and_count-checked.ensures.ok
+
+pub returns-in-Ok-clause-verdict : goal.returns-in-Ok-clause-verdict
+returns-in-Ok-clause-verdict g c =
+    IfOk-weaker c.check_and_count-checked.result _ _
+    (λ checked is text left. right_from c.args.config.now text checked c.in-Ok.auditor c.in-Ok.ensures.ok (is text left))
+    c.check_and_count-checked.ensures.ok
+
+pub returns-in-Ok-clause-fault : goal.returns-in-Ok-clause-fault
+returns-in-Ok-clause-fault g c =
+    IfErr-weaker c.check_and_count-checked.result _ _
+    (λ fault is text left. wrong_from c.args.config.now text fault.kind fault.line c.in-Ok.auditor c.in-Ok.ensures.ok (is text left))
+    c.check_and_count-checked.ensures.stops
+
+pub returns-in-Ok-clause-passes : goal.returns-in-Ok-clause-passes
+returns-in-Ok-clause-passes g c =
+    IfErr-weaker c.check_and_count-checked.result _ _
+    (λ fault is text plan history left means legal is_record within.
+    never_wrong c.args.config.now text fault.kind fault.line plan history means legal is_record within
+    (wrong_from c.args.config.now text fault.kind fault.line c.in-Ok.auditor c.in-Ok.ensures.ok (is text left)))
+    c.check_and_count-checked.ensures.stops

@@ -1,0 +1,20 @@
+use Rattle.std.proofs.Common.{◌≡◌, ℕ, ◌-◌, ◌≤◌, List, Some}
+use Rattle.device_core.specs.Device.{raised_by}
+use Rattle.device_core.specs.Patience.{IsUnblocked}
+use Rattle.device_core.specs.declared.patience.TheConstants.{MOST_READS}
+use Rattle.audit_core.specs.Standing.{Reaches}
+use Rattle.audit_core.specs.declared.fault.TheConstants.{MOST_RECORD_LINES}
+use Rattle.audit_core.proofs.reading.check_lines.Given as goal
+
+abbrev pub invariant-loop-auditor : goal.invariant-loop-auditor
+invariant-loop-auditor g l = record {
+  reads : l.lines.reads ≤ MOST_READS;
+  calls : g.I.Input.calls l.reader ≡ raised_by (MOST_READS - l.lines.reads) (g.I.Input.calls l.initial.reader);
+  failures : g.I.Input.failures l.reader ≡ g.I.Input.failures l.initial.reader;
+  stalls : IsUnblocked (g.I.Input.stalls l.initial.reader) (g.I.Input.stalls l.reader);
+  reaches : (text : List ℕ) → g.I.Input.left l.initial.reader ≡ Some text →
+      Reaches l.initial.auditor text (g.I.Input.left l.reader) l.auditor l.lines.kept;
+}
+
+abbrev pub decreases-loop-auditor : goal.decreases-loop-auditor
+decreases-loop-auditor g l = MOST_RECORD_LINES - l.auditor.lines

@@ -1,0 +1,80 @@
+-- What a check of a record says: its counts, or the first faulty line.
+use Rattle.std.specs.Prelude.{◌≡◌, ◌≤◌, ℕ, ◌+◌, ◌||◌, nat_lt, nat_eq, Bool, List, [], ◌∷◌, length, Option, Some, None, Result, Ok, Err, if◌then◌else◌}
+use Rattle.std.specs.List.{AllByRecursion, starts_with}
+use Rattle.std.specs.Str.{bytes_eq}
+use Rattle.list_core.specs.Each.{◌>>=◌}
+use Rattle.text_core.specs.Parts.{parts, is_line_feed}
+use Rattle.line_reader.specs.declared.lines.TheConstants.{MOST_LINE_BYTES}
+use Rattle.plan_types.specs.declared.plan.Plan.{Plan}
+use Rattle.config_core.specs.Meaning.{meaning}
+use Rattle.conn_model.specs.declared.event.OwnedEvent.{OwnedEvent}
+use Rattle.conn_model.specs.declared.plain.Plain.{Plain}
+use Rattle.conn_model.specs.declared.reply.Reply.{Reply}
+use Rattle.conn_model.specs.declared.reply.StepFault.{StepFault}
+use Rattle.conn_model.specs.Words.{or_fault}
+use Rattle.conn_model.specs.History.{Entry, after, answer, entry, opening, IsLegal}
+use Rattle.event_text.specs.Script.{words_of}
+use Rattle.audit_core.specs.Record.{numbered_event, open_connections, recorded_reply, reply_mark, IsRecord}
+use Rattle.audit_core.specs.declared.fault.TheConstants.{MOST_RECORD_LINES}
+use Rattle.audit_core.specs.declared.fault.Checked.{Checked}
+use Rattle.audit_core.specs.declared.fault.CheckFault.{CheckFault}
+use Rattle.audit_core.specs.declared.fault.CheckKind.{CheckKind}
+use Rattle.audit_core.specs.declared.fault.CheckKind.TheVariants.{Format, WrongReply, TooLong}
+
+abbrev pub fault_at : ℕ → CheckKind → CheckFault
+fault_at line kind = record { line = line; kind = kind }
+
+-- the line is longer than any that is read, or it is one too many
+abbrev pub is_too_long : ℕ → List ℕ → Bool
+is_too_long at line = nat_lt MOST_LINE_BYTES (length line) || nat_lt MOST_RECORD_LINES at
+
+-- the event of a line, under the number of its entry
+abbrev pub event_at : ℕ → ℕ → List ℕ → Result (ℕ × OwnedEvent) CheckFault
+event_at at number line =
+    if is_too_long at line then Err (fault_at at TooLong) else or_fault (fault_at at Format) (numbered_event number (words_of line))
+
+-- the reply of a line, which has to be the answer, byte for byte
+abbrev pub right_reply : ℕ → Result Reply StepFault → List ℕ → Result Reply CheckFault
+right_reply at (Err fault) line = Err (fault_at at WrongReply)
+right_reply at (Ok reply) line = if bytes_eq line (recorded_reply reply) then Ok reply else Err (fault_at at WrongReply)
+
+-- the same of any line in the place of a reply
+abbrev pub reply_at : ℕ → Result Reply StepFault → List ℕ → Result Reply CheckFault
+reply_at at answered line =
+    if is_too_long at line then Err (fault_at at TooLong)
+    else if starts_with nat_eq line reply_mark then right_reply at answered line
+    else Err (fault_at at Format)
+
+-- the history that lines record, which go on after a history, so many lines and perhaps an event whose reply is to come
+abbrev pub history_on : Plain → List Entry → ℕ → Option (ℕ × OwnedEvent) → List (List ℕ) → Result (List Entry) CheckFault
+history_on p h before None [] = Ok h
+history_on p h before (Some timed) [] = Err (fault_at (before + 1) Format)
+history_on p h before None (line ∷ lines) = event_at (before + 1) (length h + 1) line >>= λ timed. history_on p h (before + 1) (Some timed) lines
+history_on p h before (Some timed) (line ∷ lines) =
+    reply_at (before + 1) (answer p h timed.0 timed.1) line >>= λ reply. history_on p (entry timed.0 timed.1 reply ∷ h) (before + 1) None lines
+
+-- the counts of a history
+abbrev pub counts_of : Plain → List Entry → Checked
+counts_of p h = record { records = length h; live = open_connections (after p h) }
+
+abbrev pub counts_from : Plain → Result (List Entry) CheckFault → Result Checked CheckFault
+counts_from p (Ok h) = Ok (counts_of p h)
+counts_from p (Err fault) = Err fault
+
+-- what the check of a text says where a plan is opened
+abbrev pub verdict : Plan → List ℕ → Result Checked CheckFault
+verdict plan text = counts_from (opening plan 0) (history_on (opening plan 0) [] 0 None (parts is_line_feed text))
+
+-- no line is too long, and they are not too many
+abbrev pub IsWithinLimits : List (List ℕ) → Type 0
+IsWithinLimits lines = (length lines ≤ MOST_RECORD_LINES) × AllByRecursion (λ line. length line ≤ MOST_LINE_BYTES) lines
+
+-- The text is the record of a legal history from the opening of the configuration on, with these counts.
+pub record IsChecked (config text : List ℕ) (checked : Checked) : Type 0 where
+  pub plan : Plan
+  pub history : List Entry
+  pub means : meaning config ≡ Ok plan
+  pub legal : IsLegal (opening plan 0) history
+  pub is_record : IsRecord history (parts is_line_feed text)
+  pub within : IsWithinLimits (parts is_line_feed text)
+  pub counts : checked ≡ counts_of (opening plan 0) history

@@ -1,0 +1,309 @@
+//! A core along the lines of a record.
+ghost use Rattle.std.specs.Prelude.{◌≡◌, ◌≢◌, ◌⊎◌, ◌+◌, ◌<◌, ◌≤◌, ◌++◌, ◌^◌, length, Option, Some, None, Ok, Err, IfOk, IfErr, OnOk, OnErr, option_map, is_some};
+ghost use Rattle.std.specs.Str.{bytes_eq};
+ghost use Rattle.line_reader.specs.declared.lines.TheConstants.{MOST_LINE_BYTES};
+ghost use Rattle.text_core.specs.Decimal.{decimal};
+ghost use Rattle.conn_model.specs.declared.event.TheConstants.{PIECE_LIMIT};
+ghost use Rattle.conn_model.specs.Answer.{answer_in};
+ghost use Rattle.conn_model.specs.Counts.{total};
+ghost use Rattle.conn_model.specs.History.{owned_event};
+ghost use Rattle.event_text.specs.Script.{timed_event, words_of};
+ghost use Rattle.replay_core.specs.Turns.{plain_after};
+ghost use Rattle.audit_core.specs.Record.{numbered_event, open_connections, recorded_reply};
+ghost use Rattle.audit_core.specs.Verdict.{event_at, fault_at, reply_at};
+ghost use Rattle.audit_core.specs.Standing.{after_event, at_end, on_line, after_reply};
+ghost use Rattle.audit_core.specs.Check.{reading_fault, IsLineFault};
+ghost use Rattle.audit_core.specs.declared.fault.TheConstants.{MOST_RECORD_LINES};
+
+use crate::fault::{CheckFault, CheckKind, MOST_RECORD_LINES};
+use addr_core::Endpoint;
+use conn_core::Core;
+use conn_model::event::Event;
+use conn_model::plain::FrontendRows;
+use conn_model::reply::{Reply, StepFault};
+use event_text::{EventRequest, read_event, write_reply_text};
+use line_reader::LineFault;
+use std::alloc::{AllocError, Global};
+use std::marker::Model;
+use text_core::cut_at;
+use text_core::decimal::write_decimal;
+
+/// A core between two lines of a record. It cannot be dropped: it ends by `end`.
+pub struct Auditor {
+    core: Core,
+    lines: u64,
+    records: u64,
+    /// The answer to the last event, until its line came.
+    awaited: Option<Result<Reply, StepFault>>,
+    /// The peer of the last event, if it is an accept.
+    peer: Option<Endpoint>,
+    /// The bytes of the piece of a line.
+    piece: Vec<u8>,
+    /// The line of a reply.
+    reply: Vec<u8>,
+}
+
+impl Model for Auditor {
+    ghost use Rattle.std.specs.Prelude.{◌≡◌, ◌≤◌, length};
+    ghost use Rattle.conn_model.specs.declared.event.TheConstants.{PIECE_LIMIT};
+    ghost use Rattle.audit_core.specs.Standing.{Standing};
+    ghost use Rattle.audit_core.specs.Record.{open_connections};
+    ghost use Rattle.audit_core.specs.declared.fault.TheConstants.{MOST_RECORD_LINES};
+
+    ghost Value = { Standing };
+
+    ghost view = { λ a. record { plain = a.core; lines = a.lines; records = a.records; awaited = a.awaited } };
+
+    ghost invariant = { λ a. (a.lines ≤ MOST_RECORD_LINES) × (a.records ≤ a.lines) × (open_connections a.core ≤ a.lines) × (length a.piece.items ≡ PIECE_LIMIT) };
+}
+
+/// A fault of that line.
+fn fault_at(line: u64, kind: CheckKind) -> CheckFault
+    ensures { result ≡ fault_at line kind }
+{
+    CheckFault { line, kind }
+}
+
+/// Whether the word is the number in decimal.
+fn is_number(word: &[u8], number: u64) -> bool
+    ensures { result ≡ bytes_eq word.now (decimal number) }
+{
+    word == write_decimal(number).as_str().as_bytes()
+}
+
+/// The event of a line that has it after that number.
+fn read_numbered(number: u64, line: &[u8], piece: &mut [u8]) -> Option<(u64, EventRequest)>
+    requires { length piece.old ≡ PIECE_LIMIT }
+    ensures event { option_map (timed_event piece.new) result ≡ numbered_event number (words_of line.now) }
+    ensures room { length piece.new ≡ length piece.old }
+{
+    let (word, rest) = cut_at(line, b' ')?;
+    if !is_number(word, number) {
+        return None;
+    }
+    read_event(rest, piece)
+}
+
+fn peer_of(request: &EventRequest) -> Option<Endpoint> {
+    match request {
+        EventRequest::Accept(_, real) => Some(real.source()),
+        EventRequest::Piece(..) | EventRequest::Close(..) | EventRequest::Expire(_) => None,
+    }
+}
+
+/// The answer to an event.
+fn step(
+    core: &mut Core,
+    moment: u64,
+    event: &Event<'_>,
+) -> Result<Result<Reply, StepFault>, AllocError>
+    ensures answered { IfOk result (λ answered. answered ≡ answer_in core.old moment (owned_event event.now)) }
+    ensures plain { OnOk result (core.new ≡ plain_after core.old moment (owned_event event.now) (answer_in core.old moment (owned_event event.now))) }
+    ensures err { OnErr result (core.new ≡ core.old) }
+{
+    match core.step(moment, event) {
+        Ok(reply) => Ok(Ok(reply)),
+        Err(StepFault::NoMemory) => Err(AllocError),
+        Err(fault) => Ok(Err(fault)),
+    }
+}
+
+/// The answer to an event, after which one connection more is open at most.
+fn answer(
+    core: &mut Core,
+    moment: u64,
+    event: &Event<'_>,
+) -> Result<Result<Reply, StepFault>, AllocError>
+    ensures answered { IfOk result (λ answered. answered ≡ answer_in core.old moment (owned_event event.now)) }
+    ensures plain { OnOk result (core.new ≡ plain_after core.old moment (owned_event event.now) (answer_in core.old moment (owned_event event.now))) }
+    ensures few { OnOk result (open_connections core.new ≤ open_connections core.old + 1) }
+    ensures err { OnErr result (core.new ≡ core.old) }
+{
+    step(core, moment, event)
+}
+
+/// What is wrong with a line in the place of a reply, if anything is.
+fn judge_reply(
+    at: u64,
+    answered: &Result<Reply, StepFault>,
+    line: &[u8],
+    text: &mut Vec<u8>,
+) -> Result<(), CheckFault>
+    requires short { length line.now ≤ MOST_LINE_BYTES }
+    requires few { at ≤ MOST_RECORD_LINES }
+    ensures ok { OnOk result ((reply : Reply) × (reply_at at answered.now line.now ≡ Ok reply)) }
+    ensures err { IfErr result (λ f. (f ≡ fault_at 0 CheckKind.NoMemory) ⊎ (IsLineFault f.kind × (reply_at at answered.now line.now ≡ Err f))) }
+{
+    if !line.starts_with(b"= ") {
+        return Err(fault_at(at, CheckKind::Format));
+    }
+    match answered {
+        Ok(reply) => {
+            text.clear();
+            if write_line(text, reply).is_err() {
+                return Err(fault_at(0, CheckKind::NoMemory));
+            }
+            if line != text.as_slice() {
+                return Err(fault_at(at, CheckKind::WrongReply));
+            }
+            Ok(())
+        }
+        Err(_) => Err(fault_at(at, CheckKind::WrongReply)),
+    }
+}
+
+fn write_line(text: &mut Vec<u8>, reply: &Reply) -> Result<(), AllocError>
+    ensures { OnOk result (text.new.items ≡ text.old.items ++ recorded_reply reply.now) }
+{
+    text.extend_from_slice(b"= ")?;
+    write_reply_text(text, reply)
+}
+
+/// How many connections are open in all frontends.
+fn count_open(frontends: &[FrontendRows]) -> u64
+    requires { total (λ own. length own.rows) frontends.now < 2 ^ 64 }
+    ensures { result ≡ total (λ own. length own.rows) frontends.now }
+{
+    let mut open = 0u64;
+    for own in frontends {
+        open += own.rows.len() as u64;
+    }
+    open
+}
+
+impl Auditor {
+    pub fn new(alloc: Global, core: Core, piece: Vec<u8>) -> Self
+        requires room { length piece.items ≡ PIECE_LIMIT }
+        requires none { open_connections core ≡ 0 }
+        ensures { result ≡ record { plain = core; lines = 0; records = 0; awaited = None } }
+    {
+        Auditor {
+            core,
+            lines: 0,
+            records: 0,
+            awaited: None,
+            peer: None,
+            piece,
+            reply: Vec::new(alloc),
+        }
+    }
+
+    /// The fault where no next line comes.
+    pub fn reading_fault(&self, fault: LineFault) -> CheckFault
+        ensures { result ≡ reading_fault (self.now.lines + 1) fault }
+    {
+        match fault {
+            LineFault::TooLong => fault_at(self.lines + 1, CheckKind::TooLong),
+            LineFault::Read => fault_at(0, CheckKind::Read),
+            LineFault::NoMemory => fault_at(0, CheckKind::NoMemory),
+        }
+    }
+
+    /// The reply to the last event, until its line comes.
+    pub fn answer(&self) -> Option<&Reply> {
+        match &self.awaited {
+            Some(Ok(reply)) => Some(reply),
+            Some(Err(_)) | None => None,
+        }
+    }
+
+    /// The peer of the last event, if it is an accept.
+    pub fn peer(&self) -> Option<Endpoint> {
+        self.peer
+    }
+
+    /// How many entries came.
+    pub fn records(&self) -> u64
+        ensures { result ≡ self.now.records }
+    {
+        self.records
+    }
+
+    /// How many connections are open.
+    pub fn live(&self) -> Result<u64, AllocError>
+        ensures { IfOk result (λ live. live ≡ open_connections self.now.plain) }
+    {
+        let plain = self.core.plain()?;
+        Ok(count_open(plain.frontends.as_slice()))
+    }
+
+    /// Ends the check with its core.
+    pub fn end(self) {
+        let Auditor {
+            core,
+            lines: _,
+            records: _,
+            awaited: _awaited,
+            peer: _,
+            piece: _piece,
+            reply: _reply,
+        } = self;
+        core.end();
+    }
+
+    /// Checks that no reply is to come.
+    pub fn finish(&self) -> Result<(), CheckFault>
+        ensures ok { OnOk result (at_end self.now ≡ Ok self.now) }
+        ensures err { IfErr result (λ f. IsLineFault f.kind × (at_end self.now ≡ Err f)) }
+    {
+        if self.awaited.is_some() {
+            return Err(fault_at(self.lines + 1, CheckKind::Format));
+        }
+        Ok(())
+    }
+
+    fn check_event(&mut self, line: &[u8]) -> Result<(), CheckFault>
+        requires short { length line.now ≤ MOST_LINE_BYTES }
+        requires few { self.old.lines < MOST_RECORD_LINES }
+        requires none { self.old.awaited ≡ None }
+        ensures ok { OnOk result (on_line self.old line.now ≡ Ok self.new) }
+        ensures err { IfErr result (λ f. (f ≡ fault_at 0 CheckKind.NoMemory) ⊎ (IsLineFault f.kind × (on_line self.old line.now ≡ Err f))) }
+    {
+        let at = self.lines + 1;
+        let Some((moment, request)) = read_numbered(self.records + 1, line, &mut self.piece) else {
+            return Err(fault_at(at, CheckKind::Format));
+        };
+        let event = request.event(&self.piece);
+        let Ok(answered) = answer(&mut self.core, moment, &event) else {
+            return Err(fault_at(0, CheckKind::NoMemory));
+        };
+        self.awaited = Some(answered);
+        self.peer = peer_of(&request);
+        self.lines = at;
+        Ok(())
+    }
+
+    fn check_reply(
+        &mut self,
+        answered: &Result<Reply, StepFault>,
+        line: &[u8],
+    ) -> Result<(), CheckFault>
+        requires short { length line.now ≤ MOST_LINE_BYTES }
+        requires few { self.old.lines < MOST_RECORD_LINES }
+        requires none { self.old.awaited ≡ None }
+        ensures ok { OnOk result (on_line (record self.old { awaited = Some answered.now }) line.now ≡ Ok self.new) }
+        ensures err { IfErr result (λ f. (f ≡ fault_at 0 CheckKind.NoMemory) ⊎ (IsLineFault f.kind × (on_line (record self.old { awaited = Some answered.now }) line.now ≡ Err f))) }
+    {
+        let at = self.lines + 1;
+        judge_reply(at, answered, line, &mut self.reply)?;
+        self.lines = at;
+        self.records += 1;
+        Ok(())
+    }
+
+    /// Checks one line. After a fault the check is over.
+    pub fn check_line(&mut self, line: &[u8]) -> Result<(), CheckFault>
+        requires { length line.now ≤ MOST_LINE_BYTES }
+        ensures ok { OnOk result (on_line self.old line.now ≡ Ok self.new) }
+        ensures next { OnOk result ((self.new.lines ≡ self.old.lines + 1) × (self.new.lines ≤ MOST_RECORD_LINES)) }
+        ensures err { IfErr result (λ f. (f ≡ fault_at 0 CheckKind.NoMemory) ⊎ (IsLineFault f.kind × (on_line self.old line.now ≡ Err f))) }
+    {
+        if self.lines == MOST_RECORD_LINES {
+            return Err(fault_at(self.lines + 1, CheckKind::TooLong));
+        }
+        match self.awaited.take() {
+            Some(answered) => self.check_reply(&answered, line),
+            None => self.check_event(line),
+        }
+    }
+}

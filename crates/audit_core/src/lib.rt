@@ -1,0 +1,15 @@
+//! Records: each answered event with its reply, as text. A record is checked by a core that answers its events again.
+#![tactic(auto)]
+
+pub use audit::run_audit;
+pub use check::check_record;
+pub use fault::{CheckFault, CheckKind, Checked, MOST_RECORD_LINES};
+pub use line::audit_line;
+
+mod audit;
+mod auditor;
+mod check;
+mod fault;
+mod journal;
+mod line;
+mod reading;
