@@ -1,0 +1,149 @@
+-- What is said at an accept and to a piece, and a connection that waits from its accept on.
+use Rattle.std.proofs.Common.{◌≡◌, ◌≢◌, ℕ, zero, suc, ◌+◌, ◌≤◌, Bool, true, false, List, [], ◌∷◌, ◌++◌, length, Option, Some, None, Result, Ok, Err, refl, max, ◌∙◌, sym, ap, subst, arith}
+use Rattle.std.specs.Prelude.{slice_get, slice_set, map, find, nat_le, ◌==◌}
+use Rattle.std.proofs.lemmas.Bool.{eq-eqb}
+use Rattle.addr_core.specs.PairValue.{PairValue}
+use Rattle.pp_any.specs.declared.rest.Rest.TheVariants.{Read}
+use Rattle.pp_any.specs.Status as statuses
+use Rattle.pp_any.specs.Status.{Status}
+use Rattle.pp_any.specs.NextPiece.{status_on}
+use Rattle.pp_any.proofs.NextPiece.{goes_on, used_by}
+use Rattle.plan_types.specs.declared.plan.Frontend.{Frontend}
+use Rattle.plan_types.specs.declared.plan.Plan.{Plan}
+use Rattle.plan_types.specs.declared.plan.Server.{Server}
+use Rattle.conn_model.specs.declared.event.ConnId.{ConnId}
+use Rattle.conn_model.specs.declared.event.OwnedEvent.TheVariants.{Accept, Piece}
+use Rattle.conn_model.specs.declared.reply.Cause.{Cause}
+use Rattle.conn_model.specs.declared.reply.Reply.{Reply}
+use Rattle.conn_model.specs.declared.reply.Said.{Said}
+use Rattle.conn_model.specs.declared.reply.Said.TheVariants as saids
+use Rattle.conn_model.specs.declared.plain.FrontendRows.{FrontendRows}
+use Rattle.conn_model.specs.declared.plain.Plain.{Plain}
+use Rattle.conn_model.specs.declared.plain.Row.{Row}
+use Rattle.conn_model.specs.declared.plain.Version.{Version}
+use Rattle.conn_model.specs.Rules.{Candidate, rejection}
+use Rattle.conn_model.specs.Answer.{admission, answer_in, candidate_at, candidate_of, candidate_worth, decision, entry_said, frontend_in, header_said, judged_pair, new_row, reply_of, row_in, said_of, verdict}
+use Rattle.conn_model.specs.History.{after, entry, id_of, new_version, opening, IsWell}
+use Rattle.conn_model.proofs.Replies.{accepted, admission-id, Accepted}
+use Rattle.conn_model.proofs.Steps.{after-accept}
+use Rattle.conn_model.proofs.Well.{opening_well}
+use Rattle.pipe_core.specs.Waiting.{Holds}
+use Rattle.pipe_core.proofs.StateLemmas.{get-set, piece_said}
+use Rattle.pipe_core.proofs.PieceLemmas.{reply_said}
+
+-- an offer uses at most so many bytes, and nothing is closed
+abbrev pub UsesAtMost : ℕ → Said → Type 0
+UsesAtMost most (saids.Wait id used) = Unit {0}
+UsesAtMost most (saids.Offer id used line server to judged send) = used ≤ most
+UsesAtMost most (saids.Refuse id used cause) = Unit {0}
+UsesAtMost most (saids.Closed id why) = ⊥
+
+decision_uses : (candidate : Candidate) (used most : ℕ) (judged : PairValue) → used ≤ most → UsesAtMost most (decision candidate used judged)
+decision_uses candidate used most judged within = by (verdict (candidate_worth candidate judged.source.addr) candidate.version candidate.frontend)
+  where
+    by : (result : Result Server Cause) → UsesAtMost most (said_of candidate.id used judged result)
+    by (Ok server) = within
+    by (Err cause) = tt
+
+entry_uses : (candidate : Candidate) (accept_proxy : Bool) (real : PairValue) (line : Option ℕ) → UsesAtMost 0 (entry_said candidate accept_proxy real line)
+entry_uses candidate accept_proxy real (Some line) = tt
+entry_uses candidate true real None = tt
+entry_uses candidate false real None = decision_uses candidate 0 0 real (omega arith)
+
+admission_uses : (candidate : Candidate) (accept_proxy : Bool) (real : PairValue) (others : ℕ) → UsesAtMost 0 (admission candidate accept_proxy real others)
+admission_uses candidate accept_proxy real others = by (nat_le candidate.frontend.limit others) refl
+  where
+    by : (b : Bool) → nat_le candidate.frontend.limit others ≡ b → UsesAtMost 0 (admission candidate accept_proxy real others)
+    by true e = rw e tt
+    by false e = rw e (entry_uses candidate accept_proxy real (rejection candidate.frontend.acls (candidate_worth candidate real.source.addr) candidate.frontend.connection_rules))
+
+header_uses : (candidate : Candidate) (real : PairValue) (count : ℕ) (s : Status) → used_by s ≤ count → UsesAtMost count (header_said candidate real count s)
+header_uses candidate real count statuses.Wait within = tt
+header_uses candidate real count (statuses.Fault fault used) within = tt
+header_uses candidate real count (statuses.Whole used meaning) within = decision_uses candidate used count (judged_pair real meaning) within
+
+-- an accept uses no byte
+pub accept_uses : (p : Plain) (listener : ℕ) (real : PairValue) (reply : Reply) → answer_in p 0 (Accept listener real) ≡ Ok reply → UsesAtMost 0 reply.said
+accept_uses p listener real reply is =
+    let got = accepted p (max p.clock 0) listener real reply is in
+    subst (λ (r : Reply). UsesAtMost 0 r.said) got.reply_is (admission_uses (candidate_at p (max p.clock 0) got.at.frontend real got.own got.version got.frontend) got.at.accept_proxy real (length got.own.rows))
+
+-- a piece is used as far as it goes
+pub piece_uses : (q : Plain) (id : ConnId) (got : List ℕ) → Holds q id got → (piece : List ℕ) (reply : Reply) → answer_in q 0 (Piece id piece) ≡ Ok reply → UsesAtMost (length piece) reply.said
+piece_uses q id got h piece reply is =
+    subst (λ (r : Reply). UsesAtMost (length piece) r.said) (sym (reply_said q id got h piece reply is))
+    (header_uses (candidate_of q id h.version h.frontend) h.row.real (length piece) (status_on h.rest piece) (goes_on got piece h.rest h.is_rest).used)
+
+-- The first connection of a listener.
+
+no_rows : (last : ℕ) (frontends : List Frontend) (n : ℕ) (own : FrontendRows) → slice_get {X = FrontendRows} (map (λ (frontend : Frontend). record { name = frontend.name; serial = last; rows = [] }) frontends) n ≡ Some own → own.rows ≡ []
+no_rows last [] n own there = absurd (let wrong : None ≡ Some own = there in cc)
+no_rows last (frontend ∷ frontends) zero own there =
+    let first : FrontendRows = record { name = frontend.name; serial = last; rows = [] } in
+    let same : first ≡ own = let e : Some first ≡ Some own = there in cc in
+    ap (λ (o : FrontendRows). o.rows) (sym same)
+no_rows last (frontend ∷ frontends) (suc n) own there = no_rows last frontends n own there
+
+pub accepted_waits : (plan : Plan) (listener : ℕ) (real : PairValue) (reply : Reply) (id : ConnId) (count : ℕ) → answer_in (opening plan 0) 0 (Accept listener real) ≡ Ok reply → reply.said ≡ saids.Wait id count →
+    IsWell (after (opening plan 0) (entry 0 (Accept listener real) reply ∷ [])) → Holds (after (opening plan 0) (entry 0 (Accept listener real) reply ∷ [])) id []
+accepted_waits plan listener real reply id count is said well =
+    subst (λ s. Holds s id []) (sym state) (record {
+      row = row;
+      rest = Read (record { items = [] });
+      own = next;
+      version = new_version 1 plan;
+      frontend = got.frontend;
+      row_is = ap (row_in id.serial) now_there ∙ (rw (none, eq-eqb id.serial id.serial refl) refl);
+      waits = refl;
+      there = now_there;
+      kept = refl;
+      found = ap (λ (v : Version). frontend_in v.plan got.own.name) version_is ∙ got.found;
+      is_rest = (refl, refl);
+      well = subst IsWell state well;
+    })
+  where
+    p : Plain
+    p = opening plan 0
+
+    got : Accepted p 0 listener real reply
+    got = accepted p 0 listener real reply is
+
+    said_is : admission (candidate_at p 0 got.at.frontend real got.own got.version got.frontend) got.at.accept_proxy real (length got.own.rows) ≡ saids.Wait id count
+    said_is = ap (λ (r : Reply). r.said) got.reply_is ∙ said
+
+    reply_is : reply ≡ reply_of (saids.Wait id count)
+    reply_is = sym got.reply_is ∙ ap reply_of said_is
+
+    id_is : id ≡ record { frontend = got.at.frontend; serial = got.own.serial + 1 }
+    id_is =
+        let e : Some id ≡ Some (record { frontend = got.at.frontend; serial = got.own.serial + 1 }) =
+        ap id_of (sym said_is) ∙ admission-id (candidate_at p 0 got.at.frontend real got.own got.version got.frontend) got.at.accept_proxy real (length got.own.rows) in cc
+
+    there : slice_get p.frontends id.frontend ≡ Some got.own
+    there = ap (λ (i : ConnId). slice_get p.frontends i.frontend) id_is ∙ got.there
+
+    none : got.own.rows ≡ []
+    none = no_rows 0 plan.frontends id.frontend got.own there
+
+    version_is : new_version 1 plan ≡ got.version
+    version_is = let e : Some (new_version 1 plan) ≡ Some got.version = got.newest_is in cc
+
+    row : Row
+    row = new_row id.serial 1 real 0
+
+    next : FrontendRows
+    next = record got.own { serial = got.own.serial + 1; rows = got.own.rows ++ row ∷ [] }
+
+    now_there : slice_get (slice_set p.frontends id.frontend next) id.frontend ≡ Some next
+    now_there = get-set p.frontends id.frontend got.own next there
+
+    state : after (opening plan 0) (entry 0 (Accept listener real) reply ∷ []) ≡ record {
+      clock = 0;
+      listeners = p.listeners;
+      frontends = slice_set p.frontends id.frontend next;
+      versions = p.versions;
+      tables = p.tables;
+    }
+    state =
+        ap (λ r. after p (entry 0 (Accept listener real) r ∷ [])) reply_is
+        ∙ after-accept p (opening_well plan 0) 0 listener real (saids.Wait id count) id got.own there refl (ap (λ (i : ConnId). i.serial) id_is)

@@ -1,0 +1,6 @@
+pub mod StreamLemmas
+pub mod StateLemmas
+pub mod PieceLemmas
+pub mod AcceptLemmas
+pub mod JudgedLemmas
+pub mod ServedLemmas

@@ -1,0 +1,210 @@
+-- What is said to a connection piece by piece is what is said to all its bytes.
+use Rattle.std.proofs.Common.{◌≡◌, ◌≢◌, ℕ, ◌+◌, ◌≤◌, List, [], ◌∷◌, ◌++◌, length, drop, Option, Some, None, Result, Ok, Err, refl, ◌∙◌, sym, ap, subst, arith, append_assoc, append-nil, length-append}
+use Rattle.std.proofs.Math.Seq.{drop-append-add}
+use Rattle.std.proofs.lemmas.List.{drop-append-le}
+use Rattle.addr_core.specs.PairValue.{PairValue}
+use Rattle.pp_v1.specs.declared.meaning.Meaning.{Meaning}
+use Rattle.pp_any.specs.declared.fault.HeaderFault.{HeaderFault}
+use Rattle.pp_any.specs.Status as statuses
+use Rattle.pp_any.specs.Status.{Status, status}
+use Rattle.pp_any.specs.Header.{shifted}
+use Rattle.pp_any.specs.Rest.{IsRest}
+use Rattle.pp_any.specs.declared.rest.Rest.{Rest}
+use Rattle.pp_any.specs.NextPiece.{rest_on, status_on}
+use Rattle.pp_any.proofs.First.{decided_once}
+use Rattle.pp_any.proofs.NextPiece.{goes_on, used_by, used_within}
+use Rattle.plan_types.specs.declared.plan.Server.{Server}
+use Rattle.conn_model.specs.declared.event.ConnId.{ConnId}
+use Rattle.conn_model.specs.declared.event.OwnedEvent.TheVariants.{Piece}
+use Rattle.conn_model.specs.declared.reply.Cause.{Cause}
+use Rattle.conn_model.specs.declared.reply.Reply.{Reply}
+use Rattle.conn_model.specs.declared.reply.Said.{Said}
+use Rattle.conn_model.specs.declared.reply.Said.TheVariants as saids
+use Rattle.conn_model.specs.declared.reply.StepFault.{StepFault}
+use Rattle.conn_model.specs.declared.plain.Plain.{Plain}
+use Rattle.conn_model.specs.Rules.{Candidate}
+use Rattle.conn_model.specs.Answer.{answer_in, candidate_of, candidate_worth, decision, header_said, judged_pair, reply_of, said_of, verdict}
+use Rattle.conn_model.specs.History.{after, entry}
+use Rattle.pipe_core.specs.Waiting.{later, with_used, Holds, Waits}
+use Rattle.pipe_core.proofs.StateLemmas.{after_is, holds_on, next_said, piece_said, state_on, worth_on}
+
+-- Statuses.
+
+shifted_one : (n : ℕ) (s t : Status) → shifted n s ≡ shifted n t → s ≡ t
+shifted_one n statuses.Wait statuses.Wait is = refl
+shifted_one n statuses.Wait (statuses.Whole count meaning) is = absurd cc
+shifted_one n statuses.Wait (statuses.Fault fault count) is = absurd cc
+shifted_one n (statuses.Whole count meaning) statuses.Wait is = absurd cc
+shifted_one n (statuses.Whole count meaning) (statuses.Whole other means) is =
+    let sum : count + n ≡ other + n = cc in
+    let same : meaning ≡ means = cc in
+    let count_is : count ≡ other = omega arith in
+    ap (λ k. statuses.Whole k meaning) count_is ∙ ap (λ m. statuses.Whole other m) same
+shifted_one n (statuses.Whole count meaning) (statuses.Fault fault other) is = absurd cc
+shifted_one n (statuses.Fault fault count) statuses.Wait is = absurd cc
+shifted_one n (statuses.Fault fault count) (statuses.Whole other meaning) is = absurd cc
+shifted_one n (statuses.Fault fault count) (statuses.Fault wrong other) is =
+    let sum : count + n ≡ other + n = cc in
+    let same : fault ≡ wrong = cc in
+    let count_is : count ≡ other = omega arith in
+    ap (λ k. statuses.Fault fault k) count_is ∙ ap (λ f. statuses.Fault f other) same
+
+shifted_twice : (m n : ℕ) (s : Status) → shifted (m + n) s ≡ shifted m (shifted n s)
+shifted_twice m n statuses.Wait = refl
+shifted_twice m n (statuses.Whole count meaning) = let e : count + (m + n) ≡ count + n + m = omega arith in ap (λ k. statuses.Whole k meaning) e
+shifted_twice m n (statuses.Fault fault count) = let e : count + (m + n) ≡ count + n + m = omega arith in ap (λ k. statuses.Fault fault k) e
+
+shifted_wait : (n : ℕ) (s : Status) → shifted n s ≡ statuses.Wait → s ≡ statuses.Wait
+shifted_wait n statuses.Wait is = refl
+shifted_wait n (statuses.Whole count meaning) is = absurd cc
+shifted_wait n (statuses.Fault fault count) is = absurd cc
+
+-- a piece that decides nothing, and then another
+status_joined : (got piece more : List ℕ) (rest : Rest) → IsRest got rest → status_on rest piece ≡ statuses.Wait →
+    status_on rest (piece ++ more) ≡ shifted (length piece) (status_on (rest_on rest piece) more)
+status_joined got piece more rest is waits =
+    let on = goes_on got piece rest is in
+    let all = goes_on got (piece ++ more) rest is in
+    let next = goes_on (got ++ piece) more (rest_on rest piece) (on.holds waits) in
+    shifted_one (length got) (status_on rest (piece ++ more)) (shifted (length piece) (status_on (rest_on rest piece) more))
+    (sym all.status ∙ ap status (sym (append_assoc got piece more)) ∙ next.status
+    ∙ ap (λ n. shifted n (status_on (rest_on rest piece) more)) (length-append got piece) ∙ shifted_twice (length got) (length piece) (status_on (rest_on rest piece) more))
+
+-- a piece that decides something decides the same whatever follows it
+status_stays : (got piece more : List ℕ) (rest : Rest) → IsRest got rest → status_on rest piece ≢ statuses.Wait → status_on rest (piece ++ more) ≡ status_on rest piece
+status_stays got piece more rest is decides =
+    let on = goes_on got piece rest is in
+    let all = goes_on got (piece ++ more) rest is in
+    let some : status (got ++ piece) ≢ statuses.Wait = λ waits. decides (shifted_wait (length got) (status_on rest piece) (sym on.status ∙ waits)) in
+    shifted_one (length got) (status_on rest (piece ++ more)) (status_on rest piece)
+    (sym all.status ∙ ap status (sym (append_assoc got piece more)) ∙ decided_once (got ++ piece) more some ∙ on.status)
+
+-- no bytes decide nothing
+pub status_nothing : (got : List ℕ) (rest : Rest) → IsRest got rest → status_on rest [] ≡ statuses.Wait
+status_nothing got rest is =
+    let on = goes_on got [] rest is in
+    shifted_wait (length got) (status_on rest []) (sym on.status ∙ ap status (append-nil got) ∙ is.0)
+
+-- What is said.
+
+said_more : (id : ConnId) (used more : ℕ) (judged : PairValue) (result : Result Server Cause) → said_of id (used + more) judged result ≡ with_used more (said_of id used judged result)
+said_more id used more judged (Ok server) = refl
+said_more id used more judged (Err cause) = refl
+
+decision_more : (a b : Candidate) (used more : ℕ) (judged : PairValue) → a.id ≡ b.id → a.version ≡ b.version → a.frontend ≡ b.frontend → candidate_worth b judged.source.addr ≡ candidate_worth a judged.source.addr →
+    decision a (used + more) judged ≡ with_used more (decision b used judged)
+decision_more a b used more judged id version frontend worth =
+    said_more a.id used more judged (verdict (candidate_worth a judged.source.addr) a.version a.frontend)
+    ∙ ap (λ w. with_used more (said_of a.id used judged (verdict w a.version a.frontend))) (sym worth)
+    ∙ ap (λ i. with_used more (said_of i used judged (verdict (candidate_worth b judged.source.addr) a.version a.frontend))) id
+    ∙ ap (λ v. with_used more (said_of b.id used judged (verdict (candidate_worth b judged.source.addr) v a.frontend))) version
+    ∙ ap (λ f. with_used more (said_of b.id used judged (verdict (candidate_worth b judged.source.addr) b.version f))) frontend
+
+-- a piece after one that decided nothing
+pub next_piece : (q : Plain) (id : ConnId) (got : List ℕ) (h : Holds q id got) (piece more : List ℕ) → status_on h.rest piece ≡ statuses.Wait →
+    answer_in q 0 (Piece id (piece ++ more)) ≡ later (length piece) (answer_in (state_on q id piece h.own) 0 (Piece id more))
+next_piece q id got h piece more waits =
+    piece_said q id got h (piece ++ more)
+    ∙ ap (λ s. Ok (reply_of (header_said (candidate_of q id h.version h.frontend) h.row.real (length (piece ++ more)) s))) (status_joined got piece more h.rest h.is_rest waits)
+    ∙ ap (λ s. Ok (reply_of s)) (by (status_on (rest_on h.rest piece) more))
+    ∙ sym (ap (later (length piece)) (next_said q id got h piece more waits))
+  where
+    now : Plain
+    now = state_on q id piece h.own
+
+    by : (s : Status) → header_said (candidate_of q id h.version h.frontend) h.row.real (length (piece ++ more)) (shifted (length piece) s)
+        ≡ with_used (length piece) (header_said (candidate_of now id h.version h.frontend) h.row.real (length more) s)
+    by statuses.Wait = let e : length (piece ++ more) ≡ length more + length piece = omega (arith, length-append piece more) in ap (λ n. saids.Wait id n) e
+    by (statuses.Fault fault count) = refl
+    by (statuses.Whole count meaning) =
+        decision_more (candidate_of q id h.version h.frontend) (candidate_of now id h.version h.frontend) count (length piece) (judged_pair h.row.real meaning) refl refl refl
+        (worth_on q id piece h.own h.there h.version h.frontend (judged_pair h.row.real meaning).source.addr)
+
+later_twice : (m n : ℕ) (r : Result Reply StepFault) → later (m + n) r ≡ later m (later n r)
+later_twice m n (Err fault) = refl
+later_twice m n (Ok reply) = ap (λ s. Ok (record reply { said = s })) (by reply.said)
+  where
+    by : (s : Said) → with_used (m + n) s ≡ with_used m (with_used n s)
+    by (saids.Wait id used) = let e : used + (m + n) ≡ used + n + m = omega arith in ap (λ k. saids.Wait id k) e
+    by (saids.Offer id used line server to judged send) = let e : used + (m + n) ≡ used + n + m = omega arith in ap (λ k. saids.Offer id k line server to judged send) e
+    by (saids.Refuse id used cause) = let e : used + (m + n) ≡ used + n + m = omega arith in ap (λ k. saids.Refuse id k cause) e
+    by (saids.Closed id why) = refl
+
+pub later_none : (r : Result Reply StepFault) → later 0 r ≡ r
+later_none (Err fault) = refl
+later_none (Ok reply) = ap (λ s. Ok (record reply { said = s })) (by reply.said)
+  where
+    by : (s : Said) → with_used 0 s ≡ s
+    by (saids.Wait id used) = let e : used + 0 ≡ used = omega arith in ap (λ k. saids.Wait id k) e
+    by (saids.Offer id used line server to judged send) = let e : used + 0 ≡ used = omega arith in ap (λ k. saids.Offer id k line server to judged send) e
+    by (saids.Refuse id used cause) = let e : used + 0 ≡ used = omega arith in ap (λ k. saids.Refuse id k cause) e
+    by (saids.Closed id why) = refl
+
+-- What is known once a piece was answered.
+
+-- the reply to a piece, by what the piece decides
+pub reply_said : (q : Plain) (id : ConnId) (got : List ℕ) (h : Holds q id got) (piece : List ℕ) (reply : Reply) → answer_in q 0 (Piece id piece) ≡ Ok reply →
+    reply ≡ reply_of (header_said (candidate_of q id h.version h.frontend) h.row.real (length piece) (status_on h.rest piece))
+reply_said q id got h piece reply is =
+    let same : Ok reply ≡ Ok (reply_of (header_said (candidate_of q id h.version h.frontend) h.row.real (length piece) (status_on h.rest piece))) = sym is ∙ piece_said q id got h piece in cc
+
+decision_no_wait : (candidate : Candidate) (used : ℕ) (judged : PairValue) (id : ConnId) (count : ℕ) → decision candidate used judged ≢ saids.Wait id count
+decision_no_wait candidate used judged id count = by (verdict (candidate_worth candidate judged.source.addr) candidate.version candidate.frontend)
+  where
+    by : (result : Result Server Cause) → said_of candidate.id used judged result ≢ saids.Wait id count
+    by (Ok server) wrong = let e : said_of candidate.id used judged (Ok server) ≡ saids.Wait id count = wrong in cc
+    by (Err cause) wrong = let e : said_of candidate.id used judged (Err cause) ≡ saids.Wait id count = wrong in cc
+
+-- it is told to wait exactly where nothing is decided
+wait_said : (candidate : Candidate) (real : PairValue) (n : ℕ) (s : Status) (id : ConnId) (count : ℕ) → header_said candidate real n s ≡ saids.Wait id count → s ≡ statuses.Wait
+wait_said candidate real n statuses.Wait id count is = refl
+wait_said candidate real n (statuses.Fault fault used) id count is = absurd (let e : saids.Refuse candidate.id used _ ≡ saids.Wait id count = is in cc)
+wait_said candidate real n (statuses.Whole used meaning) id count is = absurd (decision_no_wait candidate used (judged_pair real meaning) id count is)
+
+-- the connection waits on
+pub waits_on : (first : Plain) (id : ConnId) (q : Plain) (got piece : List ℕ) (reply : Reply) (told : ConnId) (count : ℕ) → Waits first id q got → answer_in q 0 (Piece id piece) ≡ Ok reply → reply.said ≡ saids.Wait told count →
+    Waits first id (after q (entry 0 (Piece id piece) reply ∷ [])) (got ++ piece)
+waits_on first id q got piece reply told count waits is said =
+    let h = waits.holds in
+    let reply_is = reply_said q id got h piece reply is in
+    let status : status_on h.rest piece ≡ statuses.Wait = wait_said (candidate_of q id h.version h.frontend) h.row.real (length piece) (status_on h.rest piece) told count (ap (λ r. r.said) (sym reply_is) ∙ said) in
+    let waits_is : reply ≡ reply_of (saids.Wait id (length piece)) = reply_is ∙ ap (λ s. reply_of (header_said (candidate_of q id h.version h.frontend) h.row.real (length piece) s)) status in
+    let state : state_on q id piece h.own ≡ after q (entry 0 (Piece id piece) reply ∷ []) = sym (after_is q id got h piece (length piece)) ∙ ap (λ r. after q (entry 0 (Piece id piece) r ∷ [])) (sym waits_is) in
+    subst (λ s. Waits first id s (got ++ piece)) state (record {
+      holds = holds_on q id got h piece status;
+      same = λ more.
+          ap (λ bytes. answer_in first 0 (Piece id bytes)) (append_assoc got piece more)
+          ∙ waits.same (piece ++ more)
+          ∙ ap (later (length got)) (next_piece q id got h piece more status)
+          ∙ sym (later_twice (length got) (length piece) (answer_in (state_on q id piece h.own) 0 (Piece id more)))
+          ∙ ap (λ n. later n (answer_in (state_on q id piece h.own) 0 (Piece id more))) (sym (length-append got piece));
+    })
+
+-- what is said to all bytes where a piece was not told to wait
+pub decided : (first : Plain) (id : ConnId) (q : Plain) (got piece : List ℕ) (reply : Reply) → Waits first id q got → answer_in q 0 (Piece id piece) ≡ Ok reply → ((told : ConnId) (count : ℕ) → reply.said ≢ saids.Wait told count) →
+    (more : List ℕ) → answer_in first 0 (Piece id ((got ++ piece) ++ more)) ≡ later (length got) (Ok reply)
+decided first id q got piece reply waits is said more =
+    let h = waits.holds in
+    let reply_is = reply_said q id got h piece reply is in
+    let decides : status_on h.rest piece ≢ statuses.Wait = λ none. said id (length piece) (ap (λ r. r.said) reply_is ∙ ap (header_said (candidate_of q id h.version h.frontend) h.row.real (length piece)) none) in
+    ap (λ bytes. answer_in first 0 (Piece id bytes)) (append_assoc got piece more)
+    ∙ waits.same (piece ++ more)
+    ∙ ap (later (length got))
+    (piece_said q id got h (piece ++ more)
+    ∙ ap (λ s. Ok (reply_of (header_said (candidate_of q id h.version h.frontend) h.row.real (length (piece ++ more)) s))) (status_stays got piece more h.rest h.is_rest decides)
+    ∙ ap (λ s. Ok (reply_of s)) (by (status_on h.rest piece) decides)
+    ∙ ap (λ r. Ok r) (sym reply_is))
+  where
+    by : (s : Status) → s ≢ statuses.Wait → header_said (candidate_of q id waits.holds.version waits.holds.frontend) waits.holds.row.real (length (piece ++ more)) s ≡ header_said (candidate_of q id waits.holds.version waits.holds.frontend) waits.holds.row.real (length piece) s
+    by statuses.Wait some = absurd (some refl)
+    by (statuses.Fault fault count) some = refl
+    by (statuses.Whole count meaning) some = refl
+
+-- the bytes after a header
+pub after_header : (got piece more : List ℕ) (used : ℕ) → used ≤ length piece → drop (used + length got) ((got ++ piece) ++ more) ≡ drop used piece ++ more
+after_header got piece more used within =
+    let sum : used + length got ≡ length got + used = omega arith in
+    ap (λ n. drop n ((got ++ piece) ++ more)) sum
+    ∙ ap (drop (length got + used)) (append_assoc got piece more)
+    ∙ drop-append-add got (piece ++ more) used
+    ∙ drop-append-le used piece more within

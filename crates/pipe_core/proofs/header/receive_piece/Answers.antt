@@ -1,0 +1,6 @@
+use Rattle.std.proofs.Common.{◌≡◌, arith}
+use Rattle.pipe_core.proofs.StreamLemmas.{gives_few, gives_front}
+use Rattle.pipe_core.proofs.header.receive_piece.Goals as goal
+
+pub returns-clause-moved : goal.returns-clause-moved
+returns-clause-moved g c = gives_front _ _ _ c.receive.new.buffer _ c.receive.ensures.moved
