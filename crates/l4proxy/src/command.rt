@@ -24,6 +24,34 @@ fn replay<'a>(alloc: Global) -> Result<Command<'a>, AllocError> {
         .arg(script)
 }
 
+fn pipe<'a>(alloc: Global) -> Result<Command<'a>, AllocError> {
+    let frontend = Arg::new(alloc, "FRONTEND").required(true).help(
+        "The name of the frontend that is connected to, at its first bind",
+    );
+    let peer = Arg::new(alloc, "PEER")
+        .required(true)
+        .help("Who connects, as 192.0.2.5:4000");
+    let local = Arg::new(alloc, "LOCAL")
+        .required(true)
+        .help("The address that is connected to, as 192.0.2.1:80");
+    Command::new(alloc, "pipe")
+        .about("Passes one connection on, from standard input to standard output")
+        .arg(file(alloc))?
+        .arg(frontend)?
+        .arg(peer)?
+        .arg(local)
+}
+
+fn audit<'a>(alloc: Global) -> Result<Command<'a>, AllocError> {
+    let record = Arg::new(alloc, "RECORD")
+        .required(true)
+        .help("The answered events, each with its reply");
+    Command::new(alloc, "audit")
+        .about("Checks a record, and prints a line for each connection that ended")
+        .arg(file(alloc))?
+        .arg(record)
+}
+
 /// The commands and their words.
 pub fn commands<'a>(alloc: Global) -> Result<Command<'a>, AllocError> {
     Command::new(alloc, "l4proxy")
@@ -32,5 +60,7 @@ pub fn commands<'a>(alloc: Global) -> Result<Command<'a>, AllocError> {
         .subcommand_required(true)
         .disable_help_subcommand(true)
         .subcommand(check(alloc)?)?
-        .subcommand(replay(alloc)?)
+        .subcommand(replay(alloc)?)?
+        .subcommand(pipe(alloc)?)?
+        .subcommand(audit(alloc)?)
 }

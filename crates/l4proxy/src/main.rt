@@ -2,9 +2,11 @@
 //!
 //! `l4proxy check FILE` says on standard output whether the configuration FILE is right, in one line.
 //! `l4proxy replay FILE SCRIPT` opens the configuration FILE and answers the events of SCRIPT, one
-//! line each, on standard output. The exit status is 0 when that is done, 1 where the configuration
-//! is refused or a line of the script hands in no event, 2 for words that are no command, and 3
-//! where something cannot be read or written, or memory ran out.
+//! line each, on standard output. `l4proxy pipe FILE FRONTEND PEER LOCAL` passes one connection on, from
+//! standard input to standard output. `l4proxy audit FILE RECORD` answers the events of RECORD again and
+//! compares each reply. The exit status is 0 when that is done, 1 where the configuration or the
+//! connection is refused, a line of the script hands in no event or one of the record is wrong, 2 for
+//! words that are no command, and 3 where something cannot be read or written, or memory ran out.
 #![tactic(auto)]
 
 use crate::command::commands;
@@ -19,8 +21,10 @@ use std::rt::Files;
 use std::{env, fs, io};
 
 mod advice;
+mod audit;
 mod command;
 mod message;
+mod pipe;
 mod quote;
 
 /// All was done.
@@ -121,7 +125,7 @@ fn check_file<R: Files + AllocGlobal + Print + Eprint>(rt: &R, file: &str) -> u8
 }
 
 /// Does what the words ask for.
-fn run<R: Files + AllocGlobal + Print + Eprint>(
+fn run<R: Files + AllocGlobal + io::Input + Print + Eprint>(
     rt: &R,
     words: &[String],
 ) -> Result<u8, clap::Error> {
@@ -132,7 +136,7 @@ fn run<R: Files + AllocGlobal + Print + Eprint>(
     }
 }
 
-fn run_command<R: Files + AllocGlobal + Print + Eprint>(
+fn run_command<R: Files + AllocGlobal + io::Input + Print + Eprint>(
     rt: &R,
     name: &str,
     given: &ArgMatches<'_>,
@@ -140,6 +144,8 @@ fn run_command<R: Files + AllocGlobal + Print + Eprint>(
     match (name, given.get_str("FILE"), given.get_str("SCRIPT")) {
         ("check", Some(file), _) => check_file(rt, file),
         ("replay", Some(file), Some(script)) => replay_files(rt, file, script),
+        ("pipe", Some(_), _) => pipe::run(rt, given),
+        ("audit", Some(_), _) => audit::run(rt, given),
         _ => USAGE,
     }
 }
