@@ -41,7 +41,7 @@ reply_gives at answered line reply is = by (is_too_long at line) refl (starts_wi
     by false short false marked = let wrong = rw (short, marked) at is in absurd (cc)
     by false short true marked = let right : right_reply at answered line ≡ Ok reply = rw (short, marked) at is in right_gives at answered line reply right
 
--- how a check stands after a history, and perhaps an event
+-- how far a check is after a history, and perhaps an event
 abbrev pub standing : Plain → List Entry → ℕ → Option (ℕ × OwnedEvent) → Standing
 standing p h before None = record { plain = after p h; lines = before; records = length h; awaited = None }
 standing p h before (Some timed) = record {

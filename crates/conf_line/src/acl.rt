@@ -42,7 +42,7 @@ fn test_at(alloc: Global, words: &[Word]) -> Result<Test, Stop<ConfKind>>
     }
 }
 
-/// A name, and a test that it stands for.
+/// A name, and a test that it means.
 pub fn acl<'a>(alloc: Global, words: &[Word<'a>]) -> Result<Statement<'a>, Stop<ConfKind>>
     ensures value { Gives result (acl_of words.now) }
     ensures sound { IfOk result IsSoundStatement }

@@ -95,7 +95,7 @@ pub enum Statement<'a> {
     Balance(Method),
     /// Where connections are accepted, and whether each begins with a PROXY header.
     Bind(Endpoint, bool),
-    /// A name, and a test that it stands for.
+    /// A name, and a test that it means.
     Acl(Word<'a>, Test),
     Rule(Ruleset, Action<'a>, When),
     /// The backend that is used, and when.

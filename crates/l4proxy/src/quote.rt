@@ -211,7 +211,7 @@ fn has_section(text: &str, kind: &str, name: &str) -> bool {
     text.lines().any(|line| opens(line, kind, name))
 }
 
-/// What stands in the brackets of a word that begins so.
+/// What is in the brackets of a word that begins so.
 fn argument_of(line: &str, word: &Span, criterion: &str) -> Option<Span> {
     if !text_of(line, word).starts_with(criterion) {
         return None;

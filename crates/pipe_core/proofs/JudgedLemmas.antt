@@ -32,19 +32,19 @@ use Rattle.pipe_core.proofs.StreamLemmas.{consumes-both, consumes-nil, keeps-con
 -- A piece.
 
 pub offers : (first : Plain) (id : ConnId) (q : Plain) (got piece : List ℕ) (reply : Reply) → Waits first id q got → answer_in q 0 (Piece id piece) ≡ Ok reply →
-    (told : ConnId) (used line server : ℕ) (to : Endpoint) (judged : PairValue) (send : ArrayVec ℕ) → reply.said ≡ saids.Offer told used line server to judged send → used ≤ length piece →
+    (whom : ConnId) (used line server : ℕ) (to : Endpoint) (judged : PairValue) (send : ArrayVec ℕ) → reply.said ≡ saids.Offer whom used line server to judged send → used ≤ length piece →
     IsOffered (λ bytes. answer_in first 0 (Piece id bytes)) (got ++ piece) send.items (drop used piece)
-offers first id q got piece reply waits is told used line server to judged send said within more =
-    let all = decided first id q got piece reply waits is (λ other count wrong. let e : saids.Offer told used line server to judged send ≡ saids.Wait other count = sym said ∙ wrong in cc) more in
+offers first id q got piece reply waits is whom used line server to judged send said within more =
+    let all = decided first id q got piece reply waits is (λ other count wrong. let e : saids.Offer whom used line server to judged send ≡ saids.Wait other count = sym said ∙ wrong in cc) more in
     let text = after_header got piece more used within in (
       ap (output_of ((got ++ piece) ++ more)) all ∙ ap (λ s. passed_on ((got ++ piece) ++ more) (with_used (length got) s)) said ∙ ap (λ t. send.items ++ t) text,
       ap (end_by ((got ++ piece) ++ more)) all ∙ ap (λ s. end_of ((got ++ piece) ++ more) (with_used (length got) s)) said ∙ ap (λ t. Some (ends.Offered (length (send.items ++ t)))) text,
     )
 
 pub refuses : (first : Plain) (id : ConnId) (q : Plain) (got piece : List ℕ) (reply : Reply) → Waits first id q got → answer_in q 0 (Piece id piece) ≡ Ok reply →
-    (told : ConnId) (used : ℕ) (cause : Cause) → reply.said ≡ saids.Refuse told used cause → IsRefused (λ bytes. answer_in first 0 (Piece id bytes)) (got ++ piece) cause
-refuses first id q got piece reply waits is told used cause said more =
-    let all = decided first id q got piece reply waits is (λ other count wrong. let e : saids.Refuse told used cause ≡ saids.Wait other count = sym said ∙ wrong in cc) more in (
+    (whom : ConnId) (used : ℕ) (cause : Cause) → reply.said ≡ saids.Refuse whom used cause → IsRefused (λ bytes. answer_in first 0 (Piece id bytes)) (got ++ piece) cause
+refuses first id q got piece reply waits is whom used cause said more =
+    let all = decided first id q got piece reply waits is (λ other count wrong. let e : saids.Refuse whom used cause ≡ saids.Wait other count = sym said ∙ wrong in cc) more in (
       ap (output_of ((got ++ piece) ++ more)) all ∙ ap (λ s. passed_on ((got ++ piece) ++ more) (with_used (length got) s)) said,
       ap (end_by ((got ++ piece) ++ more)) all ∙ ap (λ s. end_of ((got ++ piece) ++ more) (with_used (length got) s)) said,
     )
@@ -94,9 +94,9 @@ said_at_once : (p : Plain) (listener : ℕ) (real : PairValue) (reply : Reply) �
 said_at_once p listener real reply is once bytes = rw is (once bytes)
 
 pub offered_at_once : (p : Plain) (listener : ℕ) (real : PairValue) (reply : Reply) → answer_in p 0 (Accept listener real) ≡ Ok reply →
-    (told : ConnId) (used line server : ℕ) (to : Endpoint) (judged : PairValue) (send : ArrayVec ℕ) → reply.said ≡ saids.Offer told used line server to judged send → used ≤ 0 →
+    (whom : ConnId) (used line server : ℕ) (to : Endpoint) (judged : PairValue) (send : ArrayVec ℕ) → reply.said ≡ saids.Offer whom used line server to judged send → used ≤ 0 →
     IsOffered (said_to p listener real) [] send.items []
-offered_at_once p listener real reply is told used line server to judged send said none more =
+offered_at_once p listener real reply is whom used line server to judged send said none more =
     let all : said_to p listener real more ≡ Ok reply = said_at_once p listener real reply is (λ bytes. ap (said_on p listener real bytes reply) said) more in
     let zero_used : used ≡ 0 = omega arith in
     let text : drop used more ≡ more = ap (λ n. drop n more) zero_used in (
@@ -105,8 +105,8 @@ offered_at_once p listener real reply is told used line server to judged send sa
     )
 
 pub refused_at_once : (p : Plain) (listener : ℕ) (real : PairValue) (reply : Reply) → answer_in p 0 (Accept listener real) ≡ Ok reply →
-    (told : ConnId) (used : ℕ) (cause : Cause) → reply.said ≡ saids.Refuse told used cause → IsRefused (said_to p listener real) [] cause
-refused_at_once p listener real reply is told used cause said more =
+    (whom : ConnId) (used : ℕ) (cause : Cause) → reply.said ≡ saids.Refuse whom used cause → IsRefused (said_to p listener real) [] cause
+refused_at_once p listener real reply is whom used cause said more =
     let all : said_to p listener real more ≡ Ok reply = said_at_once p listener real reply is (λ bytes. ap (said_on p listener real bytes reply) said) more in
     (ap (output_of more) all ∙ ap (passed_on more) said, ap (end_by more) all ∙ ap (end_of more) said)
 

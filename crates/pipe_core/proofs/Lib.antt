@@ -3,4 +3,4 @@ pub mod StateLemmas
 pub mod PieceLemmas
 pub mod AcceptLemmas
 pub mod JudgedLemmas
-pub mod ServedLemmas
+pub mod DeliveryLemmas

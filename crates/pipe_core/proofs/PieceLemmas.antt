@@ -155,19 +155,19 @@ decision_no_wait candidate used judged id count = by (verdict (candidate_worth c
     by (Ok server) wrong = let e : said_of candidate.id used judged (Ok server) ≡ saids.Wait id count = wrong in cc
     by (Err cause) wrong = let e : said_of candidate.id used judged (Err cause) ≡ saids.Wait id count = wrong in cc
 
--- it is told to wait exactly where nothing is decided
+-- the answer is to wait exactly where nothing is decided
 wait_said : (candidate : Candidate) (real : PairValue) (n : ℕ) (s : Status) (id : ConnId) (count : ℕ) → header_said candidate real n s ≡ saids.Wait id count → s ≡ statuses.Wait
 wait_said candidate real n statuses.Wait id count is = refl
 wait_said candidate real n (statuses.Fault fault used) id count is = absurd (let e : saids.Refuse candidate.id used _ ≡ saids.Wait id count = is in cc)
 wait_said candidate real n (statuses.Whole used meaning) id count is = absurd (decision_no_wait candidate used (judged_pair real meaning) id count is)
 
 -- the connection waits on
-pub waits_on : (first : Plain) (id : ConnId) (q : Plain) (got piece : List ℕ) (reply : Reply) (told : ConnId) (count : ℕ) → Waits first id q got → answer_in q 0 (Piece id piece) ≡ Ok reply → reply.said ≡ saids.Wait told count →
+pub waits_on : (first : Plain) (id : ConnId) (q : Plain) (got piece : List ℕ) (reply : Reply) (whom : ConnId) (count : ℕ) → Waits first id q got → answer_in q 0 (Piece id piece) ≡ Ok reply → reply.said ≡ saids.Wait whom count →
     Waits first id (after q (entry 0 (Piece id piece) reply ∷ [])) (got ++ piece)
-waits_on first id q got piece reply told count waits is said =
+waits_on first id q got piece reply whom count waits is said =
     let h = waits.holds in
     let reply_is = reply_said q id got h piece reply is in
-    let status : status_on h.rest piece ≡ statuses.Wait = wait_said (candidate_of q id h.version h.frontend) h.row.real (length piece) (status_on h.rest piece) told count (ap (λ r. r.said) (sym reply_is) ∙ said) in
+    let status : status_on h.rest piece ≡ statuses.Wait = wait_said (candidate_of q id h.version h.frontend) h.row.real (length piece) (status_on h.rest piece) whom count (ap (λ r. r.said) (sym reply_is) ∙ said) in
     let waits_is : reply ≡ reply_of (saids.Wait id (length piece)) = reply_is ∙ ap (λ s. reply_of (header_said (candidate_of q id h.version h.frontend) h.row.real (length piece) s)) status in
     let state : state_on q id piece h.own ≡ after q (entry 0 (Piece id piece) reply ∷ []) = sym (after_is q id got h piece (length piece)) ∙ ap (λ r. after q (entry 0 (Piece id piece) r ∷ [])) (sym waits_is) in
     subst (λ s. Waits first id s (got ++ piece)) state (record {
@@ -180,8 +180,8 @@ waits_on first id q got piece reply told count waits is said =
           ∙ ap (λ n. later n (answer_in (state_on q id piece h.own) 0 (Piece id more))) (sym (length-append got piece));
     })
 
--- what is said to all bytes where a piece was not told to wait
-pub decided : (first : Plain) (id : ConnId) (q : Plain) (got piece : List ℕ) (reply : Reply) → Waits first id q got → answer_in q 0 (Piece id piece) ≡ Ok reply → ((told : ConnId) (count : ℕ) → reply.said ≢ saids.Wait told count) →
+-- what is said to all bytes where the answer to a piece was not to wait
+pub decided : (first : Plain) (id : ConnId) (q : Plain) (got piece : List ℕ) (reply : Reply) → Waits first id q got → answer_in q 0 (Piece id piece) ≡ Ok reply → ((whom : ConnId) (count : ℕ) → reply.said ≢ saids.Wait whom count) →
     (more : List ℕ) → answer_in first 0 (Piece id ((got ++ piece) ++ more)) ≡ later (length got) (Ok reply)
 decided first id q got piece reply waits is said more =
     let h = waits.holds in

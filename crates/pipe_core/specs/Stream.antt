@@ -23,14 +23,14 @@ ReadsAll None new = Unit {0}
 ReadsAll (Some all) new = new ≡ Some []
 
 -- these bytes were written, and then what was read, and that are so many
-pub record Served (left_old left_new held_old held_new : Option (List ℕ)) (first : List ℕ) (count : ℕ) : Type 0 where
+pub record Delivery (left_old left_new held_old held_new : Option (List ℕ)) (first : List ℕ) (count : ℕ) : Type 0 where
   pub got : List ℕ
   pub read : Consumes left_old left_new got
   pub wrote : Appends held_old held_new (first ++ got)
   pub counts : count ≡ length (first ++ got)
 
 -- of these bytes and what was read the first ones were written
-pub record ServedFront (left_old left_new held_old held_new : Option (List ℕ)) (first : List ℕ) : Type 0 where
+pub record DeliveryFront (left_old left_new held_old held_new : Option (List ℕ)) (first : List ℕ) : Type 0 where
   pub got : List ℕ
   pub count : ℕ
   pub read : Consumes left_old left_new got

@@ -44,7 +44,7 @@ pub record Holds (q : Plain) (id : ConnId) (got : List ℕ) : Type 0 where
   pub is_rest : IsRest got rest
   pub well : IsWell q
 
--- it waits since that first state, and what is said to bytes after those that came is what all are told in one piece
+-- it waits since that first state, and what is said to bytes after those that came is what is said to all of them in one piece
 pub record Waits (first : Plain) (id : ConnId) (q : Plain) (got : List ℕ) : Type 0 where
   pub holds : Holds q id got
   pub same : (more : List ℕ) → answer_in first 0 (Piece id (got ++ more)) ≡ later (length got) (answer_in q 0 (Piece id more))

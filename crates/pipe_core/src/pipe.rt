@@ -11,7 +11,7 @@ ghost use Rattle.config_core.specs.Meaning.{meaning};
 ghost use Rattle.config_core.specs.declared.fault.OpenFault.{OpenFault};
 ghost use Rattle.conn_core.specs.Machine.{IsOpened};
 ghost use Rattle.pipe_core.specs.Devices.{GaveUp, HasGivenUp, IsSpent};
-ghost use Rattle.pipe_core.specs.Stream.{ReadsAll, Served, ServedFront};
+ghost use Rattle.pipe_core.specs.Stream.{ReadsAll, Delivery, DeliveryFront};
 ghost use Rattle.pipe_core.specs.Pipe.{as_listener, listener_of, IsEnded, IsPiped, IsPipedFrom, IsStopped};
 
 use crate::end::{PipeEnd, PipeFault};
@@ -96,9 +96,9 @@ fn serve<I: Input, O: Output>(
     requires from { offer.now.from ≤ offer.now.to }
     requires to { offer.now.to ≤ length buffer.old }
     requires reads { reads.old ≤ MOST_READS }
-    ensures ok { IfOk result (λ count. Served (I.left reader.old) (I.left reader.new) (O.held writer.old) (O.held writer.new) (offer.now.send.items ++ take (offer.now.to - offer.now.from) (drop offer.now.from buffer.old)) count) }
+    ensures ok { IfOk result (λ count. Delivery (I.left reader.old) (I.left reader.new) (O.held writer.old) (O.held writer.new) (offer.now.send.items ++ take (offer.now.to - offer.now.from) (drop offer.now.from buffer.old)) count) }
     ensures all { OnOk result (ReadsAll (I.left reader.old) (I.left reader.new)) }
-    ensures err { OnErr result (ServedFront (I.left reader.old) (I.left reader.new) (O.held writer.old) (O.held writer.new) (offer.now.send.items ++ take (offer.now.to - offer.now.from) (drop offer.now.from buffer.old))) }
+    ensures err { OnErr result (DeliveryFront (I.left reader.old) (I.left reader.new) (O.held writer.old) (O.held writer.new) (offer.now.send.items ++ take (offer.now.to - offer.now.from) (drop offer.now.from buffer.old))) }
     ensures kind { IfErr result (λ f. (f ≡ PipeFault.Read) ⊎ (f ≡ PipeFault.Write)) }
     ensures calls { I.calls reader.new ≡ raised_by (reads.old - reads.new) (I.calls reader.old) }
     ensures no_more { reads.new ≤ reads.old }

@@ -1,7 +1,7 @@
 use Rattle.std.proofs.Common.{◌≡◌, ◌-◌, length, take, arith}
 use Rattle.std.proofs.lemmas.Result.{err_from_is_err_and}
 use Rattle.device_core.specs.declared.patience.TheConstants.{MOST_READS}
-use Rattle.pipe_core.proofs.ServedLemmas.{cut, piped, stopped}
+use Rattle.pipe_core.proofs.DeliveryLemmas.{cut, piped, stopped}
 use Rattle.pipe_core.proofs.pipe.pipe.Goals as goal
 
 pub returns-in_ok-written-in-Offered-clause-calls : goal.returns-in_ok-written-in-Offered-clause-calls

@@ -1,6 +1,6 @@
 use Rattle.std.proofs.Common.{◌≡◌}
 use Rattle.std.proofs.lemmas.Result.{IfErr-weaker}
-use Rattle.pipe_core.proofs.ServedLemmas.{ended}
+use Rattle.pipe_core.proofs.DeliveryLemmas.{ended}
 use Rattle.pipe_core.proofs.pipe.run_pipe.Goals as goal
 
 pub returns-clause-early_end : goal.returns-clause-early_end

@@ -12,7 +12,7 @@ use Rattle.conn_model.specs.declared.reply.StepFault.{StepFault}
 use Rattle.conn_model.specs.History.{opening}
 use Rattle.pipe_core.specs.Pipe.{end_by, listener_of, output, output_of, said_to, IsCutShort, IsEnded, IsFront, IsPipedFrom, IsStopped}
 use Rattle.pipe_core.specs.Judged.{HasOffer}
-use Rattle.pipe_core.specs.Stream.{Carried, Dropped, ReadsAll, Served, ServedFront}
+use Rattle.pipe_core.specs.Stream.{Carried, Dropped, ReadsAll, Delivery, DeliveryFront}
 use Rattle.pipe_core.specs.declared.end.PipeEnd.TheVariants as ends
 use Rattle.pipe_core.specs.declared.end.PipeFault.{PipeFault}
 use Rattle.pipe_core.specs.declared.end.PipeFault.TheVariants as faults
@@ -20,8 +20,8 @@ use Rattle.pipe_core.specs.declared.header.Offer.{Offer}
 use Rattle.pipe_core.proofs.StreamLemmas.{appends-both, consumes-both, consumes-nil}
 
 -- the first write failed
-pub served_send : (l h0 h1 : Option (List ℕ)) (send payload : List ℕ) → ((n : ℕ) × (n < length send) × Appends h0 h1 (take n send)) → ServedFront l l h0 h1 (send ++ payload)
-served_send l h0 h1 send payload part = record {
+pub delivery_send : (l h0 h1 : Option (List ℕ)) (send payload : List ℕ) → ((n : ℕ) × (n < length send) × Appends h0 h1 (take n send)) → DeliveryFront l l h0 h1 (send ++ payload)
+delivery_send l h0 h1 send payload part = record {
   got = [];
   count = part.0;
   read = consumes-nil l;
@@ -32,8 +32,8 @@ served_send l h0 h1 send payload part = record {
     text = let within : part.0 ≤ length send = omega (arith, part.1) in ap (take part.0) (append_assoc send payload []) ∙ take-append-le part.0 send (payload ++ []) within
 
 -- the second one did
-pub served_payload : (l h0 h1 h2 : Option (List ℕ)) (send payload : List ℕ) → Appends h0 h1 send → ((n : ℕ) × (n < length payload) × Appends h1 h2 (take n payload)) → ServedFront l l h0 h2 (send ++ payload)
-served_payload l h0 h1 h2 send payload sent part = record {
+pub delivery_payload : (l h0 h1 h2 : Option (List ℕ)) (send payload : List ℕ) → Appends h0 h1 send → ((n : ℕ) × (n < length payload) × Appends h1 h2 (take n payload)) → DeliveryFront l l h0 h2 (send ++ payload)
+delivery_payload l h0 h1 h2 send payload sent part = record {
   got = [];
   count = length send + part.0;
   read = consumes-nil l;
@@ -44,8 +44,8 @@ served_payload l h0 h1 h2 send payload sent part = record {
     text = ap (take (length send + part.0)) (append-nil (send ++ payload)) ∙ take-append-add send payload part.0
 
 -- a later one did, or a read
-pub served_part : (l0 l1 h0 h1 h2 h3 : Option (List ℕ)) (send payload : List ℕ) → Appends h0 h1 send → Appends h1 h2 payload → Dropped l0 l1 h2 h3 → ServedFront l0 l1 h0 h3 (send ++ payload)
-served_part l0 l1 h0 h1 h2 h3 send payload sent paid dropped = record {
+pub delivery_part : (l0 l1 h0 h1 h2 h3 : Option (List ℕ)) (send payload : List ℕ) → Appends h0 h1 send → Appends h1 h2 payload → Dropped l0 l1 h2 h3 → DeliveryFront l0 l1 h0 h3 (send ++ payload)
+delivery_part l0 l1 h0 h1 h2 h3 send payload sent paid dropped = record {
   got = dropped.got;
   count = length (send ++ payload) + dropped.count;
   read = dropped.read;
@@ -54,9 +54,9 @@ served_part l0 l1 h0 h1 h2 h3 send payload sent paid dropped = record {
 }
 
 -- all was written
-pub served_all : (l0 l1 h0 h1 h2 h3 : Option (List ℕ)) (send payload : List ℕ) (before count : ℕ) → Appends h0 h1 send → Appends h1 h2 payload → before ≡ length send + length payload → Carried l0 l1 h2 h3 before count →
-    Served l0 l1 h0 h3 (send ++ payload) count
-served_all l0 l1 h0 h1 h2 h3 send payload before count sent paid is carried = record {
+pub delivery_all : (l0 l1 h0 h1 h2 h3 : Option (List ℕ)) (send payload : List ℕ) (before count : ℕ) → Appends h0 h1 send → Appends h1 h2 payload → before ≡ length send + length payload → Carried l0 l1 h2 h3 before count →
+    Delivery l0 l1 h0 h3 (send ++ payload) count
+delivery_all l0 l1 h0 h1 h2 h3 send payload before count sent paid is carried = record {
   got = carried.got;
   read = carried.read;
   wrote = appends-both h0 h2 h3 (send ++ payload) carried.got (appends-both h0 h1 h2 send payload sent paid) carried.wrote;
@@ -84,14 +84,14 @@ offer_text offer buffer got = append_assoc offer.send.items (take (offer.to - of
 
 -- all that the server gets was written
 pub piped : (p : Plain) (name : List ℕ) (listener : ℕ) (real : PairValue) (l0 l1 l2 h0 h1 : Option (List ℕ)) (buffer : List ℕ) (offer : Offer) (count : ℕ) → listener_of p name ≡ Some listener →
-    HasOffer (said_to p listener real) l0 l1 buffer offer → Served l1 l2 h0 h1 (offer.send.items ++ take (offer.to - offer.from) (drop offer.from buffer)) count → ReadsAll l1 l2 →
+    HasOffer (said_to p listener real) l0 l1 buffer offer → Delivery l1 l2 h0 h1 (offer.send.items ++ take (offer.to - offer.from) (drop offer.from buffer)) count → ReadsAll l1 l2 →
     (input sent : List ℕ) → l0 ≡ Some input → h0 ≡ Some sent → IsPipedFrom p name real input sent l2 h1 (ends.Offered count)
-piped p name listener real l0 l1 l2 h0 h1 buffer offer count listens has served all input sent left held = record {
+piped p name listener real l0 l1 l2 h0 h1 buffer offer count listens has delivery all input sent left held = record {
   listener = listener;
   listens = listens;
-  ends = ap (λ bytes. end_by bytes (said_to p listener real bytes)) input_is ∙ (has.offers served.got).1 ∙ ap (λ n. Some (ends.Offered n)) (sym count_is);
-  wrote = wrote_known h1 sent text (subst (λ xs. Appends (Some sent) h1 xs) text_is (subst (λ h. Appends h h1 (first ++ served.got)) held served.wrote))
-      ∙ ap (λ xs. Some (sent ++ xs)) (sym (has.offers served.got).0 ∙ ap (λ bytes. output_of bytes (said_to p listener real bytes)) (sym input_is));
+  ends = ap (λ bytes. end_by bytes (said_to p listener real bytes)) input_is ∙ (has.offers delivery.got).1 ∙ ap (λ n. Some (ends.Offered n)) (sym count_is);
+  wrote = wrote_known h1 sent text (subst (λ xs. Appends (Some sent) h1 xs) text_is (subst (λ h. Appends h h1 (first ++ delivery.got)) held delivery.wrote))
+      ∙ ap (λ xs. Some (sent ++ xs)) (sym (has.offers delivery.got).0 ∙ ap (λ bytes. output_of bytes (said_to p listener real bytes)) (sym input_is));
   read = none;
 }
   where
@@ -99,13 +99,13 @@ piped p name listener real l0 l1 l2 h0 h1 buffer offer count listens has served 
     first = offer.send.items ++ take (offer.to - offer.from) (drop offer.from buffer)
 
     text : List ℕ
-    text = offer.send.items ++ (take (offer.to - offer.from) (drop offer.from buffer) ++ served.got)
+    text = offer.send.items ++ (take (offer.to - offer.from) (drop offer.from buffer) ++ delivery.got)
 
-    text_is : first ++ served.got ≡ text
-    text_is = offer_text offer buffer served.got
+    text_is : first ++ delivery.got ≡ text
+    text_is = offer_text offer buffer delivery.got
 
     count_is : count ≡ length text
-    count_is = served.counts ∙ ap length text_is
+    count_is = delivery.counts ∙ ap length text_is
 
     read_first : Consumes (Some input) l1 has.got
     read_first = subst (λ l. Consumes l l1 has.got) left has.read
@@ -113,37 +113,37 @@ piped p name listener real l0 l1 l2 h0 h1 buffer offer count listens has served 
     none : l2 ≡ Some []
     none = read_out l1 l2 input has.got read_first all
 
-    input_is : input ≡ has.got ++ served.got
+    input_is : input ≡ has.got ++ delivery.got
     input_is =
-        let known = left_known l2 input (has.got ++ served.got) (consumes-both (Some input) l1 l2 has.got served.got read_first served.read) in
+        let known = left_known l2 input (has.got ++ delivery.got) (consumes-both (Some input) l1 l2 has.got delivery.got read_first delivery.read) in
         let nothing : known.0 ≡ [] = let e : Some known.0 ≡ Some [] = sym known.1 ∙ none in cc in
-        known.2 ∙ ap (λ xs. (has.got ++ served.got) ++ xs) nothing ∙ append-nil (has.got ++ served.got)
+        known.2 ∙ ap (λ xs. (has.got ++ delivery.got) ++ xs) nothing ∙ append-nil (has.got ++ delivery.got)
 
 -- the first bytes of it were written
 pub cut : (p : Plain) (name : List ℕ) (listener : ℕ) (real : PairValue) (l0 l1 l2 h0 h1 : Option (List ℕ)) (buffer : List ℕ) (offer : Offer) → listener_of p name ≡ Some listener →
-    HasOffer (said_to p listener real) l0 l1 buffer offer → ServedFront l1 l2 h0 h1 (offer.send.items ++ take (offer.to - offer.from) (drop offer.from buffer)) →
+    HasOffer (said_to p listener real) l0 l1 buffer offer → DeliveryFront l1 l2 h0 h1 (offer.send.items ++ take (offer.to - offer.from) (drop offer.from buffer)) →
     (input sent : List ℕ) → l0 ≡ Some input → h0 ≡ Some sent → IsCutShort p name real input sent l2 h1
-cut p name listener real l0 l1 l2 h0 h1 buffer offer listens has served input sent left held = record {
+cut p name listener real l0 l1 l2 h0 h1 buffer offer listens has delivery input sent left held = record {
   listener = listener;
   listens = listens;
-  got = has.got ++ served.got;
+  got = has.got ++ delivery.got;
   rest = known.0;
   is_left = known.1;
   is_read = known.2;
   front = (
-    sent ++ take served.count (first ++ served.got),
-    drop served.count (first ++ served.got),
-    wrote_known h1 sent (take served.count (first ++ served.got)) (subst (λ h. Appends h h1 (take served.count (first ++ served.got))) held served.wrote),
-    ap (λ xs. sent ++ xs) ((has.offers served.got).0 ∙ sym (offer_text offer buffer served.got) ∙ sym (take-append-drop served.count (first ++ served.got)))
-        ∙ sym (append_assoc sent (take served.count (first ++ served.got)) (drop served.count (first ++ served.got))),
+    sent ++ take delivery.count (first ++ delivery.got),
+    drop delivery.count (first ++ delivery.got),
+    wrote_known h1 sent (take delivery.count (first ++ delivery.got)) (subst (λ h. Appends h h1 (take delivery.count (first ++ delivery.got))) held delivery.wrote),
+    ap (λ xs. sent ++ xs) ((has.offers delivery.got).0 ∙ sym (offer_text offer buffer delivery.got) ∙ sym (take-append-drop delivery.count (first ++ delivery.got)))
+        ∙ sym (append_assoc sent (take delivery.count (first ++ delivery.got)) (drop delivery.count (first ++ delivery.got))),
   );
 }
   where
     first : List ℕ
     first = offer.send.items ++ take (offer.to - offer.from) (drop offer.from buffer)
 
-    known : (rest : List ℕ) × (l2 ≡ Some rest) × (input ≡ (has.got ++ served.got) ++ rest)
-    known = left_known l2 input (has.got ++ served.got) (consumes-both (Some input) l1 l2 has.got served.got (subst (λ l. Consumes l l1 has.got) left has.read) served.read)
+    known : (rest : List ℕ) × (l2 ≡ Some rest) × (input ≡ (has.got ++ delivery.got) ++ rest)
+    known = left_known l2 input (has.got ++ delivery.got) (consumes-both (Some input) l1 l2 has.got delivery.got (subst (λ l. Consumes l l1 has.got) left has.read) delivery.read)
 
 -- a read or a write failed
 pub stopped : (p : Plain) (name : List ℕ) (real : PairValue) (input sent : List ℕ) (left held : Option (List ℕ)) (fault : PipeFault) → (fault ≡ faults.Read) ⊎ (fault ≡ faults.Write) → IsCutShort p name real input sent left held → IsStopped p name real input sent left held fault
