@@ -1,19 +1,30 @@
 -- A legal history in two parts.
-use Rattle.std.specs.Prelude.{ℕ, List, [], slice_get, Some, Ok, ◌≡◌, ◌∷◌, ◌++◌}
-use Rattle.std.proofs.Common.{sym, subst}
+use Rattle.std.specs.Prelude.{ℕ, refl, List, [], slice_get, Some, Ok, ◌≡◌, ◌∷◌, ◌++◌}
+use Rattle.std.proofs.Common.{sym, ap, ◌∙◌, subst}
 use Rattle.conn_model.specs.declared.plain.FrontendRows.{FrontendRows}
 use Rattle.conn_model.specs.declared.plain.Plain.{Plain}
 use Rattle.conn_model.specs.Answer.{answer_in}
-use Rattle.conn_model.specs.History.{after, Entry, IsLegal, IsFrontendWell, IsWell}
+use Rattle.conn_model.specs.History.{after, frontends_after, tables_after, tables_by, Entry, IsLegal, IsFrontendWell, IsWell}
 use Rattle.conn_model.proofs.Lists.{all-at}
-use Rattle.conn_model.proofs.Parts.{history_parts}
+use Rattle.conn_model.proofs.Parts.{frontends_in_parts, history_parts, AreFresh}
 use Rattle.conn_model.proofs.Serials.{fresh}
 
 pub well_at : (p : Plain) → IsWell p → (number : ℕ) (own : FrontendRows) → slice_get p.frontends number ≡ Some own → IsFrontendWell p.versions own
 well_at p well number own there = all-at (IsFrontendWell p.versions) p.frontends number own well.frontends there
 
+are_fresh : (p : Plain) → IsWell p → (g h : List Entry) → IsLegal p h → IsLegal (after p h) g → AreFresh p g h
+are_fresh p well g h legal later = λ number own there. fresh p g h number own there (well_at p well number own there) legal later
+
+-- the tables, one entry after the other
+tables_in_parts : (p : Plain) → IsWell p → (g h : List Entry) → IsLegal p h → IsLegal (after p h) g → tables_after (after p h) g ≡ tables_after p (g ++ h)
+tables_in_parts p well [] h legal later = refl
+tables_in_parts p well (e ∷ g) h legal later =
+    let frontends : frontends_after (after p h) g ≡ frontends_after p (g ++ h) = frontends_in_parts p g h (are_fresh p well g h legal later.0) in
+    let tables : tables_after (after p h) g ≡ tables_after p (g ++ h) = tables_in_parts p well g h legal later.0 in
+    ap (λ fs. tables_by fs (tables_after (after p h) g) e.reply) frontends ∙ ap (λ ts. tables_by (frontends_after p (g ++ h)) ts e.reply) tables
+
 in_parts : (p : Plain) → IsWell p → (g h : List Entry) → IsLegal p h → IsLegal (after p h) g → after (after p h) g ≡ after p (g ++ h)
-in_parts p well g h legal later = history_parts p g h (λ number own there. fresh p g h number own there (well_at p well number own there) legal later)
+in_parts p well g h legal later = history_parts p g h (are_fresh p well g h legal later) (tables_in_parts p well g h legal later)
 
 -- Legality in two parts.
 

@@ -5,4 +5,5 @@ pub mod Serials
 pub mod Goes
 pub mod Well
 pub mod Steps
+pub mod Trackings
 pub mod Joined

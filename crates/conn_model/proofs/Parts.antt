@@ -37,10 +37,6 @@ pub versions-same : (p : Plain) (h : List Entry) → versions_after p h ≡ p.ve
 versions-same p [] = refl
 versions-same p (e ∷ h) = rw (brings_none e.event) (versions-same p h)
 
-pub tables-same : (p : Plain) (h : List Entry) → tables_after p h ≡ p.tables
-tables-same p [] = refl
-tables-same p (e ∷ h) = tables-same p h
-
 plans-more : (pairs : List (ℕ × Plan)) (event : OwnedEvent) → pairs ++ option_to_list (version_of event) ≡ pairs
 plans-more pairs event = rw (brings_none event) (append-nil pairs)
 
@@ -302,7 +298,7 @@ map_from-twice f g k n (x ∷ xs) same =
 abbrev pub AreFresh : Plain → List Entry → List Entry → Type 0
 AreFresh p g h = (number : ℕ) (own : FrontendRows) → slice_get p.frontends number ≡ Some own → IsFresh p number g h
 
-frontends_in_parts : (p : Plain) (g h : List Entry) → AreFresh p g h → frontends_after (after p h) g ≡ frontends_after p (g ++ h)
+pub frontends_in_parts : (p : Plain) (g h : List Entry) → AreFresh p g h → frontends_after (after p h) g ≡ frontends_after p (g ++ h)
 frontends_in_parts p g h fresh =
     map_from-twice (frontend_after p h) (frontend_after (after p h) g) (frontend_after p (g ++ h)) 0 p.frontends
     (λ i own there. rw (zero_plus i) (frontend_in_parts p i own g h (fresh i own there)))
@@ -310,9 +306,8 @@ frontends_in_parts p g h fresh =
     zero_plus : (n : ℕ) → 0 + n ≡ n
     zero_plus n = omega arith
 
--- a history in two parts
-pub history_parts : (p : Plain) (g h : List Entry) → AreFresh p g h → after (after p h) g ≡ after p (g ++ h)
-history_parts p g h fresh =
+-- a history in two parts, where its tables are those of the whole
+pub history_parts : (p : Plain) (g h : List Entry) → AreFresh p g h → tables_after (after p h) g ≡ tables_after p (g ++ h) → after (after p h) g ≡ after p (g ++ h)
+history_parts p g h fresh tables =
     let versions : versions_after (after p h) g ≡ versions_after p (g ++ h) = versions-same (after p h) g ∙ versions-same p h ∙ sym (versions-same p (g ++ h)) in
-    let tables : tables_after (after p h) g ≡ tables_after p (g ++ h) = tables-same (after p h) g ∙ tables-same p h ∙ sym (tables-same p (g ++ h)) in
     cc (now_of-append p.clock g h, frontends_in_parts p g h fresh, versions, tables)

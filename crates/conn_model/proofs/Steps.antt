@@ -17,14 +17,17 @@ use Rattle.conn_model.specs.declared.reply.Said.TheVariants.{Wait, Offer, Refuse
 use Rattle.conn_model.specs.declared.plain.Phase.TheVariants.{Offered}
 use Rattle.conn_model.specs.declared.plain.Row.{Row}
 use Rattle.conn_model.specs.declared.plain.FrontendRows.{FrontendRows}
+use Rattle.conn_model.specs.declared.plain.TableState.{TableState}
 use Rattle.conn_model.specs.declared.plain.Version.{Version}
 use Rattle.conn_model.specs.declared.plain.Plain.{Plain}
 use Rattle.conn_model.specs.Words.{map_from, newest, Rise}
 use Rattle.conn_model.specs.Counts.{change_row}
 use Rattle.conn_model.proofs.Parts.{brings_none}
 use Rattle.conn_model.specs.Answer.{row_in, reply_of, version_at, new_row}
-use Rattle.conn_model.specs.History.{id_of, speaks_to, newest_number, plan_of, identity_of, by_counter, phase_by, is_last, is_accept_at, arrival, has_ended, row_after, frontend_after, after, entry, Entry, IsFrontendWell, IsWell}
+use Rattle.conn_model.specs.History.{id_of, speaks_to, newest_number, plan_of, identity_of, by_counter, phase_by, is_last, is_accept_at, arrival, has_ended, row_after, frontend_after, frontends_after, tables_by, after, entry, Entry, IsFrontendWell, IsWell}
 use Rattle.conn_model.proofs.Lists.{all-more, all-at, all-both}
+use Rattle.conn_model.proofs.Trackings.{tables_entered}
+use Rattle.conn_model.proofs.Well.{after-nil}
 
 -- Lists of which one item changes.
 
@@ -105,6 +108,17 @@ other_conn number serial said id whom differs =
     let other : (id.frontend == number) ≡ false = grind (arith, nat_tests, differs) in
     rw (whom, other) refl
 
+-- the frontends after nothing
+frontends_same : (p : Plain) → IsWell p → frontends_after p [] ≡ p.frontends
+frontends_same p well = ap (λ q. q.frontends) (after-nil p well)
+
+abbrev state_with : Plain → ℕ → List FrontendRows → List TableState → Plain
+state_with p clock frontends tables = record { clock = clock; listeners = p.listeners; frontends = frontends; versions = p.versions; tables = tables }
+
+state_is : (p : Plain) (clock : ℕ) (frontends fs : List FrontendRows) (tables ts : List TableState) → tables ≡ ts → frontends ≡ fs →
+    state_with p clock frontends tables ≡ state_with p clock fs ts
+state_is p clock frontends fs tables ts one other = ap (λ x. state_with p clock x tables) other ∙ ap (λ x. state_with p clock fs x) one
+
 -- An accept.
 
 -- what an accept leaves of the new connection, where this is said to it
@@ -179,7 +193,9 @@ pub after-accept : (p : Plain) → IsWell p → (moment listener : ℕ) (real : 
     }
 after-accept p well moment listener real said id own there whom next =
     let zero_plus : 0 + id.frontend ≡ id.frontend = omega arith in
-    ap (λ fs. record { clock = max p.clock moment; listeners = p.listeners; frontends = fs; versions = p.versions; tables = p.tables })
+    let tables : tables_by (frontends_after p []) p.tables (reply_of said) ≡ p.tables =
+    ap (λ fs. tables_by fs p.tables (reply_of said)) (frontends_same p well) ∙ tables_entered p well id said own there whom next in
+    state_is p (max p.clock moment) _ _ _ _ tables
     (map_from-one (IsFrontendWell p.versions) (frontend_after p (entry moment (Accept listener real) (reply_of said) ∷ [])) 0 id.frontend p.frontends own _ well.frontends there
     (rw zero_plus (accept-here p moment listener real said id own (all-at (IsFrontendWell p.versions) p.frontends id.frontend own well.frontends there) whom next))
     (λ g y known differs. accept-elsewhere p moment listener real said id g y known whom (λ e. differs (omega arith))))
@@ -225,11 +241,12 @@ after-old : (p : Plain) → IsWell p → (e : Entry) (id : ConnId) (own : Fronte
       listeners = p.listeners;
       frontends = slice_set p.frontends id.frontend (record own { rows = rows });
       versions = p.versions;
-      tables = p.tables;
+      tables = tables_by p.frontends p.tables e.reply;
     }
 after-old p well e id own rows there old whom is =
     let zero_plus : 0 + id.frontend ≡ id.frontend = omega arith in
-    rw (brings_none e.event) (ap (λ fs. record { clock = max p.clock e.moment; listeners = p.listeners; frontends = fs; versions = p.versions; tables = p.tables })
+    let changed : tables_by (frontends_after p []) p.tables e.reply ≡ tables_by p.frontends p.tables e.reply = ap (λ fs. tables_by fs p.tables e.reply) (frontends_same p well) in
+    rw (brings_none e.event) (state_is p (max p.clock e.moment) _ _ _ _ changed
     (map_from-one (IsFrontendWell p.versions) (frontend_after p (e ∷ [])) 0 id.frontend p.frontends own _ well.frontends there
     (rw zero_plus (old-here p e id.frontend own rows old is))
     (λ g y known differs. old-elsewhere p e id g y known old whom (λ x. differs (omega arith)))))
@@ -253,7 +270,7 @@ pub after-end : (p : Plain) → IsWell p → (e : Entry) (id : ConnId) (own : Fr
       listeners = p.listeners;
       frontends = slice_set p.frontends id.frontend (record own { rows = filter (λ row. not (row.serial == id.serial)) own.rows });
       versions = p.versions;
-      tables = p.tables;
+      tables = tables_by p.frontends p.tables e.reply;
     }
 after-end p well e id own there old whom last =
     after-old p well e id own _ there old whom (ended-rows p e id own (all-at (IsFrontendWell p.versions) p.frontends id.frontend own well.frontends there) whom last)
@@ -287,7 +304,7 @@ pub after-change : (p : Plain) → IsWell p → (e : Entry) (id : ConnId) (own :
       listeners = p.listeners;
       frontends = slice_set p.frontends id.frontend (record own { rows = change_row id.serial (λ row. record row { phase = phase_by (plan_of p [] row.version) e.event e.reply.said row.phase }) own.rows });
       versions = p.versions;
-      tables = p.tables;
+      tables = tables_by p.frontends p.tables e.reply;
     }
 after-change p well e id own there old whom last none =
     after-old p well e id own _ there old whom (changed-rows p e id own.rows (all-at (IsFrontendWell p.versions) p.frontends id.frontend own well.frontends there).sorted whom last none)

@@ -1,10 +1,11 @@
 -- A legal history keeps what is known of a state, and an opening state has it.
 use Rattle.std.specs.Prelude.{ℕ, Bool, true, false, not, List, [], map, filter, slice_get, Option, Some, None, IsSome, IfOk, IfErr, Result, Ok, Err, refl, ◌+◌, ◌≡◌, ◌==◌, ◌∷◌, ◌++◌}
-use Rattle.std.specs.List.{AllByRecursion}
+use Rattle.std.specs.List.{AllByRecursion, enumerate_from}
 use Rattle.std.specs.Option.{option_map_or}
 use Rattle.std.proofs.Common.{sym, ap, ◌∙◌, subst, arith, append-nil}
 use Rattle.std.proofs.lemmas.Bool.{false≢true, eq-eqb}
 use Rattle.std.proofs.lemmas.List.{length-map}
+use Rattle.std.proofs.lemmas.List.FromFn.{length-enumerate_from}
 use Rattle.plan_types.specs.declared.plan.Frontend.{Frontend}
 use Rattle.plan_types.specs.declared.plan.Plan.{Plan}
 use Rattle.conn_model.specs.declared.event.OwnedEvent.{OwnedEvent}
@@ -16,6 +17,7 @@ use Rattle.conn_model.specs.declared.plain.Version.{Version}
 use Rattle.conn_model.specs.declared.plain.Plain.{Plain}
 use Rattle.conn_model.specs.Words.{newest}
 use Rattle.conn_model.specs.Answer.{version_at, answer_in}
+use Rattle.conn_model.specs.Tables.{new_id}
 use Rattle.conn_model.specs.History.{now_of, in_force, newest_number, tracks_of, by_counter, arrival, arrivals, has_ended, row_after, frontend_after, after, answer, entry, Entry, IsFault, IsLegal, IsFrontendWell, IsWell, opening}
 use Rattle.conn_model.proofs.Lists.{all-append, all-each, all-filter, all-map, all-from_zero, rise-filter, rise-map, map_from-same}
 use Rattle.conn_model.proofs.Parts.{in_force-same, versions-same, by_counter-append}
@@ -80,7 +82,7 @@ well_after p well h legal = record {
 
 -- an opening state has it
 pub opening_well : (plan : Plan) (last : ℕ) → IsWell (opening plan last)
-opening_well plan last = record { frontends = by plan.frontends; rise = (tt, tt); last = refl; versions = (record { cursors = length-map plan.backends (λ backend. None) }, tt) }
+opening_well plan last = record { frontends = by plan.frontends; rise = (tt, tt); last = refl; versions = (record { tables = length-map (enumerate_from 0 plan.tables) (new_id 1) ∙ length-enumerate_from 0 plan.tables; cursors = length-map plan.backends (λ backend. None) }, tt) }
   where
     by : (frontends : List Frontend) → AllByRecursion (IsFrontendWell (opening plan last).versions) (map (λ frontend. record { name = frontend.name; serial = last; rows = [] }) frontends)
     by [] = tt

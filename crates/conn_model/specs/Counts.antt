@@ -1,7 +1,7 @@
 -- Counts of the open connections.
 use Rattle.std.specs.Prelude.{ℕ, Bool, false, List, [], ◌∷◌, length, map, filter, slice_get, Option, ◌+◌, ◌==◌, if◌then◌else◌}
 use Rattle.std.specs.Str.{bytes_eq}
-use Rattle.std.specs.Option.{option_map, option_map_or}
+use Rattle.std.specs.Option.{option_and_then, option_map, option_map_or}
 use Rattle.conn_model.specs.declared.ask.Ask.{Ask}
 use Rattle.conn_model.specs.declared.ask.Ask.TheVariants as asks
 use Rattle.conn_model.specs.declared.ask.Counts.{Counts}
@@ -9,7 +9,11 @@ use Rattle.conn_model.specs.declared.plain.Phase.{Phase}
 use Rattle.conn_model.specs.declared.plain.Phase.TheVariants.{Waiting, Offered}
 use Rattle.conn_model.specs.declared.plain.Row.{Row}
 use Rattle.conn_model.specs.declared.plain.FrontendRows.{FrontendRows}
+use Rattle.conn_model.specs.declared.plain.TableState.{TableState}
+use Rattle.conn_model.specs.declared.plain.Version.{Version}
 use Rattle.conn_model.specs.declared.plain.Plain.{Plain}
+use Rattle.conn_model.specs.Words.{newest}
+use Rattle.conn_model.specs.Tables.{entry_counts, open_tracks, table_at}
 
 -- how many connections of the frontend of that number are open
 abbrev pub open_in : List FrontendRows → ℕ → ℕ
@@ -46,6 +50,12 @@ change_row serial change rows = map (λ row. if row.serial == serial then change
 abbrev pub open_of : FrontendRows → Counts
 open_of own = record { cur = length own.rows; cnt = 0 }
 
+-- the table of that number in the newest version
+abbrev pub newest_table : List Version → List TableState → ℕ → Option TableState
+newest_table versions tables number =
+    option_and_then (table_at tables) (option_and_then (λ version. slice_get version.tables number) (newest versions))
+
 -- the counts that are asked for, if there is such a thing
 abbrev pub counts_in : Plain → Ask → Option Counts
 counts_in p (asks.Frontend number) = option_map open_of (slice_get p.frontends number)
+counts_in p (asks.Entry number addr) = option_map (entry_counts (open_tracks p.frontends) addr) (newest_table p.versions p.tables number)

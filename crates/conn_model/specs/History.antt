@@ -33,7 +33,8 @@ use Rattle.conn_model.specs.declared.ask.Ask.{Ask}
 use Rattle.conn_model.specs.declared.ask.Counts.{Counts}
 use Rattle.conn_model.specs.Words.{is_conn, newest, map_from, Rise}
 use Rattle.conn_model.specs.Counts.{counts_in}
-use Rattle.conn_model.specs.Answer.{answer_in, new_row, version_at}
+use Rattle.conn_model.specs.Answer.{answer_in, new_row, row_at, version_at}
+use Rattle.conn_model.specs.Tables.{new_id, new_table, open_tracks, with_tracks, without_tracks}
 
 -- an answered event, with the moment that was handed in
 pub record Entry : Type 0 where
@@ -199,9 +200,14 @@ frontend_after p h number own = record own {
 abbrev pub frontends_after : Plain → List Entry → List FrontendRows
 frontends_after p h = map_from (frontend_after p h) 0 p.frontends
 
--- a version as it is when it comes into force: nothing of its backends was used
+-- a version as it is when it comes into force: its tables begin with it, and nothing of its backends was used
 abbrev pub new_version : ℕ → Plan → Version
-new_version number plan = record { number = number; plan = plan; tables = []; cursors = map (λ backend. None) plan.backends }
+new_version number plan = record {
+  number = number;
+  plan = plan;
+  tables = map (new_id number) (enumerate_from 0 plan.tables);
+  cursors = map (λ backend. None) plan.backends;
+}
 
 abbrev pub with_version : List Version → Option (ℕ × Plan) → List Version
 with_version versions None = versions
@@ -212,10 +218,24 @@ abbrev pub versions_after : Plain → List Entry → List Version
 versions_after p [] = p.versions
 versions_after p (e ∷ h) = with_version (versions_after p h) (version_of e.event)
 
--- the tables, one entry after the other; no event changes one yet
+-- what the connection of that name tracks
+abbrev pub tracks_at : List FrontendRows → ConnId → List Track
+tracks_at frontends id = option_map_or (λ row. row.tracks) (row_at frontends id) []
+
+-- what is no longer tracked after a reply: where it is a last one, all that its connection tracked, in the order of
+-- counters
+abbrev pub ended_by : List FrontendRows → Reply → List Track
+ended_by frontends reply =
+    if is_last reply.said then by_counter (option_map_or (tracks_at frontends) (id_of reply.said) [] ++ reply.tracks.items) else []
+
+-- the tables after a reply: what it tracks begins, and then what ends with it ends
+abbrev pub tables_by : List FrontendRows → List TableState → Reply → List TableState
+tables_by frontends tables reply = without_tracks (ended_by frontends reply) (with_tracks (open_tracks frontends) reply.tracks.items tables)
+
+-- the tables, one entry after the other
 abbrev pub tables_after : Plain → List Entry → List TableState
 tables_after p [] = p.tables
-tables_after p (e ∷ h) = tables_after p h
+tables_after p (e ∷ h) = tables_by (frontends_after p h) (tables_after p h) e.reply
 
 -- the plain state after the history
 abbrev pub after : Plain → List Entry → Plain
@@ -263,8 +283,9 @@ pub record IsFrontendWell (versions : List Version) (own : FrontendRows) : Type 
   pub kept : AllByRecursion (λ row. IsSome (version_at versions row.version)) own.rows
   pub sorted : AllByRecursion (λ row. by_counter row.tracks ≡ row.tracks) own.rows
 
--- there is a cursor for each backend
+-- there is an incarnation of each table, and a cursor for each backend
 pub record IsVersionWell (version : Version) : Type 0 where
+  pub tables : length version.tables ≡ length version.plan.tables
   pub cursors : length version.cursors ≡ length version.plan.backends
 
 -- a state that an opening or a legal history can leave: besides, the numbers of the versions rise, and
@@ -287,7 +308,7 @@ opening plan last = record {
   listeners = flat_map listeners_of (enumerate_from 0 plan.frontends);
   frontends = map (λ frontend. record { name = frontend.name; serial = last; rows = [] }) plan.frontends;
   versions = new_version 1 plan ∷ [];
-  tables = [];
+  tables = map (new_table 1) (enumerate_from 0 plan.tables);
 }
 
 -- an event as a history keeps it

@@ -1,7 +1,7 @@
 //! Copies of what a state has.
 ghost use Rattle.std.specs.Prelude.{◌≡◌, IfOk};
 
-use crate::plain::{Assignment, Listener, TableEntry, TableState, Version};
+use crate::plain::{Assignment, Listener, TableState, Version};
 use list_core::Duplicate;
 use std::alloc::{AllocError, Global};
 
@@ -38,12 +38,6 @@ impl Duplicate for TableState {
 
 impl Duplicate for Listener {
     fn duplicate(&self, _alloc: Global) -> Result<Listener, AllocError> {
-        Ok(*self)
-    }
-}
-
-impl Duplicate for TableEntry {
-    fn duplicate(&self, _alloc: Global) -> Result<TableEntry, AllocError> {
         Ok(*self)
     }
 }

@@ -1,9 +1,10 @@
 //! The state of a balancer as plain data.
-use addr_core::{Addr, Endpoint, Pair};
+use addr_core::{Endpoint, Pair};
 use list_core::Seq;
 use plan_types::{Plan, Table, TableId, Track};
 use pp_any::Rest;
 use proxy_types::{Place, ServerIdentity};
+use stick_core::TableEntry;
 
 /// The server that a connection was given.
 #[derive(Debug, Drop)]
@@ -68,14 +69,6 @@ pub struct Version {
     pub tables: Seq<TableId>,
     /// What was last used of each backend.
     pub cursors: Seq<Option<Place>>,
-}
-
-/// An entry of a table.
-#[derive(Clone, Copy, Debug, PartialEq, Eq)]
-pub struct TableEntry {
-    pub key: Addr,
-    /// How often it was tracked.
-    pub cnt: u64,
 }
 
 /// A table that is kept, with its entries, the one that was touched longest ago first.

@@ -1,0 +1,82 @@
+-- Tables: how the entries of each change as connections track keys, and end.
+use Rattle.std.specs.Prelude.{ℕ, Bool, List, [], ◌∷◌, ◌++◌, map, filter, find, flat_map, length, Option, ◌==◌, ◌&&◌, if◌then◌else◌}
+use Rattle.addr_core.specs.declared.addr.Addr.{Addr}
+use Rattle.stick_core.specs.Key.{same_key}
+use Rattle.stick_core.specs.PlainEntries.{with_tracking, touched, count_at, trackers_at}
+use Rattle.plan_types.specs.declared.plan.Table.{Table}
+use Rattle.plan_types.specs.declared.track.TableId.{TableId}
+use Rattle.plan_types.specs.declared.track.Track.{Track}
+use Rattle.conn_model.specs.declared.ask.Counts.{Counts}
+use Rattle.conn_model.specs.declared.plain.FrontendRows.{FrontendRows}
+use Rattle.conn_model.specs.declared.plain.TableState.{TableState}
+
+-- the same incarnation of a table
+abbrev pub same_id : TableId → TableId → Bool
+same_id a b = (a.version == b.version) && (a.position == b.position)
+
+-- the table of that incarnation
+abbrev pub table_at : List TableState → TableId → Option TableState
+table_at tables id = find (λ table. same_id table.id id) tables
+
+-- Who tracks a key.
+
+-- all that open connections track
+abbrev pub tracks_in : FrontendRows → List Track
+tracks_in own = flat_map (λ row. row.tracks) own.rows
+
+abbrev pub open_tracks : List FrontendRows → List Track
+open_tracks frontends = flat_map tracks_in frontends
+
+-- the track is of that key of the table
+abbrev pub is_of : TableId → Addr → Track → Bool
+is_of id key track = same_id track.table id && same_key track.key key
+
+-- how many of the tracks are of that key of the table
+abbrev pub trackers : List Track → TableId → Addr → ℕ
+trackers tracks id key = length (filter (is_of id key) tracks)
+
+-- how many open connections track an address in the table, and how often it was tracked
+abbrev pub entry_counts : List Track → Addr → TableState → Counts
+entry_counts tracks addr table = record {
+  cur = trackers_at (trackers tracks table.id) table.table.kind addr;
+  cnt = count_at table.table.kind table.entries addr;
+}
+
+-- A key is tracked: its table counts it once more, and from a full table the entry that was touched longest ago of
+-- those that nobody tracks is gone.
+
+abbrev pub table_with : List Track → Track → TableState → TableState
+table_with tracks track table =
+    if same_id table.id track.table
+    then record table { entries = with_tracking (trackers tracks table.id) table.table.size track.key table.entries }
+    else table
+
+-- the tables once a key is tracked, where those were tracked before
+abbrev pub with_track : List Track → Track → List TableState → List TableState
+with_track tracks track tables = map (table_with tracks track) tables
+
+-- and several, one after the other
+abbrev pub with_tracks : List Track → List Track → List TableState → List TableState
+with_tracks tracks [] tables = tables
+with_tracks tracks (new ∷ rest) tables = with_tracks (tracks ++ new ∷ []) rest (with_track tracks new tables)
+
+-- A tracking ends: the key is at the end of the table's entries.
+
+abbrev pub table_without : Track → TableState → TableState
+table_without track table = if same_id table.id track.table then record table { entries = touched track.key table.entries } else table
+
+abbrev pub without_track : Track → List TableState → List TableState
+without_track track tables = map (table_without track) tables
+
+-- several, one after the other
+abbrev pub without_tracks : List Track → List TableState → List TableState
+without_tracks [] tables = tables
+without_tracks (track ∷ rest) tables = without_tracks rest (without_track track tables)
+
+-- Tables that begin with a version, each with its position in the text.
+
+abbrev pub new_id : ℕ → ℕ × Table → TableId
+new_id version (position, table) = record { version = version; position = position }
+
+abbrev pub new_table : ℕ → ℕ × Table → TableState
+new_table version (position, table) = record { id = record { version = version; position = position }; table = table; entries = [] }
