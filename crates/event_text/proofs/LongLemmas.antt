@@ -1,7 +1,7 @@
 -- Lines with a word too many hand in no event.
 use Rattle.std.proofs.Common.{◌≡◌, ℕ, List, ◌∷◌, None, refl}
 use Rattle.std.specs.List.{slice_split}
-use Rattle.event_text.specs.Script.{accept_of, ask_of, close_of, expire_of, id_in, is_mark, piece_of, words_of}
+use Rattle.event_text.specs.Script.{accept_of, close_of, entry_asked, expire_of, frontend_asked, id_in, is_mark, piece_of, words_of}
 use Rattle.text_core.proofs.CutLemmas.{split_first}
 
 pub accept_long : (a b c text : List ℕ) → accept_of (a ∷ b ∷ c ∷ words_of text) ≡ None
@@ -13,8 +13,11 @@ close_long a b text = let some = split_first (is_mark 0x20) text in rw (some.2) 
 pub id_long : (a b text : List ℕ) → id_in (a ∷ b ∷ slice_split (is_mark 0x2E) text) ≡ None
 id_long a b text = let some = split_first (is_mark 0x2E) text in rw (some.2) refl
 
-pub ask_long : (a b text : List ℕ) → ask_of (a ∷ b ∷ words_of text) ≡ None
-ask_long a b text = let some = split_first (is_mark 0x20) text in rw (some.2) refl
+pub frontend_long : (a text : List ℕ) → frontend_asked (a ∷ words_of text) ≡ None
+frontend_long a text = let some = split_first (is_mark 0x20) text in rw (some.2) refl
+
+pub entry_long : (a b text : List ℕ) → entry_asked (a ∷ b ∷ words_of text) ≡ None
+entry_long a b text = let some = split_first (is_mark 0x20) text in rw (some.2) refl
 
 pub piece_long : (a b text : List ℕ) → piece_of (a ∷ b ∷ words_of text) ≡ None
 piece_long a b text = let some = split_first (is_mark 0x20) text in rw (some.2) refl

@@ -70,6 +70,7 @@ fault_name NoMemory = codes "NoMemory"
 abbrev pub count_line : Ask → Option Counts → List ℕ
 count_line ask None = codes "count none\n"
 count_line (asks.Frontend number) (Some counts) = codes "count " ++ decimal counts.cur ++ codes "\n"
+count_line (asks.Entry number addr) (Some counts) = codes "count " ++ decimal counts.cur ++ codes " " ++ decimal counts.cnt ++ codes "\n"
 
 -- the line that a refused step is
 abbrev pub fault_line : StepFault → List ℕ

@@ -6,7 +6,7 @@ use Rattle.std.specs.Str.{bytes_eq}
 use Rattle.hex.specs.Hex.{decode_sized, encode_lower, IsBytes}
 use Rattle.text_core.specs.Decimal.{decimal, decimal_of}
 use Rattle.addr_core.specs.PairValue.{PairValue, pair_of}
-use Rattle.addr_core.specs.Text.{endpoint_of, endpoint_text, IsEndpoint}
+use Rattle.addr_core.specs.Text.{addr_of, endpoint_of, endpoint_text, IsEndpoint}
 use Rattle.addr_core.specs.Family.{same_family}
 use Rattle.conn_model.specs.declared.ask.Ask.{Ask}
 use Rattle.conn_model.specs.declared.ask.Ask.TheVariants as asks
@@ -156,10 +156,23 @@ event_read buffer (reads.Expire id) = Expire id
 abbrev pub timed_event : List ℕ → ℕ × EventRequest → ℕ × OwnedEvent
 timed_event buffer timed = (timed.0, event_read buffer timed.1)
 
+-- what is asked for by the words after `ask frontend`
+abbrev pub frontend_asked : List (List ℕ) → Option Ask
+frontend_asked (number ∷ []) = option_map (λ n. asks.Frontend n) (decimal_of number 0xFFFF)
+frontend_asked words = None
+
+-- and after `ask entry`: a table of the newest version by its number, and an address
+abbrev pub entry_asked : List (List ℕ) → Option Ask
+entry_asked (number ∷ addr ∷ []) = decimal_of number 0xFFFF >>= λ n. option_map (λ a. asks.Entry n a) (result_ok (addr_of addr))
+entry_asked words = None
+
 -- what is asked for by the words after `ask`
 abbrev pub ask_of : List (List ℕ) → Option Ask
-ask_of (kind ∷ number ∷ []) = if bytes_eq kind (codes "frontend") then option_map (λ n. asks.Frontend n) (decimal_of number 0xFFFF) else None
-ask_of words = None
+ask_of [] = None
+ask_of (kind ∷ words) =
+    if bytes_eq kind (codes "frontend") then frontend_asked words
+    else if bytes_eq kind (codes "entry") then entry_asked words
+    else None
 
 -- What a line wants: an answer to an event at a moment, or counts.
 pub data Wanted : Type 0 where

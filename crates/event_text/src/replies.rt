@@ -257,6 +257,11 @@ pub fn write_counts(out: &mut Vec<u8>, ask: &Ask, counts: Option<Counts>) -> Res
             write_field(out, b"count ", counts.cur)?;
             write_text(out, b"\n")
         }
+        Ask::Entry(_, _) => {
+            write_field(out, b"count ", counts.cur)?;
+            write_field(out, b" ", counts.cnt)?;
+            write_text(out, b"\n")
+        }
     }
 }
 

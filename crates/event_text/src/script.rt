@@ -5,9 +5,9 @@ ghost use Rattle.std.specs.Str.{bytes_eq};
 ghost use Rattle.conn_model.specs.declared.event.OwnedEvent.{OwnedEvent};
 ghost use Rattle.conn_model.specs.declared.event.TheConstants.{PIECE_LIMIT};
 ghost use Rattle.conn_model.specs.History.{owned_event};
-ghost use Rattle.event_text.specs.Script.{accept_of, ask_of, bytes_in, bytes_of, close_of, ends_of, event_line, event_of, event_by_verb, event_read, expire_of, id_of, is_upper_digit, piece_of, timed_event, wanted, wanted_of, why_of, words_of, Wanted, IsHandedIn};
+ghost use Rattle.event_text.specs.Script.{accept_of, ask_of, bytes_in, bytes_of, close_of, ends_of, entry_asked, event_line, event_of, event_by_verb, event_read, expire_of, frontend_asked, id_of, is_upper_digit, piece_of, timed_event, wanted, wanted_of, why_of, words_of, Wanted, IsHandedIn};
 
-use addr_core::{Pair, read_endpoint};
+use addr_core::{Pair, read_addr, read_endpoint};
 use conn_model::ask::Ask;
 use conn_model::event::{ConnId, Event, Why};
 use text_core::cut_at;
@@ -239,19 +239,42 @@ pub fn read_event(line: &[u8], buffer: &mut [u8]) -> Option<(u64, EventRequest)>
     event_in(line, buffer)
 }
 
+/// What is asked for after `ask frontend`.
+fn read_frontend(rest: &[u8]) -> Option<Ask>
+    ensures { result ≡ frontend_asked (words_of rest.now) }
+{
+    if let Some((_last, _more)) = cut_word(rest) {
+        return None;
+    }
+    let number = read_decimal(rest, 65535)?;
+    Some(Ask::Frontend(number as u16))
+}
+
+/// What is asked for after `ask entry`.
+fn read_entry(rest: &[u8]) -> Option<Ask>
+    ensures { result ≡ entry_asked (words_of rest.now) }
+{
+    let (number, addr) = cut_word(rest)?;
+    if let Some((_last, _more)) = cut_word(addr) {
+        return None;
+    }
+    let number = read_decimal(number, 65535)?;
+    let addr = read_addr(addr).ok()?;
+    Some(Ask::Entry(number as u16, addr))
+}
+
 /// What is asked for after `ask`.
 fn read_ask(rest: &[u8]) -> Option<Ask>
     ensures { result ≡ ask_of (words_of rest.now) }
 {
-    let (kind, number) = cut_word(rest)?;
-    if let Some((_last, _more)) = cut_word(number) {
-        return None;
+    let (kind, rest) = cut_word(rest)?;
+    if is(kind, b"frontend") {
+        return read_frontend(rest);
     }
-    if !is(kind, b"frontend") {
-        return None;
+    if is(kind, b"entry") {
+        return read_entry(rest);
     }
-    let number = read_decimal(number, 65535)?;
-    Some(Ask::Frontend(number as u16))
+    None
 }
 
 fn timed_request(line: &[u8], buffer: &mut [u8]) -> Option<Request>
