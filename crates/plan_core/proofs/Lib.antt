@@ -1,4 +1,5 @@
 pub mod BindLemmas
+pub mod CountLemmas
 pub mod FaultLemmas
 pub mod LineLemmas
 pub mod NameLemmas

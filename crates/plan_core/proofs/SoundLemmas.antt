@@ -29,9 +29,10 @@ use Rattle.plan_types.specs.Sound.{IsSoundAction, RulesRise, AreSoundRules, Choi
 use Rattle.plan_core.specs.declared.fields.Limit.{Limit}
 use Rattle.plan_core.specs.declared.fields.Named.{Named}
 use Rattle.plan_core.specs.declared.proxies.Proxy.{Proxy}
-use Rattle.plan_core.specs.Compiled.{default_number, frontend_of, backend_of, backends_in}
-use Rattle.plan_core.specs.Fields.{line_default, line_limit, line_table, line_server, line_rule, line_choice, choice_with, backend_number, rule_with, all_of, last_of, setting_in, limit_in, table_with, tables_in, table_number, is_table_of, action_of, track_with, is_in}
+use Rattle.plan_core.specs.Compiled.{default_number, frontend_of, backend_of, backends_in, plan_faults}
+use Rattle.plan_core.specs.Fields.{line_bind, line_default, line_limit, line_table, line_server, line_rule, line_choice, choice_with, backend_number, rule_with, all_of, last_of, setting_in, limit_in, table_with, tables_in, table_number, is_table_of, action_of, track_with, is_in}
 use Rattle.plan_core.specs.Proxies.{line_head, own_lines, base_after, proxy_with, proxies, is_frontend, is_backend, frontends, backends, opens}
+use Rattle.plan_core.proofs.CountLemmas.{HasBind, each_has_bind}
 use Rattle.plan_core.proofs.LineLemmas.{own_more, own_above, lines_differ}
 use Rattle.plan_core.proofs.NameLemmas.{frontend_names_differ, backend_names_differ}
 
@@ -340,8 +341,10 @@ sound_servers (item ∷ rest) sound = by (line_server item.line item.statement) 
 
 -- Sections.
 
-sound_frontend : (tables : List Table) (backends : List Backend) (proxy : Proxy) → IsSoundProxy proxy → IsSoundFrontend (length tables) (length backends) (frontend_of tables backends proxy)
-sound_frontend tables backends proxy sound = record {
+sound_frontend : (tables : List Table) (backends : List Backend) (proxy : Proxy) → IsSoundProxy proxy → 1 ≤ length (all_of line_bind proxy.own) →
+    IsSoundFrontend (length tables) (length backends) (frontend_of tables backends proxy)
+sound_frontend tables backends proxy sound bind = record {
+  binds = bind;
   limit = sound_limit proxy sound;
   connection_rules = sound_rules Connection tables proxy.head.name proxy.own sound.1 sound.0;
   session_rules = sound_rules Session tables proxy.head.name proxy.own sound.1 sound.0;
@@ -349,15 +352,15 @@ sound_frontend tables backends proxy sound = record {
   default = some_default backends (setting_in line_default proxy);
 }
 
-sound_frontends : (tables : List Table) (backends : List Backend) (all : List Proxy) → AllByRecursion IsSoundProxy all →
+sound_frontends : (tables : List Table) (backends : List Backend) (all : List Proxy) → AllByRecursion IsSoundProxy all → AllByRecursion HasBind all →
     AllByRecursion (IsSoundFrontend (length tables) (length backends)) (map (frontend_of tables backends) (frontends all))
-sound_frontends tables backends [] sound = tt
-sound_frontends tables backends (proxy ∷ rest) sound = by (is_frontend proxy) (sound_frontends tables backends rest sound.1)
+sound_frontends tables backends [] sound binds = tt
+sound_frontends tables backends (proxy ∷ rest) sound binds = by (is_frontend proxy) refl (sound_frontends tables backends rest sound.1 binds.1)
   where
-    by : (b : Bool) → AllByRecursion (IsSoundFrontend (length tables) (length backends)) (map (frontend_of tables backends) (frontends rest)) →
+    by : (b : Bool) → is_frontend proxy ≡ b → AllByRecursion (IsSoundFrontend (length tables) (length backends)) (map (frontend_of tables backends) (frontends rest)) →
         AllByRecursion (IsSoundFrontend (length tables) (length backends)) (map (frontend_of tables backends) (if b then proxy ∷ frontends rest else frontends rest))
-    by true later = (sound_frontend tables backends proxy sound.0, later)
-    by false later = later
+    by true is later = (sound_frontend tables backends proxy sound.0 (binds.0 is), later)
+    by false is later = later
 
 sound_backends : (all : List Proxy) → AllByRecursion IsSoundProxy all → AllByRecursion IsSoundBackend (backends_in all)
 sound_backends [] sound = tt
@@ -367,16 +370,16 @@ sound_backends (proxy ∷ rest) sound = by (is_backend proxy) (sound_backends re
     by true later = (sound_servers proxy.own sound.0.1, later)
     by false later = later
 
-pub sound_plan : (items : List ConfigLine) (plan : Plan) (tables : List Table) (backends : List Backend) (all : List Proxy) → IsSoundTree items → all ≡ proxies [] items →
+pub sound_plan : (items : List ConfigLine) (plan : Plan) (tables : List Table) (backends : List Backend) (all : List Proxy) → IsSoundTree items → plan_faults items ≡ [] → all ≡ proxies [] items →
     tables ≡ plan.tables → backends ≡ plan.backends → plan.tables ≡ tables_in all → plan.backends ≡ backends_in all → plan.frontends ≡ map (frontend_of tables backends) (frontends all) →
     length plan.frontends ≤ most_frontends → length plan.backends ≤ most_backends → length plan.tables ≤ most_tables → IsSoundPlan plan
-sound_plan items plan tables backends all tree of_items of_tables of_backends all_tables all_backends of_frontends few_frontends few_backends few_tables =
+sound_plan items plan tables backends all tree faultless of_items of_tables of_backends all_tables all_backends of_frontends few_frontends few_backends few_tables =
     let sound : AllByRecursion IsSoundProxy (proxies [] items) = all_proxies [] items tt tree.statements tree.rises in
     record {
       frontends = few_frontends;
       backends = few_backends;
       tables = few_tables;
-      each_frontend = rw (of_frontends, of_items, of_tables, of_backends) (sound_frontends plan.tables plan.backends (proxies [] items) sound);
+      each_frontend = rw (of_frontends, of_items, of_tables, of_backends) (sound_frontends plan.tables plan.backends (proxies [] items) sound (each_has_bind items faultless));
       each_backend = rw (all_backends, of_items) (sound_backends (proxies [] items) sound);
       each_table = rw (all_tables, of_items) (sound_tables (proxies [] items) sound);
       frontend_names = rw (of_frontends, of_items) (frontend_names_differ tables backends items tree.claims);

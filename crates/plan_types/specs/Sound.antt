@@ -76,6 +76,7 @@ IsWithin most number = (1 ≤ number) × (number ≤ most)
 
 -- a frontend, where there are so many tables and backends
 pub record IsSoundFrontend (tables backends : ℕ) (frontend : Frontend) : Type 0 where
+  pub binds : 1 ≤ length frontend.binds
   pub limit : IsWithin most_connections frontend.limit
   pub connection_rules : AreSoundRules tables frontend.connection_rules
   pub session_rules : AreSoundRules tables frontend.session_rules
