@@ -1,5 +1,5 @@
 -- What is kept, with one item more.
-use Rattle.std.proofs.Common.{◌≡◌, ℕ, zero, suc, ◌≤◌, List, [], ◌∷◌, ◌++◌, length, drop, Some, refl, sym, ap, ◌∙◌, subst}
+use Rattle.std.proofs.Common.{◌≡◌, ℕ, zero, suc, ◌≤◌, Bool, true, false, List, [], ◌∷◌, ◌++◌, length, drop, Some, refl, sym, ap, ◌∙◌, subst}
 use native.Mathlib.Omega.{arith}
 use Rattle.std.specs.List.{filter_map}
 use Rattle.std.proofs.lemmas.List.{append-nil}
@@ -14,7 +14,9 @@ use Rattle.conf_tree.specs.declared.claim.Claim.{Claim}
 use Rattle.conf_tree.specs.declared.tree.ConfigLine.{ConfigLine}
 use Rattle.conf_tree.specs.declared.tree.Place.{Place}
 use Rattle.conf_tree.specs.Config.{place_at, place_after, place_of, section_lines, acl_name, acl_names, known_names, claim_of, claims_of}
-use Rattle.conf_tree.specs.Kept.{IsKept, IsNext, names_after}
+use Rattle.conf_tree.specs.Kept.{IsKept, IsNext, names_after, last_section}
+use Rattle.conf_tree.specs.Sections.{opens}
+use Rattle.conf_tree.proofs.SectionLemmas.{last_opened, last_kept, place_opened, place_kept, HasRoom, has_room, sections_more}
 use Rattle.conf_tree.proofs.SoundLemmas.{all_more, claims_more}
 
 newest_more : {X : Type 0} (xs : List X) (x : X) → newest (xs ++ x ∷ []) ≡ Some x
@@ -62,6 +64,27 @@ place_within items item is within =
     let first : (place_after (items ++ item ∷ [])).first ≡ (place_of (place_after items) (length items) item.statement).first = ap (λ p. p.first) (last_place items item ∙ is) in
     subst (λ n. n ≤ length (items ++ item ∷ [])) (sym first)
     (subst (λ n. (place_of (place_after items) (length items) item.statement).first ≤ n) (sym (length_more items item)) (first_within items item.statement within))
+
+-- The lines of that section.
+
+section_after : (items : List ConfigLine) (item : ConfigLine) → item.place ≡ place_of (place_after items) (length items) item.statement → (place_after items).first ≤ length items →
+    section_lines (place_after items) items ≡ last_section items → section_lines (place_after (items ++ item ∷ [])) (items ++ item ∷ []) ≡ last_section (items ++ item ∷ [])
+section_after items item is within same = by (opens item.statement) refl
+  where
+    by : (b : Bool) → opens item.statement ≡ b → section_lines (place_after (items ++ item ∷ [])) (items ++ item ∷ []) ≡ last_section (items ++ item ∷ [])
+    by true opened =
+        ap (λ n. drop n (items ++ item ∷ [])) (ap (λ p. p.first) (last_place items item ∙ is) ∙ place_opened (place_after items) (length items) item.statement opened)
+        ∙ drop_all items item ∙ sym (last_opened items item opened)
+    by false closed =
+        ap (λ p. section_lines p (items ++ item ∷ [])) (last_place items item ∙ is ∙ place_kept (place_after items) (length items) item.statement closed)
+        ∙ drop_within (place_after items).first items item within ∙ ap (λ lines. lines ++ item ∷ []) same ∙ sym (last_kept items item closed)
+
+room_for : (items : List ConfigLine) (item : ConfigLine) → IsNext items item → section_lines (place_after items) items ≡ last_section items → opens item.statement ≡ false →
+    HasRoom item.statement (last_section items)
+room_for items item next same closed =
+    subst (λ lines. HasRoom item.statement lines)
+    (ap (λ p. section_lines p items) (next.place ∙ place_kept (place_after items) (length items) item.statement closed) ∙ same)
+    (has_room items item.place item.statement next.room)
 
 -- The names that are known.
 
@@ -115,4 +138,6 @@ kept_more items item claims more known names kept next more_is names_is = record
   place = place_within items item next.place kept.place;
   statements = all_more (λ i. IsSoundStatement i.statement) items item kept.statements next.sound;
   differ = claims_more items item kept.differ next.free;
+  section = section_after items item next.place kept.place kept.section;
+  sections = sections_more items item kept.sections (room_for items item next kept.section);
 }

@@ -5,4 +5,5 @@ pub mod EffectLemmas
 pub mod FewLemmas
 pub mod MarkLemmas
 pub mod SoundLemmas
+pub mod SectionLemmas
 pub mod KeptLemmas

@@ -7,8 +7,14 @@ use Rattle.conf_line.specs.declared.statement.Statement.TheVariants as statement
 use Rattle.conf_line.specs.Sound.{IsSoundStatement}
 use Rattle.conf_tree.specs.declared.claim.Claim.{Claim}
 use Rattle.conf_tree.specs.declared.tree.ConfigLine.{ConfigLine}
-use Rattle.conf_tree.specs.Config.{known_names, claims_of, is_taken, place_after, place_of}
-use Rattle.conf_tree.specs.Sound.{AreSoundStatements, ClaimsDiffer}
+use Rattle.conf_tree.specs.Config.{known_names, claims_of, is_taken, is_full, place_after, place_of, section_lines}
+use Rattle.conf_tree.specs.Sections.{opens}
+use Rattle.conf_tree.specs.Sound.{AreSoundStatements, ClaimsDiffer, AreSoundSections}
+
+-- the lines from the last one on that opens a section, or all
+abbrev pub last_section : List ConfigLine → List ConfigLine
+last_section [] = []
+last_section (item ∷ rest) = if list_any (λ other. opens other.statement) rest then last_section rest else item ∷ rest
 
 -- what is kept beside the items agrees with them
 pub record IsKept (items : List ConfigLine) (claims : List Claim) (known : List (List ℕ)) : Type 0 where
@@ -18,12 +24,16 @@ pub record IsKept (items : List ConfigLine) (claims : List Claim) (known : List 
   pub place : (place_after items).first ≤ length items
   pub statements : AreSoundStatements items
   pub differ : ClaimsDiffer (claims_of items)
+  -- the section of the next line, if it opens none, is the last one
+  pub section : section_lines (place_after items) items ≡ last_section items
+  pub sections : AreSoundSections items
 
 -- the item may come after those
 pub record IsNext (items : List ConfigLine) (item : ConfigLine) : Type 0 where
   pub place : item.place ≡ place_of (place_after items) (length items) item.statement
   pub sound : IsSoundStatement item.statement
   pub free : is_taken items item.place item.statement ≡ false
+  pub room : is_full items item.place item.statement ≡ false
 
 -- the names known after a line, where those are known before it: a section begins with none
 abbrev pub names_after : List (List ℕ) → Statement → List (List ℕ)

@@ -68,7 +68,7 @@ fn names_after<'a>(
 impl<'a> Kept<'a> {
     ghost use Rattle.std.specs.Prelude.{◌≡◌, [], ◌++◌, ◌∷◌, IfOk};
     ghost use Rattle.conf_tree.specs.Config.{known_names, claims_of};
-    ghost use Rattle.conf_tree.specs.Sound.{AreSoundStatements, ClaimsDiffer};
+    ghost use Rattle.conf_tree.specs.Sound.{AreSoundStatements, ClaimsDiffer, AreSoundSections};
     ghost use Rattle.conf_tree.specs.Kept.{IsNext};
 
     pub fn new(alloc: Global) -> Self
@@ -105,6 +105,7 @@ impl<'a> Kept<'a> {
         ensures items { result ≡ self.entry }
         ensures statements { AreSoundStatements self.entry }
         ensures claims { ClaimsDiffer (claims_of self.entry) }
+        ensures sections { AreSoundSections self.entry }
     {
         let Kept {
             items,

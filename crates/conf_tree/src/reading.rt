@@ -234,6 +234,7 @@ fn check_line(kept: &Kept, place: &Place, reading: &LineReading) -> Result<(), C
     ensures value { result ≡ check_line kept.now place.now reading.now }
     ensures fits { OnOk result (reading.now.exceeds ≡ false) }
     ensures free { OnOk result (is_taken kept.now place.now reading.now.statement ≡ false) }
+    ensures room { OnOk result (is_full kept.now place.now reading.now.statement ≡ false) }
 {
     if reading.repeats || is_taken(kept, place, &reading.statement) {
         return Err(ConfKind::Duplicate);

@@ -1,19 +1,23 @@
--- How many `bind` lines a frontend has.
-use Rattle.std.proofs.Common.{◌≡◌, ℕ, ◌≤◌, Bool, true, false, List, [], ◌∷◌, ◌++◌, length, Option, Some, None, refl, sym, ap, ◌∙◌, if◌then◌else◌}
+-- How many `bind` lines a frontend has, and how many servers a backend.
+use Rattle.std.proofs.Common.{◌≡◌, ℕ, suc, ◌≤◌, Bool, true, false, List, [], ◌∷◌, ◌++◌, length, filter, Option, Some, None, refl, sym, ap, ◌∙◌, if◌then◌else◌}
 use native.Mathlib.Omega.{arith}
 use Rattle.std.specs.Prelude.{is_some, flat_map}
 use Rattle.std.specs.List.{AllByRecursion, cons_option, list_any}
 use Rattle.std.specs.Option.{option_or}
 use Rattle.conf_line.specs.declared.statement.Statement.{Statement}
+use Rattle.conf_line.specs.declared.statement.Statement.TheVariants as statements
 use Rattle.conf_tree.specs.declared.tree.ConfigLine.{ConfigLine}
+use Rattle.conf_tree.specs.Config.{is_server}
+use Rattle.conf_tree.specs.Sound.{IsSoundSection}
 use Rattle.plan_types.specs.declared.plan.Backend.{Backend}
 use Rattle.plan_types.specs.declared.plan.Table.{Table}
+use Rattle.plan_types.specs.Sound.{most_servers}
 use Rattle.plan_core.specs.declared.fault.PlanFault.{PlanFault}
 use Rattle.plan_core.specs.declared.fault.PlanKind.TheVariants.{NoBind}
 use Rattle.plan_core.specs.declared.proxies.Proxy.{Proxy}
 use Rattle.plan_core.specs.Compiled.{backends_in, plan_faults}
-use Rattle.plan_core.specs.Faults.{bind_faults, default_faults, own_faults, frontend_faults, faults_in, faults_of, no_frontend}
-use Rattle.plan_core.specs.Fields.{line_bind, line_default, all_of, last_of, setting_in, tables_in}
+use Rattle.plan_core.specs.Faults.{bind_faults, default_faults, own_faults, frontend_faults, faults_in, no_frontend}
+use Rattle.plan_core.specs.Fields.{line_bind, line_server, line_default, all_of, last_of, setting_in, tables_in}
 use Rattle.plan_core.specs.Proxies.{is_frontend, proxies}
 
 -- Without a fault there is one at least.
@@ -75,3 +79,38 @@ each_has_bind items none = have_binds tables backends all all (none_of_each (fau
     by : (b : Bool) → (if b then flat_map (faults_in tables backends all) all else no_frontend ∷ []) ≡ [] → flat_map (faults_in tables backends all) all ≡ []
     by true none = none
     by false none = absurd cc
+
+-- There are not more than lines that say so.
+
+as_many : {X : Type 0} (setting : ℕ → Statement → Option X) (test : Statement → Bool) → ((at : ℕ) (s : Statement) → is_some (setting at s) ≡ test s) → (items : List ConfigLine) →
+    length (all_of setting items) ≡ length (filter (λ item. test item.statement) items)
+as_many setting test same [] = refl
+as_many {X} setting test same (item ∷ rest) = by (setting item.line item.statement) (test item.statement) (same item.line item.statement) (as_many setting test same rest)
+  where
+    those : List ConfigLine
+    those = filter (λ (item : ConfigLine). test item.statement) rest
+
+    by : (o : Option X) (b : Bool) → is_some o ≡ b → length (all_of setting rest) ≡ length those → length (cons_option o (all_of setting rest)) ≡ length (if b then item ∷ those else those)
+    by None true is later = absurd cc
+    by None false is later = later
+    by (Some x) true is later = ap (λ n. suc n) later
+    by (Some x) false is later = absurd cc
+
+is_one_server : (at : ℕ) (s : Statement) → is_some (line_server at s) ≡ is_server s
+is_one_server at statements.Nothing = refl
+is_one_server at statements.Global = refl
+is_one_server at statements.Defaults = refl
+is_one_server at (statements.Frontend name) = refl
+is_one_server at (statements.Backend name) = refl
+is_one_server at (statements.MaxConn limit) = refl
+is_one_server at (statements.DefaultBackend name) = refl
+is_one_server at (statements.Balance method) = refl
+is_one_server at (statements.Acl called test) = refl
+is_one_server at (statements.UseBackend called when) = refl
+is_one_server at (statements.Bind endpoint flag) = refl
+is_one_server at (statements.Rule list action when) = refl
+is_one_server at (statements.StickTable table) = refl
+is_one_server at (statements.Server server) = refl
+
+pub few_servers : (own : List ConfigLine) → IsSoundSection own → length (all_of line_server own) ≤ most_servers
+few_servers own sound = rw (as_many line_server is_server is_one_server own) sound.servers

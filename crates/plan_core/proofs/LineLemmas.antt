@@ -1,8 +1,8 @@
 -- The frontends and backends of a configuration come one after the other.
-use Rattle.std.proofs.Common.{◌≡◌, ℕ, zero, suc, ◌+◌, ◌<◌, ◌≤◌, Bool, true, false, not, eqb, List, [], ◌∷◌, ◌++◌, length, take, filter, Some, refl, sym, ap, subst, ◌∙◌, if◌then◌else◌}
+use Rattle.std.proofs.Common.{◌≡◌, ℕ, zero, suc, ◌+◌, ◌<◌, ◌≤◌, Bool, true, false, eqb, List, [], ◌∷◌, ◌++◌, length, filter, Some, refl, sym, ap, subst, ◌∙◌, if◌then◌else◌}
 use native.Mathlib.Omega.{arith}
 use Rattle.std.specs.Prelude.{slice_get, ◌==◌, option_map, option_to_list}
-use Rattle.std.specs.List.{AllByRecursion, cons_option, list_any, prefix_len}
+use Rattle.std.specs.List.{AllByRecursion, cons_option, list_any}
 use Rattle.std.proofs.lemmas.Bool.Decides.{nat_tests}
 use Rattle.conf_tree.specs.declared.claim.Claim.{Claim}
 use Rattle.conf_tree.specs.declared.tree.ConfigLine.{ConfigLine}
@@ -12,6 +12,8 @@ use Rattle.conf_line.specs.declared.statement.Statement.TheVariants as statement
 use Rattle.conf_tree.specs.Config as config
 use Rattle.conf_tree.specs.Few.{FewSections}
 use Rattle.conf_tree.specs.Rising.{AreAbove, Rises}
+use Rattle.conf_tree.specs.Sections.{opens, own_lines}
+use Rattle.conf_tree.proofs.SectionLemmas.{own_more}
 use Rattle.plan_types.specs.declared.plan.Backend.{Backend}
 use Rattle.plan_types.specs.declared.plan.Plan.{Plan}
 use Rattle.plan_types.specs.declared.plan.Section.{Section}
@@ -21,7 +23,7 @@ use Rattle.plan_core.specs.declared.proxies.Proxy.{Proxy}
 use Rattle.plan_core.specs.Compiled.{backend_of, backends_in}
 use Rattle.plan_core.specs.Fields.{line_server, all_of}
 use Rattle.plan_types.specs.Lines.{has_line, LinesDiffer}
-use Rattle.plan_core.specs.Proxies.{line_head, opens, own_lines, base_after, proxy_with, proxies, is_frontend, is_backend, frontends, backends}
+use Rattle.plan_core.specs.Proxies.{line_head, base_after, proxy_with, proxies, is_frontend, is_backend, frontends, backends}
 
 -- How many there are.
 
@@ -126,16 +128,6 @@ heads_behind n base [] above = tt
 heads_behind n base (item ∷ rest) above =
     one_behind item.statement n item.line base (own_lines rest) (proxies (base_after base (own_lines rest) item.statement) rest) above.0
     (heads_behind n (base_after base (own_lines rest) item.statement) rest above.1)
-
-pub own_more : (item : ConfigLine) (rest : List ConfigLine) → own_lines (item ∷ rest) ≡ (if opens item.statement then [] else item ∷ own_lines rest)
-own_more item rest = by (opens item.statement) refl
-  where
-    by : (b : Bool) → opens item.statement ≡ b → own_lines (item ∷ rest) ≡ (if opens item.statement then [] else item ∷ own_lines rest)
-    by true is = rw is refl
-    by false is =
-        let n = prefix_len (λ (x : ConfigLine). not (opens x.statement)) rest in
-        let next : 1 + n ≡ suc n = omega arith in
-        rw is (ap (λ m. take m (item ∷ rest)) next)
 
 no_head : (setting : Statement) (line : ℕ) (base own : List ConfigLine) → opens setting ≡ false → option_to_list (option_map (proxy_with base own) (line_head line setting)) ≡ []
 no_head statements.Nothing line base own is = refl

@@ -11,13 +11,14 @@ use Rattle.conf_tree.specs.declared.claim.Claim.TheVariants as claims
 use Rattle.conf_tree.specs.declared.tree.ConfigLine.{ConfigLine}
 use Rattle.conf_tree.specs.declared.tree.Place.{Place}
 use Rattle.conf_tree.specs.Config.{claim_of, claims_of, same_claim}
+use Rattle.conf_tree.specs.Sections.{own_lines}
 use Rattle.conf_tree.specs.Sound.{ClaimsDiffer}
 use Rattle.plan_types.specs.declared.plan.Backend.{Backend}
 use Rattle.plan_types.specs.declared.plan.Table.{Table}
 use Rattle.plan_types.specs.Sound.{NamesDiffer}
 use Rattle.plan_core.specs.declared.proxies.Proxy.{Proxy}
 use Rattle.plan_core.specs.Compiled.{frontend_of, backend_of, backends_in}
-use Rattle.plan_core.specs.Proxies.{line_head, own_lines, base_after, proxy_with, proxies, frontends, backends}
+use Rattle.plan_core.specs.Proxies.{line_head, base_after, proxy_with, proxies, frontends, backends}
 
 other_name : (a b : List ℕ) → bytes_eq a b ≡ false → a ≢ b
 other_name a b is same = let wrong : false ≡ true = sym is ∙ (bytes_eq-Decides a b).1 same in absurd cc

@@ -17,7 +17,8 @@ use Rattle.conf_line.specs.declared.statement.TableWords.{TableWords}
 use Rattle.conf_line.specs.Sound.{IsSoundStatement}
 use Rattle.conf_line.specs.Sound as lines
 use Rattle.conf_tree.specs.Rising.{AreAbove, Rises}
-use Rattle.conf_tree.specs.Sound.{AreSoundStatements, IsSoundTree}
+use Rattle.conf_tree.specs.Sections.{opens, own_lines}
+use Rattle.conf_tree.specs.Sound.{AreSoundStatements, IsSoundSection, AreSoundSections, IsSoundTree}
 use Rattle.plan_types.specs.declared.plan.Action.{Action}
 use Rattle.plan_types.specs.declared.plan.Backend.{Backend}
 use Rattle.plan_types.specs.declared.plan.Choice.{Choice}
@@ -31,9 +32,10 @@ use Rattle.plan_core.specs.declared.fields.Named.{Named}
 use Rattle.plan_core.specs.declared.proxies.Proxy.{Proxy}
 use Rattle.plan_core.specs.Compiled.{default_number, frontend_of, backend_of, backends_in, plan_faults}
 use Rattle.plan_core.specs.Fields.{line_bind, line_default, line_limit, line_table, line_server, line_rule, line_choice, choice_with, backend_number, rule_with, all_of, last_of, setting_in, limit_in, table_with, tables_in, table_number, is_table_of, action_of, track_with, is_in}
-use Rattle.plan_core.specs.Proxies.{line_head, own_lines, base_after, proxy_with, proxies, is_frontend, is_backend, frontends, backends, opens}
-use Rattle.plan_core.proofs.CountLemmas.{HasBind, each_has_bind}
-use Rattle.plan_core.proofs.LineLemmas.{own_more, own_above, lines_differ}
+use Rattle.plan_core.specs.Proxies.{line_head, base_after, proxy_with, proxies, is_frontend, is_backend, frontends, backends}
+use Rattle.plan_core.proofs.CountLemmas.{HasBind, each_has_bind, few_servers}
+use Rattle.conf_tree.proofs.SectionLemmas.{own_more}
+use Rattle.plan_core.proofs.LineLemmas.{own_above, lines_differ}
 use Rattle.plan_core.proofs.NameLemmas.{frontend_names_differ, backend_names_differ}
 
 -- Numbers.
@@ -215,31 +217,34 @@ base_sound (statements.Rule list action when) base own sound more = sound
 base_sound (statements.StickTable table) base own sound more = sound
 base_sound (statements.Server server) base own sound more = sound
 
-abbrev IsSoundProxy : Proxy → Type 0
-IsSoundProxy proxy = Rises proxy.own × AreSoundStatements proxy.own × AreSoundStatements proxy.base
+record IsSoundProxy (proxy : Proxy) : Type 0 where
+  rises : Rises proxy.own
+  own : AreSoundStatements proxy.own
+  base : AreSoundStatements proxy.base
+  section : IsSoundSection proxy.own
 
-one_proxy : (s : Statement) (at : ℕ) (base own : List ConfigLine) (rest : List Proxy) → Rises own → AreSoundStatements own → AreSoundStatements base → AllByRecursion IsSoundProxy rest →
+one_proxy : (s : Statement) (at : ℕ) (base own : List ConfigLine) (rest : List Proxy) → Rises own → AreSoundStatements own → AreSoundStatements base → IsSoundSection own → AllByRecursion IsSoundProxy rest →
     AllByRecursion IsSoundProxy (option_to_list (option_map (proxy_with base own) (line_head at s)) ++ rest)
-one_proxy statements.Nothing at base own rest rises sound more all = all
-one_proxy statements.Global at base own rest rises sound more all = all
-one_proxy statements.Defaults at base own rest rises sound more all = all
-one_proxy (statements.Frontend name) at base own rest rises sound more all = ((rises, sound, more), all)
-one_proxy (statements.Backend name) at base own rest rises sound more all = ((rises, sound, more), all)
-one_proxy (statements.MaxConn limit) at base own rest rises sound more all = all
-one_proxy (statements.DefaultBackend name) at base own rest rises sound more all = all
-one_proxy (statements.Balance method) at base own rest rises sound more all = all
-one_proxy (statements.Acl called test) at base own rest rises sound more all = all
-one_proxy (statements.UseBackend called when) at base own rest rises sound more all = all
-one_proxy (statements.Bind endpoint flag) at base own rest rises sound more all = all
-one_proxy (statements.Rule list action when) at base own rest rises sound more all = all
-one_proxy (statements.StickTable table) at base own rest rises sound more all = all
-one_proxy (statements.Server server) at base own rest rises sound more all = all
+one_proxy statements.Nothing at base own rest rises sound more section all = all
+one_proxy statements.Global at base own rest rises sound more section all = all
+one_proxy statements.Defaults at base own rest rises sound more section all = all
+one_proxy (statements.Frontend name) at base own rest rises sound more section all = (record { rises = rises; own = sound; base = more; section = section }, all)
+one_proxy (statements.Backend name) at base own rest rises sound more section all = (record { rises = rises; own = sound; base = more; section = section }, all)
+one_proxy (statements.MaxConn limit) at base own rest rises sound more section all = all
+one_proxy (statements.DefaultBackend name) at base own rest rises sound more section all = all
+one_proxy (statements.Balance method) at base own rest rises sound more section all = all
+one_proxy (statements.Acl called test) at base own rest rises sound more section all = all
+one_proxy (statements.UseBackend called when) at base own rest rises sound more section all = all
+one_proxy (statements.Bind endpoint flag) at base own rest rises sound more section all = all
+one_proxy (statements.Rule list action when) at base own rest rises sound more section all = all
+one_proxy (statements.StickTable table) at base own rest rises sound more section all = all
+one_proxy (statements.Server server) at base own rest rises sound more section all = all
 
-all_proxies : (base items : List ConfigLine) → AreSoundStatements base → AreSoundStatements items → Rises items → AllByRecursion IsSoundProxy (proxies base items)
-all_proxies base [] more sound rises = tt
-all_proxies base (item ∷ rest) more sound rises =
-    one_proxy item.statement item.line base (own_lines rest) (proxies (base_after base (own_lines rest) item.statement) rest) (own_rises rest rises.1) (own_sound rest sound.1) more
-    (all_proxies (base_after base (own_lines rest) item.statement) rest (base_sound item.statement base (own_lines rest) more (own_sound rest sound.1)) sound.1 rises.1)
+all_proxies : (base items : List ConfigLine) → AreSoundStatements base → AreSoundStatements items → Rises items → AreSoundSections items → AllByRecursion IsSoundProxy (proxies base items)
+all_proxies base [] more sound rises sections = tt
+all_proxies base (item ∷ rest) more sound rises sections =
+    one_proxy item.statement item.line base (own_lines rest) (proxies (base_after base (own_lines rest) item.statement) rest) (own_rises rest rises.1) (own_sound rest sound.1) more sections.0
+    (all_proxies (base_after base (own_lines rest) item.statement) rest (base_sound item.statement base (own_lines rest) more (own_sound rest sound.1)) sound.1 rises.1 sections.1)
 
 -- Numbers of a line.
 
@@ -271,7 +276,7 @@ last_limit (item ∷ rest) sound =
 sound_limit : (proxy : Proxy) → IsSoundProxy proxy → IsWithin most_connections (limit_in proxy).limit
 sound_limit proxy sound =
     by (setting_in line_limit proxy)
-    (or_some (λ limit. IsWithin most_connections limit.limit) (last_of line_limit proxy.own) (last_of line_limit proxy.base) (last_limit proxy.own sound.1) (last_limit proxy.base sound.2))
+    (or_some (λ limit. IsWithin most_connections limit.limit) (last_of line_limit proxy.own) (last_of line_limit proxy.base) (last_limit proxy.own sound.own) (last_limit proxy.base sound.base))
   where
     by : (o : Option Limit) → IfSome o (λ limit. IsWithin most_connections limit.limit) → IsWithin most_connections (unwrap_or o (record { limit = 2000; line = proxy.head.line })).limit
     by None is = (omega arith, omega arith)
@@ -300,7 +305,7 @@ last_words (item ∷ rest) sound =
 
 sound_tables : (all : List Proxy) → AllByRecursion IsSoundProxy all → AllByRecursion IsSoundTable (tables_in all)
 sound_tables [] sound = tt
-sound_tables (proxy ∷ rest) sound = by (last_of line_table proxy.own) (last_words proxy.own sound.0.1) (sound_tables rest sound.1)
+sound_tables (proxy ∷ rest) sound = by (last_of line_table proxy.own) (last_words proxy.own sound.0.own) (sound_tables rest sound.1)
   where
     by : (o : Option TableWords) → IfSome o (λ words. IsWithin most_entries words.size) → AllByRecursion IsSoundTable (tables_in rest) →
         AllByRecursion IsSoundTable (cons_option (option_map (table_with proxy.head) o) (tables_in rest))
@@ -346,9 +351,9 @@ sound_frontend : (tables : List Table) (backends : List Backend) (proxy : Proxy)
 sound_frontend tables backends proxy sound bind = record {
   binds = bind;
   limit = sound_limit proxy sound;
-  connection_rules = sound_rules Connection tables proxy.head.name proxy.own sound.1 sound.0;
-  session_rules = sound_rules Session tables proxy.head.name proxy.own sound.1 sound.0;
-  choices = record { within = choices_within backends proxy.own; rise = choices_rise backends proxy.own sound.0 };
+  connection_rules = sound_rules Connection tables proxy.head.name proxy.own sound.own sound.rises;
+  session_rules = sound_rules Session tables proxy.head.name proxy.own sound.own sound.rises;
+  choices = record { within = choices_within backends proxy.own; rise = choices_rise backends proxy.own sound.rises };
   default = some_default backends (setting_in line_default proxy);
 }
 
@@ -367,14 +372,14 @@ sound_backends [] sound = tt
 sound_backends (proxy ∷ rest) sound = by (is_backend proxy) (sound_backends rest sound.1)
   where
     by : (b : Bool) → AllByRecursion IsSoundBackend (backends_in rest) → AllByRecursion IsSoundBackend (map backend_of (if b then proxy ∷ backends rest else backends rest))
-    by true later = (sound_servers proxy.own sound.0.1, later)
+    by true later = (record { few = few_servers proxy.own sound.0.section; each_server = sound_servers proxy.own sound.0.own }, later)
     by false later = later
 
 pub sound_plan : (items : List ConfigLine) (plan : Plan) (tables : List Table) (backends : List Backend) (all : List Proxy) → IsSoundTree items → plan_faults items ≡ [] → all ≡ proxies [] items →
     tables ≡ plan.tables → backends ≡ plan.backends → plan.tables ≡ tables_in all → plan.backends ≡ backends_in all → plan.frontends ≡ map (frontend_of tables backends) (frontends all) →
     length plan.frontends ≤ most_frontends → length plan.backends ≤ most_backends → length plan.tables ≤ most_tables → IsSoundPlan plan
 sound_plan items plan tables backends all tree faultless of_items of_tables of_backends all_tables all_backends of_frontends few_frontends few_backends few_tables =
-    let sound : AllByRecursion IsSoundProxy (proxies [] items) = all_proxies [] items tt tree.statements tree.rises in
+    let sound : AllByRecursion IsSoundProxy (proxies [] items) = all_proxies [] items tt tree.statements tree.rises tree.sections in
     record {
       frontends = few_frontends;
       backends = few_backends;

@@ -1,7 +1,7 @@
 -- The frontends and backends of a configuration, each with its lines.
 use Rattle.std.specs.Prelude.{ℕ, Bool, true, false, List, [], ◌∷◌, ◌++◌, filter, option_map, option_to_list, Option, Some, None}
-use Rattle.std.specs.List.{before_first}
 use Rattle.conf_tree.specs.declared.tree.ConfigLine.{ConfigLine}
+use Rattle.conf_tree.specs.Sections.{own_lines}
 use Rattle.conf_line.specs.declared.statement.Statement.{Statement}
 use Rattle.conf_line.specs.declared.statement.Statement.TheVariants as statements
 use Rattle.plan_types.specs.declared.plan.Section.{Section}
@@ -14,27 +14,6 @@ abbrev pub line_head : ℕ → Statement → Option Head
 line_head line (statements.Frontend name) = Some (record { section = sections.Frontend; name = name; line = line })
 line_head line (statements.Backend name) = Some (record { section = sections.Backend; name = name; line = line })
 line_head line other = None
-
--- the line opens a section
-abbrev pub opens : Statement → Bool
-opens statements.Global = true
-opens statements.Defaults = true
-opens (statements.Frontend name) = true
-opens (statements.Backend name) = true
-opens statements.Nothing = false
-opens (statements.MaxConn limit) = false
-opens (statements.DefaultBackend name) = false
-opens (statements.Balance method) = false
-opens (statements.Acl name test) = false
-opens (statements.UseBackend name when) = false
-opens (statements.Bind at proxy) = false
-opens (statements.Rule list action when) = false
-opens (statements.StickTable table) = false
-opens (statements.Server server) = false
-
--- the lines up to the next section
-abbrev pub own_lines : List ConfigLine → List ConfigLine
-own_lines items = before_first (λ item. opens item.statement) items
 
 -- the lines of the `defaults` in force after a line: a `defaults` line starts from nothing
 abbrev pub base_after : List ConfigLine → List ConfigLine → Statement → List ConfigLine

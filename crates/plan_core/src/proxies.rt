@@ -1,8 +1,9 @@
 //! The frontends and backends of a configuration, each with its lines.
 ghost use Rattle.std.specs.Prelude.{◌≡◌, ◌<◌, ◌≤◌, [], ◌++◌, length, position, option_to_list, IfOk, IfSome, OnOk};
 ghost use Rattle.conf_tree.specs.Few.{FewSections};
+ghost use Rattle.conf_tree.specs.Sections.{opens, own_lines};
 ghost use Rattle.plan_types.specs.Sound.{most_frontends, most_backends, most_tables};
-ghost use Rattle.plan_core.specs.Proxies.{line_head, opens, own_lines, base_after, line_proxy, proxies, is_frontend, is_backend, frontends, backends};
+ghost use Rattle.plan_core.specs.Proxies.{line_head, base_after, line_proxy, proxies, is_frontend, is_backend, frontends, backends};
 
 use conf_tree::{ConfigLine, Statement};
 use list_core::Seq;

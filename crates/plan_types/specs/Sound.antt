@@ -23,6 +23,10 @@ most_backends = 64
 abbrev pub most_tables : ℕ
 most_tables = 128
 
+-- of a backend
+abbrev pub most_servers : ℕ
+most_servers = 64
+
 -- of the connections of a frontend or a server
 abbrev pub most_connections : ℕ
 most_connections = 1048576
@@ -87,8 +91,9 @@ pub record IsSoundServer (server : Server) : Type 0 where
   pub weight : server.weight ≤ greatest_weight
   pub limit : server.limit ≤ most_connections
 
-abbrev pub IsSoundBackend : Backend → Type 0
-IsSoundBackend backend = AllByRecursion IsSoundServer backend.servers
+pub record IsSoundBackend (backend : Backend) : Type 0 where
+  pub few : length backend.servers ≤ most_servers
+  pub each_server : AllByRecursion IsSoundServer backend.servers
 
 abbrev pub IsSoundTable : Table → Type 0
 IsSoundTable table = IsWithin most_entries table.size

@@ -13,4 +13,5 @@ of-requires c =
       few = few_in c.as_slice.result.now c.in_ok-kept.kept reads;
       statements = c.into_items.ensures.statements;
       claims = c.into_items.ensures.claims;
+      sections = c.into_items.ensures.sections;
     }

@@ -1,0 +1,197 @@
+-- The lines of a section, with one line more.
+use Rattle.std.proofs.Common.{◌≡◌, ℕ, suc, ◌+◌, ◌≤◌, ◌||◌, Bool, true, false, not, nat_le, List, [], ◌∷◌, ◌++◌, length, take, filter, refl, sym, ap, subst, ◌∙◌, if◌then◌else◌}
+use native.Mathlib.Omega.{arith}
+use Rattle.std.specs.List.{list_any, prefix_len}
+use Rattle.std.proofs.lemmas.List.{append-nil, length-append}
+use Rattle.std.proofs.lemmas.List.Elements.{filter-append}
+use Rattle.conf_line.specs.declared.statement.Statement.{Statement}
+use Rattle.conf_line.specs.declared.statement.Statement.TheVariants as statements
+use Rattle.conf_tree.specs.declared.limits.TheConstants.{MOST_SERVERS}
+use Rattle.conf_tree.specs.declared.tree.ConfigLine.{ConfigLine}
+use Rattle.conf_tree.specs.declared.tree.Place.{Place}
+use Rattle.conf_tree.specs.Config.{place_of, section_lines, is_server, is_full}
+use Rattle.conf_tree.specs.Kept.{last_section}
+use Rattle.conf_tree.specs.Sections.{opens, own_lines}
+use Rattle.conf_tree.specs.Sound.{IsSoundSection, AreSoundSections}
+use Rattle.conf_tree.proofs.SoundLemmas.{neither}
+
+-- The lines up to the next section.
+
+pub own_more : (item : ConfigLine) (rest : List ConfigLine) → own_lines (item ∷ rest) ≡ (if opens item.statement then [] else item ∷ own_lines rest)
+own_more item rest = by (opens item.statement) refl
+  where
+    by : (b : Bool) → opens item.statement ≡ b → own_lines (item ∷ rest) ≡ (if opens item.statement then [] else item ∷ own_lines rest)
+    by true is = rw is refl
+    by false is =
+        let n = prefix_len (λ (x : ConfigLine). not (opens x.statement)) rest in
+        let next : 1 + n ≡ suc n = omega arith in
+        rw is (ap (λ m. take m (item ∷ rest)) next)
+
+abbrev one_opens : List ConfigLine → Bool
+one_opens items = list_any (λ item. opens item.statement) items
+
+own_all : (items : List ConfigLine) → one_opens items ≡ false → own_lines items ≡ items
+own_all [] none = refl
+own_all (item ∷ rest) none =
+    let parts = neither (opens item.statement) (one_opens rest) none in
+    own_more item rest ∙ ap (λ b. if b then [] else item ∷ own_lines rest) parts.0 ∙ ap (λ xs. item ∷ xs) (own_all rest parts.1)
+
+-- with one line more they are the same, unless no line opens a section
+own_after : (P : List ConfigLine → Type 0) (items : List ConfigLine) (item : ConfigLine) → P (own_lines items) → (one_opens items ≡ false → opens item.statement ≡ false → P (items ++ item ∷ [])) →
+    P (own_lines (items ++ item ∷ []))
+own_after P [] item before more = subst P (sym (own_more item [])) (by (opens item.statement) refl)
+  where
+    by : (b : Bool) → opens item.statement ≡ b → P (if b then [] else item ∷ [])
+    by true is = before
+    by false is = more refl is
+own_after P (first ∷ rest) item before more =
+    subst P (sym (own_more first (rest ++ item ∷ [])))
+    (by (opens first.statement) refl (subst P (own_more first rest) before)
+    (λ is p. own_after (λ xs. P (first ∷ xs)) rest item p (λ none closed. more (rw is none) closed)))
+  where
+    by : (b : Bool) → opens first.statement ≡ b → P (if b then [] else first ∷ own_lines rest) →
+        (opens first.statement ≡ false → P (first ∷ own_lines rest) → P (first ∷ own_lines (rest ++ item ∷ []))) → P (if b then [] else first ∷ own_lines (rest ++ item ∷ []))
+    by true is p later = p
+    by false is p later = later is p
+
+-- The last section.
+
+pub last_opened : (items : List ConfigLine) (item : ConfigLine) → opens item.statement ≡ true → last_section (items ++ item ∷ []) ≡ item ∷ []
+last_opened [] item is = refl
+last_opened (first ∷ rest) item is =
+    ap (λ b. if b then last_section (rest ++ item ∷ []) else first ∷ (rest ++ item ∷ [])) (one_more rest item is) ∙ last_opened rest item is
+  where
+    one_more : (items : List ConfigLine) (item : ConfigLine) → opens item.statement ≡ true → one_opens (items ++ item ∷ []) ≡ true
+    one_more [] item is = rw is refl
+    one_more (first ∷ rest) item is = by (opens first.statement) (one_more rest item is)
+      where
+        by : (b : Bool) → one_opens (rest ++ item ∷ []) ≡ true → (b || one_opens (rest ++ item ∷ [])) ≡ true
+        by true later = refl
+        by false later = later
+
+pub last_kept : (items : List ConfigLine) (item : ConfigLine) → opens item.statement ≡ false → last_section (items ++ item ∷ []) ≡ last_section items ++ item ∷ []
+last_kept [] item is = refl
+last_kept (first ∷ rest) item is =
+    ap (λ b. if b then last_section (rest ++ item ∷ []) else first ∷ (rest ++ item ∷ [])) (same rest item is) ∙ by (one_opens rest) (last_kept rest item is)
+  where
+    same : (items : List ConfigLine) (item : ConfigLine) → opens item.statement ≡ false → one_opens (items ++ item ∷ []) ≡ one_opens items
+    same [] item is = rw is refl
+    same (first ∷ rest) item is = ap (λ b. opens first.statement || b) (same rest item is)
+
+    by : (b : Bool) → last_section (rest ++ item ∷ []) ≡ last_section rest ++ item ∷ [] →
+        (if b then last_section (rest ++ item ∷ []) else first ∷ (rest ++ item ∷ [])) ≡ (if b then last_section rest else first ∷ rest) ++ item ∷ []
+    by true later = later
+    by false later = refl
+
+last_all : (items : List ConfigLine) → one_opens items ≡ false → last_section items ≡ items
+last_all [] none = refl
+last_all (item ∷ rest) none = let parts = neither (opens item.statement) (one_opens rest) none in ap (λ b. if b then last_section rest else item ∷ rest) parts.1
+
+-- The place of a line.
+
+pub place_opened : (place : Place) (number : ℕ) (s : Statement) → opens s ≡ true → (place_of place number s).first ≡ number
+place_opened place number statements.Global is = refl
+place_opened place number statements.Defaults is = refl
+place_opened place number (statements.Frontend name) is = refl
+place_opened place number (statements.Backend name) is = refl
+place_opened place number statements.Nothing is = absurd cc
+place_opened place number (statements.MaxConn limit) is = absurd cc
+place_opened place number (statements.DefaultBackend name) is = absurd cc
+place_opened place number (statements.Balance method) is = absurd cc
+place_opened place number (statements.Bind at proxy) is = absurd cc
+place_opened place number (statements.Acl name test) is = absurd cc
+place_opened place number (statements.Rule list action when) is = absurd cc
+place_opened place number (statements.UseBackend name when) is = absurd cc
+place_opened place number (statements.StickTable table) is = absurd cc
+place_opened place number (statements.Server server) is = absurd cc
+
+pub place_kept : (place : Place) (number : ℕ) (s : Statement) → opens s ≡ false → place_of place number s ≡ place
+place_kept place number statements.Global is = absurd cc
+place_kept place number statements.Defaults is = absurd cc
+place_kept place number (statements.Frontend name) is = absurd cc
+place_kept place number (statements.Backend name) is = absurd cc
+place_kept place number statements.Nothing is = refl
+place_kept place number (statements.MaxConn limit) is = refl
+place_kept place number (statements.DefaultBackend name) is = refl
+place_kept place number (statements.Balance method) is = refl
+place_kept place number (statements.Bind at proxy) is = refl
+place_kept place number (statements.Acl name test) is = refl
+place_kept place number (statements.Rule list action when) is = refl
+place_kept place number (statements.UseBackend name when) is = refl
+place_kept place number (statements.StickTable table) is = refl
+place_kept place number (statements.Server server) is = refl
+
+-- Room for one line more of a kind.
+
+abbrev number : (Statement → Bool) → List ConfigLine → ℕ
+number test lines = length (filter (λ item. test item.statement) lines)
+
+abbrev HasRoomOf : ℕ → (Statement → Bool) → Statement → List ConfigLine → Type 0
+HasRoomOf most test s lines = test s ≡ true → suc (number test lines) ≤ most
+
+less_room : (most : ℕ) (test : Statement → Bool) (s : Statement) (first : ConfigLine) (rest : List ConfigLine) → HasRoomOf most test s (first ∷ rest) → HasRoomOf most test s rest
+less_room most test s first rest room is = by (test first.statement) (room is)
+  where
+    by : (b : Bool) → suc (length (if b then first ∷ filter (λ item. test item.statement) rest else filter (λ item. test item.statement) rest)) ≤ most → suc (number test rest) ≤ most
+    by true few = omega (arith, few)
+    by false few = few
+
+number_more : (most : ℕ) (test : Statement → Bool) (lines : List ConfigLine) (item : ConfigLine) → number test lines ≤ most → HasRoomOf most test item.statement lines →
+    number test (lines ++ item ∷ []) ≤ most
+number_more most test lines item few room =
+    subst (λ xs. length xs ≤ most) (sym (filter-append (λ i. test i.statement) lines (item ∷ []))) (by (test item.statement) room)
+  where
+    those : List ConfigLine
+    those = filter (λ i. test i.statement) lines
+
+    by : (b : Bool) → (b ≡ true → suc (length those) ≤ most) → length (those ++ (if b then item ∷ [] else [])) ≤ most
+    by true more =
+        let less : suc (length those) ≤ most = more refl in
+        rw (length-append those (item ∷ [])) (omega (arith, less))
+    by false more = subst (λ xs. length xs ≤ most) (sym (append-nil those)) few
+
+-- Room for a line that says this.
+abbrev pub HasRoom : Statement → List ConfigLine → Type 0
+HasRoom s lines = HasRoomOf MOST_SERVERS is_server s lines
+
+room_in_rest : (s : Statement) (first : ConfigLine) (rest : List ConfigLine) → HasRoom s (first ∷ rest) → HasRoom s rest
+room_in_rest s first rest room = less_room MOST_SERVERS is_server s first rest room
+
+below : (n : ℕ) → nat_le 64 n ≡ false → suc n ≤ 64
+below n is = grind (arith, is)
+
+pub has_room : (items : List ConfigLine) (place : Place) (s : Statement) → is_full items place s ≡ false → HasRoom s (section_lines place items)
+has_room items place statements.Nothing full is = absurd cc
+has_room items place statements.Global full is = absurd cc
+has_room items place statements.Defaults full is = absurd cc
+has_room items place (statements.Frontend name) full is = absurd cc
+has_room items place (statements.Backend name) full is = absurd cc
+has_room items place (statements.MaxConn limit) full is = absurd cc
+has_room items place (statements.DefaultBackend name) full is = absurd cc
+has_room items place (statements.Balance method) full is = absurd cc
+has_room items place (statements.Bind at proxy) full is = absurd cc
+has_room items place (statements.Acl name test) full is = absurd cc
+has_room items place (statements.Rule list action when) full is = absurd cc
+has_room items place (statements.UseBackend name when) full is = absurd cc
+has_room items place (statements.StickTable table) full is = absurd cc
+has_room items place (statements.Server server) full is = below (number is_server (section_lines place items)) full
+
+-- One line more.
+
+section_more : (lines : List ConfigLine) (item : ConfigLine) → IsSoundSection lines → HasRoom item.statement lines → IsSoundSection (lines ++ item ∷ [])
+section_more lines item sound room = record { servers = number_more MOST_SERVERS is_server lines item sound.servers room }
+
+pub sections_more : (items : List ConfigLine) (item : ConfigLine) → AreSoundSections items → (opens item.statement ≡ false → HasRoom item.statement (last_section items)) → AreSoundSections (items ++ item ∷ [])
+sections_more [] item sound room = (record { servers = omega arith }, tt)
+sections_more (first ∷ rest) item sound room = (
+  own_after IsSoundSection rest item sound.0 (λ none closed. section_more rest item (subst IsSoundSection (own_all rest none) sound.0) (here none closed)),
+  sections_more rest item sound.1 (λ closed. later (one_opens rest) refl (room closed)),
+)
+  where
+    here : one_opens rest ≡ false → opens item.statement ≡ false → HasRoom item.statement rest
+    here none closed =
+        room_in_rest item.statement first rest (subst (λ lines. HasRoom item.statement lines) (ap (λ b. if b then last_section rest else first ∷ rest) none) (room closed))
+
+    later : (b : Bool) → one_opens rest ≡ b → HasRoom item.statement (if b then last_section rest else first ∷ rest) → HasRoom item.statement (last_section rest)
+    later true is more = more
+    later false is more = subst (λ lines. HasRoom item.statement lines) (sym (last_all rest is)) (room_in_rest item.statement first rest more)
