@@ -6,10 +6,10 @@ use Rattle.std.proofs.lemmas.List.{append-nil, length-append}
 use Rattle.std.proofs.lemmas.List.Elements.{filter-append}
 use Rattle.conf_line.specs.declared.statement.Statement.{Statement}
 use Rattle.conf_line.specs.declared.statement.Statement.TheVariants as statements
-use Rattle.conf_tree.specs.declared.limits.TheConstants.{MOST_SERVERS}
+use Rattle.conf_tree.specs.declared.limits.TheConstants.{MOST_BINDS, MOST_SERVERS}
 use Rattle.conf_tree.specs.declared.tree.ConfigLine.{ConfigLine}
 use Rattle.conf_tree.specs.declared.tree.Place.{Place}
-use Rattle.conf_tree.specs.Config.{place_of, section_lines, is_server, is_full}
+use Rattle.conf_tree.specs.Config.{place_of, section_lines, is_bind, is_server, is_full}
 use Rattle.conf_tree.specs.Kept.{last_section}
 use Rattle.conf_tree.specs.Sections.{opens, own_lines}
 use Rattle.conf_tree.specs.Sound.{IsSoundSection, AreSoundSections}
@@ -151,38 +151,61 @@ number_more most test lines item few room =
     by false more = subst (λ xs. length xs ≤ most) (sym (append-nil those)) few
 
 -- Room for a line that says this.
-abbrev pub HasRoom : Statement → List ConfigLine → Type 0
-HasRoom s lines = HasRoomOf MOST_SERVERS is_server s lines
+pub record HasRoom (s : Statement) (lines : List ConfigLine) : Type 0 where
+  pub binds : HasRoomOf MOST_BINDS is_bind s lines
+  pub servers : HasRoomOf MOST_SERVERS is_server s lines
 
 room_in_rest : (s : Statement) (first : ConfigLine) (rest : List ConfigLine) → HasRoom s (first ∷ rest) → HasRoom s rest
-room_in_rest s first rest room = less_room MOST_SERVERS is_server s first rest room
+room_in_rest s first rest room = record { binds = less_room MOST_BINDS is_bind s first rest room.binds; servers = less_room MOST_SERVERS is_server s first rest room.servers }
 
 below : (n : ℕ) → nat_le 64 n ≡ false → suc n ≤ 64
 below n is = grind (arith, is)
 
+room_of_bind : (items : List ConfigLine) (place : Place) (s : Statement) → is_full items place s ≡ false → HasRoomOf MOST_BINDS is_bind s (section_lines place items)
+room_of_bind items place statements.Nothing full is = absurd cc
+room_of_bind items place statements.Global full is = absurd cc
+room_of_bind items place statements.Defaults full is = absurd cc
+room_of_bind items place (statements.Frontend name) full is = absurd cc
+room_of_bind items place (statements.Backend name) full is = absurd cc
+room_of_bind items place (statements.MaxConn limit) full is = absurd cc
+room_of_bind items place (statements.DefaultBackend name) full is = absurd cc
+room_of_bind items place (statements.Balance method) full is = absurd cc
+room_of_bind items place (statements.Bind at proxy) full is = below (number is_bind (section_lines place items)) full
+room_of_bind items place (statements.Acl name test) full is = absurd cc
+room_of_bind items place (statements.Rule list action when) full is = absurd cc
+room_of_bind items place (statements.UseBackend name when) full is = absurd cc
+room_of_bind items place (statements.StickTable table) full is = absurd cc
+room_of_bind items place (statements.Server server) full is = absurd cc
+
+room_of_server : (items : List ConfigLine) (place : Place) (s : Statement) → is_full items place s ≡ false → HasRoomOf MOST_SERVERS is_server s (section_lines place items)
+room_of_server items place statements.Nothing full is = absurd cc
+room_of_server items place statements.Global full is = absurd cc
+room_of_server items place statements.Defaults full is = absurd cc
+room_of_server items place (statements.Frontend name) full is = absurd cc
+room_of_server items place (statements.Backend name) full is = absurd cc
+room_of_server items place (statements.MaxConn limit) full is = absurd cc
+room_of_server items place (statements.DefaultBackend name) full is = absurd cc
+room_of_server items place (statements.Balance method) full is = absurd cc
+room_of_server items place (statements.Bind at proxy) full is = absurd cc
+room_of_server items place (statements.Acl name test) full is = absurd cc
+room_of_server items place (statements.Rule list action when) full is = absurd cc
+room_of_server items place (statements.UseBackend name when) full is = absurd cc
+room_of_server items place (statements.StickTable table) full is = absurd cc
+room_of_server items place (statements.Server server) full is = below (number is_server (section_lines place items)) full
+
 pub has_room : (items : List ConfigLine) (place : Place) (s : Statement) → is_full items place s ≡ false → HasRoom s (section_lines place items)
-has_room items place statements.Nothing full is = absurd cc
-has_room items place statements.Global full is = absurd cc
-has_room items place statements.Defaults full is = absurd cc
-has_room items place (statements.Frontend name) full is = absurd cc
-has_room items place (statements.Backend name) full is = absurd cc
-has_room items place (statements.MaxConn limit) full is = absurd cc
-has_room items place (statements.DefaultBackend name) full is = absurd cc
-has_room items place (statements.Balance method) full is = absurd cc
-has_room items place (statements.Bind at proxy) full is = absurd cc
-has_room items place (statements.Acl name test) full is = absurd cc
-has_room items place (statements.Rule list action when) full is = absurd cc
-has_room items place (statements.UseBackend name when) full is = absurd cc
-has_room items place (statements.StickTable table) full is = absurd cc
-has_room items place (statements.Server server) full is = below (number is_server (section_lines place items)) full
+has_room items place s full = record { binds = room_of_bind items place s full; servers = room_of_server items place s full }
 
 -- One line more.
 
 section_more : (lines : List ConfigLine) (item : ConfigLine) → IsSoundSection lines → HasRoom item.statement lines → IsSoundSection (lines ++ item ∷ [])
-section_more lines item sound room = record { servers = number_more MOST_SERVERS is_server lines item sound.servers room }
+section_more lines item sound room = record {
+  binds = number_more MOST_BINDS is_bind lines item sound.binds room.binds;
+  servers = number_more MOST_SERVERS is_server lines item sound.servers room.servers;
+}
 
 pub sections_more : (items : List ConfigLine) (item : ConfigLine) → AreSoundSections items → (opens item.statement ≡ false → HasRoom item.statement (last_section items)) → AreSoundSections (items ++ item ∷ [])
-sections_more [] item sound room = (record { servers = omega arith }, tt)
+sections_more [] item sound room = (record { binds = omega arith; servers = omega arith }, tt)
 sections_more (first ∷ rest) item sound room = (
   own_after IsSoundSection rest item sound.0 (λ none closed. section_more rest item (subst IsSoundSection (own_all rest none) sound.0) (here none closed)),
   sections_more rest item sound.1 (λ closed. later (one_opens rest) refl (room closed)),

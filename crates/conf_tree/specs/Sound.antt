@@ -4,8 +4,8 @@ use Rattle.std.specs.List.{AllByRecursion}
 use Rattle.conf_line.specs.Sound.{IsSoundStatement}
 use Rattle.conf_tree.specs.declared.claim.Claim.{Claim}
 use Rattle.conf_tree.specs.declared.tree.ConfigLine.{ConfigLine}
-use Rattle.conf_tree.specs.declared.limits.TheConstants.{MOST_SERVERS}
-use Rattle.conf_tree.specs.Config.{claims_of, same_claim, is_server}
+use Rattle.conf_tree.specs.declared.limits.TheConstants.{MOST_BINDS, MOST_SERVERS}
+use Rattle.conf_tree.specs.Config.{claims_of, same_claim, is_bind, is_server}
 use Rattle.conf_tree.specs.Few.{FewSections}
 use Rattle.conf_tree.specs.Rising.{Rises}
 use Rattle.conf_tree.specs.Sections.{own_lines}
@@ -21,6 +21,7 @@ AreSoundStatements items = AllByRecursion (λ item. IsSoundStatement item.statem
 
 -- the lines of one section, without the one that opens it
 pub record IsSoundSection (lines : List ConfigLine) : Type 0 where
+  pub binds : length (filter (λ item. is_bind item.statement) lines) ≤ MOST_BINDS
   pub servers : length (filter (λ item. is_server item.statement) lines) ≤ MOST_SERVERS
 
 -- the lines after each item, up to the next section, keep that

@@ -7,11 +7,11 @@ use Rattle.std.specs.Option.{option_or}
 use Rattle.conf_line.specs.declared.statement.Statement.{Statement}
 use Rattle.conf_line.specs.declared.statement.Statement.TheVariants as statements
 use Rattle.conf_tree.specs.declared.tree.ConfigLine.{ConfigLine}
-use Rattle.conf_tree.specs.Config.{is_server}
+use Rattle.conf_tree.specs.Config.{is_bind, is_server}
 use Rattle.conf_tree.specs.Sound.{IsSoundSection}
 use Rattle.plan_types.specs.declared.plan.Backend.{Backend}
 use Rattle.plan_types.specs.declared.plan.Table.{Table}
-use Rattle.plan_types.specs.Sound.{most_servers}
+use Rattle.plan_types.specs.Sound.{most_binds, most_servers}
 use Rattle.plan_core.specs.declared.fault.PlanFault.{PlanFault}
 use Rattle.plan_core.specs.declared.fault.PlanKind.TheVariants.{NoBind}
 use Rattle.plan_core.specs.declared.proxies.Proxy.{Proxy}
@@ -96,6 +96,22 @@ as_many {X} setting test same (item ∷ rest) = by (setting item.line item.state
     by (Some x) true is later = ap (λ n. suc n) later
     by (Some x) false is later = absurd cc
 
+is_one_bind : (at : ℕ) (s : Statement) → is_some (line_bind at s) ≡ is_bind s
+is_one_bind at statements.Nothing = refl
+is_one_bind at statements.Global = refl
+is_one_bind at statements.Defaults = refl
+is_one_bind at (statements.Frontend name) = refl
+is_one_bind at (statements.Backend name) = refl
+is_one_bind at (statements.MaxConn limit) = refl
+is_one_bind at (statements.DefaultBackend name) = refl
+is_one_bind at (statements.Balance method) = refl
+is_one_bind at (statements.Acl called test) = refl
+is_one_bind at (statements.UseBackend called when) = refl
+is_one_bind at (statements.Bind endpoint flag) = refl
+is_one_bind at (statements.Rule list action when) = refl
+is_one_bind at (statements.StickTable table) = refl
+is_one_bind at (statements.Server server) = refl
+
 is_one_server : (at : ℕ) (s : Statement) → is_some (line_server at s) ≡ is_server s
 is_one_server at statements.Nothing = refl
 is_one_server at statements.Global = refl
@@ -111,6 +127,9 @@ is_one_server at (statements.Bind endpoint flag) = refl
 is_one_server at (statements.Rule list action when) = refl
 is_one_server at (statements.StickTable table) = refl
 is_one_server at (statements.Server server) = refl
+
+pub few_binds : (own : List ConfigLine) → IsSoundSection own → length (all_of line_bind own) ≤ most_binds
+few_binds own sound = rw (as_many line_bind is_bind is_one_bind own) sound.binds
 
 pub few_servers : (own : List ConfigLine) → IsSoundSection own → length (all_of line_server own) ≤ most_servers
 few_servers own sound = rw (as_many line_server is_server is_one_server own) sound.servers

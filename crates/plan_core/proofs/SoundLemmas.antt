@@ -33,7 +33,7 @@ use Rattle.plan_core.specs.declared.proxies.Proxy.{Proxy}
 use Rattle.plan_core.specs.Compiled.{default_number, frontend_of, backend_of, backends_in, plan_faults}
 use Rattle.plan_core.specs.Fields.{line_bind, line_default, line_limit, line_table, line_server, line_rule, line_choice, choice_with, backend_number, rule_with, all_of, last_of, setting_in, limit_in, table_with, tables_in, table_number, is_table_of, action_of, track_with, is_in}
 use Rattle.plan_core.specs.Proxies.{line_head, base_after, proxy_with, proxies, is_frontend, is_backend, frontends, backends}
-use Rattle.plan_core.proofs.CountLemmas.{HasBind, each_has_bind, few_servers}
+use Rattle.plan_core.proofs.CountLemmas.{HasBind, each_has_bind, few_binds, few_servers}
 use Rattle.conf_tree.proofs.SectionLemmas.{own_more}
 use Rattle.plan_core.proofs.LineLemmas.{own_above, lines_differ}
 use Rattle.plan_core.proofs.NameLemmas.{frontend_names_differ, backend_names_differ}
@@ -349,7 +349,7 @@ sound_servers (item ∷ rest) sound = by (line_server item.line item.statement) 
 sound_frontend : (tables : List Table) (backends : List Backend) (proxy : Proxy) → IsSoundProxy proxy → 1 ≤ length (all_of line_bind proxy.own) →
     IsSoundFrontend (length tables) (length backends) (frontend_of tables backends proxy)
 sound_frontend tables backends proxy sound bind = record {
-  binds = bind;
+  binds = (bind, few_binds proxy.own sound.section);
   limit = sound_limit proxy sound;
   connection_rules = sound_rules Connection tables proxy.head.name proxy.own sound.own sound.rises;
   session_rules = sound_rules Session tables proxy.head.name proxy.own sound.own sound.rises;

@@ -23,6 +23,10 @@ most_backends = 64
 abbrev pub most_tables : ℕ
 most_tables = 128
 
+-- of a frontend
+abbrev pub most_binds : ℕ
+most_binds = 64
+
 -- of a backend
 abbrev pub most_servers : ℕ
 most_servers = 64
@@ -80,7 +84,7 @@ IsWithin most number = (1 ≤ number) × (number ≤ most)
 
 -- a frontend, where there are so many tables and backends
 pub record IsSoundFrontend (tables backends : ℕ) (frontend : Frontend) : Type 0 where
-  pub binds : 1 ≤ length frontend.binds
+  pub binds : IsWithin most_binds (length frontend.binds)
   pub limit : IsWithin most_connections frontend.limit
   pub connection_rules : AreSoundRules tables frontend.connection_rules
   pub session_rules : AreSoundRules tables frontend.session_rules
