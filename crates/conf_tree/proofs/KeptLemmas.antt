@@ -16,7 +16,7 @@ use Rattle.conf_tree.specs.declared.tree.Place.{Place}
 use Rattle.conf_tree.specs.Config.{place_at, place_after, place_of, section_lines, acl_name, acl_names, known_names, claim_of, claims_of}
 use Rattle.conf_tree.specs.Kept.{IsKept, IsNext, names_after, last_section}
 use Rattle.conf_tree.specs.Sections.{opens}
-use Rattle.conf_tree.proofs.SectionLemmas.{last_opened, last_kept, place_opened, place_kept, HasRoom, has_room, sections_more}
+use Rattle.conf_tree.proofs.SectionLemmas.{last_opened, last_kept, place_opened, place_kept, MayFollow, may_follow, sections_more}
 use Rattle.conf_tree.proofs.SoundLemmas.{all_more, claims_more}
 
 newest_more : {X : Type 0} (xs : List X) (x : X) → newest (xs ++ x ∷ []) ≡ Some x
@@ -79,12 +79,12 @@ section_after items item is within same = by (opens item.statement) refl
         ap (λ p. section_lines p (items ++ item ∷ [])) (last_place items item ∙ is ∙ place_kept (place_after items) (length items) item.statement closed)
         ∙ drop_within (place_after items).first items item within ∙ ap (λ lines. lines ++ item ∷ []) same ∙ sym (last_kept items item closed)
 
-room_for : (items : List ConfigLine) (item : ConfigLine) → IsNext items item → section_lines (place_after items) items ≡ last_section items → opens item.statement ≡ false →
-    HasRoom item.statement (last_section items)
-room_for items item next same closed =
-    subst (λ lines. HasRoom item.statement lines)
+may_come : (items : List ConfigLine) (item : ConfigLine) → IsNext items item → section_lines (place_after items) items ≡ last_section items → opens item.statement ≡ false →
+    MayFollow item.statement (last_section items)
+may_come items item next same closed =
+    subst (λ lines. MayFollow item.statement lines)
     (ap (λ p. section_lines p items) (next.place ∙ place_kept (place_after items) (length items) item.statement closed) ∙ same)
-    (has_room items item.place item.statement next.room)
+    (may_follow items item.place item.statement next.free next.room)
 
 -- The names that are known.
 
@@ -139,5 +139,5 @@ kept_more items item claims more known names kept next more_is names_is = record
   statements = all_more (λ i. IsSoundStatement i.statement) items item kept.statements next.sound;
   differ = claims_more items item kept.differ next.free;
   section = section_after items item next.place kept.place kept.section;
-  sections = sections_more items item kept.sections (room_for items item next kept.section);
+  sections = sections_more items item kept.sections (may_come items item next kept.section);
 }

@@ -2,17 +2,21 @@
 use Rattle.std.proofs.Common.{◌≡◌, ℕ, suc, ◌+◌, ◌≤◌, ◌||◌, Bool, true, false, not, nat_le, List, [], ◌∷◌, ◌++◌, length, take, filter, refl, sym, ap, subst, ◌∙◌, if◌then◌else◌}
 use native.Mathlib.Omega.{arith}
 use Rattle.std.specs.List.{list_any, prefix_len}
+use Rattle.std.specs.Str.{bytes_eq}
+use Rattle.std.proofs.lemmas.Slice.Eq.{bytes_eq-Decides}
 use Rattle.std.proofs.lemmas.List.{append-nil, length-append}
 use Rattle.std.proofs.lemmas.List.Elements.{filter-append}
+use Rattle.std.proofs.lemmas.List.Folds.{list_any-append}
+use Rattle.conf_line.specs.declared.statement.ServerWords.{ServerWords}
 use Rattle.conf_line.specs.declared.statement.Statement.{Statement}
 use Rattle.conf_line.specs.declared.statement.Statement.TheVariants as statements
 use Rattle.conf_tree.specs.declared.limits.TheConstants.{MOST_BINDS, MOST_SERVERS}
 use Rattle.conf_tree.specs.declared.tree.ConfigLine.{ConfigLine}
 use Rattle.conf_tree.specs.declared.tree.Place.{Place}
-use Rattle.conf_tree.specs.Config.{place_of, section_lines, is_bind, is_server, is_full}
+use Rattle.conf_tree.specs.Config.{place_of, section_lines, claim_of, claims_of, is_claim_taken, is_server_named, has_server, is_taken, is_bind, is_server, is_full}
 use Rattle.conf_tree.specs.Kept.{last_section}
 use Rattle.conf_tree.specs.Sections.{opens, own_lines}
-use Rattle.conf_tree.specs.Sound.{IsSoundSection, AreSoundSections}
+use Rattle.conf_tree.specs.Sound.{ServersDiffer, IsSoundSection, AreSoundSections}
 use Rattle.conf_tree.proofs.SoundLemmas.{neither}
 
 -- The lines up to the next section.
@@ -150,14 +154,6 @@ number_more most test lines item few room =
         rw (length-append those (item ∷ [])) (omega (arith, less))
     by false more = subst (λ xs. length xs ≤ most) (sym (append-nil those)) few
 
--- Room for a line that says this.
-pub record HasRoom (s : Statement) (lines : List ConfigLine) : Type 0 where
-  pub binds : HasRoomOf MOST_BINDS is_bind s lines
-  pub servers : HasRoomOf MOST_SERVERS is_server s lines
-
-room_in_rest : (s : Statement) (first : ConfigLine) (rest : List ConfigLine) → HasRoom s (first ∷ rest) → HasRoom s rest
-room_in_rest s first rest room = record { binds = less_room MOST_BINDS is_bind s first rest room.binds; servers = less_room MOST_SERVERS is_server s first rest room.servers }
-
 below : (n : ℕ) → nat_le 64 n ≡ false → suc n ≤ 64
 below n is = grind (arith, is)
 
@@ -193,28 +189,118 @@ room_of_server items place (statements.UseBackend name when) full is = absurd cc
 room_of_server items place (statements.StickTable table) full is = absurd cc
 room_of_server items place (statements.Server server) full is = below (number is_server (section_lines place items)) full
 
-pub has_room : (items : List ConfigLine) (place : Place) (s : Statement) → is_full items place s ≡ false → HasRoom s (section_lines place items)
-has_room items place s full = record { binds = room_of_bind items place s full; servers = room_of_server items place s full }
+-- A server's name that no other one has.
+
+other_way : (a b : List ℕ) → bytes_eq a b ≡ false → bytes_eq b a ≡ false
+other_way a b differ = by (bytes_eq b a) refl
+  where
+    by : (same : Bool) → bytes_eq b a ≡ same → same ≡ false
+    by true is = let wrong : false ≡ true = sym differ ∙ (bytes_eq-Decides a b).1 (sym ((bytes_eq-Decides b a).0 is)) in absurd cc
+    by false is = refl
+
+free_in_rest : (first : ConfigLine) (rest : List ConfigLine) (s : Statement) → has_server (first ∷ rest) s ≡ false → has_server rest s ≡ false
+free_in_rest first rest statements.Nothing free = refl
+free_in_rest first rest statements.Global free = refl
+free_in_rest first rest statements.Defaults free = refl
+free_in_rest first rest (statements.Frontend name) free = refl
+free_in_rest first rest (statements.Backend name) free = refl
+free_in_rest first rest (statements.MaxConn limit) free = refl
+free_in_rest first rest (statements.DefaultBackend name) free = refl
+free_in_rest first rest (statements.Balance method) free = refl
+free_in_rest first rest (statements.Bind at proxy) free = refl
+free_in_rest first rest (statements.Acl name test) free = refl
+free_in_rest first rest (statements.Rule list action when) free = refl
+free_in_rest first rest (statements.UseBackend name when) free = refl
+free_in_rest first rest (statements.StickTable table) free = refl
+free_in_rest first rest (statements.Server server) free =
+    (neither (is_server_named server.name first.statement) (list_any (λ item. is_server_named server.name item.statement) rest) free).1
+
+-- the server before it has another name
+other_before : (words : ServerWords) (line : ℕ) (place : Place) (rest : List ConfigLine) (s : Statement) → has_server (record { line = line; place = place; statement = statements.Server words } ∷ rest) s ≡ false →
+    is_server_named words.name s ≡ false
+other_before words line place rest statements.Nothing free = refl
+other_before words line place rest statements.Global free = refl
+other_before words line place rest statements.Defaults free = refl
+other_before words line place rest (statements.Frontend name) free = refl
+other_before words line place rest (statements.Backend name) free = refl
+other_before words line place rest (statements.MaxConn limit) free = refl
+other_before words line place rest (statements.DefaultBackend name) free = refl
+other_before words line place rest (statements.Balance method) free = refl
+other_before words line place rest (statements.Bind at proxy) free = refl
+other_before words line place rest (statements.Acl name test) free = refl
+other_before words line place rest (statements.Rule list action when) free = refl
+other_before words line place rest (statements.UseBackend name when) free = refl
+other_before words line place rest (statements.StickTable table) free = refl
+other_before words line place rest (statements.Server server) free =
+    other_way words.name server.name (neither (bytes_eq words.name server.name) (list_any (λ item. is_server_named server.name item.statement) rest) free).0
+
+one_name_more : (s : Statement) (line : ℕ) (place : Place) (rest : List ConfigLine) (item : ConfigLine) → has_server rest s ≡ false →
+    has_server (record { line = line; place = place; statement = s } ∷ rest) item.statement ≡ false → has_server (rest ++ item ∷ []) s ≡ false
+one_name_more statements.Nothing line place rest item before free = refl
+one_name_more statements.Global line place rest item before free = refl
+one_name_more statements.Defaults line place rest item before free = refl
+one_name_more (statements.Frontend name) line place rest item before free = refl
+one_name_more (statements.Backend name) line place rest item before free = refl
+one_name_more (statements.MaxConn limit) line place rest item before free = refl
+one_name_more (statements.DefaultBackend name) line place rest item before free = refl
+one_name_more (statements.Balance method) line place rest item before free = refl
+one_name_more (statements.Bind at proxy) line place rest item before free = refl
+one_name_more (statements.Acl name test) line place rest item before free = refl
+one_name_more (statements.Rule list action when) line place rest item before free = refl
+one_name_more (statements.UseBackend name when) line place rest item before free = refl
+one_name_more (statements.StickTable table) line place rest item before free = refl
+one_name_more (statements.Server words) line place rest item before free =
+    list_any-append (λ i. is_server_named words.name i.statement) rest (item ∷ [])
+    ∙ ap (λ b. b || (is_server_named words.name item.statement || false)) before
+    ∙ ap (λ b. b || false) (other_before words line place rest item.statement free)
+
+names_more : (lines : List ConfigLine) (item : ConfigLine) → ServersDiffer lines → has_server lines item.statement ≡ false → ServersDiffer (lines ++ item ∷ [])
+names_more [] item differ free = (free, tt)
+names_more (first ∷ rest) item differ free =
+    (one_name_more first.statement first.line first.place rest item differ.0 free, names_more rest item differ.1 (free_in_rest first rest item.statement free))
+
+-- Which line may come next.
+
+-- a line that says this may follow those in their section
+pub record MayFollow (s : Statement) (lines : List ConfigLine) : Type 0 where
+  pub binds : HasRoomOf MOST_BINDS is_bind s lines
+  pub servers : HasRoomOf MOST_SERVERS is_server s lines
+  pub name : has_server lines s ≡ false
+
+follow_rest : (s : Statement) (first : ConfigLine) (rest : List ConfigLine) → MayFollow s (first ∷ rest) → MayFollow s rest
+follow_rest s first rest may = record {
+  binds = less_room MOST_BINDS is_bind s first rest may.binds;
+  servers = less_room MOST_SERVERS is_server s first rest may.servers;
+  name = free_in_rest first rest s may.name;
+}
+
+pub may_follow : (items : List ConfigLine) (place : Place) (s : Statement) → is_taken items place s ≡ false → is_full items place s ≡ false → MayFollow s (section_lines place items)
+may_follow items place s free full = record {
+  binds = room_of_bind items place s full;
+  servers = room_of_server items place s full;
+  name = (neither (is_claim_taken (claims_of items) (claim_of place s)) (has_server (section_lines place items) s) free).1;
+}
 
 -- One line more.
 
-section_more : (lines : List ConfigLine) (item : ConfigLine) → IsSoundSection lines → HasRoom item.statement lines → IsSoundSection (lines ++ item ∷ [])
-section_more lines item sound room = record {
-  binds = number_more MOST_BINDS is_bind lines item sound.binds room.binds;
-  servers = number_more MOST_SERVERS is_server lines item sound.servers room.servers;
+section_more : (lines : List ConfigLine) (item : ConfigLine) → IsSoundSection lines → MayFollow item.statement lines → IsSoundSection (lines ++ item ∷ [])
+section_more lines item sound may = record {
+  binds = number_more MOST_BINDS is_bind lines item sound.binds may.binds;
+  servers = number_more MOST_SERVERS is_server lines item sound.servers may.servers;
+  names = names_more lines item sound.names may.name;
 }
 
-pub sections_more : (items : List ConfigLine) (item : ConfigLine) → AreSoundSections items → (opens item.statement ≡ false → HasRoom item.statement (last_section items)) → AreSoundSections (items ++ item ∷ [])
-sections_more [] item sound room = (record { binds = omega arith; servers = omega arith }, tt)
-sections_more (first ∷ rest) item sound room = (
+pub sections_more : (items : List ConfigLine) (item : ConfigLine) → AreSoundSections items → (opens item.statement ≡ false → MayFollow item.statement (last_section items)) → AreSoundSections (items ++ item ∷ [])
+sections_more [] item sound may = (record { binds = omega arith; servers = omega arith; names = tt }, tt)
+sections_more (first ∷ rest) item sound may = (
   own_after IsSoundSection rest item sound.0 (λ none closed. section_more rest item (subst IsSoundSection (own_all rest none) sound.0) (here none closed)),
-  sections_more rest item sound.1 (λ closed. later (one_opens rest) refl (room closed)),
+  sections_more rest item sound.1 (λ closed. later (one_opens rest) refl (may closed)),
 )
   where
-    here : one_opens rest ≡ false → opens item.statement ≡ false → HasRoom item.statement rest
+    here : one_opens rest ≡ false → opens item.statement ≡ false → MayFollow item.statement rest
     here none closed =
-        room_in_rest item.statement first rest (subst (λ lines. HasRoom item.statement lines) (ap (λ b. if b then last_section rest else first ∷ rest) none) (room closed))
+        follow_rest item.statement first rest (subst (λ lines. MayFollow item.statement lines) (ap (λ b. if b then last_section rest else first ∷ rest) none) (may closed))
 
-    later : (b : Bool) → one_opens rest ≡ b → HasRoom item.statement (if b then last_section rest else first ∷ rest) → HasRoom item.statement (last_section rest)
+    later : (b : Bool) → one_opens rest ≡ b → MayFollow item.statement (if b then last_section rest else first ∷ rest) → MayFollow item.statement (last_section rest)
     later true is more = more
-    later false is more = subst (λ lines. HasRoom item.statement lines) (sym (last_all rest is)) (room_in_rest item.statement first rest more)
+    later false is more = subst (λ lines. MayFollow item.statement lines) (sym (last_all rest is)) (follow_rest item.statement first rest more)

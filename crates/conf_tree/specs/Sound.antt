@@ -5,7 +5,7 @@ use Rattle.conf_line.specs.Sound.{IsSoundStatement}
 use Rattle.conf_tree.specs.declared.claim.Claim.{Claim}
 use Rattle.conf_tree.specs.declared.tree.ConfigLine.{ConfigLine}
 use Rattle.conf_tree.specs.declared.limits.TheConstants.{MOST_BINDS, MOST_SERVERS}
-use Rattle.conf_tree.specs.Config.{claims_of, same_claim, is_bind, is_server}
+use Rattle.conf_tree.specs.Config.{claims_of, same_claim, has_server, is_bind, is_server}
 use Rattle.conf_tree.specs.Few.{FewSections}
 use Rattle.conf_tree.specs.Rising.{Rises}
 use Rattle.conf_tree.specs.Sections.{own_lines}
@@ -19,10 +19,16 @@ ClaimsDiffer (claim ∷ rest) = AllByRecursion (λ later. same_claim later claim
 abbrev pub AreSoundStatements : List ConfigLine → Type 0
 AreSoundStatements items = AllByRecursion (λ item. IsSoundStatement item.statement) items
 
+-- no server has the name of a later one
+abbrev pub ServersDiffer : List ConfigLine → Type 0
+ServersDiffer [] = Unit {0}
+ServersDiffer (item ∷ rest) = (has_server rest item.statement ≡ false) × ServersDiffer rest
+
 -- the lines of one section, without the one that opens it
 pub record IsSoundSection (lines : List ConfigLine) : Type 0 where
   pub binds : length (filter (λ item. is_bind item.statement) lines) ≤ MOST_BINDS
   pub servers : length (filter (λ item. is_server item.statement) lines) ≤ MOST_SERVERS
+  pub names : ServersDiffer lines
 
 -- the lines after each item, up to the next section, keep that
 abbrev pub AreSoundSections : List ConfigLine → Type 0

@@ -1,7 +1,7 @@
--- No two frontends, and no two backends, have one name.
+-- No two frontends, no two backends, and no two servers of a backend have one name.
 use Rattle.std.proofs.Common.{◌≡◌, ◌≢◌, ℕ, true, false, List, [], ◌∷◌, ◌++◌, map, refl, sym, ap, subst, ◌∙◌}
 use Rattle.std.specs.Prelude.{option_map, option_to_list}
-use Rattle.std.specs.List.{AllByRecursion, cons_option}
+use Rattle.std.specs.List.{AllByRecursion, cons_option, list_any}
 use Rattle.std.specs.Str.{bytes_eq}
 use Rattle.std.proofs.lemmas.Slice.Eq.{bytes_eq-Decides}
 use Rattle.conf_line.specs.declared.statement.Statement.{Statement}
@@ -10,14 +10,17 @@ use Rattle.conf_tree.specs.declared.claim.Claim.{Claim}
 use Rattle.conf_tree.specs.declared.claim.Claim.TheVariants as claims
 use Rattle.conf_tree.specs.declared.tree.ConfigLine.{ConfigLine}
 use Rattle.conf_tree.specs.declared.tree.Place.{Place}
-use Rattle.conf_tree.specs.Config.{claim_of, claims_of, same_claim}
+use Rattle.conf_tree.specs.Config.{claim_of, claims_of, same_claim, is_server_named, has_server}
 use Rattle.conf_tree.specs.Sections.{own_lines}
-use Rattle.conf_tree.specs.Sound.{ClaimsDiffer}
+use Rattle.conf_tree.specs.Sound.{ClaimsDiffer, ServersDiffer}
+use Rattle.conf_tree.proofs.SoundLemmas.{neither}
 use Rattle.plan_types.specs.declared.plan.Backend.{Backend}
+use Rattle.plan_types.specs.declared.plan.Server.{Server}
 use Rattle.plan_types.specs.declared.plan.Table.{Table}
 use Rattle.plan_types.specs.Sound.{NamesDiffer}
 use Rattle.plan_core.specs.declared.proxies.Proxy.{Proxy}
 use Rattle.plan_core.specs.Compiled.{frontend_of, backend_of, backends_in}
+use Rattle.plan_core.specs.Fields.{line_server, all_of}
 use Rattle.plan_core.specs.Proxies.{line_head, base_after, proxy_with, proxies, frontends, backends}
 
 other_name : (a b : List ℕ) → bytes_eq a b ≡ false → a ≢ b
@@ -129,6 +132,55 @@ backends_differ base [] differ = tt
 backends_differ base (item ∷ rest) differ =
     one_backend item.statement item.line item.place base (own_lines rest) (proxies (base_after base (own_lines rest) item.statement) rest) (claims_of rest)
     (λ name others. backends_apart name (base_after base (own_lines rest) item.statement) rest others) (λ more. backends_differ (base_after base (own_lines rest) item.statement) rest more) differ
+
+-- Servers.
+
+abbrev server_names : List Server → List (List ℕ)
+server_names all = map (λ server. server.name) all
+
+server_apart : (s : Statement) (at : ℕ) (name : List ℕ) (rest : List Server) → is_server_named name s ≡ false → AreOtherNames name (server_names rest) →
+    AreOtherNames name (server_names (cons_option (line_server at s) rest))
+server_apart statements.Nothing at name rest none later = later
+server_apart statements.Global at name rest none later = later
+server_apart statements.Defaults at name rest none later = later
+server_apart (statements.Frontend own_name) at name rest none later = later
+server_apart (statements.Backend own_name) at name rest none later = later
+server_apart (statements.MaxConn limit) at name rest none later = later
+server_apart (statements.DefaultBackend own_name) at name rest none later = later
+server_apart (statements.Balance method) at name rest none later = later
+server_apart (statements.Bind endpoint flag) at name rest none later = later
+server_apart (statements.Acl called test) at name rest none later = later
+server_apart (statements.Rule list action when) at name rest none later = later
+server_apart (statements.UseBackend called when) at name rest none later = later
+server_apart (statements.StickTable table) at name rest none later = later
+server_apart (statements.Server server) at name rest none later = (other_name server.name name none, later)
+
+servers_apart : (name : List ℕ) (own : List ConfigLine) → list_any (λ item. is_server_named name item.statement) own ≡ false → AreOtherNames name (server_names (all_of line_server own))
+servers_apart name [] none = tt
+servers_apart name (item ∷ rest) none =
+    let parts = neither (is_server_named name item.statement) (list_any (λ (other : ConfigLine). is_server_named name other.statement) rest) none in
+    server_apart item.statement item.line name (all_of line_server rest) parts.0 (servers_apart name rest parts.1)
+
+one_server : (s : Statement) (at : ℕ) (rest : List ConfigLine) → has_server rest s ≡ false → NamesDiffer (server_names (all_of line_server rest)) →
+    NamesDiffer (server_names (cons_option (line_server at s) (all_of line_server rest)))
+one_server statements.Nothing at rest free later = later
+one_server statements.Global at rest free later = later
+one_server statements.Defaults at rest free later = later
+one_server (statements.Frontend own_name) at rest free later = later
+one_server (statements.Backend own_name) at rest free later = later
+one_server (statements.MaxConn limit) at rest free later = later
+one_server (statements.DefaultBackend own_name) at rest free later = later
+one_server (statements.Balance method) at rest free later = later
+one_server (statements.Bind endpoint flag) at rest free later = later
+one_server (statements.Acl called test) at rest free later = later
+one_server (statements.Rule list action when) at rest free later = later
+one_server (statements.UseBackend called when) at rest free later = later
+one_server (statements.StickTable table) at rest free later = later
+one_server (statements.Server server) at rest free later = (servers_apart server.name rest free, later)
+
+pub server_names_differ : (own : List ConfigLine) → ServersDiffer own → NamesDiffer (map (λ server. server.name) (all_of line_server own))
+server_names_differ [] differ = tt
+server_names_differ (item ∷ rest) differ = one_server item.statement item.line rest differ.0 (server_names_differ rest differ.1)
 
 -- Those of a plan.
 

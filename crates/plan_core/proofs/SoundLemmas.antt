@@ -36,7 +36,7 @@ use Rattle.plan_core.specs.Proxies.{line_head, base_after, proxy_with, proxies, 
 use Rattle.plan_core.proofs.CountLemmas.{HasBind, each_has_bind, few_binds, few_servers}
 use Rattle.conf_tree.proofs.SectionLemmas.{own_more}
 use Rattle.plan_core.proofs.LineLemmas.{own_above, lines_differ}
-use Rattle.plan_core.proofs.NameLemmas.{frontend_names_differ, backend_names_differ}
+use Rattle.plan_core.proofs.NameLemmas.{frontend_names_differ, backend_names_differ, server_names_differ}
 
 -- Numbers.
 
@@ -372,7 +372,7 @@ sound_backends [] sound = tt
 sound_backends (proxy ∷ rest) sound = by (is_backend proxy) (sound_backends rest sound.1)
   where
     by : (b : Bool) → AllByRecursion IsSoundBackend (backends_in rest) → AllByRecursion IsSoundBackend (map backend_of (if b then proxy ∷ backends rest else backends rest))
-    by true later = (record { few = few_servers proxy.own sound.0.section; each_server = sound_servers proxy.own sound.0.own }, later)
+    by true later = (record { few = few_servers proxy.own sound.0.section; each_server = sound_servers proxy.own sound.0.own; names = server_names_differ proxy.own sound.0.section.names }, later)
     by false later = later
 
 pub sound_plan : (items : List ConfigLine) (plan : Plan) (tables : List Table) (backends : List Backend) (all : List Proxy) → IsSoundTree items → plan_faults items ≡ [] → all ≡ proxies [] items →

@@ -82,6 +82,11 @@ pub record AreSoundChoices (backends : ℕ) (choices : List Choice) : Type 0 whe
 abbrev pub IsWithin : ℕ → ℕ → Type 0
 IsWithin most number = (1 ≤ number) × (number ≤ most)
 
+-- each name differs from all after it
+abbrev pub NamesDiffer : List (List ℕ) → Type 0
+NamesDiffer [] = Unit {0}
+NamesDiffer (name ∷ rest) = AllByRecursion (λ other. other ≢ name) rest × NamesDiffer rest
+
 -- a frontend, where there are so many tables and backends
 pub record IsSoundFrontend (tables backends : ℕ) (frontend : Frontend) : Type 0 where
   pub binds : IsWithin most_binds (length frontend.binds)
@@ -98,14 +103,10 @@ pub record IsSoundServer (server : Server) : Type 0 where
 pub record IsSoundBackend (backend : Backend) : Type 0 where
   pub few : length backend.servers ≤ most_servers
   pub each_server : AllByRecursion IsSoundServer backend.servers
+  pub names : NamesDiffer (map (λ server. server.name) backend.servers)
 
 abbrev pub IsSoundTable : Table → Type 0
 IsSoundTable table = IsWithin most_entries table.size
-
--- each name differs from all after it
-abbrev pub NamesDiffer : List (List ℕ) → Type 0
-NamesDiffer [] = Unit {0}
-NamesDiffer (name ∷ rest) = AllByRecursion (λ other. other ≢ name) rest × NamesDiffer rest
 
 -- Plans.
 
