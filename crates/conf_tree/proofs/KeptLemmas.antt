@@ -16,6 +16,7 @@ use Rattle.conf_tree.specs.declared.tree.Place.{Place}
 use Rattle.conf_tree.specs.Config.{place_at, place_after, place_of, section_lines, acl_name, acl_names, known_names, claim_of, claims_of}
 use Rattle.conf_tree.specs.Kept.{IsKept, IsNext, names_after, last_section}
 use Rattle.conf_tree.specs.Sections.{opens}
+use Rattle.conf_tree.proofs.FewLemmas.{few_more}
 use Rattle.conf_tree.proofs.SectionLemmas.{last_opened, last_kept, place_opened, place_kept, MayFollow, may_follow, sections_more}
 use Rattle.conf_tree.proofs.SoundLemmas.{all_more, claims_more}
 
@@ -136,6 +137,7 @@ kept_more items item claims more known names kept next more_is names_is = record
   taken = more_is ∙ ap (λ t. t ++ claims_of (item ∷ [])) kept.taken ∙ sym (filter_map-append (λ i. claim_of i.place i.statement) items (item ∷ []));
   names = names_is ∙ ap (λ k. names_after k item.statement) kept.names ∙ names_by items item.line item.place item.statement next.place kept.place;
   place = place_within items item next.place kept.place;
+  few = few_more items item next.room kept.few;
   statements = all_more (λ i. IsSoundStatement i.statement) items item kept.statements next.sound;
   differ = claims_more items item kept.differ next.free;
   section = section_after items item next.place kept.place kept.section;

@@ -1,5 +1,5 @@
 -- The lines of a section, with one line more.
-use Rattle.std.proofs.Common.{◌≡◌, ℕ, suc, ◌+◌, ◌≤◌, ◌||◌, Bool, true, false, not, nat_le, List, [], ◌∷◌, ◌++◌, length, take, filter, refl, sym, ap, subst, ◌∙◌, if◌then◌else◌}
+use Rattle.std.proofs.Common.{◌≡◌, ℕ, suc, ◌+◌, ◌≤◌, ◌||◌, Bool, true, false, not, List, [], ◌∷◌, ◌++◌, length, take, filter, refl, sym, ap, subst, ◌∙◌, if◌then◌else◌}
 use native.Mathlib.Omega.{arith}
 use Rattle.std.specs.List.{list_any, prefix_len}
 use Rattle.std.specs.Str.{bytes_eq}
@@ -17,6 +17,7 @@ use Rattle.conf_tree.specs.Config.{place_of, section_lines, claim_of, claims_of,
 use Rattle.conf_tree.specs.Kept.{last_section}
 use Rattle.conf_tree.specs.Sections.{opens, own_lines}
 use Rattle.conf_tree.specs.Sound.{ServersDiffer, IsSoundSection, AreSoundSections}
+use Rattle.conf_tree.proofs.FewLemmas.{below}
 use Rattle.conf_tree.proofs.SoundLemmas.{neither}
 
 -- The lines up to the next section.
@@ -131,12 +132,12 @@ abbrev number : (Statement → Bool) → List ConfigLine → ℕ
 number test lines = length (filter (λ item. test item.statement) lines)
 
 abbrev HasRoomOf : ℕ → (Statement → Bool) → Statement → List ConfigLine → Type 0
-HasRoomOf most test s lines = test s ≡ true → suc (number test lines) ≤ most
+HasRoomOf most test s lines = test s ≡ true → number test lines + 1 ≤ most
 
 less_room : (most : ℕ) (test : Statement → Bool) (s : Statement) (first : ConfigLine) (rest : List ConfigLine) → HasRoomOf most test s (first ∷ rest) → HasRoomOf most test s rest
 less_room most test s first rest room is = by (test first.statement) (room is)
   where
-    by : (b : Bool) → suc (length (if b then first ∷ filter (λ item. test item.statement) rest else filter (λ item. test item.statement) rest)) ≤ most → suc (number test rest) ≤ most
+    by : (b : Bool) → length (if b then first ∷ filter (λ item. test item.statement) rest else filter (λ item. test item.statement) rest) + 1 ≤ most → number test rest + 1 ≤ most
     by true few = omega (arith, few)
     by false few = few
 
@@ -148,14 +149,11 @@ number_more most test lines item few room =
     those : List ConfigLine
     those = filter (λ i. test i.statement) lines
 
-    by : (b : Bool) → (b ≡ true → suc (length those) ≤ most) → length (those ++ (if b then item ∷ [] else [])) ≤ most
+    by : (b : Bool) → (b ≡ true → length those + 1 ≤ most) → length (those ++ (if b then item ∷ [] else [])) ≤ most
     by true more =
-        let less : suc (length those) ≤ most = more refl in
+        let less : length those + 1 ≤ most = more refl in
         rw (length-append those (item ∷ [])) (omega (arith, less))
     by false more = subst (λ xs. length xs ≤ most) (sym (append-nil those)) few
-
-below : (n : ℕ) → nat_le 64 n ≡ false → suc n ≤ 64
-below n is = grind (arith, is)
 
 room_of_bind : (items : List ConfigLine) (place : Place) (s : Statement) → is_full items place s ≡ false → HasRoomOf MOST_BINDS is_bind s (section_lines place items)
 room_of_bind items place statements.Nothing full is = absurd cc

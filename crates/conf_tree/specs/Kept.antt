@@ -8,6 +8,7 @@ use Rattle.conf_line.specs.Sound.{IsSoundStatement}
 use Rattle.conf_tree.specs.declared.claim.Claim.{Claim}
 use Rattle.conf_tree.specs.declared.tree.ConfigLine.{ConfigLine}
 use Rattle.conf_tree.specs.Config.{known_names, claims_of, is_taken, is_full, place_after, place_of, section_lines}
+use Rattle.conf_tree.specs.Few.{FewSections}
 use Rattle.conf_tree.specs.Sections.{opens}
 use Rattle.conf_tree.specs.Sound.{AreSoundStatements, ClaimsDiffer, AreSoundSections}
 
@@ -22,6 +23,7 @@ pub record IsKept (items : List ConfigLine) (claims : List Claim) (known : List 
   pub names : known ≡ known_names items
   -- their section begins among them
   pub place : (place_after items).first ≤ length items
+  pub few : FewSections items
   pub statements : AreSoundStatements items
   pub differ : ClaimsDiffer (claims_of items)
   -- the section of the next line, if it opens none, is the last one

@@ -68,6 +68,7 @@ fn names_after<'a>(
 impl<'a> Kept<'a> {
     ghost use Rattle.std.specs.Prelude.{◌≡◌, [], ◌++◌, ◌∷◌, IfOk};
     ghost use Rattle.conf_tree.specs.Config.{known_names, claims_of};
+    ghost use Rattle.conf_tree.specs.Few.{FewSections};
     ghost use Rattle.conf_tree.specs.Sound.{AreSoundStatements, ClaimsDiffer, AreSoundSections};
     ghost use Rattle.conf_tree.specs.Kept.{IsNext};
 
@@ -103,6 +104,7 @@ impl<'a> Kept<'a> {
 
     pub fn into_items(self) -> Seq<ConfigLine<'a>>
         ensures items { result ≡ self.entry }
+        ensures few { FewSections self.entry }
         ensures statements { AreSoundStatements self.entry }
         ensures claims { ClaimsDiffer (claims_of self.entry) }
         ensures sections { AreSoundSections self.entry }
