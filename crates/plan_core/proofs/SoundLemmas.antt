@@ -372,7 +372,7 @@ sound_backends [] sound = tt
 sound_backends (proxy ∷ rest) sound = by (is_backend proxy) (sound_backends rest sound.1)
   where
     by : (b : Bool) → AllByRecursion IsSoundBackend (backends_in rest) → AllByRecursion IsSoundBackend (map backend_of (if b then proxy ∷ backends rest else backends rest))
-    by true later = (record { few = few_servers proxy.own sound.0.section; each_server = sound_servers proxy.own sound.0.own; names = server_names_differ proxy.own sound.0.section.names }, later)
+    by true later = (record { servers = few_servers proxy.own sound.0.section; each_server = sound_servers proxy.own sound.0.own; server_names = server_names_differ proxy.own sound.0.section.names }, later)
     by false later = later
 
 pub sound_plan : (items : List ConfigLine) (plan : Plan) (tables : List Table) (backends : List Backend) (all : List Proxy) → IsSoundTree items → plan_faults items ≡ [] → all ≡ proxies [] items →

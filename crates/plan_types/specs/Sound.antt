@@ -101,9 +101,9 @@ pub record IsSoundServer (server : Server) : Type 0 where
   pub limit : server.limit ≤ most_connections
 
 pub record IsSoundBackend (backend : Backend) : Type 0 where
-  pub few : length backend.servers ≤ most_servers
+  pub servers : length backend.servers ≤ most_servers
   pub each_server : AllByRecursion IsSoundServer backend.servers
-  pub names : NamesDiffer (map (λ server. server.name) backend.servers)
+  pub server_names : NamesDiffer (map (λ server. server.name) backend.servers)
 
 abbrev pub IsSoundTable : Table → Type 0
 IsSoundTable table = IsWithin most_entries table.size
