@@ -2,4 +2,6 @@ pub mod Serials
 pub mod Fed
 pub mod Plain
 pub mod Totals
+pub mod Counted
+pub mod Releases
 pub mod Changes

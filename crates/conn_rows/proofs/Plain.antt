@@ -1,7 +1,7 @@
 -- The plain state of what is stored.
 use Rattle.std.proofs.Common.{◌≡◌, ℕ, zero, suc, ◌+◌, ◌<◌, Bool, true, false, not, List, [], ◌∷◌, ◌++◌, length, map, set, get_or, Option, Some, None, refl, sym, ap, subst, ◌∙◌}
 use Rattle.std.specs.Prelude.{slice_get, slice_set, filter, find, ◌==◌, if◌then◌else◌, IsSome, option_map, option_and_then}
-use Rattle.std.specs.Prelude.{Result, Ok, Err, OnOk}
+use Rattle.std.specs.Prelude.{Result, Ok, Err, IfOk, OnOk}
 use Rattle.std.specs.Option.{option_map_or}
 use Rattle.std.proofs.lemmas.List.{map-append, map-set}
 use Rattle.std.proofs.lemmas.Option.{get_or_from_slice_get, slice_get_read}
@@ -11,18 +11,21 @@ use Rattle.conn_model.specs.declared.plain.Row.{Row}
 use Rattle.conn_model.specs.declared.plain.FrontendRows.{FrontendRows}
 use Rattle.plan_types.specs.declared.plan.Frontend.{Frontend}
 use Rattle.plan_types.specs.declared.plan.Plan.{Plan}
-use Rattle.conn_model.specs.History.{new_version, opening}
-use Rattle.conn_model.specs.declared.plain.TableState.{TableState}
+use Rattle.conn_model.specs.History.{new_version, opening, tracks_at}
+use Rattle.std.specs.List.{enumerate_from}
+use Rattle.conn_model.specs.Tables.{new_table, without_tracks}
+use Rattle.conn_rows.specs.Tracks.{plain_tracks}
 use Rattle.conn_model.specs.declared.plain.Version.{Version}
 use Rattle.conn_model.specs.Answer.{row_at, row_in, rest_in}
-use Rattle.conn_rows.specs.declared.rows.RowsState.{RowsState}
-use Rattle.conn_rows.specs.Summaries.{is_waiting, rows_of, stored_summary, summary_of}
+use Rattle.conn_rows.specs.Tables.{StoredTables, plain_table}
+use Rattle.conn_rows.specs.Value.{RowsValue, rows_of}
+use Rattle.conn_rows.specs.Summaries.{is_waiting, stored_summary, summary_of}
 use Rattle.conn_rows.specs.declared.row.Seat.{Seat}
 use Rattle.conn_rows.specs.declared.row.Stage.{Stage}
 use Rattle.conn_rows.specs.declared.row.Stage.TheVariants.{Waiting, Offered}
 use Rattle.conn_rows.specs.declared.row.StoredRow.{StoredRow}
 use Rattle.conn_rows.specs.Stored.{StoredFrontend, at_stage, has_serial, phase_of, plan_at, plain_frontend, plain_row, rest_kept, rest_within, stored_arrival, stored_in, waits, with_stored}
-use Rattle.conn_rows.specs.Changes.{rest_at, row_fed, row_offered, stored_fed, phase_fed, stage_fed, with_arrival, with_item, with_row, without_row}
+use Rattle.conn_rows.specs.Changes.{rest_at, row_fed, row_offered, stored_fed, phase_fed, stage_fed, with_arrival, with_item, with_row, without_conn, without_row}
 
 pub get-map : {X Y : Type 0} (f : X → Y) (xs : List X) (n : ℕ) → slice_get (map f xs) n ≡ option_map f (slice_get xs n)
 get-map f [] n = refl
@@ -124,16 +127,16 @@ rest_is versions frontends id own there =
 
 -- ---- the whole state
 
-abbrev pub state_of : List StoredFrontend → List Version → List TableState → RowsState
-state_of frontends versions tables = record { frontends = map (plain_frontend versions) frontends; versions = versions; tables = tables }
+abbrev pub value_of : List StoredFrontend → List Version → StoredTables → RowsValue
+value_of frontends versions tables = record { frontends = map (plain_frontend versions) frontends; versions = versions; tables = map plain_table tables.tables; spare = tables.spare }
 
 some_below : {X Y : Type 0} (f : X → Y) (o : Option X) → IsSome (option_map f o) → IsSome o
 some_below f None some = absurd (cc)
 some_below f (Some x) some = refl
 
 -- the frontend that is read at a number, where there is one
-pub own_there : (frontends : List StoredFrontend) (versions : List Version) (tables : List TableState) (state : RowsState) (n number : ℕ) (own : StoredFrontend) →
-    state_of frontends versions tables ≡ state → n ≡ number → own ≡ get_or frontends n own → IsSome (slice_get state.frontends number) → slice_get frontends number ≡ Some own
+pub own_there : (frontends : List StoredFrontend) (versions : List Version) (tables : StoredTables) (state : RowsValue) (n number : ℕ) (own : StoredFrontend) →
+    value_of frontends versions tables ≡ state → n ≡ number → own ≡ get_or frontends n own → IsSome (slice_get state.frontends number) → slice_get frontends number ≡ Some own
 own_there frontends versions tables state n number own state_is n_is value some = by (slice_get frontends number) refl below
   where
     stored : slice_get state.frontends number ≡ option_map (plain_frontend versions) (slice_get frontends number)
@@ -147,25 +150,25 @@ own_there frontends versions tables state n number own state_is n_is value some 
     by (Some x) is some = ap (λ x. Some x) (sym (value ∙ ap (λ n. get_or frontends n own) n_is ∙ get_or_from_slice_get frontends number x own is))
 
 -- one frontend changed
-pub changed : (frontends : List StoredFrontend) (versions : List Version) (tables : List TableState) (state : RowsState) (n number : ℕ) (own next : StoredFrontend) (change : List Version → FrontendRows → FrontendRows) →
-    state_of frontends versions tables ≡ state → n ≡ number → slice_get frontends number ≡ Some own → plain_frontend versions next ≡ change versions (plain_frontend versions own) →
-    state_of (set frontends n next) versions tables ≡ record state { frontends = with_item number (change state.versions) state.frontends }
+pub changed : (frontends : List StoredFrontend) (versions : List Version) (tables : StoredTables) (state : RowsValue) (n number : ℕ) (own next : StoredFrontend) (change : List Version → FrontendRows → FrontendRows) →
+    value_of frontends versions tables ≡ state → n ≡ number → slice_get frontends number ≡ Some own → plain_frontend versions next ≡ change versions (plain_frontend versions own) →
+    value_of (set frontends n next) versions tables ≡ record state { frontends = with_item number (change state.versions) state.frontends }
 changed frontends versions tables state n number own next change state_is n_is there is =
-    let P : RowsState → Type 0 = λ s. state_of (set frontends n next) versions tables ≡ record s { frontends = with_item number (change s.versions) s.frontends } in
+    let P : RowsValue → Type 0 = λ s. value_of (set frontends n next) versions tables ≡ record s { frontends = with_item number (change s.versions) s.frontends } in
     subst P state_is
-    (ap (λ fs. record { frontends = fs; versions = versions; tables = tables })
+    (ap (λ fs. record { frontends = fs; versions = versions; tables = map plain_table tables.tables; spare = tables.spare })
     (ap (λ n. map (plain_frontend versions) (set frontends n next)) n_is ∙ set-map (plain_frontend versions) (change versions) frontends number own next there is))
 
-pub rest_of_state : (frontends : List StoredFrontend) (versions : List Version) (tables : List TableState) (state : RowsState) (id : ConnId) (own : StoredFrontend) →
-    state_of frontends versions tables ≡ state → slice_get frontends id.frontend ≡ Some own → rest_at state.frontends id ≡ rest_kept id.serial own.rows
+pub rest_of_state : (frontends : List StoredFrontend) (versions : List Version) (tables : StoredTables) (state : RowsValue) (id : ConnId) (own : StoredFrontend) →
+    value_of frontends versions tables ≡ state → slice_get frontends id.frontend ≡ Some own → rest_at state.frontends id ≡ rest_kept id.serial own.rows
 rest_of_state frontends versions tables state id own state_is there = ap (λ s. rest_at s.frontends id) (sym state_is) ∙ rest_is versions frontends id own there
 
-pub row_of_state : (frontends : List StoredFrontend) (versions : List Version) (tables : List TableState) (state : RowsState) (id : ConnId) →
-    state_of frontends versions tables ≡ state → row_at state.frontends id ≡ option_map (plain_row versions) (stored_in id.serial (slice_get frontends id.frontend))
+pub row_of_state : (frontends : List StoredFrontend) (versions : List Version) (tables : StoredTables) (state : RowsValue) (id : ConnId) →
+    value_of frontends versions tables ≡ state → row_at state.frontends id ≡ option_map (plain_row versions) (stored_in id.serial (slice_get frontends id.frontend))
 row_of_state frontends versions tables state id state_is = ap (λ s. row_at s.frontends id) (sym state_is) ∙ row_is versions frontends id
 
-pub stored_open : (frontends : List StoredFrontend) (versions : List Version) (tables : List TableState) (state : RowsState) (id : ConnId) (own : StoredFrontend) →
-    state_of frontends versions tables ≡ state → slice_get frontends id.frontend ≡ Some own → IsSome (row_at state.frontends id) → IsSome (find (has_serial id.serial) own.rows)
+pub stored_open : (frontends : List StoredFrontend) (versions : List Version) (tables : StoredTables) (state : RowsValue) (id : ConnId) (own : StoredFrontend) →
+    value_of frontends versions tables ≡ state → slice_get frontends id.frontend ≡ Some own → IsSome (row_at state.frontends id) → IsSome (find (has_serial id.serial) own.rows)
 stored_open frontends versions tables state id own state_is there some =
     some_below (plain_row versions) (find (has_serial id.serial) own.rows)
     (subst IsSome (row_of_state frontends versions tables state id state_is ∙ ap (λ o. option_map (plain_row versions) (stored_in id.serial o)) there) some)
@@ -208,9 +211,37 @@ own_below frontends n number own n_is value less =
     ap (λ i. slice_get frontends i) (sym n_is) ∙ slice_get_read frontends (length frontends) n own refl less value
 
 -- what there is when a plan is opened
-pub opened : (plan : Plan) (last : ℕ) (frontends : List StoredFrontend) (versions : List Version) (tables : List TableState) →
-    frontends ≡ map (λ frontend. record { name = frontend.name; serial = last; rows = [] }) plan.frontends → versions ≡ new_version 1 plan ∷ [] → tables ≡ [] →
-    state_of frontends versions tables ≡ rows_of (opening plan last)
-opened plan last frontends versions tables frontends_are versions_are tables_are =
-    rw (versions_are, tables_are, frontends_are)
-    (ap (λ fs. record { frontends = fs; versions = new_version 1 plan ∷ []; tables = [] }) (empty_plain (new_version 1 plan ∷ []) plan.frontends last))
+pub opened : (plan : Plan) (last : ℕ) (frontends : List StoredFrontend) (versions : List Version) (tables : StoredTables) →
+    frontends ≡ map (λ frontend. record { name = frontend.name; serial = last; rows = [] }) plan.frontends → versions ≡ new_version 1 plan ∷ [] →
+    map plain_table tables.tables ≡ map (new_table 1) (enumerate_from 0 plan.tables) → tables.spare ≡ 0 →
+    value_of frontends versions tables ≡ rows_of (opening plan last)
+opened plan last frontends versions tables frontends_are versions_are tables_are spare_is =
+    rw (versions_are, tables_are, frontends_are, spare_is)
+    (ap (λ fs. record { frontends = fs; versions = new_version 1 plan ∷ []; tables = map (new_table 1) (enumerate_from 0 plan.tables); spare = 0 }) (empty_plain (new_version 1 plan ∷ []) plan.frontends last))
+
+-- a connection ended, with what it tracked
+pub removed : (frontends next : List StoredFrontend) (versions : List Version) (tables rest : StoredTables) (value : RowsValue) (id : ConnId) (o : Option StoredRow) →
+    value_of frontends versions tables ≡ value → o ≡ stored_in id.serial (slice_get frontends id.frontend) →
+    map (plain_frontend versions) next ≡ without_conn id (map (plain_frontend versions) frontends) →
+    map plain_table rest.tables ≡ without_tracks (option_map_or (λ row. plain_tracks row.tracks) o []) (map plain_table tables.tables) → rest.spare ≡ tables.spare →
+    value_of next versions rest ≡ record value { frontends = without_conn id value.frontends; tables = without_tracks (tracks_at value.frontends id) value.tables }
+removed frontends next versions tables rest value id o value_is o_is left ended spare =
+    let P : RowsValue → Type 0 = λ v. value_of next versions rest ≡ record v { frontends = without_conn id v.frontends; tables = without_tracks (tracks_at v.frontends id) v.tables } in
+    let tracks : tracks_at (map (plain_frontend versions) frontends) id ≡ option_map_or (λ row. plain_tracks row.tracks) o [] =
+    ap (λ o. option_map_or (λ row. row.tracks) o []) (row_is versions frontends id ∙ ap (option_map (plain_row versions)) (sym o_is)) ∙ by o in
+    subst P value_is
+    (rw (left, ended, spare, tracks) refl)
+  where
+    by : (o : Option StoredRow) → option_map_or (λ row. row.tracks) (option_map (plain_row versions) o) [] ≡ option_map_or (λ row. plain_tracks row.tracks) o []
+    by None = refl
+    by (Some row) = refl
+
+-- the serial that is given out next
+pub next_serial : {E : Type 0} (r : Result ℕ E) (frontends : List StoredFrontend) (versions : List Version) (tables : StoredTables) (value : RowsValue) (number : ℕ) (own : StoredFrontend) →
+    value_of frontends versions tables ≡ value → slice_get frontends number ≡ Some own → IfOk r (λ serial. serial ≡ own.serial + 1) →
+    IfOk r (λ serial. Some serial ≡ option_map (λ own. own.serial + 1) (slice_get value.frontends number))
+next_serial (Err e) frontends versions tables value number own value_is there is = tt
+next_serial (Ok serial) frontends versions tables value number own value_is there is =
+    let plain : slice_get value.frontends number ≡ Some (plain_frontend versions own) =
+    ap (λ v. slice_get v.frontends number) (sym value_is) ∙ get-map (plain_frontend versions) frontends number ∙ ap (option_map (plain_frontend versions)) there in
+    rw (plain, is) refl

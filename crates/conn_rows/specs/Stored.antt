@@ -20,6 +20,7 @@ use Rattle.conn_rows.specs.declared.row.Seat.{Seat}
 use Rattle.conn_rows.specs.declared.row.Stage.{Stage}
 use Rattle.conn_rows.specs.declared.row.Stage.TheVariants.{Waiting, Offered}
 use Rattle.conn_rows.specs.declared.row.StoredRow.{StoredRow}
+use Rattle.conn_rows.specs.Tracks.{no_trackings, plain_tracks}
 
 pub record StoredFrontend : Type 0 where
   pub name : List ℕ
@@ -45,7 +46,7 @@ plain_row versions row = record {
   real = row.real;
   accepted = row.accepted;
   phase = phase_of (plan_at versions row.version) row.stage;
-  tracks = [];
+  tracks = plain_tracks row.tracks;
 }
 
 abbrev pub plain_frontend : List Version → StoredFrontend → FrontendRows
@@ -80,9 +81,9 @@ rest_within (Offered seat) = None
 abbrev pub rest_kept : ℕ → List StoredRow → Option Rest
 rest_kept serial rows = option_and_then (λ row. rest_within row.stage) (find (has_serial serial) rows)
 
--- a connection that waits, of which no byte came yet
+-- a connection that waits, of which no byte came yet, and that tracks nothing
 abbrev pub stored_arrival : ℕ → ℕ → PairValue → ℕ → StoredRow
-stored_arrival serial version real accepted = record { serial = serial; version = version; real = real; accepted = accepted; stage = Waiting (Read (record { items = [] })) }
+stored_arrival serial version real accepted = record { serial = serial; version = version; real = real; accepted = accepted; stage = Waiting (Read (record { items = [] })); tracks = no_trackings }
 
 abbrev pub waits : Stage → Bool
 waits (Waiting rest) = true

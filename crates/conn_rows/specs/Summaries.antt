@@ -4,12 +4,10 @@ use Rattle.conn_model.specs.declared.plain.Phase.{Phase}
 use Rattle.conn_model.specs.declared.plain.Phase.TheVariants.{Waiting, Offered}
 use Rattle.conn_model.specs.declared.plain.Row.{Row}
 use Rattle.conn_model.specs.declared.plain.FrontendRows.{FrontendRows}
-use Rattle.conn_model.specs.declared.plain.Plain.{Plain}
 use Rattle.conn_rows.specs.declared.row.RowSummary.{RowSummary}
 use Rattle.conn_rows.specs.declared.row.StoredRow.{StoredRow}
 use Rattle.conn_rows.specs.Stored.{waits}
 use Rattle.conn_rows.specs.declared.rows.FrontendSummary.{FrontendSummary}
-use Rattle.conn_rows.specs.declared.rows.RowsState.{RowsState}
 
 abbrev pub is_waiting : Phase → Bool
 is_waiting (Waiting rest) = true
@@ -25,7 +23,3 @@ pub record Sums (own : FrontendRows) (summary : FrontendSummary) : Type 0 where
   pub name : summary.name.now ≡ own.name
   pub serial : summary.serial ≡ own.serial
   pub connections : summary.connections ≡ length own.rows
-
--- what the rows keep of a plain state
-abbrev pub rows_of : Plain → RowsState
-rows_of p = record { frontends = p.frontends; versions = p.versions; tables = p.tables }

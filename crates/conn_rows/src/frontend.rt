@@ -1,16 +1,23 @@
 //! The open connections of one frontend.
-ghost use Rattle.std.specs.Prelude.{◌≡◌, ◌+◌, ◌^◌, ◌<◌, ◌≤◌, ℕ, List, [], ◌∷◌, ◌++◌, length, not, filter, find, map, IfOk, OnOk, OnErr, IsSome, Some};
+ghost use Rattle.std.specs.Prelude.{◌≡◌, ◌+◌, ◌^◌, ◌<◌, ◌≤◌, ℕ, List, [], ◌∷◌, ◌++◌, length, not, filter, find, map, IfOk, IfSome, IfNone, OnOk, OnErr, IsSome, Some, vec_len};
 ghost use Rattle.std.specs.List.{position, AllByRecursion};
 ghost use Rattle.std.specs.Option.{option_copied};
 ghost use Rattle.pp_any.specs.declared.rest.Rest.{Rest};
 ghost use Rattle.pp_any.specs.Rest.{IsRest};
 ghost use Rattle.pp_any.specs.NextPiece.{status_on};
+ghost use Rattle.addr_core.specs.declared.addr.Addr.{Addr};
+ghost use Rattle.plan_types.specs.declared.track.TableId.{TableId};
+ghost use Rattle.conn_model.specs.Counts.{total};
 ghost use Rattle.conn_model.specs.Words.{Rise};
+ghost use Rattle.conn_rows.specs.declared.row.StoredRow.{StoredRow};
 ghost use Rattle.conn_rows.specs.declared.row.Stage.TheVariants.{Offered};
-ghost use Rattle.conn_rows.specs.Stored.{IsHeld, at_stage, has_serial, plain_frontend, plain_row, rest_kept, rest_within, stored_arrival, with_stored};
+ghost use Rattle.conn_rows.specs.Stored.{IsHeld, StoredFrontend, at_stage, has_serial, plain_frontend, plain_row, rest_kept, rest_within, stored_arrival, with_stored};
+ghost use Rattle.conn_rows.specs.Tables.{cur_in};
+ghost use Rattle.conn_rows.specs.Value.{row_on, rows_total};
 ghost use Rattle.conn_rows.specs.Changes.{held_after, stage_fed, status_of, stored_fed, used_by};
 
 use crate::row::{Seat, Stage, StoredRow};
+use crate::tables::Tables;
 use addr_core::Pair;
 use conn_model::plain::{FrontendRows, Row, Version};
 use list_core::{Duplicate, Seq};
@@ -135,13 +142,14 @@ impl FrontendState {
         put_stage(&mut self.rows, serial, Stage::Offered(seat)).end();
     }
 
-    /// Ends a connection.
-    pub fn remove(&mut self, serial: u64)
-        ensures { self.new ≡ record self.old { rows = filter (λ row. not (has_serial serial row)) self.old.rows } }
+    /// Takes a connection out, if it is open.
+    pub fn remove(&mut self, serial: u64) -> Option<StoredRow>
+        ensures row { result ≡ find (has_serial serial) self.old.rows }
+        ensures left { self.new ≡ record self.old { rows = filter (λ row. not (has_serial serial row)) self.old.rows } }
+        ensures none { IfNone result (self.new.rows ≡ self.old.rows) }
+        ensures counts { IfSome result (λ row. (worth : StoredRow → ℕ) → total worth self.new.rows + worth row ≡ total worth self.old.rows) }
     {
-        if let Some(row) = take_row(&mut self.rows, serial) {
-            row.end();
-        }
+        take_row(&mut self.rows, serial)
     }
 
     /// Equal rows, as plain data, by the plans of these versions.
@@ -155,26 +163,70 @@ impl FrontendState {
         })
     }
 
-    /// Ends the frontend with its rows.
-    pub fn end(self) {
+    /// Ends the frontend with its rows, and what they track.
+    pub fn end(self, tables: &mut Tables)
+        requires { (id : TableId) (key : Addr) → total (row_on id key) self.rows ≤ cur_in id key tables.old.tables }
+        ensures { (id : TableId) (key : Addr) → cur_in id key tables.new.tables + total (row_on id key) self.rows ≡ cur_in id key tables.old.tables }
+    {
         let FrontendState {
             name: _name,
             serial: _,
             mut rows,
         } = self;
-        while let Some(row) = rows.pop() {
-            row.end();
+        while let Some(row) = last_row(&mut rows) {
+            tables.release(row.end());
         }
+        rows.destroy_empty();
+    }
+
+    /// Ends a frontend of which nothing is open.
+    pub fn end_empty(self)
+        requires { length self.rows ≡ 0 }
+    {
+        let FrontendState {
+            name: _name,
+            serial: _,
+            rows,
+        } = self;
         rows.destroy_empty();
     }
 }
 
-/// Ends all frontends with their rows.
-pub fn end_all(mut frontends: Vec<FrontendState>) {
-    while let Some(own) = frontends.pop() {
-        own.end();
+/// Ends frontends of which nothing is open.
+pub fn end_all_empty(mut frontends: Vec<FrontendState>)
+    requires { total (λ own. length own.rows) frontends.items ≡ 0 }
+{
+    while let Some(own) = last_frontend(&mut frontends) {
+        own.end_empty();
     }
     frontends.destroy_empty();
+}
+
+/// Ends all frontends with their rows, and what they track.
+pub fn end_all(mut frontends: Vec<FrontendState>, tables: &mut Tables)
+    requires { (id : TableId) (key : Addr) → rows_total (row_on id key) frontends.items ≤ cur_in id key tables.old.tables }
+{
+    while let Some(own) = last_frontend(&mut frontends) {
+        own.end(tables);
+    }
+    frontends.destroy_empty();
+}
+
+fn last_row(rows: &mut Vec<StoredRow>) -> Option<StoredRow>
+    ensures counts { IfSome result (λ row. (worth : StoredRow → ℕ) → total worth rows.new.items + worth row ≡ total worth rows.old.items) }
+    ensures shorter { IfSome result (λ row. vec_len rows.new + 1 ≡ vec_len rows.old) }
+    ensures none { IfNone result ((worth : StoredRow → ℕ) → total worth rows.old.items ≡ 0) }
+    ensures empty { IfNone result (vec_len rows.new ≡ 0) }
+{
+    rows.pop()
+}
+
+fn last_frontend(frontends: &mut Vec<FrontendState>) -> Option<FrontendState>
+    ensures counts { IfSome result (λ own. (worth : StoredFrontend → ℕ) → total worth frontends.new.items + worth own ≡ total worth frontends.old.items) }
+    ensures shorter { IfSome result (λ own. vec_len frontends.new + 1 ≡ vec_len frontends.old) }
+    ensures none { IfNone result (vec_len frontends.new ≡ 0) }
+{
+    frontends.pop()
 }
 
 fn plain_rows(
@@ -211,7 +263,10 @@ fn place_there(rows: &[StoredRow], serial: u64) -> usize
 /// Takes the row of that serial out.
 fn take_row(rows: &mut Vec<StoredRow>, serial: u64) -> Option<StoredRow>
     requires { Rise (λ row. row.serial) rows.old.items }
-    ensures { rows.new.items ≡ filter (λ row. not (has_serial serial row)) rows.old.items }
+    ensures row { result ≡ find (has_serial serial) rows.old.items }
+    ensures left { rows.new.items ≡ filter (λ row. not (has_serial serial row)) rows.old.items }
+    ensures none { IfNone result (rows.new.items ≡ rows.old.items) }
+    ensures counts { IfSome result (λ row. (worth : StoredRow → ℕ) → total worth rows.new.items + worth row ≡ total worth rows.old.items) }
 {
     let place = place_of(rows.as_slice(), serial)?;
     Some(rows.remove(place))

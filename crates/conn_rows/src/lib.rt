@@ -1,4 +1,4 @@
-//! The open connections of all frontends, and the versions of the configuration that are kept.
+//! The open connections of all frontends, with what they track, and the versions and tables that are kept.
 #![tactic(auto)]
 
 pub use frontend::HeaderStatus;
@@ -11,3 +11,5 @@ pub mod laws;
 mod opening;
 mod row;
 mod rows;
+mod tables;
+mod tracking;

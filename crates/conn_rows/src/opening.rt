@@ -1,9 +1,12 @@
 //! What there is when a plan is opened.
-ghost use Rattle.std.specs.Prelude.{◌≡◌, ◌++◌, ◌∷◌, [], map, None, IfOk, OnOk};
+ghost use Rattle.std.specs.Prelude.{◌≡◌, ◌≤◌, ◌++◌, ◌∷◌, [], map, length, None, IfOk, OnOk, OnErr};
+ghost use Rattle.std.specs.List.{enumerate_from};
+ghost use Rattle.plan_types.specs.Sound.{most_tables};
+ghost use Rattle.conn_model.specs.Tables.{new_id};
 
-use crate::frontend::{FrontendState, end_all};
+use crate::frontend::{FrontendState, end_all_empty};
 use list_core::{Duplicate, Seq};
-use plan_types::{Backend, Frontend};
+use plan_types::{Backend, Frontend, Table, TableId};
 use proxy_types::Place;
 use std::alloc::{AllocError, Global};
 
@@ -14,13 +17,14 @@ fn push_frontend(
     frontend: &Frontend,
     last: u64,
 ) -> Result<(), AllocError>
-    ensures { OnOk result (states.new.items ≡ states.old.items ++ record { name = frontend.now.name; serial = last; rows = [] } ∷ []) }
+    ensures ok { OnOk result (states.new.items ≡ states.old.items ++ record { name = frontend.now.name; serial = last; rows = [] } ∷ []) }
+    ensures err { OnErr result (states.new.items ≡ states.old.items) }
 {
     let name = frontend.name.duplicate(alloc)?;
     match states.push(FrontendState::new(alloc, name, last)) {
         Ok(()) => Ok(()),
         Err(failed) => {
-            failed.value.end();
+            failed.value.end_empty();
             Err(AllocError)
         }
     }
@@ -37,7 +41,7 @@ pub fn frontends(
     let mut states = Vec::new(alloc);
     for frontend in frontends {
         if let Err(error) = push_frontend(alloc, &mut states, frontend, last) {
-            end_all(states);
+            end_all_empty(states);
             return Err(error);
         }
     }
@@ -53,4 +57,19 @@ pub fn cursors(alloc: Global, backends: &[Backend]) -> Result<Seq<Option<Place>>
         cursors.push(None)?;
     }
     Ok(cursors)
+}
+
+/// The names of the tables that begin with a version.
+pub fn table_ids(alloc: Global, version: u64, tables: &[Table]) -> Result<Seq<TableId>, AllocError>
+    requires { length tables.now ≤ most_tables }
+    ensures { IfOk result (λ ids. ids ≡ map (new_id version) (enumerate_from 0 tables.now)) }
+{
+    let mut ids = Seq::new(alloc);
+    for (position, _table) in tables.iter().enumerate() {
+        ids.push(TableId {
+            version,
+            position: position as u16,
+        })?;
+    }
+    Ok(ids)
 }

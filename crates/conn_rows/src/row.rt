@@ -7,6 +7,7 @@ ghost use Rattle.conn_model.specs.History.{identity_at, nobody};
 ghost use Rattle.conn_rows.specs.Summaries.{stored_summary};
 ghost use Rattle.conn_rows.specs.Stored.{assignment_in, phase_of, plan_at, plain_row, stored_arrival, waits};
 
+use crate::tracking::Trackings;
 use addr_core::{Endpoint, Pair};
 use conn_model::plain::{Assignment, Phase, Row, Version};
 use list_core::{Duplicate, Seq};
@@ -89,10 +90,12 @@ pub struct StoredRow {
     /// The moment of its accept, in ms.
     pub accepted: u64,
     pub stage: Stage,
+    /// What it tracks, by counter.
+    pub tracks: Trackings,
 }
 
 impl StoredRow {
-    /// A connection that waits, of which no byte came yet.
+    /// A connection that waits, of which no byte came yet, and that tracks nothing.
     pub fn new(serial: u64, version: u64, real: Pair, accepted: u64) -> StoredRow
         ensures { result ≡ stored_arrival serial version real accepted }
     {
@@ -102,6 +105,7 @@ impl StoredRow {
             real,
             accepted,
             stage: Stage::Waiting(Parser::new()),
+            tracks: Trackings::none(),
         }
     }
 
@@ -127,19 +131,24 @@ impl StoredRow {
             real: self.real,
             accepted: self.accepted,
             phase: self.stage.plain(alloc, plan)?,
-            tracks: Seq::new(alloc),
+            tracks: self.tracks.plain(alloc)?,
         })
     }
 
-    pub fn end(self) {
+    /// Ends the row. What it tracks is still to be ended in the tables.
+    pub fn end(self) -> Trackings
+        ensures { result ≡ self.tracks }
+    {
         let StoredRow {
             serial: _,
             version: _,
             real: _,
             accepted: _,
             stage,
+            tracks,
         } = self;
         stage.end();
+        tracks
     }
 }
 

@@ -1,22 +1,27 @@
 //! The open connections of all frontends.
-ghost use Rattle.std.specs.Prelude.{◌≡◌, ◌+◌, ◌^◌, ◌<◌, ◌≤◌, length, slice_get, option_map, option_and_then, IfOk, IfSome, IfNone, OnOk, OnErr, IsSome, Some, map};
+ghost use Rattle.std.specs.Prelude.{◌≡◌, ◌+◌, ◌^◌, ◌<◌, ◌≤◌, ℕ, List, length, slice_get, option_map, option_and_then, IfOk, IfSome, IfNone, OnOk, OnErr, IsSome, Some, map};
 ghost use Rattle.std.specs.Option.{option_copied};
 ghost use Rattle.pp_any.specs.declared.rest.Rest.{Rest};
 ghost use Rattle.pp_any.specs.NextPiece.{status_on};
-ghost use Rattle.plan_types.specs.Sound.{most_frontends};
+ghost use Rattle.plan_types.specs.Sound.{most_frontends, most_tables};
 ghost use Rattle.conn_model.specs.declared.plain.FrontendRows.{FrontendRows};
 ghost use Rattle.conn_model.specs.Words.{newest};
 ghost use Rattle.conn_model.specs.Answer.{row_at, version_at};
-ghost use Rattle.conn_model.specs.History.{opening};
+ghost use Rattle.conn_model.specs.History.{opening, tracks_at};
 ghost use Rattle.conn_rows.specs.Stored.{plain_frontend, stored_in};
 ghost use Rattle.conn_rows.specs.Changes.{rest_at, row_fed, row_offered, status_of, used_by, with_arrival, with_conn, with_item, with_refusal, without_conn};
 ghost use Rattle.conn_model.specs.Counts.{offered_to, open_named};
-ghost use Rattle.conn_rows.specs.Summaries.{Sums, rows_of, summary_of};
+ghost use Rattle.conn_model.specs.Tables.{without_tracks};
+ghost use Rattle.conn_rows.specs.declared.row.StoredRow.{StoredRow};
+ghost use Rattle.conn_model.specs.declared.plain.Version.{Version};
+ghost use Rattle.conn_rows.specs.Summaries.{Sums, summary_of};
+ghost use Rattle.conn_rows.specs.Value.{rows_of, rows_total, state_of};
 
 use crate::counts;
 use crate::frontend::{FrontendState, HeaderStatus, end_all};
-use crate::opening::{cursors, frontends};
+use crate::opening::{cursors, frontends, table_ids};
 use crate::row::{RowSummary, Seat, StoredRow, item, version_at};
+use crate::tables::Tables;
 use addr_core::Pair;
 use conn_model::event::ConnId;
 use conn_model::plain::{FrontendRows, TableState, Version};
@@ -46,47 +51,50 @@ pub struct FrontendSummary<'a> {
     pub connections: u64,
 }
 
-/// The open connections of all frontends, and the versions that are kept. Open rows change by its calls alone. It
-/// cannot be dropped: it ends by `end`.
+/// The open connections of all frontends, and the versions and tables that are kept. Open rows change by its calls
+/// alone, and each table counts what they track. It cannot be dropped: it ends by `end`.
 pub struct Rows {
     frontends: Vec<FrontendState>,
     versions: Seq<Version>,
-    tables: Seq<TableState>,
+    tables: Tables,
 }
 
 impl Model for Rows {
-    ghost use Rattle.std.specs.Prelude.{◌≤◌, length, map};
-    ghost use Rattle.plan_types.specs.Sound.{most_frontends};
-    ghost use Rattle.conn_rows.specs.declared.rows.RowsState.{RowsState};
+    ghost use Rattle.std.specs.Prelude.{map};
     ghost use Rattle.conn_rows.specs.Stored.{plain_frontend};
+    ghost use Rattle.conn_rows.specs.Tables.{plain_table};
+    ghost use Rattle.conn_rows.specs.Value.{AreRows, RowsValue};
 
-    ghost Value = { RowsState };
+    ghost Value = { RowsValue };
 
-    ghost view = { λ r. record { frontends = map (plain_frontend r.versions) r.frontends.items; versions = r.versions; tables = r.tables } };
+    ghost view = { λ r. record { frontends = map (plain_frontend r.versions) r.frontends.items; versions = r.versions; tables = map plain_table r.tables.tables; spare = r.tables.spare } };
 
-    ghost invariant = { λ r. length r.frontends.items ≤ most_frontends };
+    ghost invariant = { λ r. AreRows r.frontends.items r.tables.tables };
 }
 
 impl Rows {
-    /// What there is when a plan is opened: its version is the first, and nothing is open. The first serial of each
-    /// frontend is one more than `last`.
+    /// What there is when a plan is opened: its version is the first, its tables are empty, and nothing is open. The
+    /// first serial of each frontend is one more than `last`.
     pub fn new(alloc: Global, plan: Plan, last: u64) -> Result<Rows, AllocError>
-        requires { length plan.frontends ≤ most_frontends }
+        requires frontends { length plan.frontends ≤ most_frontends }
+        requires tables { length plan.tables ≤ most_tables }
         ensures { IfOk result (λ rows. rows ≡ rows_of (opening plan last)) }
     {
         let cursors = cursors(alloc, plan.backends.as_slice())?;
+        let ids = table_ids(alloc, 1, plan.tables.as_slice())?;
+        let tables = Tables::new(alloc, 1, plan.tables.as_slice())?;
         let mut versions = Vec::with_capacity(alloc, 1)?;
         let frontends = frontends(alloc, plan.frontends.as_slice(), last)?;
         versions.push_reserved(Version {
             number: 1,
-            tables: Seq::new(alloc),
+            tables: ids,
             cursors,
             plan,
         });
         Ok(Rows {
             frontends,
             versions: Seq::of(versions),
-            tables: Seq::new(alloc),
+            tables,
         })
     }
 
@@ -193,24 +201,23 @@ impl Rows {
         self.frontends[usize::from(id.frontend)].offer(id.serial, seat);
     }
 
-    /// Ends a connection, if it is open.
+    /// Ends a connection, if it is open, with what it tracks, in the order of counters. It takes no memory.
     pub fn remove(&mut self, id: ConnId)
-        ensures { self.new ≡ record self.old { frontends = without_conn id self.old.frontends } }
+        ensures { self.new ≡ record self.old { frontends = without_conn id self.old.frontends; tables = without_tracks (tracks_at self.old.frontends id) self.old.tables } }
     {
-        let number = usize::from(id.frontend);
-        if number < self.frontends.len() {
-            self.frontends[number].remove(id.serial);
+        if let Some(row) = take_conn(&mut self.frontends, id) {
+            self.tables.release(row.end());
         }
     }
 
     /// The same as plain data.
     pub fn plain(&self, alloc: Global) -> Result<RowsState, AllocError>
-        ensures { IfOk result (λ state. state ≡ self.now) }
+        ensures { IfOk result (λ state. state ≡ state_of self.now) }
     {
         Ok(RowsState {
             frontends: plain_frontends(alloc, self.versions.as_slice(), self.frontends.as_slice())?,
             versions: self.versions.duplicate(alloc)?,
-            tables: self.tables.duplicate(alloc)?,
+            tables: self.tables.plain(alloc)?,
         })
     }
 
@@ -219,9 +226,9 @@ impl Rows {
         let Rows {
             frontends,
             versions: _versions,
-            tables: _tables,
+            mut tables,
         } = self;
-        end_all(frontends);
+        end_all(frontends, &mut tables);
     }
 }
 
@@ -244,4 +251,19 @@ fn find_row(frontends: &[FrontendState], id: ConnId) -> Option<&StoredRow>
 {
     let own = item(frontends, id.frontend)?;
     own.row(id.serial)
+}
+
+/// Takes the connection of that name out, if it is open.
+fn take_conn(frontends: &mut Vec<FrontendState>, id: ConnId) -> Option<StoredRow>
+    ensures row { result ≡ stored_in id.serial (slice_get frontends.old.items id.frontend) }
+    ensures left { (versions : List Version) → map (plain_frontend versions) frontends.new.items ≡ without_conn id (map (plain_frontend versions) frontends.old.items) }
+    ensures counts { IfSome result (λ row. (worth : StoredRow → ℕ) → rows_total worth frontends.new.items + worth row ≡ rows_total worth frontends.old.items) }
+    ensures none { IfNone result ((worth : StoredRow → ℕ) → rows_total worth frontends.new.items ≡ rows_total worth frontends.old.items) }
+    ensures len { length frontends.new.items ≡ length frontends.old.items }
+{
+    let number = usize::from(id.frontend);
+    if number >= frontends.len() {
+        return None;
+    }
+    frontends[number].remove(id.serial)
 }

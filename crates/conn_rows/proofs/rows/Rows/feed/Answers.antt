@@ -1,8 +1,11 @@
-use Rattle.std.proofs.Common.{◌≡◌, Some, sym, subst, ◌∙◌}
+use Rattle.std.proofs.Common.{◌≡◌, Some, sym, subst, ◌∙◌, ap, refl}
 use Rattle.std.specs.Prelude.{slice_get, IsSome}
 use Rattle.conn_rows.specs.Stored.{with_stored}
 use Rattle.conn_rows.specs.Changes.{row_fed, stored_fed, with_row}
 use Rattle.conn_rows.proofs.Plain.{changed, fed_plain, own_there, rest_of_state, rest_there}
+use Rattle.conn_model.specs.Counts.{total}
+use Rattle.conn_rows.specs.Value.{row_on}
+use Rattle.conn_rows.proofs.Counted.{still_rows, total-with}
 use Rattle.conn_rows.proofs.rows.Rows.feed.Goals as goal
 
 there : (c : goal.After-index_mut) → slice_get c.self.inside.frontends.items c.args.id.frontend ≡ Some c.index_mut.result.now
@@ -28,3 +31,9 @@ returns-clause-new c =
     (changed c.self.inside.frontends.items c.self.inside.versions c.self.inside.tables c.args.self.now c.from.result c.args.id.frontend own (record own { rows = with_stored c.args.id.serial (stored_fed c.args.piece.now) own.rows })
     (λ versions. with_row c.args.id.serial (row_fed c.args.piece.now)) c.self.view_is c.from.ensures (there_after c)
     (fed_plain c.self.inside.versions own c.args.id.serial c.args.piece.now))
+
+pub invariant_of-self : goal.invariant_of-self
+invariant_of-self c =
+    let own = c.index_mut.result.now in
+    still_rows c.self.inside.frontends.items c.self.inside.tables.tables c.from.result own c.feed.new.self (ap (slice_get c.self.inside.frontends.items) c.from.ensures ∙ there_after c)
+    (λ id key. ap (λ f. total (row_on id key) f.rows) c.feed.ensures.new ∙ total-with (row_on id key) c.args.id.serial (stored_fed c.args.piece.now) own.rows (λ row. refl)) c.self.invariant

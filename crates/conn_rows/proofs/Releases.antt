@@ -1,0 +1,232 @@
+-- Tables, as trackings end in them.
+use Rattle.std.proofs.Common.{◌≡◌, ℕ, zero, suc, ◌+◌, ◌<◌, Bool, true, false, cond, List, [], ◌∷◌, ◌++◌, length, map, set, get_or, Some, None, refl, sym, ap, subst, ◌∙◌, arith}
+use Rattle.std.specs.Prelude.{find, slice_get, nat_lt, ◌==◌, ◌&&◌, if◌then◌else◌}
+use Rattle.std.specs.List.{AllByRecursion, enumerate_from, position, position_or_len}
+use Rattle.std.specs.Option.{option_map_or}
+use Rattle.std.proofs.lemmas.Bool.Decides.{nat_tests}
+use Rattle.std.proofs.lemmas.List.Folds.{find-set, find_past}
+use Rattle.std.proofs.lemmas.Option.{get_or_from_slice_get, slice_get_read}
+use Rattle.addr_core.specs.declared.addr.Addr.{Addr}
+use Rattle.stick_core.specs.Key.{same_key}
+use Rattle.stick_core.specs.declared.entries.Entry.{Entry}
+use Rattle.stick_core.specs.Entries.{cur_of}
+use Rattle.stick_core.specs.PlainEntries.{plain, touched, trackings_of}
+use Rattle.stick_core.proofs.TouchLemmas.{find-passes}
+use Rattle.stick_core.proofs.KeyLemmas.{same_key-refl}
+use Rattle.plan_types.specs.declared.plan.Table.{Table}
+use Rattle.plan_types.specs.declared.track.TableId.{TableId}
+use Rattle.plan_types.specs.declared.track.Track.{Track}
+use Rattle.conn_model.specs.declared.plain.TableState.{TableState}
+use Rattle.conn_model.specs.Tables.{new_table, same_id, without_track, without_tracks}
+use Rattle.conn_rows.specs.declared.tables.StoredTable.{StoredTable}
+use Rattle.conn_rows.specs.Tables.{AreTables, IsStored, TablesDiffer, cur_in, is_table, plain_table}
+use Rattle.conn_rows.specs.declared.tracking.Tracking.{Tracking}
+use Rattle.conn_rows.specs.Tracks.{counter_on}
+use Rattle.conn_rows.proofs.Serials.{found_there, position_within}
+
+-- Incarnations.
+
+same_of : (m n : ℕ) → (m == n) ≡ true → m ≡ n
+same_of m n is = grind (arith, nat_tests)
+
+itself : (n : ℕ) → (n == n) ≡ true
+itself n = grind (arith, nat_tests)
+
+pub same_id-is : (a b : TableId) → same_id a b ≡ true → a ≡ b
+same_id-is a b is = by (a.version == b.version) refl (a.position == b.position) refl is
+  where
+    by : (v : Bool) → (a.version == b.version) ≡ v → (p : Bool) → (a.position == b.position) ≡ p → (v && p) ≡ true → a ≡ b
+    by true versions true positions is =
+        let version = same_of a.version b.version versions in
+        let position = same_of a.position b.position positions in
+        ap (λ n. record { version = n; position = a.position }) version ∙ ap (λ n. record { version = b.version; position = n }) position
+    by true versions false positions is = absurd (cc)
+    by false versions p positions is = absurd (cc)
+
+pub same_id-refl : (a : TableId) → same_id a a ≡ true
+same_id-refl a = rw (itself a.version, itself a.position) refl
+
+differ_sym : (a b : TableId) → same_id a b ≡ false → same_id b a ≡ false
+differ_sym a b differ = by (same_id b a) refl
+  where
+    by : (t : Bool) → same_id b a ≡ t → t ≡ false
+    by true is = absurd (let one = same_id-is b a is in let wrong : same_id a a ≡ false = rw one at differ in let right = same_id-refl a in cc (wrong, right))
+    by false is = refl
+
+and_false : (a b : Bool) → b ≡ false → (a && b) ≡ false
+and_false true b is = is
+and_false false b is = refl
+
+-- A table found by its place.
+
+pub on_itself : (tracking : Tracking) → counter_on tracking.table tracking.token (Some tracking) ≡ 1
+on_itself tracking = rw (same_id-refl tracking.table, same_key-refl tracking.token) refl
+
+place_is : {X : Type 0} (p : X → Bool) (xs : List X) (n : ℕ) → position p xs ≡ Some n → n ≡ position_or_len p xs
+place_is p xs n is = sym (by (nat_lt (position_or_len p xs) (length xs)) refl is)
+  where
+    by : (b : Bool) → nat_lt (position_or_len p xs) (length xs) ≡ b → cond b (Some (position_or_len p xs)) None ≡ Some n → position_or_len p xs ≡ n
+    by true less is = cc
+    by false less is = absurd (cc)
+
+-- the table at the place of its incarnation
+pub record Found (id : TableId) (tables : List StoredTable) (n : ℕ) (stored : StoredTable) : Type 0 where
+  pub there : slice_get tables n ≡ Some stored
+  pub found : find (is_table id) tables ≡ Some stored
+  pub is : stored.id ≡ id
+  pub place : n ≡ position_or_len (is_table id) tables
+  pub within : n < length tables
+
+pub found_table : (id : TableId) (tables : List StoredTable) (n : ℕ) (stored : StoredTable) → position (is_table id) tables ≡ Some n → stored ≡ get_or tables n stored → Found id tables n stored
+found_table id tables n stored at value =
+    let within = position_within (is_table id) tables n at in
+    let there : slice_get tables n ≡ Some stored = slice_get_read tables (length tables) n stored refl within value in
+    let found : find (is_table id) tables ≡ Some stored = found_there (is_table id) tables n at ∙ there in
+    record {
+      there = there;
+      found = found;
+      is = same_id-is stored.id id (find-passes (is_table id) tables stored found);
+      place = place_is (is_table id) tables n at;
+      within = within;
+    }
+
+-- how many track a key in the table that is found
+pub cur_found : (id : TableId) (key : Addr) (tables : List StoredTable) (stored : StoredTable) → find (is_table id) tables ≡ Some stored → cur_in id key tables ≡ cur_of key stored.entries.entries
+cur_found id key tables stored found = ap (λ o. option_map_or (λ stored. cur_of key stored.entries.entries) o 0) found
+
+pub cur_nowhere : (id : TableId) (key : Addr) (tables : List StoredTable) → find (is_table id) tables ≡ None → cur_in id key tables ≡ 0
+cur_nowhere id key tables none = ap (λ o. option_map_or (λ stored. cur_of key stored.entries.entries) o 0) none
+
+-- a table changed: it is found as it is now, and the others as they were
+pub cur_here : (id : TableId) (key : Addr) (tables : List StoredTable) (n : ℕ) (stored next : StoredTable) → Found id tables n stored → next.id ≡ stored.id → cur_in id key (set tables n next) ≡ cur_of key next.entries.entries
+cur_here id key tables n stored next at same =
+    let passes : is_table id next ≡ true = ap (λ i. same_id i id) (same ∙ at.is) ∙ same_id-refl id in
+    cur_found id key (set tables n next) next (find-set (is_table id) tables n next at.place at.within passes)
+
+pub cur_elsewhere : (id other : TableId) (key : Addr) (tables : List StoredTable) (n : ℕ) (stored next : StoredTable) → Found id tables n stored → next.id ≡ stored.id → same_id id other ≡ false →
+    cur_in other key (set tables n next) ≡ cur_in other key tables
+cur_elsewhere id other key tables n stored next at same differ =
+    let old : is_table other stored ≡ false = ap (λ i. same_id i other) at.is ∙ differ in
+    let now : is_table other next ≡ false = ap (λ i. same_id i other) (same ∙ at.is) ∙ differ in
+    let read : get_or tables n stored ≡ stored = get_or_from_slice_get tables n stored stored at.there in
+    ap (λ o. option_map_or (λ stored. cur_of key stored.entries.entries) o 0) (find_past (is_table other) tables n next stored (ap (is_table other) read ∙ old) now)
+
+-- a tracking ends
+pub counts_left : (tracking : Tracking) (tables : List StoredTable) (n : ℕ) (stored next : StoredTable) → Found tracking.table tables n stored → next.id ≡ stored.id →
+    ((key : Addr) → cur_of key next.entries.entries + trackings_of key (Some tracking.token) ≡ cur_of key stored.entries.entries) →
+    (other : TableId) (key : Addr) → cur_in other key (set tables n next) + counter_on other key (Some tracking) ≡ cur_in other key tables
+counts_left tracking tables n stored next at same counts other key = by (same_id tracking.table other) refl
+  where
+    by : (b : Bool) → same_id tracking.table other ≡ b → cur_in other key (set tables n next) + cond (b && same_key tracking.token key) 1 0 ≡ cur_in other key tables
+    by false differ = let past = cur_elsewhere tracking.table other key tables n stored next at same differ in omega (arith, past)
+    by true one =
+        let is = cur_here tracking.table key tables n stored next at same in
+        let was = cur_found tracking.table key tables stored at.found in
+        let less = counts key in
+        rw (← same_id-is tracking.table other one) (omega (arith, is, was, less))
+
+-- Tables that differ.
+
+not_there : (id : TableId) (tables : List StoredTable) (n : ℕ) (stored : StoredTable) → AllByRecursion (λ other. same_id other.id id ≡ false) tables → slice_get tables n ≡ Some stored → same_id stored.id id ≡ false
+not_there id [] n stored differ there = absurd (cc)
+not_there id (t ∷ tables) zero stored differ there = let same : t ≡ stored = cc in ap (λ t. same_id t.id id) (sym same) ∙ differ.0
+not_there id (t ∷ tables) (suc n) stored differ there = not_there id tables n stored differ.1 there
+
+-- the tables without a tracking, where the first table is another
+none_without : (track : Track) (tables : List StoredTable) (id : TableId) → track.table ≡ id → AllByRecursion (λ other. same_id other.id id ≡ false) tables → without_track track (map plain_table tables) ≡ map plain_table tables
+none_without track [] id is differ = refl
+none_without track (t ∷ tables) id is differ =
+    let past : same_id t.id track.table ≡ false = ap (same_id t.id) is ∙ differ.0 in
+    rw past (ap (λ ts. plain_table t ∷ ts) (none_without track tables id is differ.1))
+
+pub plain_left : (track : Track) (tables : List StoredTable) (n : ℕ) (stored next : StoredTable) → TablesDiffer tables → slice_get tables n ≡ Some stored → stored.id ≡ track.table →
+    next.id ≡ stored.id → next.table ≡ stored.table → plain next.entries.entries ≡ touched track.key (plain stored.entries.entries) →
+    map plain_table (set tables n next) ≡ without_track track (map plain_table tables)
+plain_left track [] n stored next differ there of same table_is entries_are = absurd (cc)
+plain_left track (t ∷ tables) zero stored next differ there of same table_is entries_are =
+    let first : t ≡ stored = cc in
+    let its : t.id ≡ track.table = ap (λ t. t.id) first ∙ of in
+    let here : same_id t.id track.table ≡ true = ap (λ i. same_id i track.table) its ∙ same_id-refl track.table in
+    let rest : without_track track (map plain_table tables) ≡ map plain_table tables = none_without track tables t.id (sym its) differ.0 in
+    let now : plain_table next ≡ record (plain_table t) { entries = touched track.key (plain t.entries.entries) } = rw first (cc (same, table_is, entries_are)) in
+    rw here (cc (rest, now))
+plain_left track (t ∷ tables) (suc n) stored next differ there of same table_is entries_are =
+    let other : same_id stored.id t.id ≡ false = not_there t.id tables n stored differ.0 there in
+    let past : same_id t.id track.table ≡ false = ap (same_id t.id) (sym of) ∙ differ_sym stored.id t.id other in
+    rw past (ap (λ ts. plain_table t ∷ ts) (plain_left track tables n stored next differ.1 there of same table_is entries_are))
+
+-- several trackings end, one after the other
+pub without-append : (a b : List Track) (tables : List TableState) → without_tracks (a ++ b) tables ≡ without_tracks b (without_tracks a tables)
+without-append [] b tables = refl
+without-append (track ∷ a) b tables = without-append a b (without_track track tables)
+
+-- What is always true of the tables stays so.
+
+all_set : {X : Type 0} (P : X → Type 0) (xs : List X) (n : ℕ) (next : X) → AllByRecursion P xs → P next → AllByRecursion P (set xs n next)
+all_set P [] n next all is = tt
+all_set P (x ∷ xs) zero next all is = (is, all.1)
+all_set P (x ∷ xs) (suc n) next all is = (all.0, all_set P xs n next all.1 is)
+
+pub all_at : {X : Type 0} (P : X → Type 0) (xs : List X) (n : ℕ) (x : X) → AllByRecursion P xs → slice_get xs n ≡ Some x → P x
+all_at P [] n x all there = absurd (cc)
+all_at P (y ∷ xs) zero x all there = let same : y ≡ x = cc in subst P same all.0
+all_at P (y ∷ xs) (suc n) x all there = all_at P xs n x all.1 there
+
+differ_set : (tables : List StoredTable) (n : ℕ) (stored next : StoredTable) → slice_get tables n ≡ Some stored → next.id ≡ stored.id → TablesDiffer tables → TablesDiffer (set tables n next)
+differ_set [] n stored next there same differ = tt
+differ_set (t ∷ tables) zero stored next there same differ =
+    let first : t ≡ stored = cc in
+    let its : t.id ≡ next.id = ap (λ t. t.id) first ∙ sym same in
+    (subst (λ i. AllByRecursion (λ other. same_id other.id i ≡ false) tables) its differ.0, differ.1)
+differ_set (t ∷ tables) (suc n) stored next there same differ =
+    let other : same_id next.id t.id ≡ false = ap (λ i. same_id i t.id) same ∙ not_there t.id tables n stored differ.0 there in
+    (all_set (λ other. same_id other.id t.id ≡ false) tables n next differ.0 other, differ_set tables n stored next there same differ.1)
+
+pub still_tables : (spare least : ℕ) (tables : List StoredTable) (n : ℕ) (stored next : StoredTable) → slice_get tables n ≡ Some stored → next.id ≡ stored.id → AreTables spare tables →
+    AllByRecursion (IsStored least) tables → IsStored least next → AreTables least (set tables n next)
+still_tables spare least tables n stored next there same known each is = record { differ = differ_set tables n stored next there same known.differ; each = all_set (IsStored least) tables n next each is }
+
+-- Tables without entries.
+
+id_at : (version n : ℕ) (tables : List Table) (stored : List StoredTable) → map plain_table stored ≡ map (new_table version) (enumerate_from n tables) → (id : TableId) → id.position < n → AllByRecursion (λ other. same_id other.id id ≡ false) stored
+id_at version n [] [] is id less = tt
+id_at version n [] (s ∷ stored) is id less = absurd (cc)
+id_at version n (t ∷ tables) [] is id less = absurd (cc)
+id_at version n (t ∷ tables) (s ∷ stored) is id less =
+    let first : plain_table s ≡ new_table version (n, t) = cc in
+    let rest : map plain_table stored ≡ map (new_table version) (enumerate_from (n + 1) tables) = cc in
+    let its : s.id.position ≡ n = ap (λ t. t.id.position) first in
+    let differs : (s.id.position == id.position) ≡ false = grind (arith, nat_tests, its, less) in
+    (and_false (s.id.version == id.version) (s.id.position == id.position) differs, id_at version (n + 1) tables stored rest id (omega arith))
+
+new_differ : (version n : ℕ) (tables : List Table) (stored : List StoredTable) → map plain_table stored ≡ map (new_table version) (enumerate_from n tables) → TablesDiffer stored
+new_differ version n [] [] is = tt
+new_differ version n [] (s ∷ stored) is = absurd (cc)
+new_differ version n (t ∷ tables) [] is = absurd (cc)
+new_differ version n (t ∷ tables) (s ∷ stored) is =
+    let first : plain_table s ≡ new_table version (n, t) = cc in
+    let rest : map plain_table stored ≡ map (new_table version) (enumerate_from (n + 1) tables) = cc in
+    let its : s.id.position ≡ n = ap (λ t. t.id.position) first in
+    (id_at version (n + 1) tables stored rest s.id (omega (arith, its)), new_differ version (n + 1) tables stored rest)
+
+pub new_tables : (version : ℕ) (tables : List Table) (stored : List StoredTable) → map plain_table stored ≡ map (new_table version) (enumerate_from 0 tables) → AllByRecursion (IsStored 0) stored → AreTables 0 stored
+new_tables version tables stored is each = record { differ = new_differ version 0 tables stored is; each = each }
+
+no_entry : (key : Addr) (entries : List Entry) → plain entries ≡ [] → cur_of key entries ≡ 0
+no_entry key [] none = refl
+no_entry key (e ∷ entries) none = absurd (cc)
+
+pub new_counts : (version n : ℕ) (tables : List Table) (stored : List StoredTable) → map plain_table stored ≡ map (new_table version) (enumerate_from n tables) → (id : TableId) (key : Addr) → cur_in id key stored ≡ 0
+new_counts version n [] [] is id key = refl
+new_counts version n [] (s ∷ stored) is id key = absurd (cc)
+new_counts version n (t ∷ tables) [] is id key = absurd (cc)
+new_counts version n (t ∷ tables) (s ∷ stored) is id key =
+    let rest : map plain_table stored ≡ map (new_table version) (enumerate_from (n + 1) tables) = cc in
+    by (is_table id s) (new_counts version (n + 1) tables stored rest id key)
+  where
+    first : plain_table s ≡ new_table version (n, t)
+    first = cc
+
+    by : (b : Bool) → cur_in id key stored ≡ 0 → option_map_or (λ stored. cur_of key stored.entries.entries) (if b then Some s else find (is_table id) stored) 0 ≡ 0
+    by true more = no_entry key s.entries.entries (ap (λ t. t.entries) first)
+    by false more = more

@@ -1,0 +1,46 @@
+-- What contracts see of the rows, and what is always true of them.
+use Rattle.std.specs.Prelude.{ℕ, List, length, ◌≡◌, ◌≤◌}
+use Rattle.addr_core.specs.declared.addr.Addr.{Addr}
+use Rattle.plan_types.specs.Sound.{most_frontends}
+use Rattle.plan_types.specs.declared.track.TableId.{TableId}
+use Rattle.conn_model.specs.declared.plain.FrontendRows.{FrontendRows}
+use Rattle.conn_model.specs.declared.plain.Plain.{Plain}
+use Rattle.conn_model.specs.declared.plain.TableState.{TableState}
+use Rattle.conn_model.specs.declared.plain.Version.{Version}
+use Rattle.conn_model.specs.Counts.{total}
+use Rattle.conn_rows.specs.declared.row.StoredRow.{StoredRow}
+use Rattle.conn_rows.specs.declared.rows.RowsState.{RowsState}
+use Rattle.conn_rows.specs.declared.tables.StoredTable.{StoredTable}
+use Rattle.conn_rows.specs.Stored.{StoredFrontend}
+use Rattle.conn_rows.specs.Tables.{cur_in}
+use Rattle.conn_rows.specs.Tracks.{tracks_on}
+
+pub record RowsValue : Type 0 where
+  -- by the number of the frontend
+  pub frontends : List FrontendRows
+  -- by number, the newest last
+  pub versions : List Version
+  -- by incarnation
+  pub tables : List TableState
+  -- for how many more trackings each table has memory
+  pub spare : ℕ
+
+abbrev pub state_of : RowsValue → RowsState
+state_of value = record { frontends = value.frontends; versions = value.versions; tables = value.tables }
+
+-- what the rows keep of a plain state, before they have memory for trackings
+abbrev pub rows_of : Plain → RowsValue
+rows_of p = record { frontends = p.frontends; versions = p.versions; tables = p.tables; spare = 0 }
+
+-- the sum over the rows of all frontends
+abbrev pub rows_total : (StoredRow → ℕ) → List StoredFrontend → ℕ
+rows_total worth frontends = total (λ own. total worth own.rows) frontends
+
+-- how many counters of a row track that key of the table
+abbrev pub row_on : TableId → Addr → StoredRow → ℕ
+row_on id key row = tracks_on id key row.tracks
+
+-- there are not too many frontends, and each key of each table counts its trackings
+pub record AreRows (frontends : List StoredFrontend) (tables : List StoredTable) : Type 0 where
+  pub few : length frontends ≤ most_frontends
+  pub counted : (id : TableId) (key : Addr) → cur_in id key tables ≡ rows_total (row_on id key) frontends
