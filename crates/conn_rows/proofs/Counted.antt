@@ -1,7 +1,20 @@
 -- Trackings of rows, as the rows change.
-use Rattle.std.proofs.Common.{◌≡◌, ℕ, ◌+◌, Bool, true, false, List, [], ◌∷◌, ◌++◌, set, Option, Some, None, refl, ap, arith}
+use Rattle.std.proofs.Common.{◌≡◌, ℕ, ◌+◌, Bool, true, false, List, [], ◌∷◌, ◌++◌, length, map, set, Option, Some, None, refl, sym, ap, ◌∙◌, arith}
 use Rattle.std.proofs.Math.ListN.{length-set}
-use Rattle.std.specs.Prelude.{slice_get, ◌==◌, if◌then◌else◌, Result, Ok, Err, OnOk, OnErr, IfSome, IfNone}
+use Rattle.std.specs.List.{AllByRecursion}
+use Rattle.std.proofs.lemmas.List.{length-append}
+use Rattle.std.proofs.lemmas.List.Elements.{filter-append}
+use Rattle.stick_core.specs.Key.{same_key}
+use Rattle.plan_types.specs.declared.plan.Frontend.{Frontend}
+use Rattle.plan_types.specs.declared.track.Track.{Track}
+use Rattle.conn_model.specs.declared.plain.Version.{Version}
+use Rattle.conn_model.specs.Tables.{is_of, open_tracks, same_id, trackers, tracks_in}
+use Rattle.conn_rows.specs.declared.tracking.Tracking.{Tracking}
+use Rattle.conn_rows.specs.declared.tracking.Trackings.{Trackings}
+use Rattle.conn_rows.specs.Stored.{plain_frontend, plain_row}
+use Rattle.conn_rows.specs.Tables.{AreCounted}
+use Rattle.conn_rows.specs.Tracks.{counter_on, plain_tracks, track_by, track_on, tracks_on}
+use Rattle.std.specs.Prelude.{filter, flat_map, ◌^◌, ◌<◌, ◌≤◌, ◌&&◌, slice_get, ◌==◌, if◌then◌else◌, Result, Ok, Err, OnOk, OnErr, IfSome, IfNone}
 use Rattle.addr_core.specs.declared.addr.Addr.{Addr}
 use Rattle.plan_types.specs.declared.track.TableId.{TableId}
 use Rattle.conn_model.specs.Counts.{total}
@@ -10,12 +23,14 @@ use Rattle.conn_rows.specs.declared.tables.StoredTable.{StoredTable}
 use Rattle.conn_rows.specs.Stored.{StoredFrontend, with_stored}
 use Rattle.conn_rows.specs.Value.{AreRows, row_on, rows_total}
 use Rattle.conn_rows.proofs.Totals.{total-push, total-set}
+use Rattle.conn_rows.proofs.Releases.{all_at, all_set}
 
 -- a frontend is changed, and its rows track what they did
-pub still_rows : (frontends : List StoredFrontend) (tables : List StoredTable) (n : ℕ) (own next : StoredFrontend) → slice_get frontends n ≡ Some own →
+pub still_rows : (frontends : List StoredFrontend) (tables : List StoredTable) (n : ℕ) (own next : StoredFrontend) → slice_get frontends n ≡ Some own → length next.rows < 2 ^ 56 →
     ((id : TableId) (key : Addr) → total (row_on id key) next.rows ≡ total (row_on id key) own.rows) → AreRows frontends tables → AreRows (set frontends n next) tables
-still_rows frontends tables n own next there same known = record {
+still_rows frontends tables n own next there small same known = record {
   few = rw (length-set frontends n next) known.few;
+  small = all_set (λ own. length own.rows < 2 ^ 56) frontends n next known.small small;
   counted = λ id key.
       let all : rows_total (row_on id key) (set frontends n next) + total (row_on id key) own.rows ≡ rows_total (row_on id key) frontends + total (row_on id key) next.rows =
       total-set (λ own. total (row_on id key) own.rows) frontends n own next there in
@@ -65,3 +80,64 @@ none_if None frontends n own next there same = λ worth.
     let is : total worth next.rows ≡ total worth own.rows = ap (total worth) same in
     omega (arith, all, is)
 none_if (Some row) frontends n own next there same = tt
+
+pub still_small : (frontends : List StoredFrontend) (n : ℕ) (own next : StoredFrontend) → slice_get frontends n ≡ Some own → length next.rows ≤ length own.rows →
+    AllByRecursion (λ own. length own.rows < 2 ^ 56) frontends → AllByRecursion (λ own. length own.rows < 2 ^ 56) (set frontends n next)
+still_small frontends n own next there less known =
+    let small : length own.rows < 2 ^ 56 = all_at (λ own. length own.rows < 2 ^ 56) frontends n own known there in
+    all_set (λ own. length own.rows < 2 ^ 56) frontends n next known (omega (arith, small, less))
+
+pub fewer : {X : Type 0} (test : X → Bool) (xs : List X) → length (filter test xs) ≤ length xs
+fewer test [] = omega arith
+fewer test (x ∷ xs) = by (test x) (fewer test xs)
+  where
+    by : (b : Bool) → length (filter test xs) ≤ length xs → length (if b then x ∷ filter test xs else filter test xs) ≤ length (x ∷ xs)
+    by true more = omega (arith, more)
+    by false more = omega (arith, more)
+
+-- Trackings as tracks.
+
+trackers-append : (a b : List Track) (id : TableId) (key : Addr) → trackers (a ++ b) id key ≡ trackers a id key + trackers b id key
+trackers-append a b id key = ap length (filter-append (is_of id key) a b) ∙ length-append (filter (is_of id key) a) (filter (is_of id key) b)
+
+trackers_on : (counter : ℕ) (tracking : Option Tracking) (id : TableId) (key : Addr) → trackers (track_on counter tracking) id key ≡ counter_on id key tracking
+trackers_on counter None id key = refl
+trackers_on counter (Some tracking) id key = by (same_id tracking.table id && same_key tracking.token key)
+  where
+    by : (b : Bool) → length {A = Track} (if b then track_by counter tracking ∷ [] else []) ≡ (if b then 1 else 0)
+    by true = refl
+    by false = refl
+
+row_trackers : (tracks : Trackings) (id : TableId) (key : Addr) → trackers (plain_tracks tracks) id key ≡ tracks_on id key tracks
+row_trackers tracks id key =
+    let both = trackers-append (track_on 0 tracks.sc0) (track_on 1 tracks.sc1) id key in
+    let all = trackers-append (track_on 0 tracks.sc0 ++ track_on 1 tracks.sc1) (track_on 2 tracks.sc2) id key in
+    let zero = trackers_on 0 tracks.sc0 id key in
+    let one = trackers_on 1 tracks.sc1 id key in
+    let two = trackers_on 2 tracks.sc2 id key in
+    omega (arith, both, all, zero, one, two)
+
+own_trackers : (versions : List Version) (rows : List StoredRow) (id : TableId) (key : Addr) → trackers (flat_map (λ row. row.tracks) (map (plain_row versions) rows)) id key ≡ total (row_on id key) rows
+own_trackers versions [] id key = refl
+own_trackers versions (row ∷ rows) id key =
+    let all = trackers-append (plain_tracks row.tracks) (flat_map (λ row. row.tracks) (map (plain_row versions) rows)) id key in
+    let here = row_trackers row.tracks id key in
+    let more = own_trackers versions rows id key in
+    omega (arith, all, here, more)
+
+pub open_trackers : (versions : List Version) (frontends : List StoredFrontend) (id : TableId) (key : Addr) →
+    trackers (open_tracks (map (plain_frontend versions) frontends)) id key ≡ rows_total (row_on id key) frontends
+open_trackers versions [] id key = refl
+open_trackers versions (own ∷ frontends) id key =
+    let all = trackers-append (tracks_in (plain_frontend versions own)) (open_tracks (map (plain_frontend versions) frontends)) id key in
+    let here = own_trackers versions own.rows id key in
+    let more = open_trackers versions frontends id key in
+    omega (arith, all, here, more)
+
+-- the tables count what the plain rows track
+pub are_counted : (versions : List Version) (frontends : List StoredFrontend) (tables : List StoredTable) → AreRows frontends tables → AreCounted (open_tracks (map (plain_frontend versions) frontends)) tables
+are_counted versions frontends tables known id key = known.counted id key ∙ sym (open_trackers versions frontends id key)
+
+pub small-empty : (frontends : List Frontend) (last : ℕ) → AllByRecursion (λ (own : StoredFrontend). length own.rows < 2 ^ 56) (map (λ frontend. record { name = frontend.name; serial = last; rows = [] }) frontends)
+small-empty [] last = tt
+small-empty (f ∷ frontends) last = (omega arith, small-empty frontends last)

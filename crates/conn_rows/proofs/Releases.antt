@@ -1,6 +1,6 @@
 -- Tables, as trackings end in them.
-use Rattle.std.proofs.Common.{◌≡◌, ℕ, zero, suc, ◌+◌, ◌<◌, Bool, true, false, cond, List, [], ◌∷◌, ◌++◌, length, map, set, get_or, Some, None, refl, sym, ap, subst, ◌∙◌, arith}
-use Rattle.std.specs.Prelude.{find, slice_get, nat_lt, ◌==◌, ◌&&◌, if◌then◌else◌}
+use Rattle.std.proofs.Common.{◌≡◌, ℕ, zero, suc, ◌+◌, ◌<◌, Bool, true, false, cond, List, [], ◌∷◌, ◌++◌, length, map, set, take, get_or, Some, None, refl, sym, ap, subst, ◌∙◌, arith}
+use Rattle.std.specs.Prelude.{◌≤◌, find, slice_get, nat_lt, option_map, ◌==◌, ◌&&◌, if◌then◌else◌}
 use Rattle.std.specs.List.{AllByRecursion, enumerate_from, position, position_or_len}
 use Rattle.std.specs.Option.{option_map_or}
 use Rattle.std.proofs.lemmas.Bool.Decides.{nat_tests}
@@ -10,18 +10,19 @@ use Rattle.addr_core.specs.declared.addr.Addr.{Addr}
 use Rattle.stick_core.specs.Key.{same_key}
 use Rattle.stick_core.specs.declared.entries.Entry.{Entry}
 use Rattle.stick_core.specs.Entries.{cur_of}
-use Rattle.stick_core.specs.PlainEntries.{plain, touched, trackings_of}
+use Rattle.stick_core.specs.PlainEntries.{AreTrackers, plain, touched, trackings_of}
 use Rattle.stick_core.proofs.TouchLemmas.{find-passes}
 use Rattle.stick_core.proofs.KeyLemmas.{same_key-refl}
 use Rattle.plan_types.specs.declared.plan.Table.{Table}
 use Rattle.plan_types.specs.declared.track.TableId.{TableId}
 use Rattle.plan_types.specs.declared.track.Track.{Track}
 use Rattle.conn_model.specs.declared.plain.TableState.{TableState}
-use Rattle.conn_model.specs.Tables.{new_table, same_id, without_track, without_tracks}
+use Rattle.conn_model.specs.Tables.{new_table, same_id, table_at, trackers, without_track, without_tracks}
 use Rattle.conn_rows.specs.declared.tables.StoredTable.{StoredTable}
-use Rattle.conn_rows.specs.Tables.{AreTables, IsStored, TablesDiffer, cur_in, is_table, plain_table}
+use Rattle.conn_rows.specs.Tables.{AreCounted, AreGrown, AreTables, IsGrown, IsStored, TablesDiffer, cur_in, is_table, plain_table}
 use Rattle.conn_rows.specs.declared.tracking.Tracking.{Tracking}
 use Rattle.conn_rows.specs.Tracks.{counter_on}
+use Rattle.conn_model.proofs.Lists.{all-found}
 use Rattle.conn_rows.proofs.Serials.{found_there, position_within}
 
 -- Incarnations.
@@ -162,7 +163,7 @@ without-append (track ∷ a) b tables = without-append a b (without_track track 
 
 -- What is always true of the tables stays so.
 
-all_set : {X : Type 0} (P : X → Type 0) (xs : List X) (n : ℕ) (next : X) → AllByRecursion P xs → P next → AllByRecursion P (set xs n next)
+pub all_set : {X : Type 0} (P : X → Type 0) (xs : List X) (n : ℕ) (next : X) → AllByRecursion P xs → P next → AllByRecursion P (set xs n next)
 all_set P [] n next all is = tt
 all_set P (x ∷ xs) zero next all is = (is, all.1)
 all_set P (x ∷ xs) (suc n) next all is = (all.0, all_set P xs n next all.1 is)
@@ -230,3 +231,119 @@ new_counts version n (t ∷ tables) (s ∷ stored) is id key =
     by : (b : Bool) → cur_in id key stored ≡ 0 → option_map_or (λ stored. cur_of key stored.entries.entries) (if b then Some s else find (is_table id) stored) 0 ≡ 0
     by true more = no_entry key s.entries.entries (ap (λ t. t.entries) first)
     by false more = more
+
+-- Tables looked up.
+
+find-plain : (id : TableId) (tables : List StoredTable) → table_at (map plain_table tables) id ≡ option_map plain_table (find (is_table id) tables)
+find-plain id [] = refl
+find-plain id (t ∷ tables) = by (same_id t.id id) (find-plain id tables)
+  where
+    by : (b : Bool) → table_at (map plain_table tables) id ≡ option_map plain_table (find (is_table id) tables) →
+        (if b then Some (plain_table t) else table_at (map plain_table tables) id) ≡ option_map plain_table (if b then Some t else find (is_table id) tables)
+    by true more = refl
+    by false more = more
+
+pub table_nowhere : (id : TableId) (tables : List StoredTable) → find (is_table id) tables ≡ None → table_at (map plain_table tables) id ≡ None
+table_nowhere id tables none = find-plain id tables ∙ ap (option_map plain_table) none
+
+pub table_there : (id : TableId) (tables : List StoredTable) (stored : StoredTable) → find (is_table id) tables ≡ Some stored → table_at (map plain_table tables) id ≡ Some (plain_table stored)
+table_there id tables stored found = find-plain id tables ∙ ap (option_map plain_table) found
+
+-- each key of the table that is found is tracked by so many
+pub trackers_of : (id : TableId) (tables : List StoredTable) (stored : StoredTable) (tracks : List Track) → find (is_table id) tables ≡ Some stored → AreCounted tracks tables → AreTrackers (trackers tracks stored.id) stored.entries.entries
+trackers_of id tables stored tracks found counted key =
+    let is : stored.id ≡ id = same_id-is stored.id id (find-passes (is_table id) tables stored found) in
+    sym (cur_found id key tables stored found) ∙ counted id key ∙ ap (λ i. trackers tracks i key) (sym is)
+
+pub stored_of : (spare : ℕ) (id : TableId) (tables : List StoredTable) (stored : StoredTable) → find (is_table id) tables ≡ Some stored → AllByRecursion (IsStored spare) tables → IsStored spare stored
+stored_of spare id tables stored found each = (all-found (IsStored spare) (is_table id) tables stored each found).0
+
+-- Memory.
+
+pub same_grown : (tables : List StoredTable) → AreGrown tables tables
+same_grown [] = tt
+same_grown (t ∷ tables) = (record { same = refl; spare = omega arith }, same_grown tables)
+
+pub grown_set : (old tables : List StoredTable) (n : ℕ) (stored next : StoredTable) → AreGrown old tables → slice_get tables n ≡ Some stored → IsGrown stored next → AreGrown old (set tables n next)
+grown_set [] [] n stored next grown there is = tt
+grown_set [] (t ∷ tables) n stored next grown there is = absurd grown
+grown_set (o ∷ old) [] n stored next grown there is = absurd grown
+grown_set (o ∷ old) (t ∷ tables) zero stored next grown there is =
+    let first : t ≡ stored = cc in
+    let mine : IsGrown o stored = subst (IsGrown o) first grown.0 in
+    let entries : stored.entries ≡ record o.entries { spare = stored.entries.spare } = ap (λ s. s.entries) mine.same in
+    let same : next ≡ record o { entries = record o.entries { spare = next.entries.spare } } =
+    is.same ∙ ap (λ (s : StoredTable). record { id = s.id; table = s.table; entries = record s.entries { spare = next.entries.spare } }) mine.same in
+    let a = mine.spare in
+    let b = is.spare in
+    (record { same = same; spare = omega (arith, a, b) }, grown.1)
+grown_set (o ∷ old) (t ∷ tables) (suc n) stored next grown there is = (grown.0, grown_set old tables n stored next grown.1 there is)
+
+pub grown_plain : (old tables : List StoredTable) → AreGrown old tables → map plain_table tables ≡ map plain_table old
+grown_plain [] [] grown = refl
+grown_plain [] (t ∷ tables) grown = absurd grown
+grown_plain (o ∷ old) [] grown = absurd grown
+grown_plain (o ∷ old) (t ∷ tables) grown =
+    let first : plain_table t ≡ plain_table o = ap plain_table grown.0.same in
+    let rest = grown_plain old tables grown.1 in
+    cc (first, rest)
+
+pub grown_cur : (old tables : List StoredTable) → AreGrown old tables → (id : TableId) (key : Addr) → cur_in id key tables ≡ cur_in id key old
+grown_cur [] [] grown id key = refl
+grown_cur [] (t ∷ tables) grown id key = absurd grown
+grown_cur (o ∷ old) [] grown id key = absurd grown
+grown_cur (o ∷ old) (t ∷ tables) grown id key = ap (λ b. option_map_or (λ stored. cur_of key stored.entries.entries) (if b then Some t else find (is_table id) tables) 0) same ∙ by (same_id o.id id) (grown_cur old tables grown.1 id key)
+  where
+    same : same_id t.id id ≡ same_id o.id id
+    same = ap (λ s. same_id s.id id) grown.0.same
+
+    by : (b : Bool) → cur_in id key tables ≡ cur_in id key old →
+        option_map_or (λ stored. cur_of key stored.entries.entries) (if b then Some t else find (is_table id) tables) 0 ≡ option_map_or (λ stored. cur_of key stored.entries.entries) (if b then Some o else find (is_table id) old) 0
+    by true more = ap (λ s. cur_of key s.entries.entries) grown.0.same
+    by false more = more
+
+grown_other : (old tables : List StoredTable) (id : TableId) → AreGrown old tables → AllByRecursion (λ other. same_id other.id id ≡ false) old → AllByRecursion (λ other. same_id other.id id ≡ false) tables
+grown_other [] [] id grown differ = tt
+grown_other [] (t ∷ tables) id grown differ = absurd grown
+grown_other (o ∷ old) [] id grown differ = absurd grown
+grown_other (o ∷ old) (t ∷ tables) id grown differ = (ap (λ s. same_id s.id id) grown.0.same ∙ differ.0, grown_other old tables id grown.1 differ.1)
+
+pub grown_differ : (old tables : List StoredTable) → AreGrown old tables → TablesDiffer old → TablesDiffer tables
+grown_differ [] [] grown differ = tt
+grown_differ [] (t ∷ tables) grown differ = absurd grown
+grown_differ (o ∷ old) [] grown differ = absurd grown
+grown_differ (o ∷ old) (t ∷ tables) grown differ =
+    let id : o.id ≡ t.id = ap (λ s. s.id) (sym grown.0.same) in
+    (subst (λ i. AllByRecursion (λ other. same_id other.id i ≡ false) tables) id (grown_other old tables o.id grown.1 differ.0), grown_differ old tables grown.1 differ.1)
+
+grown_one : (spare : ℕ) (old stored : StoredTable) → IsGrown old stored → IsStored spare old → IsStored spare stored
+grown_one spare old stored grown is = record {
+  kind = ap (λ s. s.entries.kind) grown.same ∙ is.kind ∙ ap (λ s. s.table.kind) (sym grown.same);
+  size = ap (λ s. s.entries.size) grown.same ∙ is.size ∙ ap (λ s. s.table.size) (sym grown.same);
+  stores = ap (λ s. s.entries.stores) grown.same ∙ is.stores ∙ ap (λ s. s.table.stores) (sym grown.same);
+  room = let a = is.room in let b = grown.spare in omega (arith, a, b);
+}
+
+grown_each : (spare : ℕ) (old tables : List StoredTable) → AreGrown old tables → AllByRecursion (IsStored spare) old → AllByRecursion (IsStored spare) tables
+grown_each spare [] [] grown each = tt
+grown_each spare [] (t ∷ tables) grown each = absurd grown
+grown_each spare (o ∷ old) [] grown each = absurd grown
+grown_each spare (o ∷ old) (t ∷ tables) grown each = (grown_one spare o t grown.0 each.0, grown_each spare old tables grown.1 each.1)
+
+pub grown_tables : (spare : ℕ) (old tables : List StoredTable) → AreGrown old tables → AreTables spare old → AreTables spare tables
+grown_tables spare old tables grown known = record { differ = grown_differ old tables grown known.differ; each = grown_each spare old tables grown known.each }
+
+room_each : (spare least : ℕ) (tables : List StoredTable) → AllByRecursion (IsStored spare) tables → AllByRecursion (λ stored. least ≤ stored.entries.spare) tables → AllByRecursion (IsStored least) tables
+room_each spare least [] each room = tt
+room_each spare least (t ∷ tables) each room = (record { kind = each.0.kind; size = each.0.size; stores = each.0.stores; room = room.0 }, room_each spare least tables each.1 room.1)
+
+pub room_tables : (spare least : ℕ) (tables : List StoredTable) → AreTables spare tables → AllByRecursion (λ stored. least ≤ stored.entries.spare) tables → AreTables least tables
+room_tables spare least tables known room = record { differ = known.differ; each = room_each spare least tables known.each room }
+
+room_next : {X : Type 0} (P : X → Type 0) (xs : List X) (n : ℕ) (next : X) → n < length xs → AllByRecursion P (take n xs) → P next → AllByRecursion P (take (suc n) (set xs n next))
+room_next P [] n next less all is = absurd (omega (arith, less))
+room_next P (x ∷ xs) zero next less all is = (is, tt)
+room_next P (x ∷ xs) (suc n) next less all is = (all.0, room_next P xs n next (omega arith) all.1 is)
+
+pub room_set : {X : Type 0} (P : X → Type 0) (xs : List X) (n : ℕ) (next : X) → n < length xs → AllByRecursion P (take n xs) → P next → AllByRecursion P (take (n + 1) (set xs n next))
+room_set P xs n next less all is = let one : n + 1 ≡ suc n = omega arith in rw one (room_next P xs n next less all is)

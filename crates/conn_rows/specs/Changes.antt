@@ -13,7 +13,9 @@ use Rattle.conn_model.specs.declared.plain.Row.{Row}
 use Rattle.conn_model.specs.declared.plain.FrontendRows.{FrontendRows}
 use Rattle.conn_model.specs.declared.plain.Version.{Version}
 use Rattle.conn_model.specs.Counts.{change_row}
+use Rattle.plan_types.specs.declared.track.Track.{Track}
 use Rattle.conn_model.specs.Answer.{new_row, rest_in, row_at}
+use Rattle.conn_model.specs.History.{by_counter}
 use Rattle.conn_rows.specs.declared.row.Seat.{Seat}
 use Rattle.conn_rows.specs.declared.row.Stage.{Stage}
 use Rattle.conn_rows.specs.declared.row.Stage.TheVariants as stages
@@ -94,3 +96,9 @@ stored_fed piece row = record row { stage = stage_fed piece row.stage }
 -- a connection that is offered a server of its version
 abbrev pub row_offered : List Version → Seat → Row → Row
 row_offered versions seat row = record row { phase = Offered (assignment_in (plan_at versions row.version) seat) }
+
+-- A tracking.
+
+-- a connection that tracks one key more
+abbrev pub row_tracking : Track → Row → Row
+row_tracking track row = record row { tracks = by_counter (row.tracks ++ track ∷ []) }

@@ -1,14 +1,14 @@
 -- The tables that are kept.
-use Rattle.std.specs.Prelude.{ℕ, Bool, false, List, [], ◌∷◌, find, ◌≡◌, ◌≤◌}
+use Rattle.std.specs.Prelude.{ℕ, Bool, false, List, [], ◌∷◌, find, Option, option_and_then, ◌≡◌, ◌≤◌}
 use Rattle.std.specs.List.{AllByRecursion}
 use Rattle.std.specs.Option.{option_map_or}
 use Rattle.addr_core.specs.declared.addr.Addr.{Addr}
 use Rattle.stick_core.specs.Entries.{cur_of}
-use Rattle.stick_core.specs.PlainEntries.{plain}
+use Rattle.stick_core.specs.PlainEntries.{plain, tracked_key}
 use Rattle.plan_types.specs.declared.track.TableId.{TableId}
 use Rattle.plan_types.specs.declared.track.Track.{Track}
 use Rattle.conn_model.specs.declared.plain.TableState.{TableState}
-use Rattle.conn_model.specs.Tables.{same_id, trackers}
+use Rattle.conn_model.specs.Tables.{same_id, table_at, trackers}
 use Rattle.conn_rows.specs.declared.tables.StoredTable.{StoredTable}
 
 -- what contracts see of the tables
@@ -46,3 +46,25 @@ TablesDiffer (stored ∷ tables) = AllByRecursion (λ other. same_id other.id st
 pub record AreTables (spare : ℕ) (tables : List StoredTable) : Type 0 where
   pub differ : TablesDiffer tables
   pub each : AllByRecursion (IsStored spare) tables
+
+-- The key under which a table tracks an address, if it does.
+
+abbrev pub table_key : List Track → Addr → TableState → Option Addr
+table_key tracks addr table = tracked_key (trackers tracks table.id) table.table.kind table.table.size table.entries addr
+
+-- of the table of that incarnation, if there is one
+abbrev pub key_at : List Track → List TableState → TableId → Addr → Option Addr
+key_at tracks tables id addr = option_and_then (table_key tracks addr) (table_at tables id)
+
+-- Memory.
+
+-- the table with memory for some more trackings
+pub record IsGrown (old grown : StoredTable) : Type 0 where
+  pub same : grown ≡ record old { entries = record old.entries { spare = grown.entries.spare } }
+  pub spare : old.entries.spare ≤ grown.entries.spare
+
+abbrev pub AreGrown : List StoredTable → List StoredTable → Type 0
+AreGrown [] [] = Unit {0}
+AreGrown [] (grown ∷ more) = ⊥
+AreGrown (old ∷ tables) [] = ⊥
+AreGrown (old ∷ tables) (grown ∷ more) = IsGrown old grown × AreGrown tables more

@@ -1,5 +1,6 @@
 -- What contracts see of the rows, and what is always true of them.
-use Rattle.std.specs.Prelude.{ℕ, List, length, ◌≡◌, ◌≤◌}
+use Rattle.std.specs.Prelude.{ℕ, List, length, ◌≡◌, ◌≤◌, ◌<◌, ◌^◌}
+use Rattle.std.specs.List.{AllByRecursion}
 use Rattle.addr_core.specs.declared.addr.Addr.{Addr}
 use Rattle.plan_types.specs.Sound.{most_frontends}
 use Rattle.plan_types.specs.declared.track.TableId.{TableId}
@@ -40,7 +41,8 @@ rows_total worth frontends = total (λ own. total worth own.rows) frontends
 abbrev pub row_on : TableId → Addr → StoredRow → ℕ
 row_on id key row = tracks_on id key row.tracks
 
--- there are not too many frontends, and each key of each table counts its trackings
+-- there are not too many frontends, their rows are in memory, and each key of each table counts its trackings
 pub record AreRows (frontends : List StoredFrontend) (tables : List StoredTable) : Type 0 where
   pub few : length frontends ≤ most_frontends
+  pub small : AllByRecursion (λ own. length own.rows < 2 ^ 56) frontends
   pub counted : (id : TableId) (key : Addr) → cur_in id key tables ≡ rows_total (row_on id key) frontends

@@ -104,7 +104,8 @@ impl FrontendState {
     /// Gives out the next serial to a connection that is refused.
     pub fn skip(&mut self)
         requires { self.old.serial + 1 < 2 ^ 64 }
-        ensures { self.new ≡ record self.old { serial = self.old.serial + 1 } }
+        ensures new { self.new ≡ record self.old { serial = self.old.serial + 1 } }
+        ensures few { length self.new.rows < 2 ^ 56 }
     {
         self.serial += 1;
     }
@@ -115,6 +116,7 @@ impl FrontendState {
         ensures serial { IfOk result (λ serial. serial ≡ self.old.serial + 1) }
         ensures ok { OnOk result (self.new ≡ record self.old { serial = self.old.serial + 1; rows = self.old.rows ++ stored_arrival (self.old.serial + 1) version real accepted ∷ [] }) }
         ensures err { OnErr result (self.new ≡ self.old) }
+        ensures few { length self.new.rows < 2 ^ 56 }
     {
         self.rows.reserve(1)?;
         let serial = self.serial + 1;
@@ -130,6 +132,7 @@ impl FrontendState {
         ensures status { (rest : Rest) → rest_kept serial self.old.rows ≡ Some rest → status_of result ≡ status_on rest piece.now }
         ensures used { used_by result ≤ length piece.now }
         ensures new { self.new ≡ record self.old { rows = with_stored serial (stored_fed piece.now) self.old.rows } }
+        ensures few { length self.new.rows < 2 ^ 56 }
     {
         feed_row(&mut self.rows, serial, piece)
     }
@@ -137,7 +140,8 @@ impl FrontendState {
     /// Gives a connection to a server.
     pub fn offer(&mut self, serial: u64, seat: Seat)
         requires { IsSome (find (has_serial serial) self.old.rows) }
-        ensures { self.new ≡ record self.old { rows = with_stored serial (at_stage (Offered seat)) self.old.rows } }
+        ensures new { self.new ≡ record self.old { rows = with_stored serial (at_stage (Offered seat)) self.old.rows } }
+        ensures few { length self.new.rows < 2 ^ 56 }
     {
         put_stage(&mut self.rows, serial, Stage::Offered(seat)).end();
     }

@@ -1,5 +1,6 @@
 //! The open connections of all frontends.
 ghost use Rattle.std.specs.Prelude.{◌≡◌, ◌+◌, ◌^◌, ◌<◌, ◌≤◌, ℕ, List, length, slice_get, option_map, option_and_then, IfOk, IfSome, IfNone, OnOk, OnErr, IsSome, Some, map};
+ghost use Rattle.std.specs.List.{AllByRecursion};
 ghost use Rattle.std.specs.Option.{option_copied};
 ghost use Rattle.pp_any.specs.declared.rest.Rest.{Rest};
 ghost use Rattle.pp_any.specs.NextPiece.{status_on};
@@ -11,7 +12,10 @@ ghost use Rattle.conn_model.specs.History.{opening, tracks_at};
 ghost use Rattle.conn_rows.specs.Stored.{plain_frontend, stored_in};
 ghost use Rattle.conn_rows.specs.Changes.{rest_at, row_fed, row_offered, status_of, used_by, with_arrival, with_conn, with_item, with_refusal, without_conn};
 ghost use Rattle.conn_model.specs.Counts.{offered_to, open_named};
-ghost use Rattle.conn_model.specs.Tables.{without_tracks};
+ghost use Rattle.conn_model.specs.Tables.{entry_counts, open_tracks, table_at, without_tracks};
+ghost use Rattle.rule_engine.specs.Meaning.{present};
+ghost use Rattle.conn_rows.specs.Tables.{key_at};
+ghost use Rattle.conn_rows.specs.Tracks.{slots_of};
 ghost use Rattle.conn_rows.specs.declared.row.StoredRow.{StoredRow};
 ghost use Rattle.conn_model.specs.declared.plain.Version.{Version};
 ghost use Rattle.conn_rows.specs.Summaries.{Sums, summary_of};
@@ -22,11 +26,13 @@ use crate::frontend::{FrontendState, HeaderStatus, end_all};
 use crate::opening::{cursors, frontends, table_ids};
 use crate::row::{RowSummary, Seat, StoredRow, item, version_at};
 use crate::tables::Tables;
-use addr_core::Pair;
+use addr_core::{Addr, Pair};
+use conn_model::ask::Counts;
 use conn_model::event::ConnId;
 use conn_model::plain::{FrontendRows, TableState, Version};
 use list_core::{Duplicate, Seq, newest};
-use plan_types::Plan;
+use plan_types::{Plan, TableId};
+use rule_engine::Tracks;
 use std::alloc::{AllocError, Global};
 use std::marker::Model;
 
@@ -157,6 +163,38 @@ impl Rows {
         counts::offered_to(self.frontends.as_slice(), self.versions.as_slice(), name)
     }
 
+    /// How many open connections track an address in the table of that incarnation, and how often it was tracked.
+    pub fn counts(&self, id: TableId, addr: &Addr) -> Option<Counts>
+        ensures { result ≡ option_map (entry_counts (open_tracks self.now.frontends) addr.now) (table_at self.now.tables id) }
+    {
+        self.tables.counts(id, addr)
+    }
+
+    /// The key under which the table of that incarnation would track an address, if it could.
+    pub fn key_for(&self, id: TableId, addr: &Addr) -> Option<Addr>
+        ensures { result ≡ key_at (open_tracks self.now.frontends) self.now.tables id addr.now }
+    {
+        self.tables.key_for(id, addr)
+    }
+
+    /// What each counter of an open connection tracks.
+    pub fn tracks(&self, id: ConnId) -> Option<Tracks>
+        ensures slots { result ≡ option_map (λ row. slots_of row.tracks) (row_at self.now.frontends id) }
+        ensures present { option_map present result ≡ option_map (λ row. row.tracks) (row_at self.now.frontends id) }
+    {
+        let row = find_row(self.frontends.as_slice(), id)?;
+        Some(row.tracks.slots())
+    }
+
+    /// Makes room so that the next so many trackings take no memory.
+    pub fn reserve(&mut self, more: u64) -> Result<(), AllocError>
+        ensures room { OnOk result (more ≤ self.new.spare) }
+        ensures same { self.new ≡ record self.old { spare = self.new.spare } }
+        ensures spare { self.old.spare ≤ self.new.spare }
+    {
+        self.tables.reserve(more)
+    }
+
     /// Gives out the next serial of a frontend to a connection that is refused.
     pub fn skip(&mut self, number: u16)
         requires there { IsSome (slice_get self.old.frontends number) }
@@ -260,6 +298,7 @@ fn take_conn(frontends: &mut Vec<FrontendState>, id: ConnId) -> Option<StoredRow
     ensures counts { IfSome result (λ row. (worth : StoredRow → ℕ) → rows_total worth frontends.new.items + worth row ≡ rows_total worth frontends.old.items) }
     ensures none { IfNone result ((worth : StoredRow → ℕ) → rows_total worth frontends.new.items ≡ rows_total worth frontends.old.items) }
     ensures len { length frontends.new.items ≡ length frontends.old.items }
+    ensures small { AllByRecursion (λ own. length own.rows < 2 ^ 56) frontends.old.items → AllByRecursion (λ own. length own.rows < 2 ^ 56) frontends.new.items }
 {
     let number = usize::from(id.frontend);
     if number >= frontends.len() {

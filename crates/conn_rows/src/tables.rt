@@ -1,19 +1,27 @@
 //! The tables that are kept.
-ghost use Rattle.std.specs.Prelude.{◌≡◌, ◌+◌, ◌≤◌, ℕ, [], map, length, IfOk};
-ghost use Rattle.std.specs.List.{enumerate_from, position};
+ghost use Rattle.std.specs.Prelude.{◌≡◌, ◌+◌, ◌≤◌, ℕ, List, [], map, length, find, option_map, IfOk, OnOk};
+ghost use Rattle.std.specs.Option.{option_copied};
+ghost use Rattle.std.specs.List.{AllByRecursion, enumerate_from, position};
 ghost use Rattle.addr_core.specs.declared.addr.Addr.{Addr};
 ghost use Rattle.plan_types.specs.Sound.{most_tables};
+ghost use Rattle.stick_core.specs.PlainEntries.{AreTrackers};
 ghost use Rattle.plan_types.specs.declared.track.TableId.{TableId};
-ghost use Rattle.conn_model.specs.Tables.{new_table, without_tracks};
-ghost use Rattle.conn_rows.specs.Tables.{IsStored, cur_in, is_table, plain_table};
+ghost use Rattle.plan_types.specs.declared.track.Track.{Track};
+ghost use Rattle.conn_model.specs.Tables.{entry_counts, new_table, table_at, trackers, without_tracks};
+ghost use Rattle.conn_rows.specs.Tables.{AreCounted, AreGrown, IsGrown, IsStored, cur_in, is_table, key_at, plain_table, table_key};
 ghost use Rattle.conn_rows.specs.Tracks.{counter_on, plain_tracks, track_on, tracks_on};
 
 use crate::tracking::{Tracking, Trackings};
+use addr_core::Addr;
+use conn_model::ask::Counts;
 use conn_model::plain::TableState;
 use list_core::{Duplicate, Seq};
 use plan_types::{Table, TableId};
 use std::alloc::{AllocError, Global};
 use std::marker::Model;
+
+/// For how many more trackings room is made than asked.
+const EXTRA_ROOM: u64 = 16;
 
 /// A table that is kept.
 #[derive(Debug, Drop)]
@@ -35,6 +43,34 @@ impl StoredTable {
             table: table.duplicate(alloc)?,
             entries: stick_core::Table::new(alloc, table.kind, table.size, table.stores),
         })
+    }
+
+    /// How many track an address, and how often it was tracked.
+    fn counts(&self, addr: &Addr) -> Counts
+        requires { self.now.entries.kind ≡ self.now.table.kind }
+        ensures { (tracks : List Track) → AreTrackers (trackers tracks self.now.id) self.now.entries.entries → result ≡ entry_counts tracks addr.now (plain_table self.now) }
+    {
+        Counts {
+            cur: self.entries.cur(addr),
+            cnt: self.entries.cnt(addr),
+        }
+    }
+
+    /// The key under which an address would be tracked, if it could be.
+    fn key_for(&self, addr: &Addr) -> Option<Addr>
+        requires kind { self.now.entries.kind ≡ self.now.table.kind }
+        requires size { self.now.entries.size ≡ self.now.table.size }
+        ensures { (tracks : List Track) → AreTrackers (trackers tracks self.now.id) self.now.entries.entries → result ≡ table_key tracks addr.now (plain_table self.now) }
+    {
+        self.entries.key_for(addr)
+    }
+
+    /// Makes room for so many trackings more.
+    fn reserve(&mut self, more: usize) -> Result<(), AllocError>
+        ensures grown { IsGrown self.old self.new }
+        ensures room { OnOk result (more ≤ self.new.entries.spare) }
+    {
+        self.entries.reserve(more)
     }
 
     /// An equal table, as plain data.
@@ -100,6 +136,39 @@ impl Tables {
         Ok(states)
     }
 
+    /// How many track an address in the table of that incarnation, and how often it was tracked.
+    pub fn counts(&self, id: TableId, addr: &Addr) -> Option<Counts>
+        ensures { (tracks : List Track) → AreCounted tracks self.now.tables → result ≡ option_map (entry_counts tracks addr.now) (table_at (map plain_table self.now.tables) id) }
+    {
+        let stored = find_table(self.tables.as_slice(), id)?;
+        Some(stored.counts(addr))
+    }
+
+    /// The key under which the table of that incarnation would track an address, if it could.
+    pub fn key_for(&self, id: TableId, addr: &Addr) -> Option<Addr>
+        ensures { (tracks : List Track) → AreCounted tracks self.now.tables → result ≡ key_at tracks (map plain_table self.now.tables) id addr.now }
+    {
+        let stored = find_table(self.tables.as_slice(), id)?;
+        stored.key_for(addr)
+    }
+
+    /// Makes room so that the next so many trackings take no memory. Where there is room enough nothing is done; else
+    /// there is made more than asked, so that this is rare.
+    pub fn reserve(&mut self, more: u64) -> Result<(), AllocError>
+        ensures room { OnOk result (more ≤ self.new.spare) }
+        ensures spare { self.old.spare ≤ self.new.spare }
+        ensures plain { map plain_table self.new.tables ≡ map plain_table self.old.tables }
+        ensures counts { (id : TableId) (key : Addr) → cur_in id key self.new.tables ≡ cur_in id key self.old.tables }
+    {
+        if more <= self.spare {
+            return Ok(());
+        }
+        let room = more.saturating_add(EXTRA_ROOM);
+        reserve_all(&mut self.tables, room as usize)?;
+        self.spare = room;
+        Ok(())
+    }
+
     /// Ends what a connection tracks, in the order of counters. It takes no memory.
     pub fn release(&mut self, tracks: Trackings)
         requires { (id : TableId) (key : Addr) → tracks_on id key tracks ≤ cur_in id key self.old.tables }
@@ -129,6 +198,23 @@ impl Tables {
             None => unreachable!(),
         }
     }
+}
+
+/// Makes room in each table for so many trackings more.
+fn reserve_all(tables: &mut Vec<StoredTable>, more: usize) -> Result<(), AllocError>
+    ensures grown { AreGrown tables.old.items tables.new.items }
+    ensures room { OnOk result (AllByRecursion (λ stored. more ≤ stored.entries.spare) tables.new.items) }
+{
+    for place in 0..tables.len() {
+        tables[place].reserve(more)?;
+    }
+    Ok(())
+}
+
+fn find_table(tables: &[StoredTable], id: TableId) -> Option<&StoredTable>
+    ensures { option_copied result ≡ find (is_table id) tables.now }
+{
+    tables.iter().find(|stored| stored.id == id)
 }
 
 fn place_of(tables: &[StoredTable], id: TableId) -> Option<usize>

@@ -1,8 +1,8 @@
-use Rattle.std.proofs.Common.{◌≡◌, Some, not, arith, ap, ◌∙◌}
+use Rattle.std.proofs.Common.{◌≡◌, Some, not, arith, ap, ◌∙◌, length}
 use Rattle.std.specs.Prelude.{filter, slice_get}
 use Rattle.conn_rows.specs.Stored.{StoredFrontend, has_serial, plain_frontend}
 use Rattle.conn_rows.specs.Changes.{without_row}
-use Rattle.conn_rows.proofs.Counted.{gone_if, none_if}
+use Rattle.conn_rows.proofs.Counted.{fewer, gone_if, none_if, still_small}
 use Rattle.conn_rows.proofs.Plain.{others_plain, own_below, set-map}
 use Rattle.conn_rows.proofs.rows.take_conn.Goals as goal
 
@@ -23,3 +23,8 @@ returns-clause-counts c =
 pub returns-clause-none : goal.returns-clause-none
 returns-clause-none c =
     none_if c.remove.result c.args.frontends.now.items c.from-number.result c.index_mut.result.now c.remove.new.self (ap (slice_get c.args.frontends.now.items) c.from-number.ensures ∙ there c) c.remove.ensures.none
+
+pub returns-clause-small : goal.returns-clause-small
+returns-clause-small c =
+    still_small c.args.frontends.now.items c.from-number.result c.index_mut.result.now c.remove.new.self (ap (slice_get c.args.frontends.now.items) c.from-number.ensures ∙ there c)
+    (let less = fewer (λ row. not (has_serial c.args.id.serial row)) c.index_mut.result.now.rows in let is = ap (λ f. length f.rows) c.remove.ensures.left in omega (arith, less, is))

@@ -35,5 +35,5 @@ returns-clause-new c =
 pub invariant_of-self : goal.invariant_of-self
 invariant_of-self c =
     let own = c.index_mut.result.now in
-    still_rows c.self.inside.frontends.items c.self.inside.tables.tables c.from.result own c.feed.new.self (ap (slice_get c.self.inside.frontends.items) c.from.ensures ∙ there_after c)
+    still_rows c.self.inside.frontends.items c.self.inside.tables.tables c.from.result own c.feed.new.self (ap (slice_get c.self.inside.frontends.items) c.from.ensures ∙ there_after c) c.feed.ensures.few
     (λ id key. ap (λ f. total (row_on id key) f.rows) c.feed.ensures.new ∙ total-with (row_on id key) c.args.id.serial (stored_fed c.args.piece.now) own.rows (λ row. refl)) c.self.invariant

@@ -13,7 +13,7 @@ there c = own_there c.self.inside.frontends.items c.self.inside.versions c.self.
 pub invariant_of-self : goal.invariant_of-self
 invariant_of-self c =
     let own = c.index_mut.result.now in
-    still_rows c.self.inside.frontends.items c.self.inside.tables.tables c.from.result own c.insert.new.self (ap (slice_get c.self.inside.frontends.items) c.from.ensures ∙ there c)
+    still_rows c.self.inside.frontends.items c.self.inside.tables.tables c.from.result own c.insert.new.self (ap (slice_get c.self.inside.frontends.items) c.from.ensures ∙ there c) c.insert.ensures.few
     (λ id key. total-arrival (row_on id key) c.insert.result own c.insert.new.self (stored_arrival (own.serial + 1) c.args.version c.args.real c.args.accepted) refl c.insert.ensures.ok c.insert.ensures.err) c.self.invariant
 
 pub returns-clause-serial : goal.returns-clause-serial

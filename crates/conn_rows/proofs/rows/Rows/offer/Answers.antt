@@ -25,7 +25,7 @@ offer-requires c = stored_open c.self.inside.frontends.items c.self.inside.versi
 pub returns : goal.returns
 returns c =
     let own = c.index_mut.result.now in
-    rw c.offer.ensures
+    rw c.offer.ensures.new
     (changed c.self.inside.frontends.items c.self.inside.versions c.self.inside.tables c.args.self.now c.from.result c.args.id.frontend own (record own { rows = with_stored c.args.id.serial (at_stage (Offered c.args.seat)) own.rows })
     (λ versions. with_row c.args.id.serial (row_offered versions c.args.seat)) c.self.view_is c.from.ensures (there_after c)
     (offered_plain c.self.inside.versions own c.args.id.serial c.args.seat))
@@ -33,5 +33,5 @@ returns c =
 pub invariant_of-self : goal.invariant_of-self
 invariant_of-self c =
     let own = c.index_mut.result.now in
-    still_rows c.self.inside.frontends.items c.self.inside.tables.tables c.from.result own c.offer.new.self (ap (slice_get c.self.inside.frontends.items) c.from.ensures ∙ there_after c)
-    (λ id key. ap (λ f. total (row_on id key) f.rows) c.offer.ensures ∙ total-with (row_on id key) c.args.id.serial (at_stage (Offered c.args.seat)) own.rows (λ row. refl)) c.self.invariant
+    still_rows c.self.inside.frontends.items c.self.inside.tables.tables c.from.result own c.offer.new.self (ap (slice_get c.self.inside.frontends.items) c.from.ensures ∙ there_after c) c.offer.ensures.few
+    (λ id key. ap (λ f. total (row_on id key) f.rows) c.offer.ensures.new ∙ total-with (row_on id key) c.args.id.serial (at_stage (Offered c.args.seat)) own.rows (λ row. refl)) c.self.invariant

@@ -12,11 +12,11 @@ there c = own_there c.self.inside.frontends.items c.self.inside.versions c.self.
 
 pub invariant_of-self : goal.invariant_of-self
 invariant_of-self c =
-    still_rows c.self.inside.frontends.items c.self.inside.tables.tables c.from.result c.index_mut.result.now c.skip.new.self (ap (slice_get c.self.inside.frontends.items) c.from.ensures ∙ there c)
-    (λ id key. ap (λ f. total (row_on id key) f.rows) c.skip.ensures) c.self.invariant
+    still_rows c.self.inside.frontends.items c.self.inside.tables.tables c.from.result c.index_mut.result.now c.skip.new.self (ap (slice_get c.self.inside.frontends.items) c.from.ensures ∙ there c) c.skip.ensures.few
+    (λ id key. ap (λ f. total (row_on id key) f.rows) c.skip.ensures.new) c.self.invariant
 
 pub returns : goal.returns
 returns c =
-    rw c.skip.ensures
+    rw c.skip.ensures.new
     (changed c.self.inside.frontends.items c.self.inside.versions c.self.inside.tables c.args.self.now c.from.result c.args.number c.index_mut.result.now (record c.index_mut.result.now { serial = c.index_mut.result.now.serial + 1 }) (λ versions. with_refusal)
     c.self.view_is c.from.ensures (there c) refl)
