@@ -1,10 +1,15 @@
 -- The plain state of what is stored.
-use Rattle.std.proofs.Common.{◌≡◌, ℕ, zero, suc, ◌+◌, ◌<◌, Bool, true, false, not, List, [], ◌∷◌, ◌++◌, length, map, set, get_or, Option, Some, None, refl, sym, ap, subst, ◌∙◌}
+use Rattle.std.proofs.Common.{◌≡◌, ℕ, zero, suc, ◌+◌, ◌<◌, Bool, true, false, not, List, [], ◌∷◌, ◌++◌, length, map, set, get_or, Option, Some, None, refl, sym, ap, subst, ◌∙◌, arith}
 use Rattle.std.specs.Prelude.{slice_get, slice_set, filter, find, ◌==◌, if◌then◌else◌, IsSome, option_map, option_and_then}
-use Rattle.std.specs.Prelude.{Result, Ok, Err, IfOk, OnOk}
+use Rattle.std.specs.Prelude.{Result, Ok, Err, IfOk, OnOk, IfSome, ◌-◌}
 use Rattle.std.specs.Option.{option_map_or}
 use Rattle.std.proofs.lemmas.List.{map-append, map-set}
-use Rattle.std.proofs.lemmas.Option.{get_or_from_slice_get, slice_get_read}
+use Rattle.std.proofs.lemmas.Option.{get_or_from_slice_get, slice_get_read, slice_get_within}
+use Rattle.std.specs.List.{AllByRecursion}
+use Rattle.std.proofs.lemmas.Bool.Decides.{nat_tests}
+use Rattle.conn_model.specs.Words.{Rise}
+use Rattle.conn_model.specs.Counts.{change_row}
+use Rattle.conn_model.proofs.Lists.{all-at, all-more}
 use Rattle.addr_core.specs.PairValue.{PairValue}
 use Rattle.conn_model.specs.declared.event.ConnId.{ConnId}
 use Rattle.conn_model.specs.declared.plain.Row.{Row}
@@ -12,9 +17,11 @@ use Rattle.conn_model.specs.declared.plain.FrontendRows.{FrontendRows}
 use Rattle.plan_types.specs.declared.plan.Frontend.{Frontend}
 use Rattle.plan_types.specs.declared.plan.Plan.{Plan}
 use Rattle.conn_model.specs.History.{new_version, opening, tracks_at}
+use Rattle.plan_types.specs.declared.track.Track.{Track}
+use Rattle.conn_rows.proofs.Counted.{free_counter}
 use Rattle.std.specs.List.{enumerate_from}
-use Rattle.conn_model.specs.Tables.{new_table, without_tracks}
-use Rattle.conn_rows.specs.Tracks.{plain_tracks}
+use Rattle.conn_model.specs.Tables.{new_table, open_tracks, with_track, without_tracks}
+use Rattle.conn_rows.specs.Tracks.{on_counter, plain_tracks, track_of}
 use Rattle.conn_model.specs.declared.plain.Version.{Version}
 use Rattle.conn_model.specs.Answer.{row_at, row_in, rest_in}
 use Rattle.conn_rows.specs.Tables.{StoredTables, plain_table}
@@ -25,7 +32,7 @@ use Rattle.conn_rows.specs.declared.row.Stage.{Stage}
 use Rattle.conn_rows.specs.declared.row.Stage.TheVariants.{Waiting, Offered}
 use Rattle.conn_rows.specs.declared.row.StoredRow.{StoredRow}
 use Rattle.conn_rows.specs.Stored.{StoredFrontend, at_stage, has_serial, phase_of, plan_at, plain_frontend, plain_row, rest_kept, rest_within, stored_arrival, stored_in, waits, with_stored}
-use Rattle.conn_rows.specs.Changes.{rest_at, row_fed, row_offered, stored_fed, phase_fed, stage_fed, with_arrival, with_item, with_row, without_conn, without_row}
+use Rattle.conn_rows.specs.Changes.{rest_at, row_fed, row_offered, row_tracking, stored_fed, phase_fed, stage_fed, with_arrival, with_item, with_conn, with_row, without_conn, without_row}
 
 pub get-map : {X Y : Type 0} (f : X → Y) (xs : List X) (n : ℕ) → slice_get (map f xs) n ≡ option_map f (slice_get xs n)
 get-map f [] n = refl
@@ -245,3 +252,67 @@ next_serial (Ok serial) frontends versions tables value number own value_is ther
     let plain : slice_get value.frontends number ≡ Some (plain_frontend versions own) =
     ap (λ v. slice_get v.frontends number) (sym value_is) ∙ get-map (plain_frontend versions) frontends number ∙ ap (option_map (plain_frontend versions)) there in
     rw (plain, is) refl
+
+above-plain : (versions : List Version) (serial : ℕ) (plain : Row → Row) (rows : List StoredRow) → AllByRecursion (λ row. serial < row.serial) rows → change_row serial plain (map (plain_row versions) rows) ≡ map (plain_row versions) rows
+above-plain versions serial plain [] above = refl
+above-plain versions serial plain (row ∷ rows) above =
+    let less : serial < row.serial = above.0 in
+    let differs : (row.serial == serial) ≡ false = grind (arith, nat_tests, less) in
+    rw differs (ap (λ rs. plain_row versions row ∷ rs) (above-plain versions serial plain rows above.1))
+
+-- the row of a serial changed in both
+pub set-plain : (versions : List Version) (serial : ℕ) (plain : Row → Row) (rows : List StoredRow) (n : ℕ) (row next : StoredRow) → Rise (λ row. row.serial) rows → slice_get rows n ≡ Some row → row.serial ≡ serial →
+    plain_row versions next ≡ plain (plain_row versions row) → map (plain_row versions) (set rows n next) ≡ change_row serial plain (map (plain_row versions) rows)
+set-plain versions serial plain [] n row next rise there is now = absurd (cc)
+set-plain versions serial plain (r ∷ rows) zero row next rise there is now =
+    let same : r ≡ row = cc in
+    let it : r.serial ≡ serial = ap (λ r. r.serial) same ∙ is in
+    let its : (r.serial == serial) ≡ true = grind (arith, nat_tests, it) in
+    let left : change_row serial plain (map (plain_row versions) rows) ≡ map (plain_row versions) rows =
+    above-plain versions serial plain rows (all-more (λ x. r.serial < x.serial) (λ x. serial < x.serial) rows (λ x lt. omega (arith, lt, it)) rise.0) in
+    let here : plain_row versions next ≡ plain (plain_row versions r) = now ∙ ap (λ r. plain (plain_row versions r)) (sym same) in
+    rw its (cc (left, here))
+set-plain versions serial plain (r ∷ rows) (suc n) row next rise there is now =
+    let less : r.serial < row.serial = all-at (λ x. r.serial < x.serial) rows n row rise.0 there in
+    let differs : (r.serial == serial) ≡ false = grind (arith, nat_tests, less, is) in
+    rw differs (ap (λ rs. plain_row versions r ∷ rs) (set-plain versions serial plain rows n row next rise.1 there is now))
+
+pub own_exists : (frontends : List StoredFrontend) (versions : List Version) (tables : StoredTables) (value : RowsValue) (id : ConnId) → value_of frontends versions tables ≡ value → IsSome (row_at value.frontends id) →
+    id.frontend < length frontends
+own_exists frontends versions tables value id value_is some = by (slice_get frontends id.frontend) refl below
+  where
+    below : IsSome (slice_get frontends id.frontend)
+    below =
+        some_below (plain_frontend versions) (slice_get frontends id.frontend)
+        (subst IsSome (ap (λ v. slice_get v.frontends id.frontend) (sym value_is) ∙ get-map (plain_frontend versions) frontends id.frontend) (row_there value.frontends id some))
+
+    by : (o : Option StoredFrontend) → slice_get frontends id.frontend ≡ o → IsSome o → id.frontend < length frontends
+    by None is some = absurd (cc)
+    by (Some own) is some = slice_get_within frontends id.frontend own is
+
+-- the row of which a counter tracks nothing
+pub free_there : (frontends : List StoredFrontend) (versions : List Version) (tables : StoredTables) (value : RowsValue) (id : ConnId) (own : StoredFrontend) (counter : ℕ) → value_of frontends versions tables ≡ value →
+    slice_get frontends id.frontend ≡ Some own → counter < 3 → IsSome (row_at value.frontends id) → IfSome (row_at value.frontends id) (λ row. track_of counter row.tracks ≡ None) →
+    (row : StoredRow) × (find (has_serial id.serial) own.rows ≡ Some row) × (on_counter counter row.tracks ≡ None)
+free_there frontends versions tables value id own counter value_is there less some free =
+    by (find (has_serial id.serial) own.rows) refl (subst IsSome row_is_plain some) (subst (λ o. IfSome o (λ row. track_of counter row.tracks ≡ None)) row_is_plain free)
+  where
+    row_is_plain : row_at value.frontends id ≡ option_map (plain_row versions) (find (has_serial id.serial) own.rows)
+    row_is_plain = row_of_state frontends versions tables value id value_is ∙ ap (λ o. option_map (plain_row versions) (stored_in id.serial o)) there
+
+    by : (o : Option StoredRow) → find (has_serial id.serial) own.rows ≡ o → IsSome (option_map (plain_row versions) o) → IfSome (option_map (plain_row versions) o) (λ row. track_of counter row.tracks ≡ None) →
+        (row : StoredRow) × (find (has_serial id.serial) own.rows ≡ Some row) × (on_counter counter row.tracks ≡ None)
+    by None is some free = absurd (cc)
+    by (Some row) is some free = (row, is, free_counter counter row.tracks less free)
+
+-- a connection tracks one key more
+pub tracking_value : (frontends : List StoredFrontend) (versions : List Version) (tables rest : StoredTables) (value : RowsValue) (n : ℕ) (id : ConnId) (own next : StoredFrontend) (track : Track) →
+    value_of frontends versions tables ≡ value → n ≡ id.frontend → slice_get frontends id.frontend ≡ Some own → plain_frontend versions next ≡ with_row id.serial (row_tracking track) (plain_frontend versions own) →
+    map plain_table rest.tables ≡ with_track (open_tracks (map (plain_frontend versions) frontends)) track (map plain_table tables.tables) → rest.spare + 1 ≡ tables.spare →
+    value_of (set frontends n next) versions rest ≡ record value { frontends = with_conn id (row_tracking track) value.frontends; tables = with_track (open_tracks value.frontends) track value.tables; spare = value.spare - 1 }
+tracking_value frontends versions tables rest value n id own next track value_is n_is there next_is tables_are spare =
+    let P : RowsValue → Type 0 = λ v. value_of (set frontends n next) versions rest ≡ record v { frontends = with_conn id (row_tracking track) v.frontends; tables = with_track (open_tracks v.frontends) track v.tables; spare = v.spare - 1 } in
+    let all : map (plain_frontend versions) (set frontends n next) ≡ with_conn id (row_tracking track) (map (plain_frontend versions) frontends) =
+    ap (λ n. map (plain_frontend versions) (set frontends n next)) n_is ∙ set-map (plain_frontend versions) (with_row id.serial (row_tracking track)) frontends id.frontend own next there next_is in
+    let less : rest.spare ≡ tables.spare - 1 = omega (arith, spare) in
+    subst P value_is (rw (all, tables_are, less) refl)

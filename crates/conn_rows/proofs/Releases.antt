@@ -1,6 +1,6 @@
 -- Tables, as trackings end in them.
-use Rattle.std.proofs.Common.{◌≡◌, ℕ, zero, suc, ◌+◌, ◌<◌, Bool, true, false, cond, List, [], ◌∷◌, ◌++◌, length, map, set, take, get_or, Some, None, refl, sym, ap, subst, ◌∙◌, arith}
-use Rattle.std.specs.Prelude.{◌≤◌, find, slice_get, nat_lt, option_map, ◌==◌, ◌&&◌, if◌then◌else◌}
+use Rattle.std.proofs.Common.{◌≡◌, ℕ, zero, suc, ◌+◌, ◌<◌, Bool, true, false, cond, List, [], ◌∷◌, ◌++◌, length, map, set, take, get_or, Option, Some, None, refl, sym, ap, subst, ◌∙◌, arith}
+use Rattle.std.specs.Prelude.{◌≤◌, ◌-◌, option_and_then, find, slice_get, nat_lt, option_map, ◌==◌, ◌&&◌, if◌then◌else◌}
 use Rattle.std.specs.List.{AllByRecursion, enumerate_from, position, position_or_len}
 use Rattle.std.specs.Option.{option_map_or}
 use Rattle.std.proofs.lemmas.Bool.Decides.{nat_tests}
@@ -9,17 +9,18 @@ use Rattle.std.proofs.lemmas.Option.{get_or_from_slice_get, slice_get_read}
 use Rattle.addr_core.specs.declared.addr.Addr.{Addr}
 use Rattle.stick_core.specs.Key.{same_key}
 use Rattle.stick_core.specs.declared.entries.Entry.{Entry}
+use Rattle.stick_core.specs.declared.entries.TableEntry.{TableEntry}
 use Rattle.stick_core.specs.Entries.{cur_of}
-use Rattle.stick_core.specs.PlainEntries.{AreTrackers, plain, touched, trackings_of}
+use Rattle.stick_core.specs.PlainEntries.{AreTrackers, plain, touched, tracked_key, trackings_of, with_tracking}
 use Rattle.stick_core.proofs.TouchLemmas.{find-passes}
 use Rattle.stick_core.proofs.KeyLemmas.{same_key-refl}
 use Rattle.plan_types.specs.declared.plan.Table.{Table}
 use Rattle.plan_types.specs.declared.track.TableId.{TableId}
 use Rattle.plan_types.specs.declared.track.Track.{Track}
 use Rattle.conn_model.specs.declared.plain.TableState.{TableState}
-use Rattle.conn_model.specs.Tables.{new_table, same_id, table_at, trackers, without_track, without_tracks}
+use Rattle.conn_model.specs.Tables.{new_table, same_id, table_at, trackers, without_track, without_tracks, with_track}
 use Rattle.conn_rows.specs.declared.tables.StoredTable.{StoredTable}
-use Rattle.conn_rows.specs.Tables.{AreCounted, AreGrown, AreTables, IsGrown, IsStored, TablesDiffer, cur_in, is_table, plain_table}
+use Rattle.conn_rows.specs.Tables.{AreCounted, AreGrown, AreTables, IsGrown, IsStored, TablesDiffer, cur_in, is_table, key_at, plain_table, table_key}
 use Rattle.conn_rows.specs.declared.tracking.Tracking.{Tracking}
 use Rattle.conn_rows.specs.Tracks.{counter_on}
 use Rattle.conn_model.proofs.Lists.{all-found}
@@ -133,28 +134,63 @@ not_there id [] n stored differ there = absurd (cc)
 not_there id (t ∷ tables) zero stored differ there = let same : t ≡ stored = cc in ap (λ t. same_id t.id id) (sym same) ∙ differ.0
 not_there id (t ∷ tables) (suc n) stored differ there = not_there id tables n stored differ.1 there
 
--- the tables without a tracking, where the first table is another
-none_without : (track : Track) (tables : List StoredTable) (id : TableId) → track.table ≡ id → AllByRecursion (λ other. same_id other.id id ≡ false) tables → without_track track (map plain_table tables) ≡ map plain_table tables
-none_without track [] id is differ = refl
-none_without track (t ∷ tables) id is differ =
-    let past : same_id t.id track.table ≡ false = ap (same_id t.id) is ∙ differ.0 in
-    rw past (ap (λ ts. plain_table t ∷ ts) (none_without track tables id is differ.1))
+-- the table of an incarnation changed, where each table is another
+none_changed : (id : TableId) (change : TableState → TableState) (tables : List StoredTable) → AllByRecursion (λ other. same_id other.id id ≡ false) tables →
+    map (λ t. if same_id t.id id then change t else t) (map plain_table tables) ≡ map plain_table tables
+none_changed id change [] differ = refl
+none_changed id change (t ∷ tables) differ = rw differ.0 (ap (λ ts. plain_table t ∷ ts) (none_changed id change tables differ.1))
+
+-- and where it is one of them
+pub one_changed : (id : TableId) (change : TableState → TableState) (tables : List StoredTable) (n : ℕ) (stored next : StoredTable) → TablesDiffer tables → slice_get tables n ≡ Some stored → stored.id ≡ id →
+    plain_table next ≡ change (plain_table stored) → map plain_table (set tables n next) ≡ map (λ t. if same_id t.id id then change t else t) (map plain_table tables)
+one_changed id change [] n stored next differ there of now = absurd (cc)
+one_changed id change (t ∷ tables) zero stored next differ there of now =
+    let first : t ≡ stored = cc in
+    let its : t.id ≡ id = ap (λ t. t.id) first ∙ of in
+    let here : same_id t.id id ≡ true = ap (λ i. same_id i id) its ∙ same_id-refl id in
+    let rest : map (λ t. if same_id t.id id then change t else t) (map plain_table tables) ≡ map plain_table tables =
+    none_changed id change tables (subst (λ i. AllByRecursion (λ other. same_id other.id i ≡ false) tables) its differ.0) in
+    let next_is : plain_table next ≡ change (plain_table t) = now ∙ ap (λ t. change (plain_table t)) (sym first) in
+    rw here (cc (rest, next_is))
+one_changed id change (t ∷ tables) (suc n) stored next differ there of now =
+    let other : same_id stored.id t.id ≡ false = not_there t.id tables n stored differ.0 there in
+    let past : same_id t.id id ≡ false = ap (same_id t.id) (sym of) ∙ differ_sym stored.id t.id other in
+    rw past (ap (λ ts. plain_table t ∷ ts) (one_changed id change tables n stored next differ.1 there of now))
+
+abbrev state_of : TableId → Table → List TableEntry → TableState
+state_of id table entries = record { id = id; table = table; entries = entries }
+
+state_is : (i j : TableId) (s t : Table) (e f : List TableEntry) → i ≡ j → s ≡ t → e ≡ f → state_of i s e ≡ state_of j t f
+state_is i j s t e f ids tables entries = rw (ids, tables, entries) refl
 
 pub plain_left : (track : Track) (tables : List StoredTable) (n : ℕ) (stored next : StoredTable) → TablesDiffer tables → slice_get tables n ≡ Some stored → stored.id ≡ track.table →
     next.id ≡ stored.id → next.table ≡ stored.table → plain next.entries.entries ≡ touched track.key (plain stored.entries.entries) →
     map plain_table (set tables n next) ≡ without_track track (map plain_table tables)
-plain_left track [] n stored next differ there of same table_is entries_are = absurd (cc)
-plain_left track (t ∷ tables) zero stored next differ there of same table_is entries_are =
-    let first : t ≡ stored = cc in
-    let its : t.id ≡ track.table = ap (λ t. t.id) first ∙ of in
-    let here : same_id t.id track.table ≡ true = ap (λ i. same_id i track.table) its ∙ same_id-refl track.table in
-    let rest : without_track track (map plain_table tables) ≡ map plain_table tables = none_without track tables t.id (sym its) differ.0 in
-    let now : plain_table next ≡ record (plain_table t) { entries = touched track.key (plain t.entries.entries) } = rw first (cc (same, table_is, entries_are)) in
-    rw here (cc (rest, now))
-plain_left track (t ∷ tables) (suc n) stored next differ there of same table_is entries_are =
-    let other : same_id stored.id t.id ≡ false = not_there t.id tables n stored differ.0 there in
-    let past : same_id t.id track.table ≡ false = ap (same_id t.id) (sym of) ∙ differ_sym stored.id t.id other in
-    rw past (ap (λ ts. plain_table t ∷ ts) (plain_left track tables n stored next differ.1 there of same table_is entries_are))
+plain_left track tables n stored next differ there of same table_is entries_are =
+    one_changed track.table (λ t. record t { entries = touched track.key t.entries }) tables n stored next differ there of
+    (state_is next.id stored.id next.table stored.table (plain next.entries.entries) (touched track.key (plain stored.entries.entries)) same table_is entries_are)
+
+pub plain_more : (tracks : List Track) (track : Track) (tables : List StoredTable) (n : ℕ) (stored next : StoredTable) → TablesDiffer tables → slice_get tables n ≡ Some stored → stored.id ≡ track.table →
+    next.id ≡ stored.id → next.table ≡ stored.table →
+    plain next.entries.entries ≡ with_tracking (trackers tracks stored.id) stored.table.size track.key (plain stored.entries.entries) →
+    map plain_table (set tables n next) ≡ with_track tracks track (map plain_table tables)
+plain_more tracks track tables n stored next differ there of same table_is entries_are =
+    one_changed track.table (λ t. record t { entries = with_tracking (trackers tracks t.id) t.table.size track.key t.entries }) tables n stored next differ there of
+    (state_is next.id stored.id next.table stored.table (plain next.entries.entries) (with_tracking (trackers tracks stored.id) stored.table.size track.key (plain stored.entries.entries)) same table_is entries_are)
+
+-- a tracking more
+pub counts_more : (tracking : Tracking) (tables : List StoredTable) (n : ℕ) (stored next : StoredTable) → Found tracking.table tables n stored → next.id ≡ stored.id →
+    ((key : Addr) → cur_of key next.entries.entries ≡ cur_of key stored.entries.entries + trackings_of key (Some tracking.token)) →
+    (other : TableId) (key : Addr) → cur_in other key (set tables n next) ≡ cur_in other key tables + counter_on other key (Some tracking)
+counts_more tracking tables n stored next at same counts other key = by (same_id tracking.table other) refl
+  where
+    by : (b : Bool) → same_id tracking.table other ≡ b → cur_in other key (set tables n next) ≡ cur_in other key tables + cond (b && same_key tracking.token key) 1 0
+    by false differ = let past = cur_elsewhere tracking.table other key tables n stored next at same differ in omega (arith, past)
+    by true one =
+        let is = cur_here tracking.table key tables n stored next at same in
+        let was = cur_found tracking.table key tables stored at.found in
+        let more = counts key in
+        rw (← same_id-is tracking.table other one) (omega (arith, is, was, more))
 
 -- several trackings end, one after the other
 pub without-append : (a b : List Track) (tables : List TableState) → without_tracks (a ++ b) tables ≡ without_tracks b (without_tracks a tables)
@@ -347,3 +383,41 @@ room_next P (x ∷ xs) (suc n) next less all is = (all.0, room_next P xs n next 
 
 pub room_set : {X : Type 0} (P : X → Type 0) (xs : List X) (n : ℕ) (next : X) → n < length xs → AllByRecursion P (take n xs) → P next → AllByRecursion P (take (n + 1) (set xs n next))
 room_set P xs n next less all is = let one : n + 1 ≡ suc n = omega arith in rw one (room_next P xs n next less all is)
+
+-- A key tracked.
+
+pub token_is : (tracks : List Track) (stored : StoredTable) (spare : ℕ) (token : Option Addr) (addr key : Addr) → IsStored spare stored →
+    token ≡ tracked_key (trackers tracks stored.id) stored.entries.kind stored.entries.size (plain stored.entries.entries) addr → table_key tracks addr (plain_table stored) ≡ Some key → token ≡ Some key
+token_is tracks stored spare token addr key is token_at key_is =
+    token_at
+    ∙ ap (λ k. tracked_key (trackers tracks stored.id) k stored.entries.size (plain stored.entries.entries) addr) is.kind
+    ∙ ap (λ n. tracked_key (trackers tracks stored.id) stored.table.kind n (plain stored.entries.entries) addr) is.size
+    ∙ key_is
+
+pub key_nowhere : (tracks : List Track) (id : TableId) (tables : List StoredTable) (addr key : Addr) → find (is_table id) tables ≡ None → key_at tracks (map plain_table tables) id addr ≡ Some key → ⊥
+key_nowhere tracks id tables addr key none is =
+    let nothing : key_at tracks (map plain_table tables) id addr ≡ None = ap (option_and_then (table_key tracks addr)) (table_nowhere id tables none) in
+    let wrong : Some key ≡ None = sym is ∙ nothing in
+    absurd (cc)
+
+pub key_there : (tracks : List Track) (id : TableId) (tables : List StoredTable) (stored : StoredTable) (addr key : Addr) → find (is_table id) tables ≡ Some stored → key_at tracks (map plain_table tables) id addr ≡ Some key →
+    table_key tracks addr (plain_table stored) ≡ Some key
+key_there tracks id tables stored addr key found is = sym (ap (option_and_then (table_key tracks addr)) (table_there id tables stored found)) ∙ is
+
+-- with memory for one tracking less
+less_each : (spare : ℕ) (tables : List StoredTable) → AllByRecursion (IsStored spare) tables → AllByRecursion (IsStored (spare - 1)) tables
+less_each spare [] each = tt
+less_each spare (t ∷ tables) each = (record { kind = each.0.kind; size = each.0.size; stores = each.0.stores; room = let a = each.0.room in omega (arith, a) }, less_each spare tables each.1)
+
+pub tracking_tables : (spare : ℕ) (tables : List StoredTable) (n : ℕ) (stored next : StoredTable) → slice_get tables n ≡ Some stored →
+    next ≡ record stored { entries = record stored.entries { entries = next.entries.entries; spare = next.entries.spare } } → stored.entries.spare ≤ next.entries.spare + 1 → AreTables spare tables → AreTables (spare - 1) (set tables n next)
+tracking_tables spare tables n stored next there same room known =
+    let was : IsStored spare stored = all_at (IsStored spare) tables n stored known.each there in
+    let is : IsStored (spare - 1) next =
+    record {
+      kind = ap (λ s. s.entries.kind) same ∙ was.kind ∙ ap (λ s. s.table.kind) (sym same);
+      size = ap (λ s. s.entries.size) same ∙ was.size ∙ ap (λ s. s.table.size) (sym same);
+      stores = ap (λ s. s.entries.stores) same ∙ was.stores ∙ ap (λ s. s.table.stores) (sym same);
+      room = let a = was.room in omega (arith, a, room);
+    } in
+    still_tables spare (spare - 1) tables n stored next there (ap (λ s. s.id) same) known (less_each spare tables known.each) is

@@ -20,7 +20,8 @@ use Rattle.conn_rows.specs.declared.row.Seat.{Seat}
 use Rattle.conn_rows.specs.declared.row.Stage.{Stage}
 use Rattle.conn_rows.specs.declared.row.Stage.TheVariants.{Waiting, Offered}
 use Rattle.conn_rows.specs.declared.row.StoredRow.{StoredRow}
-use Rattle.conn_rows.specs.Tracks.{no_trackings, plain_tracks}
+use Rattle.conn_rows.specs.declared.tracking.Tracking.{Tracking}
+use Rattle.conn_rows.specs.Tracks.{at_counter, no_trackings, plain_tracks}
 
 pub record StoredFrontend : Type 0 where
   pub name : List ℕ
@@ -72,6 +73,10 @@ with_stored serial change rows = map (λ row. if row.serial == serial then chang
 
 abbrev pub at_stage : Stage → StoredRow → StoredRow
 at_stage stage row = record row { stage = stage }
+
+-- a row of which one counter more tracks
+abbrev pub stored_tracking : ℕ → Tracking → StoredRow → StoredRow
+stored_tracking counter tracking row = record row { tracks = at_counter counter tracking row.tracks }
 
 abbrev pub rest_within : Stage → Option Rest
 rest_within (Waiting rest) = Some rest

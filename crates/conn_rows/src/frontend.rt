@@ -1,5 +1,5 @@
 //! The open connections of one frontend.
-ghost use Rattle.std.specs.Prelude.{◌≡◌, ◌+◌, ◌^◌, ◌<◌, ◌≤◌, ℕ, List, [], ◌∷◌, ◌++◌, length, not, filter, find, map, IfOk, IfSome, IfNone, OnOk, OnErr, IsSome, Some, vec_len};
+ghost use Rattle.std.specs.Prelude.{◌≡◌, ◌+◌, ◌^◌, ◌<◌, ◌≤◌, ℕ, List, [], ◌∷◌, ◌++◌, length, not, filter, find, map, IfOk, IfSome, IfNone, OnOk, OnErr, IsSome, None, Some, vec_len};
 ghost use Rattle.std.specs.List.{position, AllByRecursion};
 ghost use Rattle.std.specs.Option.{option_copied};
 ghost use Rattle.pp_any.specs.declared.rest.Rest.{Rest};
@@ -7,17 +7,20 @@ ghost use Rattle.pp_any.specs.Rest.{IsRest};
 ghost use Rattle.pp_any.specs.NextPiece.{status_on};
 ghost use Rattle.addr_core.specs.declared.addr.Addr.{Addr};
 ghost use Rattle.plan_types.specs.declared.track.TableId.{TableId};
-ghost use Rattle.conn_model.specs.Counts.{total};
+ghost use Rattle.conn_model.specs.declared.plain.Version.{Version};
+ghost use Rattle.conn_model.specs.Counts.{change_row, total};
 ghost use Rattle.conn_model.specs.Words.{Rise};
 ghost use Rattle.conn_rows.specs.declared.row.StoredRow.{StoredRow};
 ghost use Rattle.conn_rows.specs.declared.row.Stage.TheVariants.{Offered};
-ghost use Rattle.conn_rows.specs.Stored.{IsHeld, StoredFrontend, at_stage, has_serial, plain_frontend, plain_row, rest_kept, rest_within, stored_arrival, with_stored};
+ghost use Rattle.conn_rows.specs.Stored.{IsHeld, StoredFrontend, at_stage, has_serial, plain_frontend, plain_row, rest_kept, rest_within, stored_arrival, stored_tracking, with_stored};
 ghost use Rattle.conn_rows.specs.Tables.{cur_in};
+ghost use Rattle.conn_rows.specs.Tracks.{counter_on, on_counter, track_by};
 ghost use Rattle.conn_rows.specs.Value.{row_on, rows_total};
-ghost use Rattle.conn_rows.specs.Changes.{held_after, stage_fed, status_of, stored_fed, used_by};
+ghost use Rattle.conn_rows.specs.Changes.{held_after, row_tracking, with_row, stage_fed, status_of, stored_fed, used_by};
 
 use crate::row::{Seat, Stage, StoredRow};
 use crate::tables::Tables;
+use crate::tracking::Tracking;
 use addr_core::Pair;
 use conn_model::plain::{FrontendRows, Row, Version};
 use list_core::{Duplicate, Seq};
@@ -144,6 +147,17 @@ impl FrontendState {
         ensures few { length self.new.rows < 2 ^ 56 }
     {
         put_stage(&mut self.rows, serial, Stage::Offered(seat)).end();
+    }
+
+    /// Lets a counter of a connection, which tracks nothing, track.
+    pub fn track(&mut self, serial: u64, counter: u8, tracking: Tracking)
+        requires counter { counter < 3 }
+        requires free { (row : StoredRow) × (find (has_serial serial) self.old.rows ≡ Some row) × (on_counter counter row.tracks ≡ None) }
+        ensures plain { (versions : List Version) → plain_frontend versions self.new ≡ with_row serial (row_tracking (track_by counter tracking)) (plain_frontend versions self.old) }
+        ensures counts { (id : TableId) (key : Addr) → total (row_on id key) self.new.rows ≡ total (row_on id key) self.old.rows + counter_on id key (Some tracking) }
+        ensures few { length self.new.rows < 2 ^ 56 }
+    {
+        put_tracking(&mut self.rows, serial, counter, tracking);
     }
 
     /// Takes a connection out, if it is open.
@@ -284,6 +298,19 @@ fn put_stage(rows: &mut Vec<StoredRow>, serial: u64, stage: Stage) -> Stage
 {
     let place = place_there(rows.as_slice(), serial);
     mem::replace(&mut rows[place].stage, stage)
+}
+
+/// Lets a counter of a row, which tracks nothing, track.
+fn put_tracking(rows: &mut Vec<StoredRow>, serial: u64, counter: u8, tracking: Tracking)
+    requires rise { Rise (λ row. row.serial) rows.old.items }
+    requires counter { counter < 3 }
+    requires free { (row : StoredRow) × (find (has_serial serial) rows.old.items ≡ Some row) × (on_counter counter row.tracks ≡ None) }
+    ensures rows { rows.new.items ≡ with_stored serial (stored_tracking counter tracking) rows.old.items }
+    ensures plain { (versions : List Version) → map (plain_row versions) rows.new.items ≡ change_row serial (row_tracking (track_by counter tracking)) (map (plain_row versions) rows.old.items) }
+    ensures counts { (id : TableId) (key : Addr) → total (row_on id key) rows.new.items ≡ total (row_on id key) rows.old.items + counter_on id key (Some tracking) }
+{
+    let place = place_there(rows.as_slice(), serial);
+    rows[place].tracks.put(counter, tracking);
 }
 
 fn feed_row(rows: &mut Vec<StoredRow>, serial: u64, piece: &[u8]) -> HeaderStatus

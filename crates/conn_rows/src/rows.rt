@@ -1,5 +1,5 @@
 //! The open connections of all frontends.
-ghost use Rattle.std.specs.Prelude.{◌≡◌, ◌+◌, ◌^◌, ◌<◌, ◌≤◌, ℕ, List, length, slice_get, option_map, option_and_then, IfOk, IfSome, IfNone, OnOk, OnErr, IsSome, Some, map};
+ghost use Rattle.std.specs.Prelude.{◌≡◌, ◌+◌, ◌-◌, ◌^◌, ◌<◌, ◌≤◌, ℕ, List, length, slice_get, option_map, option_and_then, IfOk, IfSome, IfNone, OnOk, OnErr, IsSome, None, Some, map};
 ghost use Rattle.std.specs.List.{AllByRecursion};
 ghost use Rattle.std.specs.Option.{option_copied};
 ghost use Rattle.pp_any.specs.declared.rest.Rest.{Rest};
@@ -10,12 +10,12 @@ ghost use Rattle.conn_model.specs.Words.{newest};
 ghost use Rattle.conn_model.specs.Answer.{row_at, version_at};
 ghost use Rattle.conn_model.specs.History.{opening, tracks_at};
 ghost use Rattle.conn_rows.specs.Stored.{plain_frontend, stored_in};
-ghost use Rattle.conn_rows.specs.Changes.{rest_at, row_fed, row_offered, status_of, used_by, with_arrival, with_conn, with_item, with_refusal, without_conn};
+ghost use Rattle.conn_rows.specs.Changes.{rest_at, row_fed, row_offered, row_tracking, status_of, used_by, with_arrival, with_conn, with_item, with_refusal, without_conn};
 ghost use Rattle.conn_model.specs.Counts.{offered_to, open_named};
-ghost use Rattle.conn_model.specs.Tables.{entry_counts, open_tracks, table_at, without_tracks};
+ghost use Rattle.conn_model.specs.Tables.{entry_counts, open_tracks, table_at, with_track, without_tracks};
 ghost use Rattle.rule_engine.specs.Meaning.{present};
 ghost use Rattle.conn_rows.specs.Tables.{key_at};
-ghost use Rattle.conn_rows.specs.Tracks.{slots_of};
+ghost use Rattle.conn_rows.specs.Tracks.{slots_of, track_of};
 ghost use Rattle.conn_rows.specs.declared.row.StoredRow.{StoredRow};
 ghost use Rattle.conn_model.specs.declared.plain.Version.{Version};
 ghost use Rattle.conn_rows.specs.Summaries.{Sums, summary_of};
@@ -31,7 +31,7 @@ use conn_model::ask::Counts;
 use conn_model::event::ConnId;
 use conn_model::plain::{FrontendRows, TableState, Version};
 use list_core::{Duplicate, Seq, newest};
-use plan_types::{Plan, TableId};
+use plan_types::{Plan, TableId, Track};
 use rule_engine::Tracks;
 use std::alloc::{AllocError, Global};
 use std::marker::Model;
@@ -237,6 +237,19 @@ impl Rows {
         ensures { self.new ≡ record self.old { frontends = with_conn id (row_offered self.old.versions seat) self.old.frontends } }
     {
         self.frontends[usize::from(id.frontend)].offer(id.serial, seat);
+    }
+
+    /// Lets a counter of a connection, which tracks nothing, track a key that can be tracked. It takes no memory.
+    pub fn track(&mut self, id: ConnId, track: Track)
+        requires there { IsSome (row_at self.old.frontends id) }
+        requires counter { track.counter < 3 }
+        requires free { IfSome (row_at self.old.frontends id) (λ row. track_of track.counter row.tracks ≡ None) }
+        requires spare { 0 < self.old.spare }
+        requires key { key_at (open_tracks self.old.frontends) self.old.tables track.table track.key ≡ Some track.key }
+        ensures { self.new ≡ record self.old { frontends = with_conn id (row_tracking track) self.old.frontends; tables = with_track (open_tracks self.old.frontends) track self.old.tables; spare = self.old.spare - 1 } }
+    {
+        let tracking = self.tables.track(track.table, &track.key);
+        self.frontends[usize::from(id.frontend)].track(id.serial, track.counter, tracking);
     }
 
     /// Ends a connection, if it is open, with what it tracks, in the order of counters. It takes no memory.

@@ -1,13 +1,14 @@
 //! The tables that are kept.
-ghost use Rattle.std.specs.Prelude.{◌≡◌, ◌+◌, ◌≤◌, ℕ, List, [], map, length, find, option_map, IfOk, OnOk};
+ghost use Rattle.std.specs.Prelude.{◌≡◌, ◌+◌, ◌-◌, ◌≤◌, ◌<◌, ◌^◌, ℕ, List, [], Some, map, length, find, option_map, IfOk, OnOk};
 ghost use Rattle.std.specs.Option.{option_copied};
 ghost use Rattle.std.specs.List.{AllByRecursion, enumerate_from, position};
 ghost use Rattle.addr_core.specs.declared.addr.Addr.{Addr};
 ghost use Rattle.plan_types.specs.Sound.{most_tables};
-ghost use Rattle.stick_core.specs.PlainEntries.{AreTrackers};
+ghost use Rattle.stick_core.specs.Entries.{cur_of};
+ghost use Rattle.stick_core.specs.PlainEntries.{AreTrackers, plain, trackings_of, with_tracking};
 ghost use Rattle.plan_types.specs.declared.track.TableId.{TableId};
 ghost use Rattle.plan_types.specs.declared.track.Track.{Track};
-ghost use Rattle.conn_model.specs.Tables.{entry_counts, new_table, table_at, trackers, without_tracks};
+ghost use Rattle.conn_model.specs.Tables.{entry_counts, new_table, table_at, trackers, with_track, without_tracks};
 ghost use Rattle.conn_rows.specs.Tables.{AreCounted, AreGrown, IsGrown, IsStored, cur_in, is_table, key_at, plain_table, table_key};
 ghost use Rattle.conn_rows.specs.Tracks.{counter_on, plain_tracks, track_on, tracks_on};
 
@@ -19,6 +20,7 @@ use list_core::{Duplicate, Seq};
 use plan_types::{Table, TableId};
 use std::alloc::{AllocError, Global};
 use std::marker::Model;
+use stick_core::Tracked;
 
 /// For how many more trackings room is made than asked.
 const EXTRA_ROOM: u64 = 16;
@@ -63,6 +65,25 @@ impl StoredTable {
         ensures { (tracks : List Track) → AreTrackers (trackers tracks self.now.id) self.now.entries.entries → result ≡ table_key tracks addr.now (plain_table self.now) }
     {
         self.entries.key_for(addr)
+    }
+
+    /// Tracks a key, for which there is memory.
+    fn track(&mut self, key: &Addr) -> Tracked
+        requires stored { (spare : ℕ) × IsStored spare self.old }
+        requires below { (other : Addr) → cur_of other self.old.entries.entries < 2 ^ 64 - 1 }
+        requires room { 0 < self.old.entries.spare }
+        requires key { (tracks : List Track) × AreTrackers (trackers tracks self.old.id) self.old.entries.entries × (table_key tracks key.now (plain_table self.old) ≡ Some key.now) }
+        ensures token { result ≡ key.now }
+        ensures same { self.new ≡ record self.old { entries = record self.old.entries { entries = self.new.entries.entries; spare = self.new.entries.spare } } }
+        ensures plain { (tracks : List Track) → AreTrackers (trackers tracks self.old.id) self.old.entries.entries →
+            plain self.new.entries.entries ≡ with_tracking (trackers tracks self.old.id) self.old.table.size key.now (plain self.old.entries.entries) }
+        ensures counts { (other : Addr) → cur_of other self.new.entries.entries ≡ cur_of other self.old.entries.entries + trackings_of other (Some key.now) }
+        ensures spare { self.old.entries.spare ≤ self.new.entries.spare + 1 }
+    {
+        match self.entries.track(key) {
+            Ok(Some(token)) => token,
+            Ok(None) | Err(_) => unreachable!(),
+        }
     }
 
     /// Makes room for so many trackings more.
@@ -167,6 +188,25 @@ impl Tables {
         reserve_all(&mut self.tables, room as usize)?;
         self.spare = room;
         Ok(())
+    }
+
+    /// Tracks a key in the table of that incarnation. It takes no memory.
+    pub fn track(&mut self, id: TableId, key: &Addr) -> Tracking
+        requires below { (table : TableId) (other : Addr) → cur_in table other self.old.tables < 2 ^ 64 - 1 }
+        requires spare { 0 < self.old.spare }
+        requires key { (tracks : List Track) × AreCounted tracks self.old.tables × (key_at tracks (map plain_table self.old.tables) id key.now ≡ Some key.now) }
+        ensures tracking { result ≡ record { table = id; token = key.now } }
+        ensures plain { (tracks : List Track) → AreCounted tracks self.old.tables → (counter : ℕ) →
+            map plain_table self.new.tables ≡ with_track tracks (record { counter = counter; table = id; key = key.now }) (map plain_table self.old.tables) }
+        ensures counts { (table : TableId) (other : Addr) → cur_in table other self.new.tables ≡ cur_in table other self.old.tables + counter_on table other (Some (record { table = id; token = key.now })) }
+        ensures spare { self.new.spare + 1 ≡ self.old.spare }
+    {
+        let Some(place) = place_of(self.tables.as_slice(), id) else {
+            unreachable!()
+        };
+        let token = self.tables[place].track(key);
+        self.spare -= 1;
+        Tracking { table: id, token }
     }
 
     /// Ends what a connection tracks, in the order of counters. It takes no memory.
