@@ -1,6 +1,6 @@
 -- A connection that comes in, and is offered a server at once.
-use Rattle.std.proofs.Common.{◌≡◌, ℕ, ◌+◌, ◌≤◌, Bool, true, false, List, [], ◌∷◌, ◌++◌, Option, Some, refl, ◌∙◌, sym, ap, subst, arith}
-use Rattle.std.specs.Prelude.{slice_get, slice_set, find, IsSome, ◌==◌}
+use Rattle.std.proofs.Common.{◌≡◌, ℕ, ◌+◌, ◌≤◌, true, false, List, [], ◌∷◌, ◌++◌, Some, refl, ◌∙◌, sym, ap, subst, arith}
+use Rattle.std.specs.Prelude.{slice_set, find, IsSome, ◌==◌}
 use Rattle.std.specs.List.{AllByRecursion}
 use Rattle.std.proofs.lemmas.Bool.Decides.{nat_tests}
 use Rattle.conn_model.specs.declared.event.ConnId.{ConnId}
@@ -9,7 +9,6 @@ use Rattle.conn_model.specs.declared.plain.FrontendRows.{FrontendRows}
 use Rattle.conn_model.specs.declared.plain.Version.{Version}
 use Rattle.conn_model.specs.Counts.{change_row}
 use Rattle.conn_model.specs.Answer.{new_row, row_at, row_in}
-use Rattle.conn_rows.specs.declared.row.Seat.{Seat}
 use Rattle.conn_rows.specs.Changes.{row_offered, with_arrival, with_conn, with_item, with_row}
 use Rattle.conn_rows.proofs.Changes.{item_twice}
 use Rattle.conn_core.specs.declared.entering.Arrival.{Arrival}

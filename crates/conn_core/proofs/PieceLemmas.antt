@@ -1,6 +1,6 @@
 -- What a piece makes of the open connections.
-use Rattle.std.proofs.Common.{◌≡◌, ℕ, zero, suc, ◌<◌, Bool, true, false, List, [], ◌∷◌, length, Option, Some, None, Result, Ok, Err, refl, ◌∙◌, sym, ap, subst, arith}
-use Rattle.std.specs.Prelude.{slice_get, slice_set, find, map, IsSome, option_and_then, ◌==◌}
+use Rattle.std.proofs.Common.{◌≡◌, ℕ, ◌<◌, Bool, true, false, List, [], ◌∷◌, length, Option, Some, None, Result, Ok, Err, refl, ◌∙◌, sym, ap, subst, arith}
+use Rattle.std.specs.Prelude.{slice_get, slice_set, find, IsSome, option_and_then, ◌==◌}
 use Rattle.std.specs.Option.{option_map_or}
 use Rattle.std.specs.List.{AllByRecursion}
 use Rattle.std.proofs.lemmas.Bool.Decides.{nat_tests}
@@ -9,28 +9,28 @@ use Rattle.pp_v1.specs.declared.meaning.Meaning.{Meaning}
 use Rattle.pp_any.specs.Status.{Wait, Whole}
 use Rattle.conn_model.specs.Rules.{Candidate}
 use Rattle.conn_rows.proofs.Changes.{changed_gone, changed_twice}
-use Rattle.pp_any.specs.NextPiece.{rest_on, status_on}
+use Rattle.pp_any.specs.NextPiece.{status_on}
 use Rattle.plan_types.specs.declared.plan.Frontend.{Frontend}
 use Rattle.conn_model.specs.declared.event.ConnId.{ConnId}
 use Rattle.conn_model.specs.declared.event.OwnedEvent.{OwnedEvent}
 use Rattle.conn_model.specs.declared.event.OwnedEvent.TheVariants.{Piece}
 use Rattle.conn_model.specs.declared.reply.Said.{Said}
 use Rattle.conn_model.specs.declared.reply.Said.TheVariants as saids
-use Rattle.conn_model.specs.declared.reply.StepFault.TheVariants.{NoSuch, NotWaiting}
+use Rattle.conn_model.specs.declared.reply.StepFault.TheVariants.{NoSuch}
 use Rattle.conn_model.specs.declared.plain.Phase.{Phase}
 use Rattle.conn_model.specs.declared.plain.Phase.TheVariants.{Waiting, Offered}
 use Rattle.conn_model.specs.declared.plain.Row.{Row}
 use Rattle.conn_model.specs.declared.plain.FrontendRows.{FrontendRows}
+use Rattle.conn_model.specs.declared.plain.TableState.{TableState}
 use Rattle.conn_model.specs.declared.plain.Version.{Version}
 use Rattle.conn_model.specs.declared.plain.Plain.{Plain}
 use Rattle.conn_model.specs.Counts.{change_row}
-use Rattle.conn_model.specs.Words.{Rise, or_fault}
+use Rattle.conn_model.specs.Words.{Rise}
 use Rattle.conn_model.specs.Answer.{candidate_of, candidate_worth, decision, judged_pair, verdict, frontend_in, header_said, piece_answer, reply_of, rest_in, row_at, row_in, said_of, version_at, waiting_row}
-use Rattle.conn_model.specs.History.{phase_on, IsFrontendWell, IsWell}
-use Rattle.conn_model.proofs.Lists.{all-at}
+use Rattle.conn_model.specs.History.{phase_on, tracks_at}
 use Rattle.conn_model.proofs.Replies.{IsWaiting, waiting}
-use Rattle.conn_rows.specs.Changes.{phase_fed, rest_at, row_fed, with_conn, with_item, with_row, without_conn}
-use Rattle.conn_core.specs.Changes.{row_by, settled, spoken, Judge}
+use Rattle.conn_rows.specs.Changes.{phase_fed, rest_at, row_fed, with_conn, with_row}
+use Rattle.conn_core.specs.Changes.{row_by, settled, spoken, tables_settled, tables_spoken, Judge}
 use Rattle.conn_core.specs.declared.outcome.Outcome.{Outcome}
 use Rattle.conn_core.specs.declared.outcome.Outcome.TheVariants as outcomes
 use Rattle.conn_core.specs.Outcome.{said_by}
@@ -101,6 +101,30 @@ open_fed frontends id piece there = by (slice_get frontends id.frontend) refl
         (subst (λ o. IsSome (row_in id.serial o)) (sym (get-set frontends id.frontend own (with_row id.serial (row_fed piece) own) is))
         (still-open id.serial piece own.rows (subst (λ o. IsSome (row_in id.serial o)) is there)))
 
+-- what a row tracks is as before
+still-tracked : (serial : ℕ) (piece : List ℕ) (rows : List Row) →
+    option_map_or (λ row. row.tracks) (find (λ row. row.serial == serial) (change_row serial (row_fed piece) rows)) [] ≡ option_map_or (λ row. row.tracks) (find (λ row. row.serial == serial) rows) []
+still-tracked serial piece [] = refl
+still-tracked serial piece (row ∷ rows) = by (row.serial == serial) refl (still-tracked serial piece rows)
+  where
+    by : (b : Bool) → (row.serial == serial) ≡ b →
+        option_map_or (λ row. row.tracks) (find (λ row. row.serial == serial) (change_row serial (row_fed piece) rows)) [] ≡ option_map_or (λ row. row.tracks) (find (λ row. row.serial == serial) rows) [] →
+        option_map_or (λ row. row.tracks) (find (λ row. row.serial == serial) (change_row serial (row_fed piece) (row ∷ rows))) [] ≡ option_map_or (λ row. row.tracks) (find (λ row. row.serial == serial) (row ∷ rows)) []
+    by true is rest = rw (is, is) refl
+    by false is rest = rw (is, is) rest
+
+pub tracks_fed : (frontends : List FrontendRows) (id : ConnId) (piece : List ℕ) → tracks_at (with_conn id (row_fed piece) frontends) id ≡ tracks_at frontends id
+tracks_fed frontends id piece = by (slice_get frontends id.frontend) refl
+  where
+    by : (o : Option FrontendRows) → slice_get frontends id.frontend ≡ o → tracks_at (with_conn id (row_fed piece) frontends) id ≡ tracks_at frontends id
+    by None none = rw none (rw none refl)
+    by (Some own) is =
+        let set : with_conn id (row_fed piece) frontends ≡ slice_set frontends id.frontend (with_row id.serial (row_fed piece) own) = rw is refl in
+        ap (λ fs. tracks_at fs id) set
+        ∙ ap (λ o. option_map_or (λ row. row.tracks) (row_in id.serial o) []) (get-set frontends id.frontend own (with_row id.serial (row_fed piece) own) is)
+        ∙ still-tracked id.serial piece own.rows
+        ∙ ap (λ o. option_map_or (λ row. row.tracks) (row_in id.serial o) []) (sym is)
+
 -- A connection that waits on.
 
 -- rows of which one may have the serial: two changes that agree on it
@@ -166,6 +190,13 @@ pub settled_is : (versions : List Version) (event : OwnedEvent) (id other : Conn
 settled_is versions event id other used count judged result outcomes.Wait frontends is = absurd (no_wait other id count used judged result is)
 settled_is versions event id other used count judged result (outcomes.Offer offer) frontends is = refl
 settled_is versions event id other used count judged result (outcomes.Refuse cause) frontends is = refl
+
+-- and the tables with them
+pub tables_settled_is : (id : ConnId) (used : ℕ) (outcome : Outcome) (frontends : List FrontendRows) (tables : List TableState) →
+    tables_settled id outcome frontends tables ≡ tables_spoken id (said_by id used outcome) frontends tables
+tables_settled_is id used outcomes.Wait frontends tables = refl
+tables_settled_is id used (outcomes.Offer offer) frontends tables = refl
+tables_settled_is id used (outcomes.Refuse cause) frontends tables = refl
 
 -- A header that is whole.
 

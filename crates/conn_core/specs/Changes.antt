@@ -7,9 +7,11 @@ use Rattle.conn_model.specs.declared.event.OwnedEvent.{OwnedEvent}
 use Rattle.conn_model.specs.declared.reply.Said.{Said}
 use Rattle.conn_model.specs.declared.plain.Row.{Row}
 use Rattle.conn_model.specs.declared.plain.FrontendRows.{FrontendRows}
+use Rattle.conn_model.specs.declared.plain.TableState.{TableState}
 use Rattle.conn_model.specs.declared.plain.Version.{Version}
 use Rattle.conn_model.specs.Answer.{frontend_in, new_row, version_at}
-use Rattle.conn_model.specs.History.{is_last, phase_by}
+use Rattle.conn_model.specs.History.{is_last, phase_by, tracks_at}
+use Rattle.conn_model.specs.Tables.{without_tracks}
 use Rattle.conn_rows.specs.Changes.{row_offered, with_conn, without_conn}
 use Rattle.conn_rows.specs.Stored.{plan_at}
 use Rattle.conn_core.specs.declared.entering.Arrival.{Arrival}
@@ -41,6 +43,10 @@ row_by versions event said row = record row { phase = phase_by (plan_at versions
 abbrev pub spoken : List Version → OwnedEvent → ConnId → Said → List FrontendRows → List FrontendRows
 spoken versions event id said frontends = if is_last said then without_conn id frontends else with_conn id (row_by versions event said) frontends
 
+-- the tables once it is said: after a last reply the connection tracks nothing any longer
+abbrev pub tables_spoken : ConnId → Said → List FrontendRows → List TableState → List TableState
+tables_spoken id said frontends tables = if is_last said then without_tracks (tracks_at frontends id) tables else tables
+
 -- what judges a connection: its frontend, the version, and the frontend in it
 pub record Judge (frontends : List FrontendRows) (versions : List Version) (id : ConnId) (number : ℕ) : Type 0 where
   pub own : FrontendRows
@@ -55,3 +61,9 @@ abbrev pub settled : List Version → ConnId → Outcome → List FrontendRows �
 settled versions id Wait frontends = frontends
 settled versions id (Offer offer) frontends = with_conn id (row_offered versions offer.seat) frontends
 settled versions id (Refuse cause) frontends = without_conn id frontends
+
+-- and the tables: one that is refused tracks nothing any longer
+abbrev pub tables_settled : ConnId → Outcome → List FrontendRows → List TableState → List TableState
+tables_settled id Wait frontends tables = tables
+tables_settled id (Offer offer) frontends tables = tables
+tables_settled id (Refuse cause) frontends tables = without_tracks (tracks_at frontends id) tables

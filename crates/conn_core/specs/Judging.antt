@@ -8,7 +8,6 @@ use Rattle.acl_core.specs.declared.criterion.Value.TheVariants as values
 use Rattle.plan_types.specs.declared.plan.Frontend.{Frontend}
 use Rattle.plan_types.specs.declared.plan.Server.{Server}
 use Rattle.conn_model.specs.declared.reply.Cause.{Cause}
-use Rattle.conn_model.specs.declared.plain.FrontendRows.{FrontendRows}
 use Rattle.conn_model.specs.Counts.{open_named, offered_to}
 use Rattle.conn_model.specs.Rules.{rejection}
 use Rattle.conn_core.specs.declared.facts.RuleFacts.{RuleFacts}

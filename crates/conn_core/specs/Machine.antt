@@ -8,11 +8,11 @@ use Rattle.conn_model.specs.declared.plain.Listener.{Listener}
 use Rattle.conn_model.specs.declared.plain.Version.{Version}
 use Rattle.conn_model.specs.declared.plain.Plain.{Plain}
 use Rattle.conn_model.specs.History.{newest_number, opening, IsWell}
-use Rattle.conn_rows.specs.declared.rows.RowsState.{RowsState}
+use Rattle.conn_rows.specs.Value.{RowsValue}
 use Rattle.config_core.specs.Meaning.{meaning}
 use Rattle.conn_core.specs.declared.machine.Admission.{Admission}
 
-abbrev pub state_of : ℕ → List Listener → RowsState → Plain
+abbrev pub state_of : ℕ → List Listener → RowsValue → Plain
 state_of clock listeners rows = record { clock = clock; listeners = listeners; frontends = rows.frontends; versions = rows.versions; tables = rows.tables }
 
 -- each version has a plan as plans are made

@@ -122,7 +122,7 @@ impl Core {
         reply
     }
 
-    /// What is open of that which is asked for, if there is such a thing.
+    /// What is counted of that which is asked for, if there is such a thing.
     pub fn counts(&self, ask: &Ask) -> Option<Counts>
         // Where the core is the state after a history, they are the counts after it.
         ensures history { (p : Plain) (h : List Entry) → self.now ≡ after p h → result ≡ counts p h ask.now }
@@ -134,6 +134,11 @@ impl Core {
             Ask::Frontend(number) => {
                 let cur = self.rows.open_in(number)?;
                 Some(Counts { cur, cnt: 0 })
+            }
+            Ask::Entry(number, addr) => {
+                let version = self.rows.newest()?;
+                let id = item(version.tables.as_slice(), number)?;
+                self.rows.counts(*id, &addr)
             }
         }
     }

@@ -9,7 +9,7 @@ ghost use Rattle.conn_model.specs.declared.plain.Plain.{Plain};
 ghost use Rattle.conn_model.specs.declared.plain.Row.{Row};
 ghost use Rattle.conn_model.specs.Answer.{candidate_of, decision, judged_pair, piece_answer, reply_of, row_at, waiting_row};
 ghost use Rattle.conn_rows.specs.Summaries.{summary_of};
-ghost use Rattle.conn_core.specs.Changes.{settled, spoken, Judge};
+ghost use Rattle.conn_core.specs.Changes.{settled, spoken, tables_settled, tables_spoken, Judge};
 ghost use Rattle.conn_core.specs.Counts.{SameCounts};
 ghost use Rattle.conn_core.specs.Outcome.{said_by};
 
@@ -82,7 +82,7 @@ fn decide(rows: &mut Rows, id: ConnId, version: u64, judged: Pair, used: u64) ->
     requires judge { Judge rows.old.frontends rows.old.versions id version }
     ensures said { (judge : Judge rows.old.frontends rows.old.versions id version) (state : Plain) → SameCounts id.frontend state.frontends rows.old.frontends →
         result ≡ decision (candidate_of state id judge.version judge.frontend) used judged }
-    ensures new { (event : OwnedEvent) → rows.new ≡ record rows.old { frontends = spoken rows.old.versions event id result rows.old.frontends } }
+    ensures new { (event : OwnedEvent) → rows.new ≡ record rows.old { frontends = spoken rows.old.versions event id result rows.old.frontends; tables = tables_spoken id result rows.old.frontends rows.old.tables } }
 {
     let Some(outcome) = outcome(rows, id, version, judged) else {
         unreachable!()
@@ -94,7 +94,7 @@ fn decide(rows: &mut Rows, id: ConnId, version: u64, judged: Pair, used: u64) ->
 /// Keeps what becomes of a connection that waited.
 fn settle(rows: &mut Rows, id: ConnId, outcome: &Outcome)
     requires { IsSome (row_at rows.old.frontends id) }
-    ensures { rows.new ≡ record rows.old { frontends = settled rows.old.versions id outcome.now rows.old.frontends } }
+    ensures { rows.new ≡ record rows.old { frontends = settled rows.old.versions id outcome.now rows.old.frontends; tables = tables_settled id outcome.now rows.old.frontends rows.old.tables } }
 {
     match outcome {
         Outcome::Wait => {}
@@ -109,7 +109,7 @@ pub fn receive(rows: &mut Rows, id: ConnId, row: &RowSummary, piece: &[u8]) -> S
     requires judge { Judge rows.old.frontends rows.old.versions id row.now.version }
     requires rise { (own : FrontendRows) → slice_get rows.old.frontends id.frontend ≡ Some own → Rise (λ row. row.serial) own.rows }
     ensures said { (p : Plain) → p.frontends ≡ rows.old.frontends → p.versions ≡ rows.old.versions → piece_answer p id piece.now ≡ Ok (reply_of result) }
-    ensures new { rows.new ≡ record rows.old { frontends = spoken rows.old.versions (Piece id piece.now) id result rows.old.frontends } }
+    ensures new { rows.new ≡ record rows.old { frontends = spoken rows.old.versions (Piece id piece.now) id result rows.old.frontends; tables = tables_spoken id result rows.old.frontends rows.old.tables } }
 {
     match rows.feed(id, piece) {
         HeaderStatus::Wait => Said::Wait {

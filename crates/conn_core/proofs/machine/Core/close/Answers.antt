@@ -1,10 +1,9 @@
-use Rattle.std.proofs.Common.{◌≡◌, ◌∙◌, [], ◌∷◌, Ok, Some, ap, sym, refl}
+use Rattle.std.proofs.Common.{◌≡◌, ◌∙◌, [], ◌∷◌, Ok, ap, sym, refl}
 use Rattle.conn_model.specs.declared.event.OwnedEvent.TheVariants.{Close}
 use Rattle.conn_model.specs.declared.reply.Said.TheVariants.{Closed}
 use Rattle.conn_model.specs.declared.plain.Plain.{Plain}
-use Rattle.conn_model.specs.Answer.{answer_in, reply_of, row_at}
+use Rattle.conn_model.specs.Answer.{answer_in, reply_of}
 use Rattle.conn_model.specs.History.{after, entry}
-use Rattle.conn_rows.specs.Changes.{without_conn}
 use Rattle.conn_core.specs.Machine.{state_of}
 use Rattle.conn_core.proofs.RowLemmas.{open_row}
 use Rattle.conn_core.proofs.StateLemmas.{IsAfter, after_spoken}

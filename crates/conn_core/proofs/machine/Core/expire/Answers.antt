@@ -1,4 +1,4 @@
-use Rattle.std.proofs.Common.{◌≡◌, ◌+◌, ◌∙◌, [], ◌∷◌, true, max, Ok, Some, ap, sym, refl}
+use Rattle.std.proofs.Common.{◌≡◌, ◌+◌, ◌∙◌, [], ◌∷◌, true, max, Ok, ap, sym, refl}
 use Rattle.std.specs.Prelude.{nat_le}
 use Rattle.conn_model.specs.declared.event.OwnedEvent.TheVariants.{Expire}
 use Rattle.conn_model.specs.declared.event.TheConstants.{HEADER_WAIT}

@@ -1,4 +1,4 @@
-use Rattle.std.proofs.Common.{◌≡◌, ◌∙◌, [], ◌∷◌, Ok, Some, ap, sym, refl}
+use Rattle.std.proofs.Common.{◌≡◌, ◌∙◌, [], ◌∷◌, Ok, ap, refl}
 use Rattle.conn_model.specs.declared.event.OwnedEvent.TheVariants.{Piece}
 use Rattle.conn_model.specs.declared.plain.Plain.{Plain}
 use Rattle.conn_model.specs.Answer.{answer_in, reply_of, waiting_row}
