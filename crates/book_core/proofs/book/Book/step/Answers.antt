@@ -1,0 +1,15 @@
+use Rattle.conn_model.specs.History.{owned_event}
+use Rattle.record_core.specs.Records.{history_of}
+use Rattle.book_core.specs.Book.{state_of, BookState}
+use Rattle.book_core.proofs.BookLemmas.{book_goes_on}
+use Rattle.book_core.proofs.book.Book.step.Goals as goal
+
+pub invariant_of-self-2 : goal.invariant_of-self-2
+invariant_of-self-2 c =
+    let before : BookState = state_of c.self.inside.base c.self.inside.journal.items c.self.inside.core c.self.inside.made in
+    let stepped = c.in_ok-reply.ensures.reply c.self.inside.base (history_of c.self.inside.journal.items) c.self.invariant.well c.self.invariant.legal c.self.invariant.state in
+    rw (c.push_reserved.ensures.items, c.reserve.ensures.items, c.in-Ok-copy_event.ensures)
+    (book_goes_on before c.args.moment (owned_event c.args.event.now) c.in_ok-reply.reply c.step.new.self c.self.invariant stepped.0 stepped.1)
+
+pub returns-clause-legal : goal.returns-clause-legal
+returns-clause-legal c = invariant_of-self-2 c

@@ -1,0 +1,7 @@
+//! A balancer whose every decision is kept: a core with the journal of its records.
+#![tactic(auto)]
+
+pub use book::{Book, Receipt};
+
+mod book;
+mod laws;
