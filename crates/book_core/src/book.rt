@@ -3,6 +3,7 @@ ghost use Rattle.std.specs.Prelude.{◌≡◌, ◌+◌, IfOk, IfErr, OnErr, Ok};
 ghost use Rattle.conn_model.specs.Counts.{counts_in};
 ghost use Rattle.conn_model.specs.History.{answer, counts, entry, owned_event};
 ghost use Rattle.record_core.specs.Records.{history_of};
+ghost use Rattle.book_core.specs.Open.{connections_ended, connections_opened, open_connections};
 ghost use Rattle.book_core.specs.Book.{book_answer, new_book, with_entry, IsBook, IsBookFault};
 
 use conn_core::Core;
@@ -76,6 +77,10 @@ impl Book {
 
         // The journal is a legal history from the base on, and the core is the state after it.
         ensures legal { IsBook self.new }
+
+        // The connection that the event opened is open besides, and the one that it ended is not open any longer.
+        ensures open_connections { IfOk result (λ receipt. open_connections self.new.state + connections_ended (owned_event event.now) receipt.reply.said
+            ≡ open_connections self.old.state + connections_opened (owned_event event.now) receipt.reply.said) }
     {
         if self.made == u64::MAX {
             return Err(StepFault::Exhausted);

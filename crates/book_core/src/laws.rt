@@ -1,9 +1,13 @@
-//! What follows for a book whose core had a history before.
-ghost use Rattle.std.specs.Prelude.{◌≡◌, List, ◌++◌};
+//! Laws of books.
+ghost use Rattle.std.specs.Prelude.{◌≡◌, ◌≤◌, ◌+◌, ◌++◌, ◌∷◌, ℕ, List, [], Ok};
+ghost use Rattle.conn_model.specs.declared.event.OwnedEvent.{OwnedEvent};
 ghost use Rattle.conn_model.specs.declared.plain.Plain.{Plain};
-ghost use Rattle.conn_model.specs.History.{after, Entry, IsLegal, IsWell};
+ghost use Rattle.conn_model.specs.declared.reply.Reply.{Reply};
+ghost use Rattle.conn_model.specs.Answer.{answer_in};
+ghost use Rattle.conn_model.specs.History.{after, entry, Entry, IsLegal, IsWell};
 ghost use Rattle.record_core.specs.Records.{history_of};
 ghost use Rattle.book_core.specs.Book.{BookState, IsBook};
+ghost use Rattle.book_core.specs.Open.{connections_ended, connections_opened, open_connections};
 
 /// Where the base is what a legal history left, as of a core that was opened and then answered events, the
 /// journal goes on with that history, and the core is the state after both.
@@ -12,4 +16,17 @@ pub fn journal_goes_on()
         IsLegal p (history_of b.journal ++ before) }
     ensures state { (b : BookState) → IsBook b → (p : Plain) → IsWell p → (before : List Entry) → IsLegal p before → b.base ≡ after p before →
         b.state ≡ after p (history_of b.journal ++ before) }
+{}
+
+/// Every history can go on from the state of a book, and there are no more connections open than at its base and
+/// in its records together.
+pub fn state_of_a_book()
+    ensures well { (b : BookState) → IsBook b → IsWell b.state }
+    ensures few { (b : BookState) → IsBook b → open_connections b.state ≤ open_connections b.base + b.made }
+{}
+
+/// An answer changes the number of open connections by those that it opens and ends: at most one.
+pub fn open_connections_change()
+    ensures { (p : Plain) → IsWell p → (moment : ℕ) (event : OwnedEvent) (reply : Reply) → answer_in p moment event ≡ Ok reply →
+        open_connections (after p (entry moment event reply ∷ [])) + connections_ended event reply.said ≡ open_connections p + connections_opened event reply.said }
 {}

@@ -4,4 +4,4 @@
 pub use book::{Book, Receipt};
 
 mod book;
-mod laws;
+pub mod laws;

@@ -1,0 +1,25 @@
+-- How many connections are open, and how many more or fewer after an answer.
+use Rattle.std.specs.Prelude.{ℕ, length, if◌then◌else◌}
+use Rattle.conn_model.specs.Counts.{total}
+use Rattle.conn_model.specs.History.{is_last, leaves_open}
+use Rattle.conn_model.specs.declared.event.OwnedEvent.{OwnedEvent}
+use Rattle.conn_model.specs.declared.event.OwnedEvent.TheVariants.{Accept, Piece, Close, Expire}
+use Rattle.conn_model.specs.declared.plain.Plain.{Plain}
+use Rattle.conn_model.specs.declared.reply.Said.{Said}
+
+abbrev pub open_connections : Plain → ℕ
+open_connections p = total (λ own. length own.rows) p.frontends
+
+-- an accept opens a connection where it has to wait or is offered a server
+abbrev pub connections_opened : OwnedEvent → Said → ℕ
+connections_opened (Accept listener real) said = if leaves_open said then 1 else 0
+connections_opened (Piece id bytes) said = 0
+connections_opened (Close id why) said = 0
+connections_opened (Expire id) said = 0
+
+-- another event ends its connection where the reply is a last one
+abbrev pub connections_ended : OwnedEvent → Said → ℕ
+connections_ended (Accept listener real) said = 0
+connections_ended (Piece id bytes) said = if is_last said then 1 else 0
+connections_ended (Close id why) said = if is_last said then 1 else 0
+connections_ended (Expire id) said = if is_last said then 1 else 0
