@@ -1,5 +1,5 @@
 -- How many connections are open after one answer.
-use Rattle.std.specs.Prelude.{ℕ, zero, suc, Bool, true, false, not, max, List, [], length, filter, find, slice_get, Option, Some, None, Ok, refl, ◌+◌, ◌≤◌, ◌<◌, ◌≡◌, ◌≢◌, ◌==◌, ◌&&◌, ◌∷◌, ◌++◌, if◌then◌else◌}
+use Rattle.std.specs.Prelude.{ℕ, zero, suc, Bool, true, false, not, max, List, [], length, filter, map, find, slice_get, Option, Some, None, Ok, refl, ◌+◌, ◌≤◌, ◌<◌, ◌≡◌, ◌≢◌, ◌==◌, ◌&&◌, ◌∷◌, ◌++◌, if◌then◌else◌}
 use Rattle.std.specs.List.{AllByRecursion}
 use Rattle.std.proofs.Common.{sym, ap, ◌∙◌, arith}
 use Rattle.std.proofs.lemmas.Bool.{eq-eqb, eqb-true, false≢true}
@@ -7,6 +7,8 @@ use Rattle.std.proofs.lemmas.Bool.Decides.{nat_tests}
 use Rattle.std.proofs.lemmas.List.{length-append, length-map}
 use Rattle.std.proofs.lemmas.List.Elements.{filter-append}
 use Rattle.addr_core.specs.PairValue.{PairValue}
+use Rattle.plan_types.specs.declared.plan.Frontend.{Frontend}
+use Rattle.plan_types.specs.declared.plan.Plan.{Plan}
 use Rattle.conn_model.specs.declared.event.ConnId.{ConnId}
 use Rattle.conn_model.specs.declared.event.OwnedEvent.{OwnedEvent}
 use Rattle.conn_model.specs.declared.event.OwnedEvent.TheVariants.{Accept, Piece, Close, Expire}
@@ -18,7 +20,7 @@ use Rattle.conn_model.specs.declared.reply.Said.{Said}
 use Rattle.conn_model.specs.declared.reply.Said.TheVariants.{Wait, Offer, Refuse, Closed}
 use Rattle.conn_model.specs.Answer.{answer_in, row_at, row_in}
 use Rattle.conn_model.specs.Counts.{total}
-use Rattle.conn_model.specs.History.{after, arrival, entry, frontend_after, has_ended, id_of, is_last, leaves_open, newest_number, row_after, speaks_to, Entry, IsFrontendWell, IsWell}
+use Rattle.conn_model.specs.History.{after, arrival, entry, frontend_after, has_ended, id_of, is_last, leaves_open, newest_number, opening, row_after, speaks_to, Entry, IsFrontendWell, IsWell}
 use Rattle.conn_model.specs.Words.{map_from, Rise}
 use Rattle.conn_model.proofs.Lists.{all-at, all-more}
 use Rattle.conn_model.proofs.Replies.{answered, IsNew, IsOld}
@@ -198,3 +200,13 @@ open_after_answer p well moment (Accept listener real) reply is = new_answer p w
 open_after_answer p well moment (Piece id bytes) reply is = old_answer p well (entry moment (Piece id bytes) reply) id (λ number. refl) (answered p moment (Piece id bytes) reply is)
 open_after_answer p well moment (Close id why) reply is = old_answer p well (entry moment (Close id why) reply) id (λ number. refl) (answered p moment (Close id why) reply is)
 open_after_answer p well moment (Expire id) reply is = old_answer p well (entry moment (Expire id) reply) id (λ number. refl) (answered p moment (Expire id) reply is)
+
+-- Nothing is open at first.
+
+none_in : (frontends : List Frontend) (last : ℕ) →
+    total (λ (own : FrontendRows). length own.rows) (map (λ (frontend : Frontend). record { name = frontend.name; serial = last; rows = [] }) frontends) ≡ 0
+none_in [] last = refl
+none_in (frontend ∷ frontends) last = omega (arith, none_in frontends last)
+
+pub none_open : (plan : Plan) (last : ℕ) → open_connections (opening plan last) ≡ 0
+none_open plan last = none_in plan.frontends last

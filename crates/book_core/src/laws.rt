@@ -1,10 +1,11 @@
 //! Laws of books.
 ghost use Rattle.std.specs.Prelude.{◌≡◌, ◌≤◌, ◌+◌, ◌++◌, ◌∷◌, ℕ, List, [], Ok};
+ghost use Rattle.plan_types.specs.declared.plan.Plan as plans;
 ghost use Rattle.conn_model.specs.declared.event.OwnedEvent.{OwnedEvent};
 ghost use Rattle.conn_model.specs.declared.plain.Plain.{Plain};
 ghost use Rattle.conn_model.specs.declared.reply.Reply.{Reply};
 ghost use Rattle.conn_model.specs.Answer.{answer_in};
-ghost use Rattle.conn_model.specs.History.{after, entry, Entry, IsLegal, IsWell};
+ghost use Rattle.conn_model.specs.History.{after, entry, opening, Entry, IsLegal, IsWell};
 ghost use Rattle.record_core.specs.Records.{history_of};
 ghost use Rattle.book_core.specs.Book.{BookState, IsBook};
 ghost use Rattle.book_core.specs.Open.{connections_ended, connections_opened, open_connections};
@@ -25,8 +26,10 @@ pub fn state_of_a_book()
     ensures few { (b : BookState) → IsBook b → open_connections b.state ≤ open_connections b.base + b.made }
 {}
 
-/// An answer changes the number of open connections by those that it opens and ends: at most one.
+/// Where a configuration is opened, no connection is open; an answer changes their number by those that it opens and
+/// ends, which is one at most.
 pub fn open_connections_change()
-    ensures { (p : Plain) → IsWell p → (moment : ℕ) (event : OwnedEvent) (reply : Reply) → answer_in p moment event ≡ Ok reply →
+    ensures opening { (plan : plans.Plan) (last : ℕ) → open_connections (opening plan last) ≡ 0 }
+    ensures step { (p : Plain) → IsWell p → (moment : ℕ) (event : OwnedEvent) (reply : Reply) → answer_in p moment event ≡ Ok reply →
         open_connections (after p (entry moment event reply ∷ [])) + connections_ended event reply.said ≡ open_connections p + connections_opened event reply.said }
 {}
