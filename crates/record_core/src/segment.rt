@@ -4,7 +4,7 @@ ghost use Rattle.std.specs.Prelude.{◌≡◌, ◌↔◌, ◌+◌, length, IsTru
 use crate::record::Record;
 use list_core::Seq;
 
-/// Records whose numbers rise by 1, the oldest first.
+/// Records in a row, the oldest first.
 #[derive(Debug, Drop)]
 pub struct Segment {
     /// The number of the first record.
