@@ -1,5 +1,5 @@
 //! A core with its journal.
-ghost use Rattle.std.specs.Prelude.{◌≡◌, ◌+◌, IfOk, IfErr, OnErr, Ok};
+ghost use Rattle.std.specs.Prelude.{◌≡◌, ◌<◌, ◌+◌, ◌^◌, IfOk, IfErr, OnErr, Ok};
 ghost use Rattle.conn_model.specs.Counts.{counts_in};
 ghost use Rattle.conn_model.specs.History.{answer, counts, entry, owned_event};
 ghost use Rattle.record_core.specs.Records.{history_of};
@@ -81,6 +81,9 @@ impl Book {
         // The connection that the event opened is open besides, and the one that it ended is not open any longer.
         ensures open_connections { IfOk result (λ receipt. open_connections self.new.state + connections_ended (owned_event event.now) receipt.reply.said
             ≡ open_connections self.old.state + connections_opened (owned_event event.now) receipt.reply.said) }
+
+        // Before it fewer were open than were at the base and the number of the record says.
+        ensures few { IfOk result (λ receipt. (receipt.number < 2 ^ 64) × (open_connections self.old.state < open_connections self.old.base + receipt.number)) }
     {
         if self.made == u64::MAX {
             return Err(StepFault::Exhausted);

@@ -1,8 +1,9 @@
-use Rattle.std.proofs.Common.{◌≡◌, ap}
+use Rattle.std.proofs.Common.{rules, ◌≡◌, ◌≤◌, ◌+◌, ap, arith}
 use Rattle.conn_model.specs.History.{owned_event}
 use Rattle.record_core.specs.Records.{history_of}
+use Rattle.book_core.specs.Open.{open_connections}
 use Rattle.book_core.specs.Book.{state_of, BookState}
-use Rattle.book_core.proofs.BookLemmas.{book_goes_on, state_well}
+use Rattle.book_core.proofs.BookLemmas.{book_goes_on, state_few, state_well}
 use Rattle.book_core.proofs.OpenLemmas.{open_after_answer}
 use Rattle.book_core.proofs.book.Book.step.Goals as goal
 
@@ -22,3 +23,9 @@ returns-clause-open_connections c =
     let state : c.self.inside.core ≡ c.args.self.now.state = ap (λ b. b.state) c.self.view_is in
     rw (c.copy_reply.ensures, c.in_ok-reply.ensures.plain_new, ← state)
     (open_after_answer c.self.inside.core (state_well before c.self.invariant) c.args.moment (owned_event c.args.event.now) c.in_ok-reply.reply c.in_ok-reply.ensures.plain_reply)
+
+pub returns-clause-few : goal.returns-clause-few
+returns-clause-few c =
+    let before : BookState = state_of c.self.inside.base c.self.inside.journal.items c.self.inside.core c.self.inside.made in
+    let few : open_connections before.state ≤ open_connections before.base + before.made = state_few before c.self.invariant in
+    rw (← c.self.view_is) (search rules, omega (arith, few))
