@@ -1,0 +1,5 @@
+//! Trial.
+#![tactic(auto)]
+
+mod counted;
+mod desk;
