@@ -1,11 +1,6 @@
-pub mod TrackLemmas
-pub mod CountingLemmas
-pub mod JudgingLemmas
-pub mod RowLemmas
-pub mod SeenLemmas
-pub mod StateLemmas
-pub mod PossibleLemmas
-pub mod TrackedLemmas
-pub mod EnterLemmas
-pub mod AcceptLemmas
-pub mod PieceLemmas
+mod CountLemmas
+mod StateLemmas
+mod AcceptLemmas
+mod PieceLemmas
+mod RowLemmas
+mod EnterLemmas

@@ -1,5 +1,5 @@
 -- Connections that wait.
-use Rattle.std.proofs.Common.{◌≡◌, List, Bool, true, false, Option, Some, None, Ok, Err, refl, sym, ap, ◌∙◌}
+use Rattle.std.proofs.Common.{◌≡◌, List, true, false, Option, Some, None, Ok, Err, refl, sym, ap, ◌∙◌}
 use Rattle.std.specs.Prelude.{option_map}
 use Rattle.pp_any.specs.declared.rest.Rest.{Rest}
 use Rattle.conn_model.specs.declared.event.ConnId.{ConnId}

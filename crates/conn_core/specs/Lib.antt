@@ -1,6 +1,5 @@
 pub mod Judging
 pub mod Outcome
-pub mod Tracking
 pub mod Changes
 pub mod Counts
 pub mod Machine

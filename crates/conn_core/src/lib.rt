@@ -4,7 +4,6 @@
 pub use config_core::OpenFault;
 pub use machine::Core;
 
-mod counting;
 mod entering;
 mod facts;
 mod judging;
@@ -12,4 +11,3 @@ mod machine;
 mod opening;
 mod outcome;
 mod receiving;
-mod tracking;

@@ -5,7 +5,7 @@ ghost use Rattle.plan_types.specs.Sound.{IsSoundPlan};
 ghost use Rattle.pp_any.specs.declared.rest.Rest.{Rest};
 ghost use Rattle.conn_model.specs.declared.event.TheConstants.{HEADER_WAIT};
 ghost use Rattle.conn_model.specs.declared.plain.Row.{Row};
-ghost use Rattle.conn_model.specs.Answer.{answer_in, accept_answer, piece_answer, waiting_row};
+ghost use Rattle.conn_model.specs.Answer.{answer_in, accept_answer, piece_answer, waiting_row, reply_of};
 ghost use Rattle.conn_rows.specs.Summaries.{summary_of};
 ghost use Rattle.conn_model.specs.Counts.{counts_in, open_of};
 ghost use Rattle.conn_model.specs.History.{after, answer, counts, owned_event, opening, entry, NeedsNoMemory, IsFault, IsLegal, IsWell, Entry};
@@ -13,19 +13,17 @@ ghost use Rattle.conn_model.specs.declared.event.OwnedEvent.TheVariants as owned
 ghost use Rattle.conn_model.specs.declared.plain.FrontendRows.{FrontendRows};
 ghost use Rattle.conn_model.specs.declared.plain.Plain.{Plain};
 ghost use Rattle.config_core.specs.Meaning.{meaning};
-ghost use Rattle.conn_model.specs.Tables.{open_tracks};
-ghost use Rattle.conn_core.specs.Outcome.{reply_by};
-ghost use Rattle.conn_core.specs.Tracking.{ArePossible};
+ghost use Rattle.conn_core.specs.Outcome.{said_by};
 ghost use Rattle.conn_core.specs.Machine.{IsOpened, IsNext};
 
 use crate::entering::{Arrival, enter};
 use crate::facts::RuleFacts;
 use crate::judging::{admission, frontend_named, item};
 use crate::opening::listeners;
-use crate::outcome::{Decision, plain_reply, reply};
+use crate::outcome::{Outcome, said};
 use crate::receiving::{can_judge, receive};
-use crate::tracking::{NO_TRACKS, STEP_TRACKS};
 use addr_core::Pair;
+use arrayvec::ArrayVec;
 use config_core::{OpenFault, read_plan};
 use conn_model::ask::{Ask, Counts};
 use conn_model::event::{ConnId, Event, HEADER_WAIT, Why};
@@ -124,7 +122,7 @@ impl Core {
         reply
     }
 
-    /// What is open of that which is asked for, if there is such a thing.
+    /// What is counted of that which is asked for, if there is such a thing.
     pub fn counts(&self, ask: &Ask) -> Option<Counts>
         // Where the core is the state after a history, they are the counts after it.
         ensures history { (p : Plain) (h : List Entry) → self.now ≡ after p h → result ≡ counts p h ask.now }
@@ -204,24 +202,26 @@ impl Core {
         let Admission {
             id,
             version,
-            decision,
+            outcome,
         } = self.admit(now, listener, real)?;
         let arrival = Arrival {
             version,
             real,
             accepted: now,
         };
-        let Ok(()) = enter(&mut self.rows, id, &arrival, &decision) else {
+        let Ok(()) = enter(&mut self.rows, id, &arrival, &outcome) else {
             return Err(StepFault::NoMemory);
         };
         self.clock = now;
-        Ok(reply(id, 0, decision))
+        Ok(Reply {
+            said: said(id, 0, outcome),
+            tracks: ArrayVec::new(),
+        })
     }
 
     /// What becomes of a connection at its accept, the name that it gets, and the version that judges it.
     fn admit(&self, now: u64, listener: u16, real: Pair) -> Result<Admission, StepFault>
-        ensures reply { IfOk result (λ a. accept_answer self.now now listener real ≡ Ok (reply_by a.id 0 a.decision)) }
-        ensures can { IfOk result (λ a. ArePossible (open_tracks self.now.frontends) self.now.tables [] real.source.addr a.decision.tracks) }
+        ensures reply { IfOk result (λ a. accept_answer self.now now listener real ≡ Ok (reply_of (said_by a.id 0 a.outcome))) }
         ensures fault { IfErr result (λ f. accept_answer self.now now listener real ≡ Err f) }
         ensures next { IfOk result (λ a. (own : FrontendRows) × IsNext self.now a own) }
     {
@@ -242,15 +242,13 @@ impl Core {
         };
         let facts = RuleFacts {
             rows: &self.rows,
-            version,
             frontend,
             name: own.name,
             connections: own.connections + 1,
             arriving: true,
-            own: NO_TRACKS,
             source: real.source().addr,
         };
-        let decision = admission(
+        let outcome = admission(
             version,
             listener.accept_proxy,
             real,
@@ -263,26 +261,27 @@ impl Core {
                 serial,
             },
             version: version.number,
-            decision,
+            outcome,
         })
     }
 
     fn piece(&mut self, moment: u64, id: ConnId, piece: &[u8]) -> Result<Reply, StepFault>
         ensures reply { IfOk result (λ r. piece_answer self.old id piece.now ≡ Ok r) }
         ensures new { IfOk result (λ r. self.new ≡ after self.old (entry moment (owned.Piece id piece.now) r ∷ [])) }
-        ensures fault { IfErr result (λ f. IsFault (piece_answer self.old id piece.now) f) }
+        ensures fault { IfErr result (λ f. piece_answer self.old id piece.now ≡ Err f) }
+        ensures no_memory { result ≢ Err StepFault.NoMemory }
         ensures err { OnErr result (self.new ≡ self.old) }
     {
         let row = self.waiting_row(id)?;
         if !can_judge(&self.rows, id, row.version) {
             return Err(StepFault::NoSuch);
         }
-        let Ok(()) = self.rows.reserve(STEP_TRACKS) else {
-            return Err(StepFault::NoMemory);
-        };
-        let reply = receive(&mut self.rows, id, &row, piece);
+        let said = receive(&mut self.rows, id, &row, piece);
         self.clock = self.clock.max(moment);
-        Ok(reply)
+        Ok(Reply {
+            said,
+            tracks: ArrayVec::new(),
+        })
     }
 
     /// The open connection of that name, which has to wait for its header.
@@ -312,7 +311,10 @@ impl Core {
         };
         self.rows.remove(id);
         self.clock = self.clock.max(moment);
-        Ok(plain_reply(Said::Closed { id, why }))
+        Ok(Reply {
+            said: Said::Closed { id, why },
+            tracks: ArrayVec::new(),
+        })
     }
 
     fn expire(&mut self, moment: u64, id: ConnId) -> Result<Reply, StepFault>
@@ -329,11 +331,14 @@ impl Core {
         }
         self.rows.remove(id);
         self.clock = now;
-        Ok(plain_reply(Said::Refuse {
-            id,
-            used: 0,
-            cause: Cause::Expired,
-        }))
+        Ok(Reply {
+            said: Said::Refuse {
+                id,
+                used: 0,
+                cause: Cause::Expired,
+            },
+            tracks: ArrayVec::new(),
+        })
     }
 }
 
@@ -365,5 +370,5 @@ struct Admission {
     id: ConnId,
     /// The version of the configuration that judges it.
     version: u64,
-    decision: Decision,
+    outcome: Outcome,
 }

@@ -33,9 +33,8 @@ use Rattle.conn_model.specs.declared.ask.Ask.{Ask}
 use Rattle.conn_model.specs.declared.ask.Counts.{Counts}
 use Rattle.conn_model.specs.Words.{is_conn, newest, map_from, Rise}
 use Rattle.conn_model.specs.Counts.{counts_in}
-use Rattle.conn_model.specs.Answer.{answer_in, new_row, version_at}
+use Rattle.conn_model.specs.Answer.{answer_in, new_row, row_at, version_at}
 use Rattle.conn_model.specs.Tables.{new_id, new_table, open_tracks, with_tracks, without_tracks}
-pub use Rattle.conn_model.specs.Tables.{by_counter, tracks_at}
 
 -- an answered event, with the moment that was handed in
 pub record Entry : Type 0 where
@@ -133,6 +132,10 @@ abbrev pub tracks_of : ℕ → ℕ → List Entry → List Track
 tracks_of number serial [] = []
 tracks_of number serial (e ∷ h) = tracks_of number serial h ++ (if speaks_to number serial e.reply.said then e.reply.tracks.items else [])
 
+-- in the order of counters
+abbrev pub by_counter : List Track → List Track
+by_counter tracks = filter (λ track. track.counter == 0) tracks ++ filter (λ track. track.counter == 1) tracks ++ filter (λ track. track.counter == 2) tracks
+
 -- Which connections are open.
 
 -- the reply is a last one
@@ -214,6 +217,10 @@ with_version versions (Some (number, plan)) = versions ++ new_version number pla
 abbrev pub versions_after : Plain → List Entry → List Version
 versions_after p [] = p.versions
 versions_after p (e ∷ h) = with_version (versions_after p h) (version_of e.event)
+
+-- what the connection of that name tracks
+abbrev pub tracks_at : List FrontendRows → ConnId → List Track
+tracks_at frontends id = option_map_or (λ row. row.tracks) (row_at frontends id) []
 
 -- what is no longer tracked after a reply: where it is a last one, all that its connection tracked, in the order of
 -- counters
@@ -314,6 +321,6 @@ owned_event (events.Expire id) = Expire id
 -- the event is of a connection that is open, and asks for no memory
 abbrev pub NeedsNoMemory : Event → Type 0
 NeedsNoMemory (events.Accept listener real) = ⊥
-NeedsNoMemory (events.Piece id bytes) = ⊥
+NeedsNoMemory (events.Piece id bytes) = Unit {0}
 NeedsNoMemory (events.Close id why) = Unit {0}
 NeedsNoMemory (events.Expire id) = Unit {0}

@@ -1,6 +1,5 @@
 -- Tables: how the entries of each change as connections track keys, and end.
 use Rattle.std.specs.Prelude.{ℕ, Bool, List, [], ◌∷◌, ◌++◌, map, filter, find, flat_map, length, Option, ◌==◌, ◌&&◌, if◌then◌else◌}
-use Rattle.std.specs.Option.{option_map_or}
 use Rattle.addr_core.specs.declared.addr.Addr.{Addr}
 use Rattle.stick_core.specs.Key.{same_key}
 use Rattle.stick_core.specs.PlainEntries.{with_tracking, touched, count_at, trackers_at}
@@ -8,10 +7,8 @@ use Rattle.plan_types.specs.declared.plan.Table.{Table}
 use Rattle.plan_types.specs.declared.track.TableId.{TableId}
 use Rattle.plan_types.specs.declared.track.Track.{Track}
 use Rattle.conn_model.specs.declared.ask.Counts.{Counts}
-use Rattle.conn_model.specs.declared.event.ConnId.{ConnId}
 use Rattle.conn_model.specs.declared.plain.FrontendRows.{FrontendRows}
 use Rattle.conn_model.specs.declared.plain.TableState.{TableState}
-use Rattle.conn_model.specs.Words.{row_at}
 
 -- the same incarnation of a table
 abbrev pub same_id : TableId → TableId → Bool
@@ -29,14 +26,6 @@ tracks_in own = flat_map (λ row. row.tracks) own.rows
 
 abbrev pub open_tracks : List FrontendRows → List Track
 open_tracks frontends = flat_map tracks_in frontends
-
--- what the connection of that name tracks
-abbrev pub tracks_at : List FrontendRows → ConnId → List Track
-tracks_at frontends id = option_map_or (λ row. row.tracks) (row_at frontends id) []
-
--- in the order of counters
-abbrev pub by_counter : List Track → List Track
-by_counter tracks = filter (λ track. track.counter == 0) tracks ++ filter (λ track. track.counter == 1) tracks ++ filter (λ track. track.counter == 2) tracks
 
 -- the track is of that key of the table
 abbrev pub is_of : TableId → Addr → Track → Bool

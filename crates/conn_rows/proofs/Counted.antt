@@ -2,22 +2,20 @@
 use Rattle.std.proofs.Common.{◌≡◌, ℕ, zero, suc, ◌*◌, ◌+◌, Bool, true, false, List, [], ◌∷◌, ◌++◌, length, map, set, Option, Some, None, refl, sym, ap, ◌∙◌, arith}
 use Rattle.std.proofs.Math.ListN.{length-set}
 use Rattle.std.specs.List.{AllByRecursion}
-use Rattle.std.specs.Option.{option_map_or}
 use Rattle.std.proofs.lemmas.List.{length-append}
 use Rattle.std.proofs.lemmas.List.Elements.{filter-append}
-use Rattle.stick_core.specs.Key.{key_in, same_key}
+use Rattle.stick_core.specs.Key.{same_key}
 use Rattle.plan_types.specs.declared.plan.Frontend.{Frontend}
 use Rattle.plan_types.specs.declared.track.Track.{Track}
 use Rattle.conn_model.specs.declared.plain.Version.{Version}
-use Rattle.conn_model.specs.declared.plain.TableState.{TableState}
-use Rattle.conn_model.specs.Tables.{entry_counts, is_of, open_tracks, same_id, trackers, tracks_in}
+use Rattle.conn_model.specs.Tables.{is_of, open_tracks, same_id, trackers, tracks_in}
 use Rattle.conn_rows.specs.declared.tracking.Tracking.{Tracking}
 use Rattle.conn_rows.specs.declared.tracking.Trackings.{Trackings}
 use Rattle.conn_rows.specs.Stored.{plain_frontend, plain_row}
 use Rattle.conn_rows.specs.Tables.{AreCounted, cur_in}
 use Rattle.conn_model.specs.History.{by_counter}
 use Rattle.conn_rows.specs.Tracks.{at_counter, counter_on, on_counter, plain_tracks, track_by, track_of, track_on, tracks_on}
-use Rattle.std.specs.Prelude.{filter, flat_map, ◌^◌, ◌<◌, ◌≤◌, ◌&&◌, slice_get, option_map, ◌==◌, if◌then◌else◌, Result, Ok, Err, OnOk, OnErr, IfSome, IfNone}
+use Rattle.std.specs.Prelude.{filter, flat_map, ◌^◌, ◌<◌, ◌≤◌, ◌&&◌, slice_get, ◌==◌, if◌then◌else◌, Result, Ok, Err, OnOk, OnErr, IfSome, IfNone}
 use Rattle.addr_core.specs.declared.addr.Addr.{Addr}
 use Rattle.plan_types.specs.declared.track.TableId.{TableId}
 use Rattle.conn_model.specs.Counts.{total}
@@ -179,20 +177,6 @@ cur_few frontends tables known id key =
     let few : length frontends ≤ 64 = known.few in
     omega (arith, is, most, few)
 
--- at most three for each row
-pub counts_few : (versions : List Version) (frontends : List StoredFrontend) (tables : List StoredTable) (addr : Addr) (o : Option TableState) → AreRows frontends tables →
-    IfSome (option_map (entry_counts (open_tracks (map (plain_frontend versions) frontends)) addr) o) (λ counts. counts.cur ≤ 3 * 2 ^ 62)
-counts_few versions frontends tables addr None known = tt
-counts_few versions frontends tables addr (Some table) known = by (key_in table.table.kind addr)
-  where
-    by : (key : Option Addr) → option_map_or (trackers (open_tracks (map (plain_frontend versions) frontends)) table.id) key 0 ≤ 3 * 2 ^ 62
-    by None = omega arith
-    by (Some key) =
-        let is = open_trackers versions frontends table.id key in
-        let most = all_few table.id key frontends known.small in
-        let few : length frontends ≤ 64 = known.few in
-        omega (arith, is, most, few)
-
 -- One tracking more.
 
 pub counters_more : (counter : ℕ) (tracking : Tracking) (tracks : Trackings) (id : TableId) (key : Addr) → counter < 3 → on_counter counter tracks ≡ None →
@@ -276,17 +260,3 @@ more_rows frontends tables rest n own next tracking there small rows counts know
       let count = counts id key in
       omega (arith, all, before, more, count);
 }
-
--- as many track each key of a table as with one track more
-pub trackers_more : (versions : List Version) (frontends : List StoredFrontend) (n : ℕ) (own next : StoredFrontend) (track : Track) → slice_get frontends n ≡ Some own →
-    ((id : TableId) (key : Addr) → total (row_on id key) next.rows ≡ total (row_on id key) own.rows + counter_on id key (Some (record { table = track.table; token = track.key }))) →
-    (id : TableId) (key : Addr) → trackers (open_tracks (map (plain_frontend versions) (set frontends n next))) id key ≡ trackers (open_tracks (map (plain_frontend versions) frontends) ++ track ∷ []) id key
-trackers_more versions frontends n own next track there rows id key =
-    let all : rows_total (row_on id key) (set frontends n next) + total (row_on id key) own.rows ≡ rows_total (row_on id key) frontends + total (row_on id key) next.rows =
-    total-set (λ own. total (row_on id key) own.rows) frontends n own next there in
-    let more = rows id key in
-    let now = open_trackers versions (set frontends n next) id key in
-    let before = open_trackers versions frontends id key in
-    let both = trackers-append (open_tracks (map (plain_frontend versions) frontends)) (track ∷ []) id key in
-    let one : trackers (track ∷ []) id key ≡ counter_on id key (Some (record { table = track.table; token = track.key })) = trackers_on track.counter (Some (record { table = track.table; token = track.key })) id key in
-    omega (arith, all, more, now, before, both, one)

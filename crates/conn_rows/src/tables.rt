@@ -165,14 +165,6 @@ impl Tables {
         Some(stored.counts(addr))
     }
 
-    /// The table of that incarnation, as its line has it.
-    pub fn table(&self, id: TableId) -> Option<&Table>
-        ensures { option_copied result ≡ option_map (λ table. table.table) (table_at (map plain_table self.now.tables) id) }
-    {
-        let stored = find_table(self.tables.as_slice(), id)?;
-        Some(&stored.table)
-    }
-
     /// The key under which the table of that incarnation would track an address, if it could.
     pub fn key_for(&self, id: TableId, addr: &Addr) -> Option<Addr>
         ensures { (tracks : List Track) → AreCounted tracks self.now.tables → result ≡ key_at tracks (map plain_table self.now.tables) id addr.now }
@@ -182,7 +174,7 @@ impl Tables {
     }
 
     /// Makes room so that the next so many trackings take no memory. Where there is room enough nothing is done; else
-    /// room is made for more than asked, so that this is rare.
+    /// there is made more than asked, so that this is rare.
     pub fn reserve(&mut self, more: u64) -> Result<(), AllocError>
         ensures room { OnOk result (more ≤ self.new.spare) }
         ensures spare { self.old.spare ≤ self.new.spare }

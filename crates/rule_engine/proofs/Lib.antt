@@ -1,3 +1,2 @@
 pub mod JudgingLemmas
 pub mod SceneLemmas
-pub mod SlotLemmas

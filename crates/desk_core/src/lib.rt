@@ -1,5 +1,0 @@
-//! Trial.
-#![tactic(auto)]
-
-mod counted;
-mod desk;
