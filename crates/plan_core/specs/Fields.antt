@@ -1,5 +1,5 @@
 -- What the lines of a frontend or backend say of each matter.
-use Rattle.std.specs.Prelude.{ℕ, Bool, true, false, ◌&&◌, List, [], ◌∷◌, map, slice_get, position, unwrap_or, option_and_then, Option, Some, None, if◌then◌else◌}
+use Rattle.std.specs.Prelude.{ℕ, Bool, true, false, List, [], ◌∷◌, map, slice_get, position, unwrap_or, option_and_then, Option, Some, None, if◌then◌else◌}
 use Rattle.std.specs.List.{filter_map}
 use Rattle.std.specs.Option.{option_or, option_map}
 use Rattle.std.specs.Str.{bytes_eq}
@@ -31,7 +31,7 @@ use Rattle.plan_core.specs.declared.proxies.Proxy.{Proxy}
 use Rattle.plan_core.specs.declared.fields.TheConstants.{DEFAULT_CONNECTIONS}
 use Rattle.plan_core.specs.declared.fields.Limit.{Limit}
 use Rattle.plan_core.specs.declared.fields.Named.{Named}
-use Rattle.plan_core.specs.Proxies.{is_frontend_section}
+pub use Rattle.plan_types.specs.Tables.{is_table_of, table_number}
 
 -- What one line says of a matter, if anything.
 
@@ -109,16 +109,6 @@ table_in proxy = option_map (table_with proxy.head) (last_of line_table proxy.ow
 -- all tables, those of frontends and backends mixed, in the order of the text
 abbrev pub tables_in : List Proxy → List Table
 tables_in all = filter_map table_in all
-
--- it is the table of the frontend of that name
-abbrev pub is_table_of : List ℕ → Table → Bool
-is_table_of name table = is_frontend_section table.section && bytes_eq table.name name
-
--- the number of the table that a rule or a criterion means in the frontend of that name: the frontend's own where none is
--- named, and else that of the section that is named
-abbrev pub table_number : List Table → List ℕ → Option (List ℕ) → Option ℕ
-table_number tables name None = position (is_table_of name) tables
-table_number tables name (Some other) = position (λ table. bytes_eq table.name other) tables
 
 abbrev pub stores_at : List Table → ℕ → Option Stores
 stores_at tables number = option_map (λ (table : Table). table.stores) (slice_get tables number)

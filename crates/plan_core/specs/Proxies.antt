@@ -6,6 +6,7 @@ use Rattle.conf_line.specs.declared.statement.Statement.{Statement}
 use Rattle.conf_line.specs.declared.statement.Statement.TheVariants as statements
 use Rattle.plan_types.specs.declared.plan.Section.{Section}
 use Rattle.plan_types.specs.declared.plan.Section.TheVariants as sections
+pub use Rattle.plan_types.specs.Tables.{is_frontend_section}
 use Rattle.plan_core.specs.declared.proxies.Head.{Head}
 use Rattle.plan_core.specs.declared.proxies.Proxy.{Proxy}
 
@@ -33,10 +34,6 @@ abbrev pub proxies : List ConfigLine → List ConfigLine → List Proxy
 proxies base [] = []
 proxies base (item ∷ rest) =
     option_to_list (line_proxy base (own_lines rest) item) ++ proxies (base_after base (own_lines rest) item.statement) rest
-
-abbrev pub is_frontend_section : Section → Bool
-is_frontend_section sections.Frontend = true
-is_frontend_section sections.Backend = false
 
 abbrev pub is_backend_section : Section → Bool
 is_backend_section sections.Frontend = false
