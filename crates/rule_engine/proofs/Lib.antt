@@ -1,2 +1,3 @@
 pub mod JudgingLemmas
 pub mod SceneLemmas
+pub mod SlotLemmas

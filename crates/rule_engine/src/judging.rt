@@ -1,7 +1,7 @@
 //! Going through a list of rules.
 ghost use Rattle.std.specs.Prelude.{◌≡◌, ◌<◌, false, IsTrue};
 ghost use Rattle.rule_engine.specs.Meaning.{present};
-ghost use Rattle.rule_engine.specs.Judging.{is_true, is_free, after_track, judged};
+ghost use Rattle.rule_engine.specs.Judging.{is_true, is_free, after_track, judged, judged_after};
 
 use crate::scene::{COUNTERS, Scene, Tracks};
 use acl_core::{Acl, Criterion, Value, View};
@@ -28,17 +28,17 @@ pub struct Judged {
     pub expects_header: bool,
 }
 
-/// A connection once those tracks are made.
+/// A connection once those tracks are made, as conditions see it.
 #[derive(Drop)]
-struct Place<'a, S> {
-    scene: &'a S,
-    tracks: &'a Tracks,
+pub struct Moment<'a, S> {
+    pub scene: &'a S,
+    pub tracks: &'a Tracks,
 }
 
-impl<'a, S: Scene> View for Place<'a, S> {
-    ghost worth = { λ place. (S.meaning place.scene.now).worth (present place.tracks.now) };
+impl<'a, S: Scene> View for Moment<'a, S> {
+    ghost worth = { λ moment. (S.meaning moment.scene.now).worth (present moment.tracks.now) };
 
-    ghost acls = { λ place. (S.meaning place.scene.now).acls };
+    ghost acls = { λ moment. (S.meaning moment.scene.now).acls };
 
     fn value(&self, criterion: &Criterion) -> Value {
         self.scene.value(self.tracks, criterion)
@@ -53,7 +53,7 @@ impl<'a, S: Scene> View for Place<'a, S> {
 fn is_true<S: Scene>(scene: &S, tracks: &Tracks, rule: &Rule) -> bool
     ensures { result ≡ is_true (S.meaning scene.now) tracks.now rule.now }
 {
-    rule.when.applies(&Place { scene, tracks })
+    rule.when.applies(&Moment { scene, tracks })
 }
 
 /// Whether the counter tracks nothing.
@@ -104,7 +104,14 @@ fn outcome(verdict: Verdict, line: u32, tracks: Tracks) -> Judged
 pub fn judge<S: Scene>(rules: &[Rule], scene: &S) -> Judged
     ensures { result ≡ judged (S.meaning scene.now) rules.now }
 {
-    let mut tracks = [None; COUNTERS];
+    judge_after(rules, scene, [None; COUNTERS])
+}
+
+/// The same where earlier lists made those tracks.
+pub fn judge_after<S: Scene>(rules: &[Rule], scene: &S, earlier: Tracks) -> Judged
+    ensures { result ≡ judged_after (S.meaning scene.now) earlier rules.now }
+{
+    let mut tracks = earlier;
     for rule in rules {
         if is_true(scene, &tracks, rule) {
             match rule.action {

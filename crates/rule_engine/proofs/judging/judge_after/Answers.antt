@@ -2,8 +2,8 @@ use Rattle.std.proofs.Common.{◌≡◌, ◌+◌, ◌∷◌, drop, ◌∙◌, ap
 use Rattle.std.proofs.lemmas.List.{drop_more}
 use Rattle.rule_engine.specs.Judging.{judged_after}
 use Rattle.rule_engine.proofs.JudgingLemmas.{passed, tracked_past}
-use Rattle.rule_engine.proofs.judging.judge.Goals.{then-is_true+in-Track, else-is_true}
-use Rattle.rule_engine.proofs.judging.judge.Goals as goal
+use Rattle.rule_engine.proofs.judging.judge_after.Goals.{then-is_true+in-Track, else-is_true}
+use Rattle.rule_engine.proofs.judging.judge_after.Goals as goal
 
 pub loop-rule-preserved : goal.loop-rule-preserved
 loop-rule-preserved g c =

@@ -1,6 +1,0 @@
-use Rattle.std.proofs.Common.{◌≡◌, drop}
-use Rattle.rule_engine.specs.Judging.{judged_after, judged}
-use Rattle.rule_engine.proofs.judging.judge.Given as goal
-
-abbrev pub invariant-loop-rule : goal.invariant-loop-rule
-invariant-loop-rule g l = judged_after (g.S.Scene.meaning l.scene) l.tracks (drop l.rule-index l.rules) ≡ judged (g.S.Scene.meaning l.scene) l.rules
