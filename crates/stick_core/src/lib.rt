@@ -3,6 +3,7 @@
 #![tactic(auto)]
 
 pub use entries::{Entry, TableEntry};
+pub use key::key_of;
 pub use proxy_types::{KeyType, Stores};
 pub use table::{Table, Tracked};
 
