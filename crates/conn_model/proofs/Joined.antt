@@ -29,8 +29,9 @@ use Rattle.conn_model.specs.declared.plain.Row.{Row}
 use Rattle.conn_model.specs.declared.plain.FrontendRows.{FrontendRows}
 use Rattle.conn_model.specs.declared.plain.Plain.{Plain}
 use Rattle.conn_model.specs.Words.{is_conn, map_from, Rise, or_fault}
-use Rattle.conn_model.specs.Rules.{Candidate}
-use Rattle.conn_model.specs.Answer.{row_in, row_at, reply_of, rest_in, verdict, candidate_worth, said_of, candidate_of, judged_pair, header_said, answer_in}
+use Rattle.rule_engine.specs.Judging.{no_tracks}
+use Rattle.conn_model.specs.Rules.{Candidate, view_of}
+use Rattle.conn_model.specs.Answer.{row_in, row_at, reply_of, rest_in, verdict, said_of, candidate_of, judged_pair, header_reply, answer_in}
 use Rattle.conn_model.specs.History.{newest_number, speaks_to, plan_of, phase_by, is_last, arrival, has_ended, accepts, row_after, frontend_after, frontends_after, after, piece_for, joined, Entry, IsLegal, IsWell, opening}
 use Rattle.conn_model.proofs.Lists.{all-append, all-more, all-each, all-filter_if, all-map, all-found, all-at, all-both}
 use Rattle.conn_model.proofs.Replies.{bind-ok, Says, Received, received, expired, answered}
@@ -115,13 +116,13 @@ decided-held plan event bytes phase id used judged (Err cause) open' = absurd (f
 
 -- after a piece, by what it decides
 status-held : (plan : Option Plan) (id : ConnId) (before bytes : List ℕ) (rest : Rest) (candidate : Candidate) (real : PairValue) (s : Status) →
-    (s ≡ statuses.Wait → IsRest (before ++ bytes) (rest_on rest bytes)) → is_last (header_said candidate real (length bytes) s) ≡ false →
-    IsHeld (before ++ bytes) (phase_by plan (Piece id bytes) (header_said candidate real (length bytes) s) (Waiting rest))
+    (s ≡ statuses.Wait → IsRest (before ++ bytes) (rest_on rest bytes)) → is_last (header_reply candidate real (length bytes) s).said ≡ false →
+    IsHeld (before ++ bytes) (phase_by plan (Piece id bytes) (header_reply candidate real (length bytes) s).said (Waiting rest))
 status-held plan id before bytes rest candidate real statuses.Wait waits open' = waits refl
 status-held plan id before bytes rest candidate real (statuses.Fault fault count) waits open' = absurd (false≢true (sym open'))
 status-held plan id before bytes rest candidate real (statuses.Whole count meaning) waits open' =
     let judged : PairValue = judged_pair real meaning in
-    decided-held plan (Piece id bytes) (before ++ bytes) (Waiting rest) candidate.id count judged (verdict (candidate_worth candidate judged.source.addr) candidate.version candidate.frontend) open'
+    decided-held plan (Piece id bytes) (before ++ bytes) (Waiting rest) candidate.id count judged (verdict (view_of candidate judged.source.addr) candidate.version candidate.frontend no_tracks).result open'
 
 piece_row : (q : Plain) (h : List Entry) (id : ConnId) (bytes : List ℕ) (reply : Reply) (number : ℕ) (own : FrontendRows) (row : Row) (plan : Option Plan) → slice_get q.frontends number ≡ Some own →
     Received q id bytes reply → Known h number own row → is_conn number row.serial id ≡ true → id.frontend ≡ number → id.serial ≡ row.serial → is_last reply.said ≡ false →
@@ -134,7 +135,7 @@ piece_row q h id bytes reply number own row plan there got known mine frontend s
     let phase : row.phase ≡ Waiting got.rest = phase_waits row.phase got.rest (ap (λ r. rest_in r.phase) same ∙ got.waits) in
     let held : IsRest before got.rest = subst (IsHeld before) phase known.held in
     let candidate : Candidate = candidate_of q id got.version got.frontend in
-    let said_is : header_said candidate got.row.real (length bytes) (status_on got.rest bytes) ≡ reply.said = ap (λ r. r.said) got.reply_is in
+    let said_is : (header_reply candidate got.row.real (length bytes) (status_on got.rest bytes)).said ≡ reply.said = ap (λ r. r.said) got.reply_is in
     let P : Said → Type 0 = λ said. IsHeld (before ++ bytes) (phase_by plan (Piece id bytes) said (Waiting got.rest)) in
     let after_it : P reply.said =
     subst P said_is (status-held plan id before bytes got.rest candidate got.row.real (status_on got.rest bytes) (goes_on before bytes got.rest held).holds (ap is_last said_is ∙ open')) in

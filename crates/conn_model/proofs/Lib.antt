@@ -1,8 +1,16 @@
 pub mod Lists
+pub mod Versions
 pub mod Replies
 pub mod Parts
 pub mod Serials
 pub mod Goes
+pub mod Nothing
+pub mod Entries
+pub mod OneTable
+pub mod Listed
+pub mod Sources
+pub mod TableSteps
+pub mod TrackSteps
 pub mod Well
 pub mod Steps
 pub mod Trackings

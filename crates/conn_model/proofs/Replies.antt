@@ -25,8 +25,9 @@ use Rattle.conn_model.specs.declared.plain.Listener.{Listener}
 use Rattle.conn_model.specs.declared.plain.Version.{Version}
 use Rattle.conn_model.specs.declared.plain.Plain.{Plain}
 use Rattle.conn_model.specs.Words.{newest, or_fault}
-use Rattle.conn_model.specs.Rules.{Candidate, rejection}
-use Rattle.conn_model.specs.Answer.{candidate_worth, row_at, version_at, frontend_in, reply_of, verdict, said_of, decision, candidate_at, candidate_of, judged_pair, rest_in, waiting_row, entry_said, admission, header_said, accept_answer, piece_answer, close_answer, expire_answer, answer_in}
+use Rattle.rule_engine.specs.Judging.{no_tracks, Slots}
+use Rattle.conn_model.specs.Rules.{Candidate, rejection, view_of}
+use Rattle.conn_model.specs.Answer.{row_at, version_at, frontend_in, reply_of, verdict, said_of, decision, candidate_at, candidate_of, judged_pair, rest_in, waiting_row, entry_reply, entry_rules, admission, header_reply, accept_answer, piece_answer, close_answer, expire_answer, answer_in}
 use Rattle.conn_model.specs.History.{id_of}
 
 -- Answers in steps.
@@ -50,25 +51,25 @@ pub said_of-id : (id : ConnId) (used : ℕ) (judged : PairValue) (result : Resul
 said_of-id id used judged (Ok server) = refl
 said_of-id id used judged (Err cause) = refl
 
-pub decision-id : (candidate : Candidate) (used : ℕ) (judged : PairValue) → id_of (decision candidate used judged) ≡ Some candidate.id
-decision-id candidate used judged = said_of-id candidate.id used judged (verdict (candidate_worth candidate judged.source.addr) candidate.version candidate.frontend)
+pub decision-id : (candidate : Candidate) (used : ℕ) (judged : PairValue) (made : Slots) → id_of (decision candidate used judged made).said ≡ Some candidate.id
+decision-id candidate used judged made = said_of-id candidate.id used judged (verdict (view_of candidate judged.source.addr) candidate.version candidate.frontend made).result
 
-pub header_said-id : (candidate : Candidate) (real : PairValue) (count : ℕ) (status : Status) → id_of (header_said candidate real count status) ≡ Some candidate.id
-header_said-id candidate real count statuses.Wait = refl
-header_said-id candidate real count (statuses.Fault fault used) = refl
-header_said-id candidate real count (statuses.Whole used meaning) = decision-id candidate used (judged_pair real meaning)
+pub header_reply-id : (candidate : Candidate) (real : PairValue) (count : ℕ) (status : Status) → id_of (header_reply candidate real count status).said ≡ Some candidate.id
+header_reply-id candidate real count statuses.Wait = refl
+header_reply-id candidate real count (statuses.Fault fault used) = refl
+header_reply-id candidate real count (statuses.Whole used meaning) = decision-id candidate used (judged_pair real meaning) no_tracks
 
-entry_said-id : (candidate : Candidate) (accept_proxy : Bool) (real : PairValue) (line : Option ℕ) → id_of (entry_said candidate accept_proxy real line) ≡ Some candidate.id
-entry_said-id candidate accept_proxy real (Some line) = refl
-entry_said-id candidate true real None = refl
-entry_said-id candidate false real None = decision-id candidate 0 real
+entry_reply-id : (candidate : Candidate) (accept_proxy : Bool) (real : PairValue) (made : Slots) (line : Option ℕ) → id_of (entry_reply candidate accept_proxy real made line).said ≡ Some candidate.id
+entry_reply-id candidate accept_proxy real made (Some line) = refl
+entry_reply-id candidate true real made None = refl
+entry_reply-id candidate false real made None = decision-id candidate 0 real made
 
-pub admission-id : (candidate : Candidate) (accept_proxy : Bool) (real : PairValue) (others : ℕ) → id_of (admission candidate accept_proxy real others) ≡ Some candidate.id
+pub admission-id : (candidate : Candidate) (accept_proxy : Bool) (real : PairValue) (others : ℕ) → id_of (admission candidate accept_proxy real others).said ≡ Some candidate.id
 admission-id candidate accept_proxy real others = by (nat_le candidate.frontend.limit others) refl
   where
-    by : (b : Bool) → nat_le candidate.frontend.limit others ≡ b → id_of (admission candidate accept_proxy real others) ≡ Some candidate.id
+    by : (b : Bool) → nat_le candidate.frontend.limit others ≡ b → id_of (admission candidate accept_proxy real others).said ≡ Some candidate.id
     by true e = rw e refl
-    by false e = rw e (entry_said-id candidate accept_proxy real (rejection candidate.frontend.acls (candidate_worth candidate real.source.addr) candidate.frontend.connection_rules))
+    by false e = rw e (entry_reply-id candidate accept_proxy real (entry_rules candidate real).tracks (rejection (entry_rules candidate real)))
 
 -- What is known of an answer.
 
@@ -103,7 +104,7 @@ pub record Accepted (q : Plain) (clock listener : ℕ) (real : PairValue) (reply
   pub newest_is : newest q.versions ≡ Some version
   pub found : frontend_in version.plan own.name ≡ Some frontend
   pub fits : nat_lt own.serial 0xFFFF_FFFF_FFFF_FFFF ≡ true
-  pub reply_is : reply_of (admission (candidate_at q clock at.frontend real own version frontend) at.accept_proxy real (length own.rows)) ≡ reply
+  pub reply_is : admission (candidate_at q clock at.frontend real own version frontend) at.accept_proxy real (length own.rows) ≡ reply
 
 pub accepted : (q : Plain) (clock listener : ℕ) (real : PairValue) (reply : Reply) → accept_answer q clock listener real ≡ Ok reply → Accepted q clock listener real reply
 accepted q clock listener real reply is =
@@ -116,7 +117,7 @@ accepted q clock listener real reply is =
     let four = bind-ok (or_fault NoListener (frontend_in version.plan own.name)) _ reply three.2 in
     let frontend : Frontend = four.0 in
     let candidate : Candidate = candidate_at q clock at.frontend real own version frontend in
-    let last = chosen (nat_lt own.serial 0xFFFF_FFFF_FFFF_FFFF) (reply_of (admission candidate at.accept_proxy real (length own.rows))) reply Exhausted four.2 in
+    let last = chosen (nat_lt own.serial 0xFFFF_FFFF_FFFF_FFFF) (admission candidate at.accept_proxy real (length own.rows)) reply Exhausted four.2 in
     record {
       at = at;
       own = own;
@@ -174,7 +175,7 @@ pub record Received (q : Plain) (id : ConnId) (piece : List ℕ) (reply : Reply)
   pub there : slice_get q.frontends id.frontend ≡ Some own
   pub kept : version_at q.versions row.version ≡ Some version
   pub found : frontend_in version.plan own.name ≡ Some frontend
-  pub reply_is : reply_of (header_said (candidate_of q id version frontend) row.real (length piece) (status_on rest piece)) ≡ reply
+  pub reply_is : header_reply (candidate_of q id version frontend) row.real (length piece) (status_on rest piece) ≡ reply
 
 pub received : (q : Plain) (id : ConnId) (piece : List ℕ) (reply : Reply) → piece_answer q id piece ≡ Ok reply → Received q id piece reply
 received q id piece reply is =
@@ -187,8 +188,8 @@ received q id piece reply is =
     let version : Version = four.0 in
     let five = bind-ok (or_fault NoSuch (frontend_in version.plan own.name)) _ reply four.2 in
     let frontend : Frontend = five.0 in
-    let same : reply_of (header_said (candidate_of q id version frontend) row.real (length piece) (status_on rest piece)) ≡ reply =
-    let it : Ok (reply_of (header_said (candidate_of q id version frontend) row.real (length piece) (status_on rest piece))) ≡ Ok reply = five.2 in cc in
+    let same : header_reply (candidate_of q id version frontend) row.real (length piece) (status_on rest piece) ≡ reply =
+    let it : Ok (header_reply (candidate_of q id version frontend) row.real (length piece) (status_on rest piece)) ≡ Ok reply = five.2 in cc in
     let waits = waiting q.frontends id one.0 one.1 in
     record {
       row = row;
@@ -206,7 +207,7 @@ received q id piece reply is =
 
 old_piece : (q : Plain) (id : ConnId) (piece : List ℕ) (reply : Reply) → Received q id piece reply → IsOld q id reply.said
 old_piece q id piece reply got = record {
-  speaks = ap (λ r. id_of r.said) (sym got.reply_is) ∙ header_said-id (candidate_of q id got.version got.frontend) got.row.real (length piece) (status_on got.rest piece);
+  speaks = ap (λ r. id_of r.said) (sym got.reply_is) ∙ header_reply-id (candidate_of q id got.version got.frontend) got.row.real (length piece) (status_on got.rest piece);
   row = got.row;
   there = got.row_is;
 }

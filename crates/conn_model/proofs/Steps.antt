@@ -1,5 +1,5 @@
 -- The state after one event.
-use Rattle.std.specs.Prelude.{ℕ, zero, suc, Bool, true, false, not, max, List, [], map, filter, find, slice_get, slice_set, is_some, Some, None, refl, ◌+◌, ◌≤◌, ◌<◌, ◌≡◌, ◌≢◌, ◌==◌, ◌&&◌, ◌∷◌, ◌++◌, if◌then◌else◌}
+use Rattle.std.specs.Prelude.{ℕ, zero, suc, Bool, true, false, not, max, List, [], map, filter, find, slice_get, slice_set, is_some, Some, None, refl, ◌+◌, ◌≤◌, ◌≡◌, ◌≢◌, ◌==◌, ◌&&◌, ◌∷◌, ◌++◌, if◌then◌else◌}
 use Rattle.std.specs.List.{AllByRecursion}
 use Rattle.std.specs.Option.{option_map_or}
 use Rattle.std.proofs.Common.{sym, ap, ◌∙◌, arith, append-nil, get_or}
@@ -8,10 +8,13 @@ use Rattle.std.proofs.lemmas.Bool.Decides.{nat_tests}
 use Rattle.std.proofs.lemmas.List.{map-append}
 use Rattle.std.proofs.lemmas.List.Elements.{filter-append}
 use Rattle.addr_core.specs.PairValue.{PairValue}
+use Rattle.arrayvec.specs.ArrayVec.{ArrayVec}
 use Rattle.plan_types.specs.declared.plan.Plan.{Plan}
+use Rattle.plan_types.specs.declared.track.Track.{Track}
 use Rattle.conn_model.specs.declared.event.ConnId.{ConnId}
 use Rattle.conn_model.specs.declared.event.OwnedEvent.{OwnedEvent}
 use Rattle.conn_model.specs.declared.event.OwnedEvent.TheVariants.{Accept, Piece, Close, Expire}
+use Rattle.conn_model.specs.declared.reply.Reply.{Reply}
 use Rattle.conn_model.specs.declared.reply.Said.{Said}
 use Rattle.conn_model.specs.declared.reply.Said.TheVariants.{Wait, Offer, Refuse, Closed}
 use Rattle.conn_model.specs.declared.plain.Phase.TheVariants.{Offered}
@@ -20,14 +23,14 @@ use Rattle.conn_model.specs.declared.plain.FrontendRows.{FrontendRows}
 use Rattle.conn_model.specs.declared.plain.TableState.{TableState}
 use Rattle.conn_model.specs.declared.plain.Version.{Version}
 use Rattle.conn_model.specs.declared.plain.Plain.{Plain}
-use Rattle.conn_model.specs.Words.{map_from, newest, Rise}
+use Rattle.conn_model.specs.Words.{map_from, newest}
 use Rattle.conn_model.specs.Counts.{change_row}
 use Rattle.conn_model.proofs.Parts.{brings_none}
-use Rattle.conn_model.specs.Answer.{row_in, reply_of, version_at, new_row}
+use Rattle.conn_model.specs.Answer.{row_in, version_at, new_row}
 use Rattle.conn_model.specs.History.{id_of, speaks_to, newest_number, plan_of, identity_of, by_counter, phase_by, is_last, is_accept_at, arrival, has_ended, row_after, frontend_after, frontends_after, tables_by, after, entry, Entry, IsFrontendWell, IsWell}
 use Rattle.conn_model.proofs.Lists.{all-more, all-at, all-both}
-use Rattle.conn_model.proofs.Trackings.{tables_entered}
-use Rattle.conn_model.proofs.Well.{after-nil}
+use Rattle.conn_model.proofs.Nothing.{after-nil}
+use Rattle.conn_model.proofs.Versions.{newest-at}
 
 -- Lists of which one item changes.
 
@@ -121,45 +124,46 @@ state_is p clock frontends fs tables ts one other = ap (λ x. state_with p clock
 
 -- An accept.
 
--- what an accept leaves of the new connection, where this is said to it
-abbrev pub rows_left : Plain → ℕ → PairValue → Said → List Row
-rows_left p clock real (Offer id used line server to judged send) =
+-- what an accept leaves of the new connection, where this is said to it and it tracks those
+abbrev pub rows_left : Plain → ℕ → PairValue → List Track → Said → List Row
+rows_left p clock real tracks (Offer id used line server to judged send) =
     record {
       serial = id.serial;
       version = newest_number p;
       real = real;
       accepted = clock;
       phase = Offered (record { server = identity_of (plan_of p [] (newest_number p)) line server to; line = line; judged = judged });
-      tracks = [];
+      tracks = by_counter tracks;
     } ∷ []
-rows_left p clock real (Wait id used) = new_row id.serial (newest_number p) real clock ∷ []
-rows_left p clock real (Refuse id used cause) = []
-rows_left p clock real (Closed id why) = []
+rows_left p clock real tracks (Wait id used) = record (new_row id.serial (newest_number p) real clock) { tracks = by_counter tracks } ∷ []
+rows_left p clock real tracks (Refuse id used cause) = []
+rows_left p clock real tracks (Closed id why) = []
 
 same_number : (n : ℕ) → (n == n) ≡ true
 same_number n = eq-eqb n n refl
 
 -- the row that the entry itself opens
-new_rows_left : (p : Plain) (moment listener : ℕ) (real : PairValue) (said : Said) (id : ConnId) → id_of said ≡ Some id →
-    let e : Entry = entry moment (Accept listener real) (reply_of said) in
+new_rows_left : (p : Plain) (moment listener : ℕ) (real : PairValue) (said : Said) (tracks : ArrayVec Track) (id : ConnId) → id_of said ≡ Some id →
+    let e : Entry = entry moment (Accept listener real) (record { said = said; tracks = tracks }) in
     map (row_after p id.frontend (e ∷ [])) (filter (λ row. not (has_ended id.frontend (e ∷ []) row.serial)) (arrival id.frontend (max p.clock moment) (newest_number p) (Accept listener real) said))
-    ≡ rows_left p (max p.clock moment) real said
-new_rows_left p moment listener real (Offer id' used line server to judged send) id whom =
+    ≡ rows_left p (max p.clock moment) real tracks.items said
+new_rows_left p moment listener real (Offer id' used line server to judged send) tracks id whom =
     let same : id' ≡ id = let it : Some id' ≡ Some id = whom in cc in
     let front : id'.frontend ≡ id.frontend = ap (λ i. i.frontend) same in
     rw (front, same_number id.frontend, same_number id'.serial, same_number id.frontend) refl
-new_rows_left p moment listener real (Wait id' used) id whom =
+new_rows_left p moment listener real (Wait id' used) tracks id whom =
     let same : id' ≡ id = let it : Some id' ≡ Some id = whom in cc in
     let front : id'.frontend ≡ id.frontend = ap (λ i. i.frontend) same in
     rw (front, same_number id.frontend, same_number id'.serial, same_number id.frontend) refl
-new_rows_left p moment listener real (Refuse id' used cause) id whom = refl
-new_rows_left p moment listener real (Closed id' why) id whom = refl
+new_rows_left p moment listener real (Refuse id' used cause) tracks id whom = refl
+new_rows_left p moment listener real (Closed id' why) tracks id whom = refl
 
-accept-here : (p : Plain) (moment listener : ℕ) (real : PairValue) (said : Said) (id : ConnId) (own : FrontendRows) → IsFrontendWell p.versions own → id_of said ≡ Some id → id.serial ≡ own.serial + 1 →
-    frontend_after p (entry moment (Accept listener real) (reply_of said) ∷ []) id.frontend own
-    ≡ record own { serial = own.serial + 1; rows = own.rows ++ rows_left p (max p.clock moment) real said }
-accept-here p moment listener real said id own well whom next =
-    let e : Entry = entry moment (Accept listener real) (reply_of said) in
+accept-here : (p : Plain) (moment listener : ℕ) (real : PairValue) (reply : Reply) (id : ConnId) (own : FrontendRows) → IsFrontendWell p.versions own → id_of reply.said ≡ Some id → id.serial ≡ own.serial + 1 →
+    frontend_after p (entry moment (Accept listener real) reply ∷ []) id.frontend own
+    ≡ record own { serial = own.serial + 1; rows = own.rows ++ rows_left p (max p.clock moment) real reply.tracks.items reply.said }
+accept-here p moment listener real reply id own well whom next =
+    let said : Said = reply.said in
+    let e : Entry = entry moment (Accept listener real) reply in
     let f : Row → Row = row_after p id.frontend (e ∷ []) in
     let g : Row → Bool = λ row. not (has_ended id.frontend (e ∷ []) row.serial) in
     let more : List Row = arrival id.frontend (max p.clock moment) (newest_number p) (Accept listener real) said in
@@ -167,38 +171,37 @@ accept-here p moment listener real said id own well whom next =
     let unspoken : AllByRecursion (λ row. speaks_to id.frontend row.serial said ≡ false) own.rows =
     all-more (λ row. row.serial ≤ own.serial) (λ row. speaks_to id.frontend row.serial said ≡ false) own.rows
     (λ row le. let other : (id.serial == row.serial) ≡ false = grind (arith, nat_tests, next, le) in rw (whom, other, and_false (id.frontend == id.frontend)) refl) well.given in
-    let rows : map f (filter g (own.rows ++ more)) ≡ own.rows ++ rows_left p (max p.clock moment) real said =
+    let rows : map f (filter g (own.rows ++ more)) ≡ own.rows ++ rows_left p (max p.clock moment) real reply.tracks.items said =
     ap (map f) (filter-append g own.rows more) ∙ map-append f (filter g own.rows) (filter g more)
     ∙ ap (λ rs. rs ++ map f (filter g more)) (rows-unspoken p id.frontend e own.rows unspoken well.sorted)
-    ∙ ap (λ rs. own.rows ++ rs) (new_rows_left p moment listener real said id whom) in
+    ∙ ap (λ rs. own.rows ++ rs) (new_rows_left p moment listener real said reply.tracks id whom) in
     ap (λ b. record own { serial = own.serial + (0 + (if b then 1 else 0)); rows = map f (filter g (own.rows ++ more)) }) on
     ∙ ap (λ rs. record own { serial = own.serial + 1; rows = rs }) rows
 
-accept-elsewhere : (p : Plain) (moment listener : ℕ) (real : PairValue) (said : Said) (id : ConnId) (number : ℕ) (own : FrontendRows) → IsFrontendWell p.versions own → id_of said ≡ Some id → number ≢ id.frontend →
-    frontend_after p (entry moment (Accept listener real) (reply_of said) ∷ []) number own ≡ own
-accept-elsewhere p moment listener real said id number own well whom differs =
+accept-elsewhere : (p : Plain) (moment listener : ℕ) (real : PairValue) (reply : Reply) (id : ConnId) (number : ℕ) (own : FrontendRows) → IsFrontendWell p.versions own → id_of reply.said ≡ Some id → number ≢ id.frontend →
+    frontend_after p (entry moment (Accept listener real) reply ∷ []) number own ≡ own
+accept-elsewhere p moment listener real reply id number own well whom differs =
     let other : (id.frontend == number) ≡ false = grind (arith, nat_tests, differs) in
-    frontend-elsewhere p number (entry moment (Accept listener real) (reply_of said)) own well (λ serial. other_conn number serial said id whom differs)
+    frontend-elsewhere p number (entry moment (Accept listener real) reply) own well (λ serial. other_conn number serial reply.said id whom differs)
     (rw (whom, other) refl) (rw (whom, other, and_false _) refl)
 
 -- the state after an accept alone
-pub after-accept : (p : Plain) → IsWell p → (moment listener : ℕ) (real : PairValue) (said : Said) (id : ConnId) (own : FrontendRows) →
-    slice_get p.frontends id.frontend ≡ Some own → id_of said ≡ Some id → id.serial ≡ own.serial + 1 →
-    after p (entry moment (Accept listener real) (reply_of said) ∷ []) ≡ record {
+pub after-accept : (p : Plain) → IsWell p → (moment listener : ℕ) (real : PairValue) (reply : Reply) (id : ConnId) (own : FrontendRows) →
+    slice_get p.frontends id.frontend ≡ Some own → id_of reply.said ≡ Some id → id.serial ≡ own.serial + 1 →
+    after p (entry moment (Accept listener real) reply ∷ []) ≡ record {
       clock = max p.clock moment;
       listeners = p.listeners;
-      frontends = slice_set p.frontends id.frontend (record own { serial = own.serial + 1; rows = own.rows ++ rows_left p (max p.clock moment) real said });
+      frontends = slice_set p.frontends id.frontend (record own { serial = own.serial + 1; rows = own.rows ++ rows_left p (max p.clock moment) real reply.tracks.items reply.said });
       versions = p.versions;
-      tables = p.tables;
+      tables = tables_by p.frontends p.tables reply;
     }
-after-accept p well moment listener real said id own there whom next =
+after-accept p well moment listener real reply id own there whom next =
     let zero_plus : 0 + id.frontend ≡ id.frontend = omega arith in
-    let tables : tables_by (frontends_after p []) p.tables (reply_of said) ≡ p.tables =
-    ap (λ fs. tables_by fs p.tables (reply_of said)) (frontends_same p well) ∙ tables_entered p well id said own there whom next in
+    let tables : tables_by (frontends_after p []) p.tables reply ≡ tables_by p.frontends p.tables reply = ap (λ fs. tables_by fs p.tables reply) (frontends_same p well) in
     state_is p (max p.clock moment) _ _ _ _ tables
-    (map_from-one (IsFrontendWell p.versions) (frontend_after p (entry moment (Accept listener real) (reply_of said) ∷ [])) 0 id.frontend p.frontends own _ well.frontends there
-    (rw zero_plus (accept-here p moment listener real said id own (all-at (IsFrontendWell p.versions) p.frontends id.frontend own well.frontends there) whom next))
-    (λ g y known differs. accept-elsewhere p moment listener real said id g y known whom (λ e. differs (omega arith))))
+    (map_from-one (IsFrontendWell p.versions) (frontend_after p (entry moment (Accept listener real) reply ∷ [])) 0 id.frontend p.frontends own _ well.frontends there
+    (rw zero_plus (accept-here p moment listener real reply id own (all-at (IsFrontendWell p.versions) p.frontends id.frontend own well.frontends there) whom next))
+    (λ g y known differs. accept-elsewhere p moment listener real reply id g y known whom (λ e. differs (omega arith))))
 
 -- An event of a connection that is open.
 
@@ -275,39 +278,42 @@ pub after-end : (p : Plain) → IsWell p → (e : Entry) (id : ConnId) (own : Fr
 after-end p well e id own there old whom last =
     after-old p well e id own _ there old whom (ended-rows p e id own (all-at (IsFrontendWell p.versions) p.frontends id.frontend own well.frontends there) whom last)
 
--- a reply without tracks that leaves the connection open
-changed-rows : (p : Plain) (e : Entry) (id : ConnId) (rows : List Row) → AllByRecursion (λ row. by_counter row.tracks ≡ row.tracks) rows → id_of e.reply.said ≡ Some id → is_last e.reply.said ≡ false → e.reply.tracks.items ≡ [] →
-    map (row_after p id.frontend (e ∷ [])) (filter (λ row. not (has_ended id.frontend (e ∷ []) row.serial)) rows) ≡ change_row id.serial (λ row. record row { phase = phase_by (plan_of p [] row.version) e.event e.reply.said row.phase }) rows
-changed-rows p e id [] sorted whom last none = refl
-changed-rows p e id (row ∷ rows) sorted whom last none =
-    let rest = changed-rows p e id rows sorted.1 whom last none in
+-- a connection once that is said to it, and it tracks those too
+abbrev pub row_said : Plain → OwnedEvent → Reply → Row → Row
+row_said p event reply row = record row {
+  phase = phase_by (plan_of p [] row.version) event reply.said row.phase;
+  tracks = by_counter (row.tracks ++ reply.tracks.items);
+}
+
+-- a reply that leaves the connection open
+changed-rows : (p : Plain) (e : Entry) (id : ConnId) (rows : List Row) → AllByRecursion (λ row. by_counter row.tracks ≡ row.tracks) rows → id_of e.reply.said ≡ Some id → is_last e.reply.said ≡ false →
+    map (row_after p id.frontend (e ∷ [])) (filter (λ row. not (has_ended id.frontend (e ∷ []) row.serial)) rows) ≡ change_row id.serial (row_said p e.event e.reply) rows
+changed-rows p e id [] sorted whom last = refl
+changed-rows p e id (row ∷ rows) sorted whom last =
+    let rest = changed-rows p e id rows sorted.1 whom last in
     let stays : not (has_ended id.frontend (e ∷ []) row.serial) ≡ true = rw last refl in
     rw stays (cc (here (row.serial == id.serial) refl, rest))
   where
-    same : by_counter (row.tracks ++ []) ≡ row.tracks
-    same = ap by_counter (append-nil row.tracks) ∙ sorted.0
-
-    here : (b : Bool) → (row.serial == id.serial) ≡ b → row_after p id.frontend (e ∷ []) row ≡ (if row.serial == id.serial then record row { phase = phase_by (plan_of p [] row.version) e.event e.reply.said row.phase } else row)
+    here : (b : Bool) → (row.serial == id.serial) ≡ b → row_after p id.frontend (e ∷ []) row ≡ (if row.serial == id.serial then row_said p e.event e.reply row else row)
     here true is =
         let serial : id.serial ≡ row.serial = sym (eqb-true row.serial id.serial is) in
         let speaks : speaks_to id.frontend row.serial e.reply.said ≡ true = rw (whom, serial, same_number id.frontend, same_number row.serial) refl in
-        rw (is, speaks, none) (ap (λ ts. record row { phase = phase_by (plan_of p [] row.version) e.event e.reply.said row.phase; tracks = ts }) same)
+        rw (is, speaks) refl
     here false is =
         let other : (id.serial == row.serial) ≡ false = grind (arith, nat_tests, is) in
         let speaks : speaks_to id.frontend row.serial e.reply.said ≡ false = rw (whom, other, and_false _) refl in
         rw is (row-unspoken p id.frontend e row speaks sorted.0)
 
 pub after-change : (p : Plain) → IsWell p → (e : Entry) (id : ConnId) (own : FrontendRows) → slice_get p.frontends id.frontend ≡ Some own → IsOfOpen e.event → id_of e.reply.said ≡ Some id → is_last e.reply.said ≡ false →
-    e.reply.tracks.items ≡ [] →
     after p (e ∷ []) ≡ record {
       clock = max p.clock e.moment;
       listeners = p.listeners;
-      frontends = slice_set p.frontends id.frontend (record own { rows = change_row id.serial (λ row. record row { phase = phase_by (plan_of p [] row.version) e.event e.reply.said row.phase }) own.rows });
+      frontends = slice_set p.frontends id.frontend (record own { rows = change_row id.serial (row_said p e.event e.reply) own.rows });
       versions = p.versions;
       tables = tables_by p.frontends p.tables e.reply;
     }
-after-change p well e id own there old whom last none =
-    after-old p well e id own _ there old whom (changed-rows p e id own.rows (all-at (IsFrontendWell p.versions) p.frontends id.frontend own well.frontends there).sorted whom last none)
+after-change p well e id own there old whom last =
+    after-old p well e id own _ there old whom (changed-rows p e id own.rows (all-at (IsFrontendWell p.versions) p.frontends id.frontend own well.frontends there).sorted whom last)
 
 -- where a connection is open, its frontend is there
 pub frontend_there : (frontends : List FrontendRows) (number serial : ℕ) (own : FrontendRows) → is_some (row_in serial (slice_get frontends number)) ≡ true → own ≡ get_or frontends number own → slice_get frontends number ≡ Some own
@@ -316,20 +322,6 @@ frontend_there (f ∷ frontends) zero serial own found read = ap (λ x. Some x) 
 frontend_there (f ∷ frontends) (suc number) serial own found read = frontend_there frontends number serial own found read
 
 -- The plan of the version in force.
-
--- the newest version is the one of its number
-newest-at : (versions : List Version) (v : Version) → Rise (λ version. version.number) versions → newest versions ≡ Some v → version_at versions v.number ≡ Some v
-newest-at [] v rise there = absurd (let wrong : None ≡ Some v = there in cc)
-newest-at (w ∷ []) v rise there = let same : w ≡ v = let it : Some w ≡ Some v = there in cc in rw (eq-eqb w.number v.number (ap (λ u. u.number) same)) (ap (λ u. Some u) same)
-newest-at (w ∷ x ∷ versions) v rise there =
-    let less : w.number < v.number = above (x ∷ versions) v there rise.0 in
-    let differs : (w.number == v.number) ≡ false = grind (arith, nat_tests, less) in
-    rw differs (newest-at (x ∷ versions) v rise.1 there)
-  where
-    above : (vs : List Version) (v : Version) → newest vs ≡ Some v → AllByRecursion (λ u. w.number < u.number) vs → w.number < v.number
-    above [] v there all = absurd (let wrong : None ≡ Some v = there in cc)
-    above (u ∷ []) v there all = let same : u ≡ v = let it : Some u ≡ Some v = there in cc in let n : u.number ≡ v.number = ap (λ x. x.number) same in omega (arith, all.0, n)
-    above (u ∷ y ∷ vs) v there all = above (y ∷ vs) v there all.1
 
 plan-version : (versions : List Version) (n : ℕ) (v : Version) → version_at versions n ≡ Some v → find {X = ℕ × Plan} (λ pair. pair.0 == n) (map (λ version. (version.number, version.plan)) versions) ≡ Some (n, v.plan)
 plan-version [] n v there = absurd (let wrong : None ≡ Some v = there in cc)

@@ -1,9 +1,9 @@
 -- A legal history keeps what is known of a state, and an opening state has it.
-use Rattle.std.specs.Prelude.{ℕ, Bool, true, false, not, List, [], map, filter, slice_get, Option, Some, None, IsSome, IfOk, IfErr, Result, Ok, Err, refl, ◌+◌, ◌≡◌, ◌==◌, ◌∷◌, ◌++◌}
+use Rattle.std.specs.Prelude.{ℕ, Bool, not, List, [], map, filter, slice_get, Option, Some, None, IsSome, IfOk, IfErr, Result, Ok, Err, refl, ◌≡◌, ◌∷◌, ◌++◌}
 use Rattle.std.specs.List.{AllByRecursion, enumerate_from}
 use Rattle.std.specs.Option.{option_map_or}
-use Rattle.std.proofs.Common.{sym, ap, ◌∙◌, subst, arith, append-nil}
-use Rattle.std.proofs.lemmas.Bool.{false≢true, eq-eqb}
+use Rattle.std.proofs.Common.{sym, ap, ◌∙◌, subst, append-nil}
+use Rattle.std.proofs.lemmas.Bool.{false≢true}
 use Rattle.std.proofs.lemmas.List.{length-map}
 use Rattle.std.proofs.lemmas.List.FromFn.{length-enumerate_from}
 use Rattle.plan_types.specs.declared.plan.Frontend.{Frontend}
@@ -17,30 +17,24 @@ use Rattle.conn_model.specs.declared.plain.Version.{Version}
 use Rattle.conn_model.specs.declared.plain.Plain.{Plain}
 use Rattle.conn_model.specs.Words.{newest}
 use Rattle.conn_model.specs.Answer.{version_at, answer_in}
-use Rattle.conn_model.specs.Tables.{new_id}
-use Rattle.conn_model.specs.History.{now_of, in_force, newest_number, tracks_of, by_counter, arrival, arrivals, has_ended, row_after, frontend_after, after, answer, entry, Entry, IsFault, IsLegal, IsFrontendWell, IsWell, opening}
-use Rattle.conn_model.proofs.Lists.{all-append, all-each, all-filter, all-map, all-from_zero, rise-filter, rise-map, map_from-same}
+use Rattle.conn_model.specs.Tables.{new_id, IsTrackListed}
+use Rattle.conn_model.specs.History.{now_of, in_force, newest_number, tracks_of, by_counter, arrival, arrivals, has_ended, row_after, frontend_after, tables_of, after, answer, entry, Entry, IsFault, IsLegal, IsFrontendWell, IsWell, opening}
+use Rattle.conn_model.proofs.Lists.{all-append, all-each, all-filter, all-map, all-from_zero, rise-filter, rise-map}
 use Rattle.conn_model.proofs.Parts.{in_force-same, versions-same, by_counter-append}
 use Rattle.conn_model.proofs.Replies.{answered}
 use Rattle.conn_model.proofs.Serials.{FrontendFacts, facts_of, rows_given, arrival-all}
-use Rattle.conn_model.proofs.Goes.{well_at, whole_in_parts}
-
--- the newest version is found by its number
-newest-found : (versions : List Version) (v : Version) → newest versions ≡ Some v → IsSome (version_at versions v.number)
-newest-found [] v there = absurd (let wrong : None ≡ Some v = there in cc)
-newest-found (w ∷ []) v there = let same : w ≡ v = let it : Some w ≡ Some v = there in cc in rw (eq-eqb w.number v.number (ap (λ u. u.number) same)) refl
-newest-found (w ∷ x ∷ versions) v there = by (w.number == v.number) refl (newest-found (x ∷ versions) v there)
-  where
-    by : (b : Bool) → (w.number == v.number) ≡ b → IsSome (version_at (x ∷ versions) v.number) → IsSome (version_at (w ∷ x ∷ versions) v.number)
-    by true e rest = rw e refl
-    by false e rest = rw e rest
+use Rattle.conn_model.proofs.Goes.{legal_rest, well_at, whole_in_parts}
+pub use Rattle.conn_model.proofs.Nothing.{after-nil}
+use Rattle.conn_model.proofs.Versions.{newest-at}
+use Rattle.conn_model.proofs.TableSteps.{new_tables_well, tables_step}
+use Rattle.conn_model.proofs.TrackSteps.{tracks_step}
 
 force-found : (p : Plain) → IsWell p → IsSome (version_at p.versions (newest_number p))
 force-found p well = by (newest p.versions) refl well.last
   where
     by : (o : Option Version) → newest p.versions ≡ o → IsSome o → IsSome (version_at p.versions (newest_number p))
     by None e is = absurd (false≢true is)
-    by (Some v) e is = rw (ap (λ o. option_map_or (λ version. version.number) o 0) e) (newest-found p.versions v e)
+    by (Some v) e is = rw (ap (λ o. option_map_or (λ version. version.number) o 0) e, newest-at p.versions v well.rise e) refl
 
 -- the version of each row that was opened is kept
 arrivals-kept : (p : Plain) → IsWell p → (number : ℕ) (h : List Entry) → IsLegal p h → AllByRecursion (λ row. IsSome (version_at p.versions row.version)) (arrivals p number h)
@@ -71,41 +65,47 @@ frontend_well_after p well h legal number own there =
     by_counter-twice : (tracks : List _) → by_counter (by_counter tracks) ≡ by_counter tracks
     by_counter-twice tracks = ap by_counter (sym (append-nil (by_counter tracks))) ∙ by_counter-append tracks [] ∙ ap by_counter (append-nil tracks)
 
--- a legal history keeps what is known
-pub well_after : (p : Plain) → IsWell p → (h : List Entry) → IsLegal p h → IsWell (after p h)
-well_after p well h legal = record {
-  frontends = rw (versions-same p h) (all-from_zero (IsFrontendWell p.versions) (frontend_after p h) p.frontends (λ i own there. frontend_well_after p well h legal i own there));
-  rise = rw (versions-same p h) well.rise;
-  last = rw (versions-same p h) well.last;
-  versions = rw (versions-same p h) well.versions;
+-- one step keeps what is known
+well_step : (q : Plain) → IsWell q → (e : Entry) → IsLegal q (e ∷ []) → IsWell (after q (e ∷ []))
+well_step q well e legal = record {
+  frontends = rw (versions-same q (e ∷ [])) (all-from_zero (IsFrontendWell q.versions) (frontend_after q (e ∷ [])) q.frontends (λ i own there. frontend_well_after q well (e ∷ []) legal i own there));
+  rise = rw (versions-same q (e ∷ [])) well.rise;
+  last = rw (versions-same q (e ∷ [])) well.last;
+  versions = rw (versions-same q (e ∷ [])) well.versions;
+  tables = tables_step q well e legal;
+  tracks = tracks_step q well e legal;
 }
+
+-- and so does a legal history
+pub well_after : (p : Plain) → IsWell p → (h : List Entry) → IsLegal p h → IsWell (after p h)
+well_after p well [] legal = subst IsWell (sym (after-nil p well)) well
+well_after p well (e ∷ h) legal =
+    subst IsWell (whole_in_parts p well (e ∷ []) h legal) (well_step (after p h) (well_after p well h legal.0) e (legal_rest p well (e ∷ []) h legal))
 
 -- an opening state has it
 pub opening_well : (plan : Plan) (last : ℕ) → IsWell (opening plan last)
-opening_well plan last = record { frontends = by plan.frontends; rise = (tt, tt); last = refl; versions = (record { tables = length-map (enumerate_from 0 plan.tables) (new_id 1) ∙ length-enumerate_from 0 plan.tables; cursors = length-map plan.backends (λ backend. None) }, tt) }
+opening_well plan last = record {
+  frontends = by plan.frontends;
+  rise = (tt, tt);
+  last = refl;
+  versions = (record { tables = length-map (enumerate_from 0 plan.tables) (new_id 1) ∙ length-enumerate_from 0 plan.tables; cursors = length-map plan.backends (λ backend. None) }, tt);
+  tables = new_tables_well plan last;
+  tracks = nothing plan.frontends;
+}
   where
     by : (frontends : List Frontend) → AllByRecursion (IsFrontendWell (opening plan last).versions) (map (λ frontend. record { name = frontend.name; serial = last; rows = [] }) frontends)
     by [] = tt
     by (frontend ∷ frontends) = (record { rise = tt; given = tt; kept = tt; sorted = tt }, by frontends)
 
--- After nothing the state is the same.
+    nothing : (frontends : List Frontend) →
+        AllByRecursion (λ (own : FrontendRows). AllByRecursion (λ row. AllByRecursion (IsTrackListed (tables_of (opening plan last).versions row.version) (opening plan last).tables) row.tracks) own.rows)
+        (map (λ frontend. record { name = frontend.name; serial = last; rows = [] }) frontends)
+    nothing [] = tt
+    nothing (frontend ∷ frontends) = (tt, nothing frontends)
 
-rows_same : (p : Plain) (number : ℕ) (rows : List Row) → AllByRecursion (λ row. by_counter row.tracks ≡ row.tracks) rows →
-    map (row_after p number []) (filter (λ row. true) (rows ++ [])) ≡ rows
-rows_same p number [] sorted = refl
-rows_same p number (row ∷ rows) sorted =
-    let tracks : by_counter (row.tracks ++ []) ≡ row.tracks = ap by_counter (append-nil row.tracks) ∙ sorted.0 in
-    let here : row_after p number [] row ≡ row = ap (λ ts. record row { tracks = ts }) tracks in
-    cc (here, rows_same p number rows sorted.1)
-
-frontend_same : (p : Plain) (number : ℕ) (own : FrontendRows) → IsFrontendWell p.versions own → frontend_after p [] number own ≡ own
-frontend_same p number own well =
-    let serial : own.serial + 0 ≡ own.serial = omega arith in
-    ap (λ n. record own { serial = n; rows = map (row_after p number []) (filter (λ row. true) (own.rows ++ [])) }) serial
-    ∙ ap (λ rows. record own { rows = rows }) (rows_same p number own.rows well.sorted)
-
-pub after-nil : (p : Plain) → IsWell p → after p [] ≡ p
-after-nil p well = ap (λ frontends. record p { frontends = frontends }) (map_from-same (IsFrontendWell p.versions) (frontend_after p []) (frontend_same p) 0 p.frontends well.frontends)
+-- so has each state after a legal history from an opening
+pub history_well : (plan : Plan) (last : ℕ) (h : List Entry) → IsLegal (opening plan last) h → IsWell (after (opening plan last) h)
+history_well plan last h legal = well_after (opening plan last) (opening_well plan last) h legal
 
 -- One step, of the state and of the history.
 

@@ -2,7 +2,6 @@
 use Rattle.std.specs.Prelude.{ℕ, Bool, true, false, List, [], ◌∷◌, ◌++◌, length, max, find, slice_get, slice_set, Option, Some, None, Result, Ok, Err, ◌+◌, ◌==◌, nat_le, nat_lt, if◌then◌else◌}
 use Rattle.std.specs.Str.{bytes_eq}
 use Rattle.list_core.specs.Each.{◌>>=◌}
-use Rattle.addr_core.specs.declared.addr.Addr.{Addr}
 use Rattle.acl_core.specs.declared.criterion.Criterion.{Criterion}
 use Rattle.acl_core.specs.declared.criterion.Value.{Value}
 use Rattle.addr_core.specs.PairValue.{PairValue}
@@ -15,6 +14,10 @@ use Rattle.pp_any.specs.declared.rest.Rest.TheVariants.{Read}
 use Rattle.pp_any.specs.Status as statuses
 use Rattle.pp_any.specs.Status.{Status}
 use Rattle.pp_any.specs.NextPiece.{status_on}
+use Rattle.rule_engine.specs.Meaning.{present}
+use Rattle.rule_engine.specs.Judging.{judged, judged_after, no_tracks, Slots}
+use Rattle.rule_engine.specs.declared.judging.Judged.{Judged}
+use Rattle.plan_types.specs.declared.track.Track.{Track}
 use Rattle.plan_types.specs.declared.plan.Server.{Server}
 use Rattle.plan_types.specs.declared.plan.Frontend.{Frontend}
 use Rattle.plan_types.specs.declared.plan.Plan.{Plan}
@@ -36,17 +39,10 @@ use Rattle.conn_model.specs.declared.plain.FrontendRows.{FrontendRows}
 use Rattle.conn_model.specs.declared.plain.Version.{Version}
 use Rattle.conn_model.specs.declared.plain.Plain.{Plain}
 use Rattle.conn_model.specs.Words.{newest, or_fault}
-use Rattle.conn_model.specs.Rules.{Candidate, rule_view, worth, rejection, backend_for}
+pub use Rattle.conn_model.specs.Words.{row_in, row_at}
+use Rattle.conn_model.specs.Rules.{Candidate, RuleView, view_of, worth, scene_of, rejection, backend_for}
 
 -- The state, looked up.
-
-abbrev pub row_in : ℕ → Option FrontendRows → Option Row
-row_in serial None = None
-row_in serial (Some own) = find (λ row. row.serial == serial) own.rows
-
--- the open connection of that name
-abbrev pub row_at : List FrontendRows → ConnId → Option Row
-row_at frontends id = row_in id.serial (slice_get frontends id.frontend)
 
 abbrev pub version_at : List Version → ℕ → Option Version
 version_at versions number = find (λ version. version.number == number) versions
@@ -54,9 +50,13 @@ version_at versions number = find (λ version. version.number == number) version
 abbrev pub frontend_in : Plan → List ℕ → Option Frontend
 frontend_in plan name = find (λ frontend. bytes_eq frontend.name name) plan.frontends
 
--- a reply that makes no tracks
+-- a reply that tracks nothing
 abbrev pub reply_of : Said → Reply
 reply_of said = record { said = said; tracks = record { items = [] } }
+
+-- a reply of a step that tracks those, by counter
+abbrev pub reply_with : Said → Slots → Reply
+reply_with said made = record { said = said; tracks = record { items = present made } }
 
 -- Judging a connection.
 
@@ -67,17 +67,21 @@ server_for worth version frontend = do
   backend ← or_fault (NoBackend frontend.line) (slice_get version.plan.backends number)
   or_fault (NoServer backend.line) (slice_get backend.servers 0)
 
--- the session rules first, which may reject by a line, then the backend and its server
+-- unless the session rules reject it by a line
 abbrev pub server_unless : (Criterion → Value) → Version → Frontend → Option ℕ → Result Server Cause
 server_unless worth version frontend (Some line) = Err (Line line)
 server_unless worth version frontend None = server_for worth version frontend
 
-abbrev pub verdict : (Criterion → Value) → Version → Frontend → Result Server Cause
-verdict worth version frontend = server_unless worth version frontend (rejection frontend.acls worth frontend.session_rules)
+-- What is decided of a connection: its server, or why it gets none, and what the step tracks, by counter.
+pub record Decision : Type 0 where
+  pub result : Result Server Cause
+  pub made : Slots
 
--- the values of the criteria for a candidate of that source
-abbrev pub candidate_worth : Candidate → Addr → Criterion → Value
-candidate_worth candidate source = worth (rule_view candidate source)
+-- The session rules first, and then the backend and its server, where the step tracked those before.
+abbrev pub verdict : (List Track → RuleView) → Version → Frontend → Slots → Decision
+verdict views version frontend made =
+    let says = judged_after (scene_of views) made frontend.session_rules in
+    record { result = server_unless (worth (views (present says.tracks))) version frontend (rejection says); made = says.tracks }
 
 -- what the server is sent before the stream: the header that states the judged pair, of version 2 where the
 -- server is to get that one
@@ -89,9 +93,11 @@ abbrev pub said_of : ConnId → ℕ → PairValue → Result Server Cause → Sa
 said_of id used judged (Ok server) = Offer id used server.line 0 server.to judged (record { items = header_sent server judged })
 said_of id used judged (Err cause) = Refuse id used cause
 
--- once the header is whole, or where none is expected
-abbrev pub decision : Candidate → ℕ → PairValue → Said
-decision candidate used judged = said_of candidate.id used judged (verdict (candidate_worth candidate judged.source.addr) candidate.version candidate.frontend)
+-- once the header is whole, or where none is expected: what the step tracked before is given
+abbrev pub decision : Candidate → ℕ → PairValue → Slots → Reply
+decision candidate used judged made =
+    let decided = verdict (view_of candidate judged.source.addr) candidate.version candidate.frontend made in
+    reply_with (said_of candidate.id used judged decided.result) decided.made
 
 -- An accept.
 
@@ -113,18 +119,23 @@ candidate_at p clock number real own version frontend = record {
   id = record { frontend = number; serial = own.serial + 1 };
 }
 
--- after the connection rules, which may reject by a line: the connection waits where its listener expects a header
-abbrev pub entry_said : Candidate → Bool → PairValue → Option ℕ → Said
-entry_said candidate accept_proxy real (Some line) = Refuse candidate.id 0 (Line line)
-entry_said candidate true real None = Wait candidate.id 0
-entry_said candidate false real None = decision candidate 0 real
+-- after the connection rules, which may track and may reject by a line: the connection waits where its listener expects
+-- a header
+abbrev pub entry_reply : Candidate → Bool → PairValue → Slots → Option ℕ → Reply
+entry_reply candidate accept_proxy real made (Some line) = reply_with (Refuse candidate.id 0 (Line line)) made
+entry_reply candidate true real made None = reply_with (Wait candidate.id 0) made
+entry_reply candidate false real made None = decision candidate 0 real made
 
--- what is said to a candidate, where so many other connections of its frontend are open: the limit of the
--- frontend first, then the connection rules on the real source
-abbrev pub admission : Candidate → Bool → PairValue → ℕ → Said
+-- what the connection rules say of a candidate
+abbrev pub entry_rules : Candidate → PairValue → Judged
+entry_rules candidate real = judged (scene_of (view_of candidate real.source.addr)) candidate.frontend.connection_rules
+
+-- the reply to a candidate, where so many other connections of its frontend are open: the limit of the frontend
+-- first, then the connection rules on the real source
+abbrev pub admission : Candidate → Bool → PairValue → ℕ → Reply
 admission candidate accept_proxy real others =
-    if nat_le candidate.frontend.limit others then Refuse candidate.id 0 (Line candidate.frontend.limit_line)
-    else entry_said candidate accept_proxy real (rejection candidate.frontend.acls (candidate_worth candidate real.source.addr) candidate.frontend.connection_rules)
+    if nat_le candidate.frontend.limit others then reply_of (Refuse candidate.id 0 (Line candidate.frontend.limit_line))
+    else let says = entry_rules candidate real in entry_reply candidate accept_proxy real says.tracks (rejection says)
 
 -- an accept is judged by the newest version, in the frontend of its listener
 abbrev pub accept_answer : Plain → ℕ → ℕ → PairValue → Result Reply StepFault
@@ -133,7 +144,7 @@ accept_answer p clock listener real = do
   own ← or_fault NoListener (slice_get p.frontends at.frontend)
   version ← or_fault NoListener (newest p.versions)
   frontend ← or_fault NoListener (frontend_in version.plan own.name)
-  if nat_lt own.serial 0xFFFF_FFFF_FFFF_FFFF then Ok (reply_of (admission (candidate_at p clock at.frontend real own version frontend) at.accept_proxy real (length own.rows))) else Err Exhausted
+  if nat_lt own.serial 0xFFFF_FFFF_FFFF_FFFF then Ok (admission (candidate_at p clock at.frontend real own version frontend) at.accept_proxy real (length own.rows)) else Err Exhausted
 
 -- A piece of a header.
 
@@ -158,11 +169,11 @@ waiting_row frontends id = do
 abbrev pub candidate_of : Plain → ConnId → Version → Frontend → Candidate
 candidate_of p id version frontend = record { state = p; version = version; frontend = frontend; id = id }
 
--- what is said once a piece of that length came that decides this of the header
-abbrev pub header_said : Candidate → PairValue → ℕ → Status → Said
-header_said candidate real length statuses.Wait = Wait candidate.id length
-header_said candidate real length (statuses.Fault fault count) = Refuse candidate.id count (Header fault)
-header_said candidate real length (statuses.Whole count meaning) = decision candidate count (judged_pair real meaning)
+-- the reply once a piece of that length came that decides this of the header
+abbrev pub header_reply : Candidate → PairValue → ℕ → Status → Reply
+header_reply candidate real length statuses.Wait = reply_of (Wait candidate.id length)
+header_reply candidate real length (statuses.Fault fault count) = reply_of (Refuse candidate.id count (Header fault))
+header_reply candidate real length (statuses.Whole count meaning) = decision candidate count (judged_pair real meaning) no_tracks
 
 -- a piece is judged by the version of the connection's accept, in its own frontend
 abbrev pub piece_answer : Plain → ConnId → List ℕ → Result Reply StepFault
@@ -171,7 +182,7 @@ piece_answer p id piece = do
   own ← or_fault NoSuch (slice_get p.frontends id.frontend)
   version ← or_fault NoSuch (version_at p.versions waiting.0.version)
   frontend ← or_fault NoSuch (frontend_in version.plan own.name)
-  Ok (reply_of (header_said (candidate_of p id version frontend) waiting.0.real (length piece) (status_on waiting.1 piece)))
+  Ok (header_reply (candidate_of p id version frontend) waiting.0.real (length piece) (status_on waiting.1 piece))
 
 -- Other events.
 

@@ -9,6 +9,7 @@ use Rattle.pp_any.specs.NextPiece.{rest_on}
 use Rattle.plan_types.specs.declared.plan.Frontend.{Frontend}
 use Rattle.plan_types.specs.declared.plan.Backend.{Backend}
 use Rattle.plan_types.specs.declared.plan.Plan.{Plan}
+use Rattle.plan_types.specs.declared.track.TableId.{TableId}
 use Rattle.plan_types.specs.declared.track.Track.{Track}
 use Rattle.plan_types.specs.Lines.{has_line}
 use Rattle.conn_model.specs.declared.event.ConnId.{ConnId}
@@ -33,8 +34,9 @@ use Rattle.conn_model.specs.declared.ask.Ask.{Ask}
 use Rattle.conn_model.specs.declared.ask.Counts.{Counts}
 use Rattle.conn_model.specs.Words.{is_conn, newest, map_from, Rise}
 use Rattle.conn_model.specs.Counts.{counts_in}
-use Rattle.conn_model.specs.Answer.{answer_in, new_row, row_at, version_at}
-use Rattle.conn_model.specs.Tables.{new_id, new_table, open_tracks, with_tracks, without_tracks}
+use Rattle.conn_model.specs.Answer.{answer_in, new_row, version_at}
+use Rattle.conn_model.specs.Tables.{new_id, new_table, open_tracks, table_at, with_tracks, without_tracks, IncarnationsDiffer, IsTableWell, IsTrackListed}
+pub use Rattle.conn_model.specs.Tables.{by_counter, tracks_at}
 
 -- an answered event, with the moment that was handed in
 pub record Entry : Type 0 where
@@ -132,10 +134,6 @@ abbrev pub tracks_of : ℕ → ℕ → List Entry → List Track
 tracks_of number serial [] = []
 tracks_of number serial (e ∷ h) = tracks_of number serial h ++ (if speaks_to number serial e.reply.said then e.reply.tracks.items else [])
 
--- in the order of counters
-abbrev pub by_counter : List Track → List Track
-by_counter tracks = filter (λ track. track.counter == 0) tracks ++ filter (λ track. track.counter == 1) tracks ++ filter (λ track. track.counter == 2) tracks
-
 -- Which connections are open.
 
 -- the reply is a last one
@@ -218,10 +216,6 @@ abbrev pub versions_after : Plain → List Entry → List Version
 versions_after p [] = p.versions
 versions_after p (e ∷ h) = with_version (versions_after p h) (version_of e.event)
 
--- what the connection of that name tracks
-abbrev pub tracks_at : List FrontendRows → ConnId → List Track
-tracks_at frontends id = option_map_or (λ row. row.tracks) (row_at frontends id) []
-
 -- what is no longer tracked after a reply: where it is a last one, all that its connection tracked, in the order of
 -- counters
 abbrev pub ended_by : List FrontendRows → Reply → List Track
@@ -288,6 +282,22 @@ pub record IsVersionWell (version : Version) : Type 0 where
   pub tables : length version.tables ≡ length version.plan.tables
   pub cursors : length version.cursors ≡ length version.plan.backends
 
+-- the incarnations that the version of that number lists
+abbrev pub tables_of : List Version → ℕ → List TableId
+tables_of versions number = option_map_or (λ version. version.tables) (version_at versions number) []
+
+-- no two tables are of one incarnation, each incarnation that a kept version lists has its table, and none began after
+-- the newest version; the entries of each have different keys, and are no more than its size
+pub record AreTablesWell (p : Plain) : Type 0 where
+  pub differ : IncarnationsDiffer p.tables
+  pub there : AllByRecursion (λ version. AllByRecursion (λ id. IsSome (table_at p.tables id)) version.tables) p.versions
+  pub began : AllByRecursion (λ table. table.id.version ≤ newest_number p) p.tables
+  pub each : AllByRecursion IsTableWell p.tables
+
+-- what an open connection tracks is in tables of its version, and each key is listed in its table
+abbrev pub AreTracksListed : Plain → Type 0
+AreTracksListed p = AllByRecursion (λ own. AllByRecursion (λ row. AllByRecursion (IsTrackListed (tables_of p.versions row.version) p.tables) row.tracks) own.rows) p.frontends
+
 -- a state that an opening or a legal history can leave: besides, the numbers of the versions rise, and
 -- there is a newest
 pub record IsWell (p : Plain) : Type 0 where
@@ -295,6 +305,8 @@ pub record IsWell (p : Plain) : Type 0 where
   pub rise : Rise (λ version. version.number) p.versions
   pub last : IsSome (newest p.versions)
   pub versions : AllByRecursion IsVersionWell p.versions
+  pub tables : AreTablesWell p
+  pub tracks : AreTracksListed p
 
 -- nothing happened yet
 
@@ -321,6 +333,6 @@ owned_event (events.Expire id) = Expire id
 -- the event is of a connection that is open, and asks for no memory
 abbrev pub NeedsNoMemory : Event → Type 0
 NeedsNoMemory (events.Accept listener real) = ⊥
-NeedsNoMemory (events.Piece id bytes) = Unit {0}
+NeedsNoMemory (events.Piece id bytes) = ⊥
 NeedsNoMemory (events.Close id why) = Unit {0}
 NeedsNoMemory (events.Expire id) = Unit {0}

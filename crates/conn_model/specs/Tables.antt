@@ -1,14 +1,18 @@
 -- Tables: how the entries of each change as connections track keys, and end.
-use Rattle.std.specs.Prelude.{ℕ, Bool, List, [], ◌∷◌, ◌++◌, map, filter, find, flat_map, length, Option, ◌==◌, ◌&&◌, if◌then◌else◌}
+use Rattle.std.specs.Prelude.{ℕ, Bool, true, false, List, [], ◌∷◌, ◌++◌, map, filter, find, flat_map, length, Option, ◌≤◌, ◌≡◌, ◌==◌, ◌&&◌, if◌then◌else◌}
+use Rattle.std.specs.List.{list_any, AllByRecursion}
+use Rattle.std.specs.Option.{option_map_or}
 use Rattle.addr_core.specs.declared.addr.Addr.{Addr}
 use Rattle.stick_core.specs.Key.{same_key}
-use Rattle.stick_core.specs.PlainEntries.{with_tracking, touched, count_at, trackers_at}
+use Rattle.stick_core.specs.PlainEntries.{with_tracking, touched, count_at, is_in, trackers_at, KeysDiffer}
 use Rattle.plan_types.specs.declared.plan.Table.{Table}
 use Rattle.plan_types.specs.declared.track.TableId.{TableId}
 use Rattle.plan_types.specs.declared.track.Track.{Track}
 use Rattle.conn_model.specs.declared.ask.Counts.{Counts}
+use Rattle.conn_model.specs.declared.event.ConnId.{ConnId}
 use Rattle.conn_model.specs.declared.plain.FrontendRows.{FrontendRows}
 use Rattle.conn_model.specs.declared.plain.TableState.{TableState}
+use Rattle.conn_model.specs.Words.{row_at}
 
 -- the same incarnation of a table
 abbrev pub same_id : TableId → TableId → Bool
@@ -26,6 +30,14 @@ tracks_in own = flat_map (λ row. row.tracks) own.rows
 
 abbrev pub open_tracks : List FrontendRows → List Track
 open_tracks frontends = flat_map tracks_in frontends
+
+-- what the connection of that name tracks
+abbrev pub tracks_at : List FrontendRows → ConnId → List Track
+tracks_at frontends id = option_map_or (λ row. row.tracks) (row_at frontends id) []
+
+-- in the order of counters
+abbrev pub by_counter : List Track → List Track
+by_counter tracks = filter (λ track. track.counter == 0) tracks ++ filter (λ track. track.counter == 1) tracks ++ filter (λ track. track.counter == 2) tracks
 
 -- the track is of that key of the table
 abbrev pub is_of : TableId → Addr → Track → Bool
@@ -80,3 +92,24 @@ new_id version (position, table) = record { version = version; position = positi
 
 abbrev pub new_table : ℕ → ℕ × Table → TableState
 new_table version (position, table) = record { id = record { version = version; position = position }; table = table; entries = [] }
+
+-- What holds of tables.
+
+-- no two are of one incarnation
+abbrev pub IncarnationsDiffer : List TableState → Type 0
+IncarnationsDiffer [] = Unit {0}
+IncarnationsDiffer (table ∷ tables) = AllByRecursion (λ other. same_id other.id table.id ≡ false) tables × IncarnationsDiffer tables
+
+-- the keys of the entries differ, and there are no more entries than the size
+pub record IsTableWell (table : TableState) : Type 0 where
+  pub keys : KeysDiffer table.entries
+  pub fits : length table.entries ≤ table.table.size
+
+-- the key of the track is in the entries of its table
+abbrev pub is_listed : List TableState → Track → Bool
+is_listed tables track = option_map_or (λ table. is_in track.key table.entries) (table_at tables track.table) false
+
+-- the table of the track is one of those incarnations, and has the key
+pub record IsTrackListed (ids : List TableId) (tables : List TableState) (track : Track) : Type 0 where
+  pub table : list_any (same_id track.table) ids ≡ true
+  pub key : is_listed tables track ≡ true

@@ -1,12 +1,22 @@
--- Names of connections, and words on lists.
-use Rattle.std.specs.Prelude.{ℕ, Bool, List, [], ◌∷◌, ◌+◌, ◌==◌, ◌&&◌, ◌<◌, Option, Some, None, Result, Ok, Err}
+-- Names of connections, the rows that have them, and words on lists.
+use Rattle.std.specs.Prelude.{ℕ, Bool, List, [], ◌∷◌, find, slice_get, ◌+◌, ◌==◌, ◌&&◌, ◌<◌, Option, Some, None, Result, Ok, Err}
 use Rattle.std.specs.List.{AllByRecursion}
 pub use Rattle.list_core.specs.Newest.{newest}
 use Rattle.conn_model.specs.declared.event.ConnId.{ConnId}
+use Rattle.conn_model.specs.declared.plain.FrontendRows.{FrontendRows}
+use Rattle.conn_model.specs.declared.plain.Row.{Row}
 
 -- the connection of that frontend and serial
 abbrev pub is_conn : ℕ → ℕ → ConnId → Bool
 is_conn number serial id = (id.frontend == number) && (id.serial == serial)
+
+abbrev pub row_in : ℕ → Option FrontendRows → Option Row
+row_in serial None = None
+row_in serial (Some own) = find (λ row. row.serial == serial) own.rows
+
+-- the open connection of that name
+abbrev pub row_at : List FrontendRows → ConnId → Option Row
+row_at frontends id = row_in id.serial (slice_get frontends id.frontend)
 
 -- each item changed by its number
 abbrev pub map_from : {X : Type 0} → (ℕ → X → X) → ℕ → List X → List X

@@ -1,12 +1,15 @@
 //! Laws of the definitions, which every body meets that does by them.
-ghost use Rattle.std.specs.Prelude.{◌≡◌, ℕ, List, [], Some, length, ◌++◌, ◌∷◌};
+ghost use Rattle.std.specs.Prelude.{◌≡◌, ◌≤◌, ℕ, true, List, [], Some, IsSome, length, ◌++◌, ◌∷◌};
+ghost use Rattle.std.specs.List.{list_any, AllByRecursion};
 ghost use Rattle.pp_any.specs.declared.rest.Rest.{Rest};
 ghost use Rattle.pp_any.specs.Header.{shifted};
 ghost use Rattle.pp_any.specs.NextPiece.{status_on};
 ghost use Rattle.pp_any.specs.Rest.{IsRest};
 ghost use Rattle.pp_any.specs.Status.{status};
+ghost use Rattle.stick_core.specs.PlainEntries.{KeysDiffer};
 ghost use Rattle.conn_model.specs.Answer.{row_at};
-ghost use Rattle.conn_model.specs.History.{after, answer, counts, joined, opening, IsLegal, IsWell, Entry};
+ghost use Rattle.conn_model.specs.History.{after, answer, counts, joined, opening, tables_of, IsLegal, IsWell, Entry};
+ghost use Rattle.conn_model.specs.Tables.{is_listed, same_id, table_at, IncarnationsDiffer};
 ghost use Rattle.conn_model.specs.declared.event.ConnId.{ConnId};
 ghost use Rattle.conn_model.specs.declared.plain.Phase.TheVariants.{Waiting};
 ghost use Rattle.conn_model.specs.declared.plain.Row.{Row};
@@ -36,6 +39,27 @@ pub fn stays_well()
     ensures opens { (plan : plans.Plan) (last : ℕ) → IsWell (opening plan last) }
     ensures keeps { (p : Plain) → IsWell p → (h : List Entry) → IsLegal p h → IsWell (after p h) }
     ensures nothing { (p : Plain) → IsWell p → after p [] ≡ p }
+{}
+
+/// After each legal history from an opening the entries of a table have different keys and are no more than its size;
+/// no two tables are of one incarnation, and those of each kept version are there.
+pub fn tables_fit()
+    ensures keys { (plan : plans.Plan) (last : ℕ) (h : List Entry) → IsLegal (opening plan last) h →
+        AllByRecursion (λ table. KeysDiffer table.entries) (after (opening plan last) h).tables }
+    ensures fits { (plan : plans.Plan) (last : ℕ) (h : List Entry) → IsLegal (opening plan last) h →
+        AllByRecursion (λ table. length table.entries ≤ table.table.size) (after (opening plan last) h).tables }
+    ensures differ { (plan : plans.Plan) (last : ℕ) (h : List Entry) → IsLegal (opening plan last) h → IncarnationsDiffer (after (opening plan last) h).tables }
+    ensures there { (plan : plans.Plan) (last : ℕ) (h : List Entry) → IsLegal (opening plan last) h →
+        AllByRecursion (λ version. AllByRecursion (λ id. IsSome (table_at (after (opening plan last) h).tables id)) version.tables) (after (opening plan last) h).versions }
+{}
+
+/// And each key that an open connection tracks is listed in its table, which is one of the connection's version.
+pub fn tracks_are_listed()
+    ensures key { (plan : plans.Plan) (last : ℕ) (h : List Entry) → IsLegal (opening plan last) h → (id : ConnId) (row : Row) →
+        row_at (after (opening plan last) h).frontends id ≡ Some row → AllByRecursion (λ track. is_listed (after (opening plan last) h).tables track ≡ true) row.tracks }
+    ensures table { (plan : plans.Plan) (last : ℕ) (h : List Entry) → IsLegal (opening plan last) h → (id : ConnId) (row : Row) →
+        row_at (after (opening plan last) h).frontends id ≡ Some row →
+        AllByRecursion (λ track. list_any (same_id track.table) (tables_of (after (opening plan last) h).versions row.version) ≡ true) row.tracks }
 {}
 
 /// A connection that waits for its header is judged by all the bytes that came of it, however they were cut: it

@@ -1,0 +1,241 @@
+-- One step keeps what open connections track listed.
+use Rattle.std.specs.Prelude.{ℕ, Bool, true, false, not, List, [], map, filter, find, slice_get, flat_map, Option, Some, None, Ok, refl, ◌+◌, ◌≤◌, ◌<◌, ◌≡◌, ◌==◌, ◌||◌, ◌∷◌, ◌++◌, if◌then◌else◌}
+use Rattle.std.specs.List.{list_any, AllByRecursion}
+use Rattle.std.specs.Option.{option_map_or}
+use Rattle.std.proofs.Common.{sym, ap, ◌∙◌, subst, arith}
+use Rattle.std.proofs.lemmas.Bool.{false≢true, eqb-true, eq-eqb}
+use Rattle.std.proofs.lemmas.List.Folds.{list_any-append}
+use Rattle.stick_core.specs.PlainEntries.{is_in}
+use Rattle.plan_types.specs.declared.track.TableId.{TableId}
+use Rattle.plan_types.specs.declared.track.Track.{Track}
+use Rattle.conn_model.specs.declared.event.OwnedEvent.{OwnedEvent}
+use Rattle.conn_model.specs.declared.event.OwnedEvent.TheVariants.{Accept, Piece, Close, Expire}
+use Rattle.conn_model.specs.declared.event.ConnId.{ConnId}
+use Rattle.conn_model.specs.declared.reply.Reply.{Reply}
+use Rattle.conn_model.specs.declared.reply.Said.{Said}
+use Rattle.conn_model.specs.declared.plain.Row.{Row}
+use Rattle.conn_model.specs.declared.plain.FrontendRows.{FrontendRows}
+use Rattle.conn_model.specs.declared.plain.TableState.{TableState}
+use Rattle.conn_model.specs.declared.plain.Plain.{Plain}
+use Rattle.conn_model.specs.Answer.{answer_in, row_at, row_in}
+use Rattle.conn_model.specs.Words.{Rise}
+use Rattle.conn_model.specs.Tables.{by_counter, is_listed, open_tracks, same_id, table_at, tracks_in, IsTrackListed}
+use Rattle.conn_model.specs.History.{after, arrival, frontend_after, has_ended, newest_number, now_of, row_after, speaks_to, tables_of, versions_after, AreTracksListed, Entry, IsFrontendWell, IsLegal, IsWell}
+use Rattle.conn_model.proofs.Lists.{all-append, all-at, all-both, all-each, all-filter, all-found, all-from_zero, all-map, all-more, or_left, or_right}
+use Rattle.conn_model.proofs.Parts.{versions-same}
+use Rattle.conn_model.proofs.Replies.{answered, IsNew, IsOld, Says}
+use Rattle.conn_model.proofs.Serials.{arrival-all, speaks_that}
+use Rattle.conn_model.proofs.Goes.{well_at}
+use Rattle.conn_model.proofs.Nothing.{after-nil}
+use Rattle.conn_model.proofs.OneTable.{same_id-refl, table_at-map, table_by, table_by-entries, table_found}
+use Rattle.conn_model.proofs.Listed.{table_by-new, table_by-stays, IsIn}
+use Rattle.conn_model.proofs.Sources.{any-at, has_source, judging, HasSource, IsOfSource}
+use Rattle.conn_model.proofs.TableSteps.{tables_after_step}
+
+-- Tracks of open connections.
+
+all-in : {X : Type 0} (xs : List X) → AllByRecursion (IsIn xs) xs
+all-in [] = tt
+all-in (x ∷ xs) = (
+  (λ test is. or_left (test x) (list_any test xs) is),
+  all-more (IsIn xs) (IsIn (x ∷ xs)) xs (λ y found test is. or_right (test x) (list_any test xs) (found test is)) (all-in xs),
+)
+
+any-flat : {X Y : Type 0} (test : Y → Bool) (f : X → List Y) (xs : List X) → list_any test (flat_map f xs) ≡ list_any (λ x. list_any test (f x)) xs
+any-flat test f [] = refl
+any-flat test f (x ∷ xs) = list_any-append test (f x) (flat_map f xs) ∙ ap (λ b. list_any test (f x) || b) (any-flat test f xs)
+
+in-open : (frontends : List FrontendRows) (n : ℕ) (own : FrontendRows) (row : Row) (track : Track) → slice_get frontends n ≡ Some own → IsIn own.rows row → IsIn row.tracks track →
+    IsIn (open_tracks frontends) track
+in-open frontends n own row track there row_in track_in test is =
+    any-flat test tracks_in frontends
+    ∙ any-at (λ f. list_any test (tracks_in f)) frontends n own there
+    (any-flat test (λ r. r.tracks) own.rows ∙ row_in (λ r. list_any test r.tracks) (track_in test is))
+
+-- What is listed after a step.
+
+-- what was tracked and listed
+old_listed : (q : Plain) (reply : Reply) (track : Track) → IsIn (open_tracks q.frontends) track → is_listed q.tables track ≡ true →
+    is_listed (map (table_by q.frontends reply) q.tables) track ≡ true
+old_listed q reply track found is = by (table_at q.tables track.table) refl
+  where
+    by : (o : Option TableState) → table_at q.tables track.table ≡ o → is_listed (map (table_by q.frontends reply) q.tables) track ≡ true
+    by None e = absurd (false≢true (rw e at is))
+    by (Some table) e =
+        let on : same_id table.id track.table ≡ true = ap (λ i. same_id i track.table) (table_found q.tables track.table table e) ∙ same_id-refl track.table in
+        rw (table_at-map (table_by q.frontends reply) (table_by-entries q.frontends reply) q.tables track.table, e) (table_by-stays q.frontends reply track table found on (rw e at is))
+
+all-for : {X Y : Type 0} (P : X → Y → Type 0) (ys : List Y) → ((x : X) → AllByRecursion (P x) ys) → AllByRecursion (λ y. (x : X) → P x y) ys
+all-for P [] each = tt
+all-for P (y ∷ ys) each = ((λ x. (each x).0), all-for P ys (λ x. (each x).1))
+
+-- what a step tracks
+new_listed : (q : Plain) (reply : Reply) (ids : List TableId) (source : _) → AllByRecursion (IsOfSource (open_tracks q.frontends) q.tables ids source) reply.tracks.items →
+    AllByRecursion (IsTrackListed ids (map (table_by q.frontends reply) q.tables)) reply.tracks.items
+new_listed q reply ids source all =
+    let New : TableState → Track → Type 0 = λ table track. same_id table.id track.table ≡ true → is_in track.key (table_by q.frontends reply table).entries ≡ true in
+    all-more (λ track. IsOfSource (open_tracks q.frontends) q.tables ids source track × ((table : TableState) → New table track)) (IsTrackListed ids (map (table_by q.frontends reply) q.tables)) reply.tracks.items
+    (λ track both. one track both.0 both.1)
+    (all-both (IsOfSource (open_tracks q.frontends) q.tables ids source) (λ track. (table : TableState) → New table track) reply.tracks.items all (all-for New reply.tracks.items (table_by-new q.frontends reply)))
+  where
+    one : (track : Track) → IsOfSource (open_tracks q.frontends) q.tables ids source track →
+        ((table : TableState) → same_id table.id track.table ≡ true → is_in track.key (table_by q.frontends reply table).entries ≡ true) → IsTrackListed ids (map (table_by q.frontends reply) q.tables) track
+    one track known new' =
+        let on : same_id known.table.id track.table ≡ true = ap (λ i. same_id i track.table) (table_found q.tables track.table known.table known.there) ∙ same_id-refl track.table in
+        record {
+          table = known.among;
+          key = rw (table_at-map (table_by q.frontends reply) (table_by-entries q.frontends reply) q.tables track.table, known.there) (new' known.table on);
+        }
+
+-- A reply speaks to a row of the version that judges its event.
+
+abbrev JudgesRow : Plain → ℕ → Entry → Row → Type 0
+JudgesRow q number e row = speaks_to number row.serial e.reply.said ≡ true → row.version ≡ judging q e.event
+
+-- rows of one serial are of one version
+same_row : (rows : List Row) (found : Row) (s : ℕ) → Rise (λ row. row.serial) rows → find (λ row. row.serial == s) rows ≡ Some found →
+    AllByRecursion (λ row. row.serial ≡ s → row.version ≡ found.version) rows
+same_row [] found s rise there = tt
+same_row (x ∷ rows) found s rise there = by (x.serial == s) refl (same_row rows found s rise.1)
+  where
+    by : (b : Bool) → (x.serial == s) ≡ b → (find (λ row. row.serial == s) rows ≡ Some found → AllByRecursion (λ row. row.serial ≡ s → row.version ≡ found.version) rows) →
+        AllByRecursion (λ row. row.serial ≡ s → row.version ≡ found.version) (x ∷ rows)
+    by true e rest =
+        let it : Some x ≡ Some found = rw e at there in
+        let same : x ≡ found = cc in
+        let serial : x.serial ≡ s = eqb-true x.serial s e in (
+          (λ is. ap (λ r. r.version) same),
+          all-more (λ row. x.serial < row.serial) (λ row. row.serial ≡ s → row.version ≡ found.version) rows (λ row above is. absurd (omega (arith, above, is, serial))) rise.0,
+        )
+    by false e rest = ((λ is. absurd (false≢true (sym e ∙ eq-eqb x.serial s is))), rest (rw e at there))
+
+-- an event of an open connection
+old_judged : (q : Plain) (number : ℕ) (own : FrontendRows) (id : ConnId) (said : Said) (version : ℕ) → slice_get q.frontends number ≡ Some own → IsFrontendWell q.versions own → IsOld q id said →
+    version ≡ option_map_or (λ row. row.version) (row_at q.frontends id) 0 → AllByRecursion (λ row. speaks_to number row.serial said ≡ true → row.version ≡ version) own.rows
+old_judged q number own id said version there well is_old is = by (id.frontend == number) refl
+  where
+    judged : version ≡ is_old.row.version
+    judged = is ∙ ap (λ o. option_map_or (λ row. row.version) o 0) is_old.there
+
+    by : (b : Bool) → (id.frontend == number) ≡ b → AllByRecursion (λ row. speaks_to number row.serial said ≡ true → row.version ≡ version) own.rows
+    by true e =
+        let here : id.frontend ≡ number = eqb-true id.frontend number e in
+        let found : row_in id.serial (slice_get q.frontends number) ≡ Some is_old.row = subst (λ n. row_in id.serial (slice_get q.frontends n) ≡ Some is_old.row) here is_old.there in
+        let found' : find (λ row. row.serial == id.serial) own.rows ≡ Some is_old.row = ap (row_in id.serial) (sym there) ∙ found in
+        all-more (λ row. row.serial ≡ id.serial → row.version ≡ is_old.row.version) (λ row. speaks_to number row.serial said ≡ true → row.version ≡ version) own.rows
+        (λ row same spoken. same (sym (speaks_that number row.serial said id is_old.speaks spoken).1) ∙ sym judged)
+        (same_row own.rows is_old.row id.serial well.rise found')
+    by false e =
+        all-each (λ row. speaks_to number row.serial said ≡ true → row.version ≡ version) own.rows
+        (λ row spoken. absurd (false≢true (sym e ∙ eq-eqb id.frontend number (speaks_that number row.serial said id is_old.speaks spoken).0)))
+
+-- a reply to an accept speaks to no row that was there
+new_judged : (q : Plain) (number : ℕ) (own : FrontendRows) (said : Said) (version : ℕ) → slice_get q.frontends number ≡ Some own → IsFrontendWell q.versions own → IsNew q said →
+    AllByRecursion (λ row. speaks_to number row.serial said ≡ true → row.version ≡ version) own.rows
+new_judged q number own said version there well new =
+    all-more (λ row. row.serial ≤ own.serial) (λ row. speaks_to number row.serial said ≡ true → row.version ≡ version) own.rows
+    (λ row below spoken.
+    let that : (new.id.frontend ≡ number) × (new.id.serial ≡ row.serial) = speaks_that number row.serial said new.id new.speaks spoken in
+    let here : slice_get q.frontends number ≡ Some new.own = subst (λ k. slice_get q.frontends k ≡ Some new.own) that.0 new.there in
+    let both : Some own ≡ Some new.own = sym there ∙ here in
+    let same : own ≡ new.own = cc in
+    let serial : own.serial ≡ new.own.serial = ap (λ l. l.serial) same in
+    let next : new.id.serial ≡ new.own.serial + 1 = new.next in
+    let mine : new.id.serial ≡ row.serial = that.1 in
+    absurd (omega (arith, below, mine, serial, next))) well.given
+
+rows_judged : (q : Plain) (number : ℕ) (own : FrontendRows) (event : OwnedEvent) (said : Said) → slice_get q.frontends number ≡ Some own → IsFrontendWell q.versions own → Says q event said →
+    AllByRecursion (λ row. speaks_to number row.serial said ≡ true → row.version ≡ judging q event) own.rows
+rows_judged q number own (Accept listener real) said there well says = new_judged q number own said (newest_number q) there well says
+rows_judged q number own (Piece id bytes) said there well says = old_judged q number own id said _ there well says refl
+rows_judged q number own (Close id why) said there well says = old_judged q number own id said _ there well says refl
+rows_judged q number own (Expire id) said there well says = old_judged q number own id said _ there well says refl
+
+-- what an accept opens is of the newest version, and tracked nothing before
+abbrev IsArrival : Plain → OwnedEvent → Row → Type 0
+IsArrival q event row = (row.version ≡ judging q event) × (row.tracks ≡ [])
+
+arrivals_judged : (q : Plain) (number clock : ℕ) (event : OwnedEvent) (said : Said) → Says q event said → AllByRecursion (IsArrival q event) (arrival number clock (newest_number q) event said)
+arrivals_judged q number clock (Accept listener real) said says =
+    arrival-all (IsArrival q (Accept listener real)) q number clock (newest_number q) (Accept listener real) said says (λ new real' here accepting. (refl, refl))
+arrivals_judged q number clock (Piece id bytes) said says = tt
+arrivals_judged q number clock (Close id why) said says = tt
+arrivals_judged q number clock (Expire id) said says = tt
+
+-- One step.
+
+all-by_counter : (P : Track → Type 0) (tracks : List Track) → AllByRecursion P tracks → AllByRecursion P (by_counter tracks)
+all-by_counter P tracks all =
+    let of : (n : ℕ) → AllByRecursion P (filter (λ track. track.counter == n) tracks) = λ n. all-filter P (λ track. track.counter == n) tracks all in
+    all-append P (filter (λ track. track.counter == 0) tracks ++ filter (λ track. track.counter == 1) tracks) (filter (λ track. track.counter == 2) tracks)
+    (all-append P (filter (λ track. track.counter == 0) tracks) (filter (λ track. track.counter == 1) tracks) (of 0) (of 1)) (of 2)
+
+either : (P : Track → Type 0) (b : Bool) (made : List Track) → (b ≡ true → AllByRecursion P made) → AllByRecursion P (if b then made else [])
+either P true made each = each refl
+either P false made each = tt
+
+-- what is known of the tracks of a row before
+abbrev Known : Plain → Row → Type 0
+Known q row = AllByRecursion (λ track. IsIn (open_tracks q.frontends) track × IsTrackListed (tables_of q.versions row.version) q.tables track) row.tracks
+
+row_listed : (q : Plain) (e : Entry) (number : ℕ) (row : Row) → HasSource q (judging q e.event) e.reply → Known q row → JudgesRow q number e row →
+    AllByRecursion (IsTrackListed (tables_of q.versions row.version) (map (table_by q.frontends e.reply) q.tables)) (row_after q number (e ∷ []) row).tracks
+row_listed q e number row source known judged =
+    let made : List Track = e.reply.tracks.items in
+    let P : Track → Type 0 = IsTrackListed (tables_of q.versions row.version) (map (table_by q.frontends e.reply) q.tables) in
+    let old : AllByRecursion P row.tracks =
+    all-more (λ track. IsIn (open_tracks q.frontends) track × IsTrackListed (tables_of q.versions row.version) q.tables track) P row.tracks
+    (λ track is. record { table = is.1.table; key = old_listed q e.reply track is.0 is.1.key }) known in
+    let new' : speaks_to number row.serial e.reply.said ≡ true → AllByRecursion P made = λ spoken.
+    subst (λ n. AllByRecursion (IsTrackListed (tables_of q.versions n) (map (table_by q.frontends e.reply) q.tables)) made) (sym (judged spoken))
+    (new_listed q e.reply (tables_of q.versions (judging q e.event)) source.0 source.1) in
+    all-by_counter P (row.tracks ++ (if speaks_to number row.serial e.reply.said then made else []))
+    (all-append P row.tracks (if speaks_to number row.serial e.reply.said then made else []) old (either P (speaks_to number row.serial e.reply.said) made new'))
+
+-- each row of a frontend, with those that come in
+rows_listed : (q : Plain) → IsWell q → (e : Entry) (number : ℕ) (own : FrontendRows) → slice_get q.frontends number ≡ Some own → Says q e.event e.reply.said → HasSource q (judging q e.event) e.reply →
+    AllByRecursion (λ row. AllByRecursion (IsTrackListed (tables_of q.versions row.version) (map (table_by q.frontends e.reply) q.tables)) row.tracks) (frontend_after q (e ∷ []) number own).rows
+rows_listed q well e number own there says source =
+    let those : List Row = arrival number (now_of q.clock (e ∷ [])) (newest_number q) e.event e.reply.said in
+    let live : Row → Bool = λ row. not (has_ended number (e ∷ []) row.serial) in
+    let R : Row → Type 0 = λ row. AllByRecursion (IsTrackListed (tables_of q.versions row.version) (map (table_by q.frontends e.reply) q.tables)) row.tracks in
+    let Q : Row → Type 0 = λ row. R (row_after q number (e ∷ []) row) in
+    let listed : AllByRecursion (λ row. AllByRecursion (IsTrackListed (tables_of q.versions row.version) q.tables) row.tracks) own.rows =
+    all-at (λ own. AllByRecursion (λ row. AllByRecursion (IsTrackListed (tables_of q.versions row.version) q.tables) row.tracks) own.rows) q.frontends number own well.tracks there in
+    let known : AllByRecursion (Known q) own.rows =
+    all-more (λ row. IsIn own.rows row × AllByRecursion (IsTrackListed (tables_of q.versions row.version) q.tables) row.tracks) (Known q) own.rows (λ row both. known_in row both.0 both.1)
+    (all-both (IsIn own.rows) (λ row. AllByRecursion (IsTrackListed (tables_of q.versions row.version) q.tables) row.tracks) own.rows (all-in own.rows) listed) in
+    let old : AllByRecursion Q own.rows =
+    all-more (λ row. Known q row × JudgesRow q number e row) Q own.rows (λ row both. row_listed q e number row source both.0 both.1)
+    (all-both (Known q) (JudgesRow q number e) own.rows known (rows_judged q number own e.event e.reply.said there (well_at q well number own there) says)) in
+    let new' : AllByRecursion Q those =
+    all-more (IsArrival q e.event) Q those
+    (λ row is. row_listed q e number row source (subst (AllByRecursion (λ track. IsIn (open_tracks q.frontends) track × IsTrackListed (tables_of q.versions row.version) q.tables track)) (sym is.1) tt) (λ spoken. is.0))
+    (arrivals_judged q number (now_of q.clock (e ∷ [])) e.event e.reply.said says) in
+    all-map R (row_after q number (e ∷ [])) (filter live (own.rows ++ those)) (all-filter Q live (own.rows ++ those) (all-append Q own.rows those old new'))
+  where
+    known_in : (row : Row) → IsIn own.rows row → AllByRecursion (IsTrackListed (tables_of q.versions row.version) q.tables) row.tracks → Known q row
+    known_in row found all =
+        all-more (λ track. IsIn row.tracks track × IsTrackListed (tables_of q.versions row.version) q.tables track)
+        (λ track. IsIn (open_tracks q.frontends) track × IsTrackListed (tables_of q.versions row.version) q.tables track) row.tracks
+        (λ track both. (in-open q.frontends number own row track there found both.0, both.1))
+        (all-both (IsIn row.tracks) (IsTrackListed (tables_of q.versions row.version) q.tables) row.tracks (all-in row.tracks) all)
+
+pub tracks_step : (q : Plain) → IsWell q → (e : Entry) → IsLegal q (e ∷ []) → AreTracksListed (after q (e ∷ []))
+tracks_step q well e legal =
+    let is : answer_in q e.moment e.event ≡ Ok e.reply = subst (λ s. answer_in s e.moment e.event ≡ Ok e.reply) (after-nil q well) legal.1 in
+    let versions : versions_after q (e ∷ []) ≡ q.versions = versions-same q (e ∷ []) in
+    subst (λ vs. AllByRecursion (λ own. AllByRecursion (λ row. AllByRecursion (IsTrackListed (tables_of vs row.version) (after q (e ∷ [])).tables) row.tracks) own.rows) (after q (e ∷ [])).frontends) (sym versions)
+    (subst (λ ts. AllByRecursion (λ own. AllByRecursion (λ row. AllByRecursion (IsTrackListed (tables_of q.versions row.version) ts) row.tracks) own.rows) (after q (e ∷ [])).frontends) (sym (tables_after_step q well e))
+    (all-from_zero (λ own. AllByRecursion (λ row. AllByRecursion (IsTrackListed (tables_of q.versions row.version) (map (table_by q.frontends e.reply) q.tables)) row.tracks) own.rows) (frontend_after q (e ∷ [])) q.frontends
+    (λ number own there. rows_listed q well e number own there (answered q e.moment e.event e.reply is) (has_source q well e.moment e.event e.reply is))))
+
+-- the tracks of an open connection
+pub row_tracks : (p : Plain) → AreTracksListed p → (id : ConnId) (row : Row) → row_at p.frontends id ≡ Some row → AllByRecursion (IsTrackListed (tables_of p.versions row.version) p.tables) row.tracks
+row_tracks p all id row there = by (slice_get p.frontends id.frontend) refl there
+  where
+    by : (o : Option FrontendRows) → slice_get p.frontends id.frontend ≡ o → row_in id.serial o ≡ Some row → AllByRecursion (IsTrackListed (tables_of p.versions row.version) p.tables) row.tracks
+    by None e found = absurd (let wrong : None ≡ Some row = found in cc)
+    by (Some own) e found =
+        (all-found (λ row. AllByRecursion (IsTrackListed (tables_of p.versions row.version) p.tables) row.tracks) (λ row. row.serial == id.serial) own.rows row
+        (all-at (λ own. AllByRecursion (λ row. AllByRecursion (IsTrackListed (tables_of p.versions row.version) p.tables) row.tracks) own.rows) p.frontends id.frontend own all e) found).0
