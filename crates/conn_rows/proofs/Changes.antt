@@ -1,18 +1,15 @@
--- Changes of one connection, one after the other.
-use Rattle.std.proofs.Common.{◌≡◌, ℕ, zero, suc, Bool, true, false, not, List, [], ◌∷◌, Option, Some, None, refl, sym, ap, ◌∙◌}
-use Rattle.std.specs.Prelude.{slice_get, slice_set, filter, ◌==◌}
+-- Changes of one connection.
+use Rattle.std.proofs.Common.{◌≡◌, ℕ, Bool, true, false, not, List, [], ◌∷◌, Option, Some, None, refl, sym, ap, ◌∙◌}
+use Rattle.std.specs.Prelude.{slice_get, slice_set, filter, find, option_map, ◌==◌}
 use Rattle.std.specs.Option.{option_map_or}
 use Rattle.std.proofs.lemmas.List.{set-set}
 use Rattle.conn_model.specs.declared.event.ConnId.{ConnId}
 use Rattle.conn_model.specs.declared.plain.Row.{Row}
 use Rattle.conn_model.specs.declared.plain.FrontendRows.{FrontendRows}
 use Rattle.conn_model.specs.Counts.{change_row}
+use Rattle.conn_model.specs.Words.{row_at, row_in}
+use Rattle.conn_tables.proofs.PlaceLemmas.{get-set}
 use Rattle.conn_rows.specs.Changes.{with_conn, with_item, with_row, without_conn, without_row}
-
-get-set : {X : Type 0} (xs : List X) (n : ℕ) (x y : X) → slice_get xs n ≡ Some x → slice_get (slice_set xs n y) n ≡ Some y
-get-set [] n x y there = absurd (cc)
-get-set (z ∷ xs) zero x y there = refl
-get-set (z ∷ xs) (suc n) x y there = get-set xs n x y there
 
 -- an item changed twice
 pub item_twice : {X : Type 0} (n : ℕ) (f g : X → X) (xs : List X) → with_item n g (with_item n f xs) ≡ with_item n (λ x. g (f x)) xs
@@ -58,6 +55,35 @@ row_gone serial change (row ∷ rows) keeps = by (row.serial == serial) refl (ro
         let still : ((change row).serial == serial) ≡ true = ap (λ n. n == serial) (keeps row) ∙ is in
         rw (is, still) more
     by false is more = rw (is, is) (ap (λ rs. row ∷ rs) more)
+
+-- the frontend of a connection that is changed
+pub own_changed : (id : ConnId) (change : Row → Row) (frontends : List FrontendRows) → slice_get (with_conn id change frontends) id.frontend ≡ option_map (with_row id.serial change) (slice_get frontends id.frontend)
+own_changed id change frontends = by (slice_get frontends id.frontend) refl
+  where
+    by : (o : Option FrontendRows) → slice_get frontends id.frontend ≡ o → slice_get (with_conn id change frontends) id.frontend ≡ option_map (with_row id.serial change) (slice_get frontends id.frontend)
+    by None none = rw (none, none) refl
+    by (Some own) there =
+        let set : with_conn id change frontends ≡ slice_set frontends id.frontend (with_row id.serial change own) = rw there refl in
+        ap (λ fs. slice_get fs id.frontend) set ∙ get-set frontends id.frontend own (with_row id.serial change own) there ∙ ap (option_map (with_row id.serial change)) (sym there)
+
+find-changed : (serial : ℕ) (change : Row → Row) (rows : List Row) → ((row : Row) → (change row).serial ≡ row.serial) →
+    find (λ row. row.serial == serial) (change_row serial change rows) ≡ option_map change (find (λ row. row.serial == serial) rows)
+find-changed serial change [] keeps = refl
+find-changed serial change (row ∷ rows) keeps = by (row.serial == serial) refl (find-changed serial change rows keeps)
+  where
+    by : (b : Bool) → (row.serial == serial) ≡ b → find (λ row. row.serial == serial) (change_row serial change rows) ≡ option_map change (find (λ row. row.serial == serial) rows) →
+        find (λ row. row.serial == serial) (change_row serial change (row ∷ rows)) ≡ option_map change (find (λ row. row.serial == serial) (row ∷ rows))
+    by true is more = let still : ((change row).serial == serial) ≡ true = ap (λ n. n == serial) (keeps row) ∙ is in rw (is, still) refl
+    by false is more = rw (is, is) more
+
+-- a connection that is changed is there as it is changed
+pub row_changed : (id : ConnId) (change : Row → Row) (frontends : List FrontendRows) → ((row : Row) → (change row).serial ≡ row.serial) →
+    row_at (with_conn id change frontends) id ≡ option_map change (row_at frontends id)
+row_changed id change frontends keeps = ap (row_in id.serial) (own_changed id change frontends) ∙ by (slice_get frontends id.frontend)
+  where
+    by : (o : Option FrontendRows) → row_in id.serial (option_map (with_row id.serial change) o) ≡ option_map change (row_in id.serial o)
+    by None = refl
+    by (Some own) = find-changed id.serial change own.rows keeps
 
 -- a connection changed twice
 pub changed_twice : (id : ConnId) (first second : Row → Row) (frontends : List FrontendRows) → ((row : Row) → (first row).serial ≡ row.serial) →

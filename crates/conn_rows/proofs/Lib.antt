@@ -3,5 +3,4 @@ pub mod Fed
 pub mod Plain
 pub mod Totals
 pub mod Counted
-pub mod Releases
 pub mod Changes

@@ -18,13 +18,13 @@ use Rattle.plan_types.specs.declared.plan.Frontend.{Frontend}
 use Rattle.plan_types.specs.declared.plan.Plan.{Plan}
 use Rattle.conn_model.specs.History.{new_version, opening, tracks_at}
 use Rattle.plan_types.specs.declared.track.Track.{Track}
-use Rattle.conn_rows.proofs.Counted.{free_counter}
+use Rattle.conn_tables.proofs.CounterLemmas.{free_counter}
 use Rattle.std.specs.List.{enumerate_from}
 use Rattle.conn_model.specs.Tables.{new_table, open_tracks, with_track, without_tracks}
-use Rattle.conn_rows.specs.Tracks.{on_counter, plain_tracks, track_of}
+use Rattle.conn_tables.specs.Tracks.{on_counter, plain_tracks, track_of}
 use Rattle.conn_model.specs.declared.plain.Version.{Version}
 use Rattle.conn_model.specs.Answer.{row_at, row_in, rest_in}
-use Rattle.conn_rows.specs.Tables.{StoredTables, plain_table}
+use Rattle.conn_tables.specs.Tables.{StoredTables, plain_table}
 use Rattle.conn_rows.specs.Value.{RowsValue, rows_of}
 use Rattle.conn_rows.specs.Summaries.{is_waiting, stored_summary, summary_of}
 use Rattle.conn_rows.specs.declared.row.Seat.{Seat}

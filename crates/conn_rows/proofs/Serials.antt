@@ -1,40 +1,17 @@
 -- Rows in the order of their serials.
-use Rattle.std.proofs.Common.{◌≡◌, ℕ, zero, suc, ◌+◌, ◌<◌, ◌≤◌, Bool, true, false, not, cond, List, [], ◌∷◌, ◌++◌, length, set, get_or, Option, Some, None, refl, sym, ap, ◌∙◌, arith}
-use Rattle.std.specs.Prelude.{slice_get, filter, find, nat_lt, ◌==◌, if◌then◌else◌, IsSome}
-use Rattle.std.specs.List.{position, position_or_len, remove, AllByRecursion}
+use Rattle.std.proofs.Common.{◌≡◌, ℕ, zero, suc, ◌+◌, ◌<◌, ◌≤◌, Bool, true, false, not, List, [], ◌∷◌, ◌++◌, length, set, get_or, Option, Some, None, refl, sym, ap, ◌∙◌, arith}
+use Rattle.std.specs.Prelude.{slice_get, filter, find, ◌==◌, if◌then◌else◌, IsSome}
+use Rattle.std.specs.List.{position, remove, AllByRecursion}
 use Rattle.std.proofs.lemmas.Bool.Decides.{nat_tests}
-use Rattle.std.proofs.lemmas.List.Folds.{find_at}
-use Rattle.std.proofs.lemmas.Option.{slice_get_past, slice_get_read}
+use Rattle.std.proofs.lemmas.Option.{slice_get_read}
 use Rattle.conn_rows.specs.declared.row.StoredRow.{StoredRow}
 use Rattle.conn_rows.specs.Stored.{AreOpen, IsHeld, has_serial, with_stored}
 use Rattle.conn_model.specs.Words.{Rise}
+use Rattle.conn_tables.proofs.PlaceLemmas.{found_there, nowhere, position_within}
 use Rattle.conn_model.proofs.Lists.{all-append, all-at, all-filter, all-found, all-map, all-more, rise-append, rise-filter, rise-map}
 
 abbrev pub others : ℕ → List StoredRow → List StoredRow
 others serial rows = filter (λ row. not (has_serial serial row)) rows
-
--- An item found by its place.
-
-pub found_there : {X : Type 0} (p : X → Bool) (xs : List X) (n : ℕ) → position p xs ≡ Some n → find p xs ≡ slice_get xs n
-found_there p xs n is = find_at p xs ∙ ap (λ i. slice_get xs i) (by (nat_lt (position_or_len p xs) (length xs)) refl is)
-  where
-    by : (b : Bool) → nat_lt (position_or_len p xs) (length xs) ≡ b → cond b (Some (position_or_len p xs)) None ≡ Some n → position_or_len p xs ≡ n
-    by true less is = cc
-    by false less is = absurd (cc)
-
-pub nowhere : {X : Type 0} (p : X → Bool) (xs : List X) → position p xs ≡ None → find p xs ≡ None
-nowhere p xs is = find_at p xs ∙ slice_get_past xs (position_or_len p xs) (by (nat_lt (position_or_len p xs) (length xs)) refl is)
-  where
-    by : (b : Bool) → nat_lt (position_or_len p xs) (length xs) ≡ b → cond b (Some (position_or_len p xs)) None ≡ None → length xs ≤ position_or_len p xs
-    by true less is = absurd (cc)
-    by false less is = grind (arith, nat_tests)
-
-pub position_within : {X : Type 0} (p : X → Bool) (xs : List X) (n : ℕ) → position p xs ≡ Some n → n < length xs
-position_within p xs n is = by (nat_lt (position_or_len p xs) (length xs)) refl is
-  where
-    by : (b : Bool) → nat_lt (position_or_len p xs) (length xs) ≡ b → cond b (Some (position_or_len p xs)) None ≡ Some n → n < length xs
-    by true less is = let same : position_or_len p xs ≡ n = cc in grind (arith, nat_tests)
-    by false less is = absurd (cc)
 
 -- where no row has the serial, all are others
 none_found : (serial : ℕ) (rows : List StoredRow) → find (has_serial serial) rows ≡ None → others serial rows ≡ rows

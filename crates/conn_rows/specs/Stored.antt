@@ -20,8 +20,8 @@ use Rattle.conn_rows.specs.declared.row.Seat.{Seat}
 use Rattle.conn_rows.specs.declared.row.Stage.{Stage}
 use Rattle.conn_rows.specs.declared.row.Stage.TheVariants.{Waiting, Offered}
 use Rattle.conn_rows.specs.declared.row.StoredRow.{StoredRow}
-use Rattle.conn_rows.specs.declared.tracking.Tracking.{Tracking}
-use Rattle.conn_rows.specs.Tracks.{at_counter, no_trackings, plain_tracks}
+use Rattle.conn_tables.specs.declared.tracking.Tracking.{Tracking}
+use Rattle.conn_tables.specs.Tracks.{at_counter, no_trackings, plain_tracks}
 
 pub record StoredFrontend : Type 0 where
   pub name : List ℕ

@@ -11,10 +11,10 @@ use Rattle.conn_model.specs.declared.plain.Version.{Version}
 use Rattle.conn_model.specs.Counts.{total}
 use Rattle.conn_rows.specs.declared.row.StoredRow.{StoredRow}
 use Rattle.conn_rows.specs.declared.rows.RowsState.{RowsState}
-use Rattle.conn_rows.specs.declared.tables.StoredTable.{StoredTable}
+use Rattle.conn_tables.specs.declared.tables.StoredTable.{StoredTable}
 use Rattle.conn_rows.specs.Stored.{StoredFrontend}
-use Rattle.conn_rows.specs.Tables.{cur_in}
-use Rattle.conn_rows.specs.Tracks.{tracks_on}
+use Rattle.conn_tables.specs.Tables.{cur_in}
+use Rattle.conn_tables.specs.Tracks.{tracks_on}
 
 pub record RowsValue : Type 0 where
   -- by the number of the frontend

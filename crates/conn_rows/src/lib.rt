@@ -11,5 +11,3 @@ pub mod laws;
 mod opening;
 mod row;
 mod rows;
-mod tables;
-mod tracking;

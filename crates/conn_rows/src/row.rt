@@ -7,9 +7,9 @@ ghost use Rattle.conn_model.specs.History.{identity_at, nobody};
 ghost use Rattle.conn_rows.specs.Summaries.{stored_summary};
 ghost use Rattle.conn_rows.specs.Stored.{assignment_in, phase_of, plan_at, plain_row, stored_arrival, waits};
 
-use crate::tracking::Trackings;
 use addr_core::{Endpoint, Pair};
 use conn_model::plain::{Assignment, Phase, Row, Version};
+use conn_tables::Trackings;
 use list_core::{Duplicate, Seq};
 use plan_types::{Backend, Plan, Server};
 use pp_any::Parser;

@@ -1,7 +1,9 @@
 //! The open connections of all frontends.
-ghost use Rattle.std.specs.Prelude.{◌≡◌, ◌+◌, ◌-◌, ◌^◌, ◌<◌, ◌≤◌, ℕ, List, length, slice_get, option_map, option_and_then, IfOk, IfSome, IfNone, OnOk, OnErr, IsSome, None, Some, map};
+ghost use Rattle.std.specs.Prelude.{◌≡◌, ◌+◌, ◌*◌, ◌-◌, ◌^◌, ◌<◌, ◌≤◌, ℕ, List, length, slice_get, option_map, IfOk, IfSome, IfNone, OnOk, OnErr, IsSome, None, Some, map, ◌++◌, ◌∷◌, []};
 ghost use Rattle.std.specs.List.{AllByRecursion};
 ghost use Rattle.std.specs.Option.{option_copied};
+ghost use Rattle.addr_core.specs.declared.addr.Addr.{Addr};
+ghost use Rattle.plan_types.specs.declared.track.TableId.{TableId};
 ghost use Rattle.pp_any.specs.declared.rest.Rest.{Rest};
 ghost use Rattle.pp_any.specs.NextPiece.{status_on};
 ghost use Rattle.plan_types.specs.Sound.{most_frontends, most_tables};
@@ -12,10 +14,10 @@ ghost use Rattle.conn_model.specs.History.{opening, tracks_at};
 ghost use Rattle.conn_rows.specs.Stored.{plain_frontend, stored_in};
 ghost use Rattle.conn_rows.specs.Changes.{rest_at, row_fed, row_offered, row_tracking, status_of, used_by, with_arrival, with_conn, with_item, with_refusal, without_conn};
 ghost use Rattle.conn_model.specs.Counts.{offered_to, open_named};
-ghost use Rattle.conn_model.specs.Tables.{entry_counts, open_tracks, table_at, with_track, without_tracks};
+ghost use Rattle.conn_model.specs.Tables.{entry_counts, open_tracks, table_at, trackers, with_track, without_tracks};
 ghost use Rattle.rule_engine.specs.Meaning.{present};
-ghost use Rattle.conn_rows.specs.Tables.{key_at};
-ghost use Rattle.conn_rows.specs.Tracks.{slots_of, track_of};
+ghost use Rattle.conn_tables.specs.Tables.{key_at};
+ghost use Rattle.conn_tables.specs.Tracks.{slots_of, track_of};
 ghost use Rattle.conn_rows.specs.declared.row.StoredRow.{StoredRow};
 ghost use Rattle.conn_model.specs.declared.plain.Version.{Version};
 ghost use Rattle.conn_rows.specs.Summaries.{Sums, summary_of};
@@ -25,13 +27,13 @@ use crate::counts;
 use crate::frontend::{FrontendState, HeaderStatus, end_all};
 use crate::opening::{cursors, frontends, table_ids};
 use crate::row::{RowSummary, Seat, StoredRow, item, version_at};
-use crate::tables::Tables;
 use addr_core::{Addr, Pair};
 use conn_model::ask::Counts;
 use conn_model::event::ConnId;
 use conn_model::plain::{FrontendRows, TableState, Version};
+use conn_tables::Tables;
 use list_core::{Duplicate, Seq, newest};
-use plan_types::{Plan, TableId, Track};
+use plan_types::{Plan, Table, TableId, Track};
 use rule_engine::Tracks;
 use std::alloc::{AllocError, Global};
 use std::marker::Model;
@@ -68,7 +70,7 @@ pub struct Rows {
 impl Model for Rows {
     ghost use Rattle.std.specs.Prelude.{map};
     ghost use Rattle.conn_rows.specs.Stored.{plain_frontend};
-    ghost use Rattle.conn_rows.specs.Tables.{plain_table};
+    ghost use Rattle.conn_tables.specs.Tables.{plain_table};
     ghost use Rattle.conn_rows.specs.Value.{AreRows, RowsValue};
 
     ghost Value = { RowsValue };
@@ -165,9 +167,17 @@ impl Rows {
 
     /// How many open connections track an address in the table of that incarnation, and how often it was tracked.
     pub fn counts(&self, id: TableId, addr: &Addr) -> Option<Counts>
-        ensures { result ≡ option_map (entry_counts (open_tracks self.now.frontends) addr.now) (table_at self.now.tables id) }
+        ensures value { result ≡ option_map (entry_counts (open_tracks self.now.frontends) addr.now) (table_at self.now.tables id) }
+        ensures few { IfSome result (λ counts. counts.cur ≤ 3 * 2 ^ 62) }
     {
         self.tables.counts(id, addr)
+    }
+
+    /// The table of that incarnation, as its line has it.
+    pub fn table(&self, id: TableId) -> Option<&Table>
+        ensures { option_copied result ≡ option_map (λ table. table.table) (table_at self.now.tables id) }
+    {
+        self.tables.table(id)
     }
 
     /// The key under which the table of that incarnation would track an address, if it could.
@@ -246,7 +256,10 @@ impl Rows {
         requires free { IfSome (row_at self.old.frontends id) (λ row. track_of track.counter row.tracks ≡ None) }
         requires spare { 0 < self.old.spare }
         requires key { key_at (open_tracks self.old.frontends) self.old.tables track.table track.key ≡ Some track.key }
-        ensures { self.new ≡ record self.old { frontends = with_conn id (row_tracking track) self.old.frontends; tables = with_track (open_tracks self.old.frontends) track self.old.tables; spare = self.old.spare - 1 } }
+        ensures value { self.new ≡ record self.old { frontends = with_conn id (row_tracking track) self.old.frontends; tables = with_track (open_tracks self.old.frontends) track self.old.tables; spare = self.old.spare - 1 } }
+
+        // As many track each key as with one track more.
+        ensures trackers { (table : TableId) (key : Addr) → trackers (open_tracks self.new.frontends) table key ≡ trackers (open_tracks self.old.frontends ++ track ∷ []) table key }
     {
         let tracking = self.tables.track(track.table, &track.key);
         self.frontends[usize::from(id.frontend)].track(id.serial, track.counter, tracking);

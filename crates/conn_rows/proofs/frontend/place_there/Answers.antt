@@ -1,7 +1,8 @@
 use Rattle.std.proofs.Common.{◌≡◌, None, sym, ◌∙◌}
 use Rattle.std.specs.Prelude.{find}
 use Rattle.conn_rows.specs.Stored.{has_serial}
-use Rattle.conn_rows.proofs.Serials.{not_some, nowhere, position_within}
+use Rattle.conn_tables.proofs.PlaceLemmas.{nowhere, position_within}
+use Rattle.conn_rows.proofs.Serials.{not_some}
 use Rattle.conn_rows.proofs.frontend.place_there.Goals as goal
 
 pub unreachable-requires : goal.unreachable-requires

@@ -2,7 +2,7 @@ use Rattle.std.proofs.Common.{◌≡◌, ◌+◌, ◌≤◌, vec_len}
 use Rattle.addr_core.specs.declared.addr.Addr.{Addr}
 use Rattle.plan_types.specs.declared.track.TableId.{TableId}
 use Rattle.conn_model.specs.Counts.{total}
-use Rattle.conn_rows.specs.Tables.{cur_in}
+use Rattle.conn_tables.specs.Tables.{cur_in}
 use Rattle.conn_rows.specs.Value.{row_on}
 use Rattle.conn_rows.proofs.frontend.FrontendState.end.Given as goal
 

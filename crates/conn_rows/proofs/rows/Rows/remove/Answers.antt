@@ -1,5 +1,5 @@
 use Rattle.std.proofs.Common.{◌≡◌, ◌+◌, refl, sym, ◌∙◌, arith}
-use Rattle.conn_rows.specs.Tables.{cur_in}
+use Rattle.conn_tables.specs.Tables.{cur_in}
 use Rattle.conn_rows.specs.Value.{row_on}
 use Rattle.conn_rows.proofs.Plain.{removed}
 use Rattle.conn_rows.proofs.rows.Rows.remove.Goals as goal

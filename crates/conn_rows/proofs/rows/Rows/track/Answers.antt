@@ -2,9 +2,9 @@ use Rattle.std.proofs.Common.{◌≡◌, ◌<◌, Some, ap, sym, subst, ◌∙�
 use Rattle.std.specs.Prelude.{slice_get}
 use Rattle.conn_model.specs.Tables.{open_tracks}
 use Rattle.conn_rows.specs.Stored.{plain_frontend}
-use Rattle.conn_rows.specs.Tables.{key_at}
+use Rattle.conn_tables.specs.Tables.{key_at}
 use Rattle.conn_rows.specs.Value.{RowsValue}
-use Rattle.conn_rows.proofs.Counted.{are_counted, cur_few, more_rows}
+use Rattle.conn_rows.proofs.Counted.{are_counted, cur_few, more_rows, trackers_more}
 use Rattle.conn_rows.proofs.Plain.{free_there, own_exists, own_there, row_there, tracking_value}
 use Rattle.conn_rows.proofs.rows.Rows.track.Goals as goal
 
@@ -44,9 +44,15 @@ invariant_of-self c =
     more_rows c.self.inside.frontends.items c.self.inside.tables.tables c.track-tracking.new.self.tables c.from.result c.index_mut.result.now c.track.new.self (record { table = c.args.track.table; token = c.args.track.key })
     (ap (slice_get c.self.inside.frontends.items) c.from.ensures ∙ there_after c) c.track.ensures.few (rw c.track-tracking.ensures.tracking at c.track.ensures.counts) c.track-tracking.ensures.counts c.self.invariant
 
-pub returns : goal.returns
-returns c =
+pub returns-clause-value : goal.returns-clause-value
+returns-clause-value c =
     tracking_value c.self.inside.frontends.items c.self.inside.versions c.self.inside.tables c.track-tracking.new.self c.args.self.now c.from.result c.args.id c.index_mut.result.now c.track.new.self c.args.track c.self.view_is
     c.from.ensures (there_after c) (rw c.track-tracking.ensures.tracking at (c.track.ensures.plain c.self.inside.versions))
     (c.track-tracking.ensures.plain (open_tracks (map (plain_frontend c.self.inside.versions) c.self.inside.frontends.items))
     (are_counted c.self.inside.versions c.self.inside.frontends.items c.self.inside.tables.tables c.self.invariant) c.args.track.counter) c.track-tracking.ensures.spare
+
+pub returns-clause-trackers : goal.returns-clause-trackers
+returns-clause-trackers c =
+    rw (← c.self.view_is)
+    (trackers_more c.self.inside.versions c.self.inside.frontends.items c.from.result c.index_mut.result.now c.track.new.self c.args.track
+    (ap (slice_get c.self.inside.frontends.items) c.from.ensures ∙ there_after c) (rw c.track-tracking.ensures.tracking at c.track.ensures.counts))

@@ -3,7 +3,7 @@ use Rattle.std.specs.Prelude.{slice_get, option_map}
 use Rattle.std.specs.Option.{option_copied}
 use Rattle.rule_engine.specs.Meaning.{present}
 use Rattle.conn_rows.specs.Stored.{plain_row, stored_in}
-use Rattle.conn_rows.specs.Tracks.{slots_of}
+use Rattle.conn_tables.specs.Tracks.{slots_of}
 use Rattle.conn_rows.proofs.Plain.{row_of_state}
 use Rattle.conn_rows.proofs.rows.Rows.tracks.Goals as goal
 

@@ -1,0 +1,3 @@
+pub mod PlaceLemmas
+pub mod CounterLemmas
+pub mod TableLemmas

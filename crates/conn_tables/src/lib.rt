@@ -1,0 +1,8 @@
+//! The tables that are kept, and what open connections track in them.
+#![tactic(auto)]
+
+pub use tables::Tables;
+pub use tracking::{Tracking, Trackings};
+
+mod tables;
+mod tracking;

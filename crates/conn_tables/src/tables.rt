@@ -1,0 +1,272 @@
+//! The tables that are kept.
+ghost use Rattle.std.specs.Prelude.{◌≡◌, ◌+◌, ◌-◌, ◌≤◌, ◌<◌, ◌^◌, ℕ, List, [], Some, map, length, find, option_map, IfOk, OnOk};
+ghost use Rattle.std.specs.Option.{option_copied};
+ghost use Rattle.std.specs.List.{AllByRecursion, enumerate_from, position};
+ghost use Rattle.addr_core.specs.declared.addr.Addr.{Addr};
+ghost use Rattle.plan_types.specs.Sound.{most_tables};
+ghost use Rattle.stick_core.specs.Entries.{cur_of};
+ghost use Rattle.stick_core.specs.PlainEntries.{AreTrackers, plain, trackings_of, with_tracking};
+ghost use Rattle.plan_types.specs.declared.track.TableId.{TableId};
+ghost use Rattle.plan_types.specs.declared.track.Track.{Track};
+ghost use Rattle.conn_model.specs.Tables.{entry_counts, new_table, table_at, trackers, with_track, without_tracks};
+ghost use Rattle.conn_tables.specs.Tables.{AreCounted, AreGrown, IsGrown, IsStored, cur_in, is_table, key_at, plain_table, table_key};
+ghost use Rattle.conn_tables.specs.Tracks.{counter_on, plain_tracks, track_on, tracks_on};
+
+use crate::tracking::{Tracking, Trackings};
+use addr_core::Addr;
+use conn_model::ask::Counts;
+use conn_model::plain::TableState;
+use list_core::{Duplicate, Seq};
+use plan_types::{Table, TableId};
+use std::alloc::{AllocError, Global};
+use std::marker::Model;
+use stick_core::Tracked;
+
+/// For how many more trackings room is made than asked.
+const EXTRA_ROOM: u64 = 16;
+
+/// A table that is kept.
+#[derive(Debug, Drop)]
+pub struct StoredTable {
+    pub id: TableId,
+    /// As the configuration has it.
+    pub table: Table,
+    pub entries: stick_core::Table,
+}
+
+impl StoredTable {
+    /// A table without entries.
+    fn new(alloc: Global, id: TableId, table: &Table) -> Result<StoredTable, AllocError>
+        ensures plain { IfOk result (λ stored. plain_table stored ≡ record { id = id; table = table.now; entries = [] }) }
+        ensures stored { IfOk result (λ stored. IsStored 0 stored) }
+    {
+        Ok(StoredTable {
+            id,
+            table: table.duplicate(alloc)?,
+            entries: stick_core::Table::new(alloc, table.kind, table.size, table.stores),
+        })
+    }
+
+    /// How many track an address, and how often it was tracked.
+    fn counts(&self, addr: &Addr) -> Counts
+        requires { self.now.entries.kind ≡ self.now.table.kind }
+        ensures { (tracks : List Track) → AreTrackers (trackers tracks self.now.id) self.now.entries.entries → result ≡ entry_counts tracks addr.now (plain_table self.now) }
+    {
+        Counts {
+            cur: self.entries.cur(addr),
+            cnt: self.entries.cnt(addr),
+        }
+    }
+
+    /// The key under which an address would be tracked, if it could be.
+    fn key_for(&self, addr: &Addr) -> Option<Addr>
+        requires kind { self.now.entries.kind ≡ self.now.table.kind }
+        requires size { self.now.entries.size ≡ self.now.table.size }
+        ensures { (tracks : List Track) → AreTrackers (trackers tracks self.now.id) self.now.entries.entries → result ≡ table_key tracks addr.now (plain_table self.now) }
+    {
+        self.entries.key_for(addr)
+    }
+
+    /// Tracks a key, for which there is memory.
+    fn track(&mut self, key: &Addr) -> Tracked
+        requires stored { (spare : ℕ) × IsStored spare self.old }
+        requires below { (other : Addr) → cur_of other self.old.entries.entries < 2 ^ 64 - 1 }
+        requires room { 0 < self.old.entries.spare }
+        requires key { (tracks : List Track) × AreTrackers (trackers tracks self.old.id) self.old.entries.entries × (table_key tracks key.now (plain_table self.old) ≡ Some key.now) }
+        ensures token { result ≡ key.now }
+        ensures same { self.new ≡ record self.old { entries = record self.old.entries { entries = self.new.entries.entries; spare = self.new.entries.spare } } }
+        ensures plain { (tracks : List Track) → AreTrackers (trackers tracks self.old.id) self.old.entries.entries →
+            plain self.new.entries.entries ≡ with_tracking (trackers tracks self.old.id) self.old.table.size key.now (plain self.old.entries.entries) }
+        ensures counts { (other : Addr) → cur_of other self.new.entries.entries ≡ cur_of other self.old.entries.entries + trackings_of other (Some key.now) }
+        ensures spare { self.old.entries.spare ≤ self.new.entries.spare + 1 }
+    {
+        match self.entries.track(key) {
+            Ok(Some(token)) => token,
+            Ok(None) | Err(_) => unreachable!(),
+        }
+    }
+
+    /// Makes room for so many trackings more.
+    fn reserve(&mut self, more: usize) -> Result<(), AllocError>
+        ensures grown { IsGrown self.old self.new }
+        ensures room { OnOk result (more ≤ self.new.entries.spare) }
+    {
+        self.entries.reserve(more)
+    }
+
+    /// An equal table, as plain data.
+    fn plain(&self, alloc: Global) -> Result<TableState, AllocError>
+        ensures { IfOk result (λ state. state ≡ plain_table self.now) }
+    {
+        Ok(TableState {
+            id: self.id,
+            table: self.table.duplicate(alloc)?,
+            entries: self.entries.entries(alloc)?,
+        })
+    }
+}
+
+/// The tables by incarnation. Each is as the configuration has it, and no two are of one incarnation.
+#[derive(Debug, Drop)]
+pub struct Tables {
+    tables: Vec<StoredTable>,
+    /// For how many more trackings each has memory.
+    spare: u64,
+}
+
+impl Model for Tables {
+    ghost use Rattle.conn_tables.specs.Tables.{AreTables, StoredTables};
+
+    ghost Value = { StoredTables };
+
+    ghost view = { λ t. record { tables = t.tables.items; spare = t.spare } };
+
+    ghost invariant = { λ t. AreTables t.spare t.tables.items };
+}
+
+impl Tables {
+    /// The tables that begin with a version, without entries.
+    pub fn new(alloc: Global, version: u64, tables: &[Table]) -> Result<Tables, AllocError>
+        requires { length tables.now ≤ most_tables }
+        ensures plain { IfOk result (λ all. map plain_table all.tables ≡ map (new_table version) (enumerate_from 0 tables.now)) }
+        ensures counts { IfOk result (λ all. (id : TableId) (key : Addr) → cur_in id key all.tables ≡ 0) }
+        ensures spare { IfOk result (λ all. all.spare ≡ 0) }
+    {
+        let mut stored = Vec::new(alloc);
+        for (position, table) in tables.iter().enumerate() {
+            let id = TableId {
+                version,
+                position: position as u16,
+            };
+            stored.push(StoredTable::new(alloc, id, table)?)?;
+        }
+        Ok(Tables {
+            tables: stored,
+            spare: 0,
+        })
+    }
+
+    /// Equal tables, as plain data.
+    pub fn plain(&self, alloc: Global) -> Result<Seq<TableState>, AllocError>
+        ensures { IfOk result (λ states. states ≡ map plain_table self.now.tables) }
+    {
+        let mut states = Seq::new(alloc);
+        for stored in &self.tables {
+            states.push(stored.plain(alloc)?)?;
+        }
+        Ok(states)
+    }
+
+    /// How many track an address in the table of that incarnation, and how often it was tracked.
+    pub fn counts(&self, id: TableId, addr: &Addr) -> Option<Counts>
+        ensures { (tracks : List Track) → AreCounted tracks self.now.tables → result ≡ option_map (entry_counts tracks addr.now) (table_at (map plain_table self.now.tables) id) }
+    {
+        let stored = find_table(self.tables.as_slice(), id)?;
+        Some(stored.counts(addr))
+    }
+
+    /// The table of that incarnation, as its line has it.
+    pub fn table(&self, id: TableId) -> Option<&Table>
+        ensures { option_copied result ≡ option_map (λ table. table.table) (table_at (map plain_table self.now.tables) id) }
+    {
+        let stored = find_table(self.tables.as_slice(), id)?;
+        Some(&stored.table)
+    }
+
+    /// The key under which the table of that incarnation would track an address, if it could.
+    pub fn key_for(&self, id: TableId, addr: &Addr) -> Option<Addr>
+        ensures { (tracks : List Track) → AreCounted tracks self.now.tables → result ≡ key_at tracks (map plain_table self.now.tables) id addr.now }
+    {
+        let stored = find_table(self.tables.as_slice(), id)?;
+        stored.key_for(addr)
+    }
+
+    /// Makes room so that the next so many trackings take no memory. Where there is room enough nothing is done; else
+    /// room is made for more than asked, so that this is rare.
+    pub fn reserve(&mut self, more: u64) -> Result<(), AllocError>
+        ensures room { OnOk result (more ≤ self.new.spare) }
+        ensures spare { self.old.spare ≤ self.new.spare }
+        ensures plain { map plain_table self.new.tables ≡ map plain_table self.old.tables }
+        ensures counts { (id : TableId) (key : Addr) → cur_in id key self.new.tables ≡ cur_in id key self.old.tables }
+    {
+        if more <= self.spare {
+            return Ok(());
+        }
+        let room = more.saturating_add(EXTRA_ROOM);
+        reserve_all(&mut self.tables, room as usize)?;
+        self.spare = room;
+        Ok(())
+    }
+
+    /// Tracks a key in the table of that incarnation. It takes no memory.
+    pub fn track(&mut self, id: TableId, key: &Addr) -> Tracking
+        requires below { (table : TableId) (other : Addr) → cur_in table other self.old.tables < 2 ^ 64 - 1 }
+        requires spare { 0 < self.old.spare }
+        requires key { (tracks : List Track) × AreCounted tracks self.old.tables × (key_at tracks (map plain_table self.old.tables) id key.now ≡ Some key.now) }
+        ensures tracking { result ≡ record { table = id; token = key.now } }
+        ensures plain { (tracks : List Track) → AreCounted tracks self.old.tables → (counter : ℕ) →
+            map plain_table self.new.tables ≡ with_track tracks (record { counter = counter; table = id; key = key.now }) (map plain_table self.old.tables) }
+        ensures counts { (table : TableId) (other : Addr) → cur_in table other self.new.tables ≡ cur_in table other self.old.tables + counter_on table other (Some (record { table = id; token = key.now })) }
+        ensures spare { self.new.spare + 1 ≡ self.old.spare }
+    {
+        let Some(place) = place_of(self.tables.as_slice(), id) else {
+            unreachable!()
+        };
+        let token = self.tables[place].track(key);
+        self.spare -= 1;
+        Tracking { table: id, token }
+    }
+
+    /// Ends what a connection tracks, in the order of counters. It takes no memory.
+    pub fn release(&mut self, tracks: Trackings)
+        requires { (id : TableId) (key : Addr) → tracks_on id key tracks ≤ cur_in id key self.old.tables }
+        ensures counts { (id : TableId) (key : Addr) → cur_in id key self.new.tables + tracks_on id key tracks ≡ cur_in id key self.old.tables }
+        ensures plain { map plain_table self.new.tables ≡ without_tracks (plain_tracks tracks) (map plain_table self.old.tables) }
+        ensures spare { self.new.spare ≡ self.old.spare }
+    {
+        let Trackings { sc0, sc1, sc2 } = tracks;
+        self.release_one(sc0);
+        self.release_one(sc1);
+        self.release_one(sc2);
+    }
+
+    /// Ends what a counter tracks, if it tracks something.
+    fn release_one(&mut self, tracking: Option<Tracking>)
+        requires { (id : TableId) (key : Addr) → counter_on id key tracking ≤ cur_in id key self.old.tables }
+        ensures counts { (id : TableId) (key : Addr) → cur_in id key self.new.tables + counter_on id key tracking ≡ cur_in id key self.old.tables }
+        ensures plain { (counter : ℕ) → map plain_table self.new.tables ≡ without_tracks (track_on counter tracking) (map plain_table self.old.tables) }
+        ensures spare { self.new.spare ≡ self.old.spare }
+    {
+        let Some(tracking) = tracking else {
+            return;
+        };
+        let Tracking { table, token } = tracking;
+        match place_of(self.tables.as_slice(), table) {
+            Some(place) => self.tables[place].entries.release(token),
+            None => unreachable!(),
+        }
+    }
+}
+
+/// Makes room in each table for so many trackings more.
+fn reserve_all(tables: &mut Vec<StoredTable>, more: usize) -> Result<(), AllocError>
+    ensures grown { AreGrown tables.old.items tables.new.items }
+    ensures room { OnOk result (AllByRecursion (λ stored. more ≤ stored.entries.spare) tables.new.items) }
+{
+    for place in 0..tables.len() {
+        tables[place].reserve(more)?;
+    }
+    Ok(())
+}
+
+fn find_table(tables: &[StoredTable], id: TableId) -> Option<&StoredTable>
+    ensures { option_copied result ≡ find (is_table id) tables.now }
+{
+    tables.iter().find(|stored| stored.id == id)
+}
+
+fn place_of(tables: &[StoredTable], id: TableId) -> Option<usize>
+    ensures { result ≡ position (is_table id) tables.now }
+{
+    tables.iter().position(|stored| stored.id == id)
+}
