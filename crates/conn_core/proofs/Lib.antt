@@ -1,6 +1,11 @@
-mod CountLemmas
-mod StateLemmas
-mod AcceptLemmas
-mod PieceLemmas
-mod RowLemmas
-mod EnterLemmas
+pub mod TrackLemmas
+pub mod CountingLemmas
+pub mod JudgingLemmas
+pub mod RowLemmas
+pub mod SeenLemmas
+pub mod StateLemmas
+pub mod PossibleLemmas
+pub mod TrackedLemmas
+pub mod EnterLemmas
+pub mod AcceptLemmas
+pub mod PieceLemmas

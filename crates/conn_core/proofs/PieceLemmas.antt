@@ -1,20 +1,24 @@
 -- What a piece makes of the open connections.
-use Rattle.std.proofs.Common.{◌≡◌, ℕ, ◌<◌, Bool, true, false, List, [], ◌∷◌, length, Option, Some, None, Result, Ok, Err, refl, ◌∙◌, sym, ap, subst, arith}
-use Rattle.std.specs.Prelude.{slice_get, slice_set, find, IsSome, option_and_then, ◌==◌}
-use Rattle.std.specs.Option.{option_map_or}
+use Rattle.std.proofs.Common.{◌≡◌, ℕ, ◌<◌, Bool, true, false, List, [], ◌∷◌, ◌++◌, length, Option, Some, None, Result, Ok, Err, refl, ◌∙◌, sym, ap, subst, arith, append-nil}
+use Rattle.std.specs.Prelude.{slice_get, slice_set, find, option_and_then, option_map, IsSome, ◌==◌}
 use Rattle.std.specs.List.{AllByRecursion}
+use Rattle.std.specs.Option.{option_map_or}
+use Rattle.std.proofs.lemmas.Bool.{false≢true}
 use Rattle.std.proofs.lemmas.Bool.Decides.{nat_tests}
+use Rattle.addr_core.specs.PairValue.{PairValue}
 use Rattle.pp_any.specs.declared.rest.Rest.{Rest}
-use Rattle.pp_v1.specs.declared.meaning.Meaning.{Meaning}
-use Rattle.pp_any.specs.Status.{Wait, Whole}
-use Rattle.conn_model.specs.Rules.{Candidate}
-use Rattle.conn_rows.proofs.Changes.{changed_gone, changed_twice}
+use Rattle.pp_any.specs.Status.{Wait}
 use Rattle.pp_any.specs.NextPiece.{status_on}
 use Rattle.plan_types.specs.declared.plan.Frontend.{Frontend}
+use Rattle.plan_types.specs.declared.plan.Server.{Server}
+use Rattle.plan_types.specs.declared.track.Track.{Track}
+use Rattle.rule_engine.specs.Meaning.{present}
+use Rattle.rule_engine.specs.Judging.{no_tracks, Slots}
 use Rattle.conn_model.specs.declared.event.ConnId.{ConnId}
 use Rattle.conn_model.specs.declared.event.OwnedEvent.{OwnedEvent}
 use Rattle.conn_model.specs.declared.event.OwnedEvent.TheVariants.{Piece}
-use Rattle.conn_model.specs.declared.reply.Said.{Said}
+use Rattle.conn_model.specs.declared.reply.Cause.{Cause}
+use Rattle.conn_model.specs.declared.reply.Reply.{Reply}
 use Rattle.conn_model.specs.declared.reply.Said.TheVariants as saids
 use Rattle.conn_model.specs.declared.reply.StepFault.TheVariants.{NoSuch}
 use Rattle.conn_model.specs.declared.plain.Phase.{Phase}
@@ -26,23 +30,37 @@ use Rattle.conn_model.specs.declared.plain.Version.{Version}
 use Rattle.conn_model.specs.declared.plain.Plain.{Plain}
 use Rattle.conn_model.specs.Counts.{change_row}
 use Rattle.conn_model.specs.Words.{Rise}
-use Rattle.conn_model.specs.Answer.{candidate_of, candidate_worth, decision, judged_pair, verdict, frontend_in, header_said, piece_answer, reply_of, rest_in, row_at, row_in, said_of, version_at, waiting_row}
-use Rattle.conn_model.specs.History.{phase_on, tracks_at}
-use Rattle.conn_model.proofs.Replies.{IsWaiting, waiting}
-use Rattle.conn_rows.specs.Changes.{phase_fed, rest_at, row_fed, with_conn, with_row}
-use Rattle.conn_core.specs.Changes.{row_by, settled, spoken, tables_settled, tables_spoken, Judge}
+use Rattle.conn_model.specs.Rules.{view_of}
+use Rattle.conn_model.specs.Answer.{candidate_of, decision, frontend_in, header_reply, piece_answer, reply_of, reply_with, rest_in, row_at, row_in, said_of, verdict, version_at, waiting_row, Decision as Verdict}
+use Rattle.conn_model.specs.History.{phase_on, tables_by}
+use Rattle.conn_model.specs.Tables.{by_counter, open_tracks, tracks_at, with_tracks, without_tracks}
+use Rattle.conn_model.proofs.Lists.{all-found}
+use Rattle.conn_model.proofs.Replies.{waiting, IsWaiting}
+use Rattle.conn_rows.specs.declared.row.RowSummary.{RowSummary}
+use Rattle.conn_rows.specs.declared.rows.RowsState.{RowsState}
+use Rattle.conn_rows.specs.Changes.{phase_fed, rest_at, row_fed, row_offered, with_conn, with_row, without_conn}
+use Rattle.conn_rows.specs.Summaries.{summary_of}
+use Rattle.conn_rows.specs.Value.{state_of, RowsValue}
+use Rattle.conn_rows.proofs.Changes.{changed_gone, changed_twice, own_changed, row_changed}
+use Rattle.conn_core.specs.Changes.{row_by, settled, settled_tables, spoken, Judge}
+use Rattle.conn_core.specs.Counts.{IsSorted, IsStateOf}
+use Rattle.conn_core.specs.Outcome.{reply_by, said_by}
+use Rattle.conn_core.specs.Tracking.{row_with}
+use Rattle.conn_core.specs.declared.outcome.Decision.{Decision}
 use Rattle.conn_core.specs.declared.outcome.Outcome.{Outcome}
 use Rattle.conn_core.specs.declared.outcome.Outcome.TheVariants as outcomes
-use Rattle.conn_core.specs.Outcome.{said_by}
-use Rattle.addr_core.specs.PairValue.{PairValue}
-use Rattle.plan_types.specs.declared.plan.Server.{Server}
-use Rattle.conn_model.specs.declared.reply.Cause.{Cause}
-use Rattle.conn_core.proofs.CountLemmas.{get-set}
+use Rattle.conn_core.proofs.SeenLemmas.{open_tracks-fed, tracks_at-fed}
 
--- the answer to a piece, from what is looked up
-pub piece_is : (p : Plain) (id : ConnId) (piece : List ℕ) (found : Row × Rest) → waiting_row p.frontends id ≡ Ok found → (judge : Judge p.frontends p.versions id found.0.version) →
-    piece_answer p id piece ≡ Ok (reply_of (header_said (candidate_of p id judge.version judge.frontend) found.0.real (length piece) (status_on found.1 piece)))
-piece_is p id piece found waits judge = rw (waits, judge.there, judge.kept, judge.found) refl
+-- the answer to a piece, from what the rows have
+pub piece_by : (p : Plain) (rows : RowsValue) (id : ConnId) (piece : List ℕ) (found : Row × Rest) (row : RowSummary) → IsStateOf p rows → waiting_row rows.frontends id ≡ Ok found → row ≡ summary_of found.0 →
+    (judge : Judge rows.frontends rows.versions id row.version) →
+    piece_answer p id piece ≡ Ok (header_reply (candidate_of p id judge.version judge.frontend) found.0.real (length piece) (status_on found.1 piece))
+piece_by p rows id piece found row same waits is judge =
+    let open_now : waiting_row p.frontends id ≡ Ok found = ap (λ fs. waiting_row fs id) same.frontends ∙ waits in
+    let there : slice_get p.frontends id.frontend ≡ Some judge.own = ap (λ fs. slice_get fs id.frontend) same.frontends ∙ judge.there in
+    let kept : version_at p.versions found.0.version ≡ Some judge.version =
+    ap (λ vs. version_at vs found.0.version) same.versions ∙ ap (λ (s : RowSummary). version_at rows.versions s.version) (sym is) ∙ judge.kept in
+    rw (open_now, there, kept, judge.found) refl
 
 pub no_judge : (p : Plain) (id : ConnId) (piece : List ℕ) (found : Row × Rest) → waiting_row p.frontends id ≡ Ok found → (Judge p.frontends p.versions id found.0.version → ⊥) → piece_answer p id piece ≡ Err NoSuch
 no_judge p id piece found waits none = by (slice_get p.frontends id.frontend) refl
@@ -62,17 +80,14 @@ no_judge p id piece found waits none = by (slice_get p.frontends id.frontend) re
 
 -- who judges a connection judges it after a piece
 unfoldable pub judge_fed : (frontends : List FrontendRows) (versions : List Version) (id : ConnId) (number : ℕ) (piece : List ℕ) → Judge frontends versions id number → Judge (with_conn id (row_fed piece) frontends) versions id number
-judge_fed frontends versions id number piece judge =
-    let own : FrontendRows = with_row id.serial (row_fed piece) judge.own in
-    let set : with_conn id (row_fed piece) frontends ≡ slice_set frontends id.frontend own = rw judge.there refl in
-    record {
-      own = own;
-      version = judge.version;
-      frontend = judge.frontend;
-      there = ap (λ fs. slice_get fs id.frontend) set ∙ get-set frontends id.frontend judge.own own judge.there;
-      kept = judge.kept;
-      found = judge.found;
-    }
+judge_fed frontends versions id number piece judge = record {
+  own = with_row id.serial (row_fed piece) judge.own;
+  version = judge.version;
+  frontend = judge.frontend;
+  there = own_changed id (row_fed piece) frontends ∙ ap (option_map (with_row id.serial (row_fed piece))) judge.there;
+  kept = judge.kept;
+  found = judge.found;
+}
 
 -- a connection that waits has a rest
 pub rest_is : (frontends : List FrontendRows) (id : ConnId) (found : Row × Rest) → waiting_row frontends id ≡ Ok found → rest_at frontends id ≡ Some found.1
@@ -80,50 +95,27 @@ rest_is frontends id found waits =
     let w = waiting frontends id found waits in
     ap (option_and_then (λ row. rest_in row.phase)) w.there ∙ w.holds
 
--- a row that is open stays open after a piece
-still-open : (serial : ℕ) (piece : List ℕ) (rows : List Row) → IsSome (find (λ row. row.serial == serial) rows) → IsSome (find (λ row. row.serial == serial) (change_row serial (row_fed piece) rows))
-still-open serial piece [] there = there
-still-open serial piece (row ∷ rows) there = by (row.serial == serial) refl (still-open serial piece rows)
+-- a connection that is changed is open still
+pub still_open : (id : ConnId) (change : Row → Row) (frontends : List FrontendRows) → ((row : Row) → (change row).serial ≡ row.serial) → IsSome (row_at frontends id) → IsSome (row_at (with_conn id change frontends) id)
+still_open id change frontends keeps there = subst (λ o. IsSome o) (sym (row_changed id change frontends keeps)) (by (row_at frontends id) there)
   where
-    by : (b : Bool) → (row.serial == serial) ≡ b → (IsSome (find (λ row. row.serial == serial) rows) → IsSome (find (λ row. row.serial == serial) (change_row serial (row_fed piece) rows))) →
-        IsSome (find (λ row. row.serial == serial) (change_row serial (row_fed piece) (row ∷ rows)))
-    by true is rest = rw (is, is) refl
-    by false is rest = rw (is, is) (rest (rw is at there))
+    by : (o : Option Row) → IsSome o → IsSome (option_map change o)
+    by None some = some
+    by (Some row) some = some
 
-pub open_fed : (frontends : List FrontendRows) (id : ConnId) (piece : List ℕ) → IsSome (row_at frontends id) → IsSome (row_at (with_conn id (row_fed piece) frontends) id)
-open_fed frontends id piece there = by (slice_get frontends id.frontend) refl
-  where
-    by : (o : Option FrontendRows) → slice_get frontends id.frontend ≡ o → IsSome (row_at (with_conn id (row_fed piece) frontends) id)
-    by None none = let wrong : IsSome (row_in id.serial None) = subst (λ o. IsSome (row_in id.serial o)) none there in absurd (let never : false ≡ true = wrong in cc)
-    by (Some own) is =
-        let set : with_conn id (row_fed piece) frontends ≡ slice_set frontends id.frontend (with_row id.serial (row_fed piece) own) = rw is refl in
-        subst (λ fs. IsSome (row_at fs id)) (sym set)
-        (subst (λ o. IsSome (row_in id.serial o)) (sym (get-set frontends id.frontend own (with_row id.serial (row_fed piece) own) is))
-        (still-open id.serial piece own.rows (subst (λ o. IsSome (row_in id.serial o)) is there)))
+-- a connection that waits is open
+pub open_waiting : (frontends : List FrontendRows) (id : ConnId) (found : Row × Rest) → waiting_row frontends id ≡ Ok found → IsSome (row_at frontends id)
+open_waiting frontends id found waits = subst (λ o. IsSome o) (sym (waiting frontends id found waits).there) refl
 
--- what a row tracks is as before
-still-tracked : (serial : ℕ) (piece : List ℕ) (rows : List Row) →
-    option_map_or (λ row. row.tracks) (find (λ row. row.serial == serial) (change_row serial (row_fed piece) rows)) [] ≡ option_map_or (λ row. row.tracks) (find (λ row. row.serial == serial) rows) []
-still-tracked serial piece [] = refl
-still-tracked serial piece (row ∷ rows) = by (row.serial == serial) refl (still-tracked serial piece rows)
+-- its tracks are in the order of counters
+row_sorted : (frontends : List FrontendRows) (id : ConnId) (row : Row) → ((own : FrontendRows) → slice_get frontends id.frontend ≡ Some own → IsSorted own) → row_at frontends id ≡ Some row →
+    by_counter row.tracks ≡ row.tracks
+row_sorted frontends id row sorted is = by (slice_get frontends id.frontend) refl
   where
-    by : (b : Bool) → (row.serial == serial) ≡ b →
-        option_map_or (λ row. row.tracks) (find (λ row. row.serial == serial) (change_row serial (row_fed piece) rows)) [] ≡ option_map_or (λ row. row.tracks) (find (λ row. row.serial == serial) rows) [] →
-        option_map_or (λ row. row.tracks) (find (λ row. row.serial == serial) (change_row serial (row_fed piece) (row ∷ rows))) [] ≡ option_map_or (λ row. row.tracks) (find (λ row. row.serial == serial) (row ∷ rows)) []
-    by true is rest = rw (is, is) refl
-    by false is rest = rw (is, is) rest
-
-pub tracks_fed : (frontends : List FrontendRows) (id : ConnId) (piece : List ℕ) → tracks_at (with_conn id (row_fed piece) frontends) id ≡ tracks_at frontends id
-tracks_fed frontends id piece = by (slice_get frontends id.frontend) refl
-  where
-    by : (o : Option FrontendRows) → slice_get frontends id.frontend ≡ o → tracks_at (with_conn id (row_fed piece) frontends) id ≡ tracks_at frontends id
-    by None none = rw none (rw none refl)
-    by (Some own) is =
-        let set : with_conn id (row_fed piece) frontends ≡ slice_set frontends id.frontend (with_row id.serial (row_fed piece) own) = rw is refl in
-        ap (λ fs. tracks_at fs id) set
-        ∙ ap (λ o. option_map_or (λ row. row.tracks) (row_in id.serial o) []) (get-set frontends id.frontend own (with_row id.serial (row_fed piece) own) is)
-        ∙ still-tracked id.serial piece own.rows
-        ∙ ap (λ o. option_map_or (λ row. row.tracks) (row_in id.serial o) []) (sym is)
+    by : (o : Option FrontendRows) → slice_get frontends id.frontend ≡ o → by_counter row.tracks ≡ row.tracks
+    by None none = absurd (let wrong : None ≡ Some row = ap (row_in id.serial) (sym none) ∙ is in cc)
+    by (Some own) there =
+        (all-found (λ (r : Row). by_counter r.tracks ≡ r.tracks) (λ (r : Row). r.serial == id.serial) own.rows row (sorted own there).sorted (ap (row_in id.serial) (sym there) ∙ is)).0
 
 -- A connection that waits on.
 
@@ -146,11 +138,10 @@ change-same serial f g (x ∷ rows) row rise found same = by (x.serial == serial
         rw (is, above rows rise.0 is f, above rows rise.0 is g) (ap (λ y. y ∷ rows) alike)
     by false is rest = rw is (ap (λ rs. x ∷ rs) (rest (rw is at found)))
 
-pub waits_on : (frontends : List FrontendRows) (versions : List Version) (id : ConnId) (piece : List ℕ) (count : ℕ) (found : Row × Rest) →
-    ((own : FrontendRows) → slice_get frontends id.frontend ≡ Some own → Rise (λ row. row.serial) own.rows) →
-    waiting_row frontends id ≡ Ok found → status_on found.1 piece ≡ Wait →
-    with_conn id (row_fed piece) frontends ≡ spoken versions (Piece id piece) id (saids.Wait id count) frontends
-waits_on frontends versions id piece count found rises is status = by (slice_get frontends id.frontend) refl
+waits_on : (frontends : List FrontendRows) (versions : List Version) (id : ConnId) (piece : List ℕ) (count : ℕ) (found : Row × Rest) →
+    ((own : FrontendRows) → slice_get frontends id.frontend ≡ Some own → IsSorted own) → waiting_row frontends id ≡ Ok found → status_on found.1 piece ≡ Wait →
+    with_conn id (row_fed piece) frontends ≡ spoken versions (Piece id piece) id (reply_of (saids.Wait id count)) frontends
+waits_on frontends versions id piece count found sorted is status = by (slice_get frontends id.frontend) refl
   where
     w : IsWaiting frontends id found.0 found.1
     w = waiting frontends id found is
@@ -162,13 +153,59 @@ waits_on frontends versions id piece count found rises is status = by (slice_get
         rw waits refl
     holds (Offered assignment) same = refl
 
-    by : (o : Option FrontendRows) → slice_get frontends id.frontend ≡ o → with_conn id (row_fed piece) frontends ≡ with_conn id (row_by versions (Piece id piece) (saids.Wait id count)) frontends
+    spoken_to : Row → Row
+    spoken_to = row_by versions (Piece id piece) (reply_of (saids.Wait id count))
+
+    tracks : found.0.tracks ≡ by_counter (found.0.tracks ++ [])
+    tracks = sym (ap by_counter (append-nil found.0.tracks) ∙ row_sorted frontends id found.0 sorted w.there)
+
+    same : row_fed piece found.0 ≡ spoken_to found.0
+    same =
+        ap (λ phase. record found.0 { phase = phase }) (holds found.0.phase w.holds)
+        ∙ ap (λ ts. record found.0 { phase = phase_on piece found.0.phase; tracks = ts }) tracks
+
+    by : (o : Option FrontendRows) → slice_get frontends id.frontend ≡ o → with_conn id (row_fed piece) frontends ≡ with_conn id spoken_to frontends
     by None none = rw none refl
     by (Some own) there =
         let row : find (λ row. row.serial == id.serial) own.rows ≡ Some found.0 = ap (row_in id.serial) (sym there) ∙ w.there in
-        let same : row_fed piece found.0 ≡ row_by versions (Piece id piece) (saids.Wait id count) found.0 = ap (λ phase. record found.0 { phase = phase }) (holds found.0.phase w.holds) in
-        rw there (ap (λ rows. slice_set frontends id.frontend (record own { rows = rows }))
-        (change-same id.serial (row_fed piece) (row_by versions (Piece id piece) (saids.Wait id count)) own.rows found.0 (rises own there) row same))
+        rw there (ap (λ rows. slice_set frontends id.frontend (record own { rows = rows })) (change-same id.serial (row_fed piece) spoken_to own.rows found.0 (sorted own there).rise row same))
+
+-- The rows and the tables of them once that is said to a connection.
+abbrev state_spoken : RowsValue → OwnedEvent → ConnId → Reply → RowsState
+state_spoken rows event id reply = record (state_of rows) {
+  frontends = spoken rows.versions event id reply rows.frontends;
+  tables = tables_by rows.frontends rows.tables reply;
+}
+
+pub waited_once : (old fed : RowsValue) (id : ConnId) (piece : List ℕ) (count : ℕ) (found : Row × Rest) (reply : Reply) →
+    ((own : FrontendRows) → slice_get old.frontends id.frontend ≡ Some own → IsSorted own) → waiting_row old.frontends id ≡ Ok found → status_on found.1 piece ≡ Wait →
+    fed ≡ record old { frontends = with_conn id (row_fed piece) old.frontends } → reply ≡ reply_of (saids.Wait id count) → state_of fed ≡ state_spoken old (Piece id piece) id reply
+waited_once old fed id piece count found reply sorted waits status fed_is reply_is =
+    ap state_of fed_is
+    ∙ ap (λ fs. record (state_of old) { frontends = fs }) (waits_on old.frontends old.versions id piece count found sorted waits status)
+    ∙ ap (state_spoken old (Piece id piece) id) (sym reply_is)
+
+-- A connection whose header is wrong.
+
+-- no track more
+same_tracks : (frontends : List FrontendRows) (id : ConnId) (found : Row × Rest) → ((own : FrontendRows) → slice_get frontends id.frontend ≡ Some own → IsSorted own) → waiting_row frontends id ≡ Ok found →
+    by_counter (tracks_at frontends id ++ []) ≡ tracks_at frontends id
+same_tracks frontends id found sorted waits =
+    let there : row_at frontends id ≡ Some found.0 = (waiting frontends id found waits).there in
+    let tracks : tracks_at frontends id ≡ found.0.tracks = ap (λ (o : Option Row). option_map_or (λ (row : Row). row.tracks) o []) there in
+    ap by_counter (append-nil (tracks_at frontends id)) ∙ ap by_counter tracks ∙ row_sorted frontends id found.0 sorted there ∙ sym tracks
+
+pub refused_once : (old fed after : RowsValue) (event : OwnedEvent) (id : ConnId) (piece : List ℕ) (used : ℕ) (cause : Cause) (found : Row × Rest) (reply : Reply) →
+    ((own : FrontendRows) → slice_get old.frontends id.frontend ≡ Some own → IsSorted own) → waiting_row old.frontends id ≡ Ok found →
+    fed ≡ record old { frontends = with_conn id (row_fed piece) old.frontends } →
+    after ≡ record fed { frontends = without_conn id fed.frontends; tables = without_tracks (tracks_at fed.frontends id) fed.tables } → reply ≡ reply_of (saids.Refuse id used cause) →
+    state_of after ≡ state_spoken old event id reply
+refused_once old fed after event id piece used cause found reply sorted waits fed_is removed reply_is =
+    ap state_of removed
+    ∙ ap (λ (r : RowsValue). record (state_of r) { frontends = without_conn id r.frontends; tables = without_tracks (tracks_at r.frontends id) r.tables }) fed_is
+    ∙ ap (λ fs. record (state_of old) { frontends = fs; tables = without_tracks (tracks_at (with_conn id (row_fed piece) old.frontends) id) old.tables }) (changed_gone id (row_fed piece) old.frontends (λ row. refl))
+    ∙ ap (λ ts. record (state_of old) { frontends = without_conn id old.frontends; tables = without_tracks ts old.tables }) (tracks_at-fed id piece old.frontends ∙ sym (same_tracks old.frontends id found sorted waits))
+    ∙ ap (state_spoken old event id) (sym reply_is)
 
 -- Who judges is one.
 
@@ -185,34 +222,84 @@ no_wait : (id other : ConnId) (used count : ℕ) (judged : PairValue) (result : 
 no_wait id other used count judged (Ok server) is = let wrong : saids.Wait other count ≡ said_of id used judged (Ok server) = is in cc
 no_wait id other used count judged (Err cause) is = let wrong : saids.Wait other count ≡ said_of id used judged (Err cause) = is in cc
 
-pub settled_is : (versions : List Version) (event : OwnedEvent) (id other : ConnId) (used count : ℕ) (judged : PairValue) (result : Result Server Cause) (outcome : Outcome) (frontends : List FrontendRows) →
-    said_by id used outcome ≡ said_of other count judged result → settled versions id outcome frontends ≡ spoken versions event id (said_by id used outcome) frontends
-settled_is versions event id other used count judged result outcomes.Wait frontends is = absurd (no_wait other id count used judged result is)
-settled_is versions event id other used count judged result (outcomes.Offer offer) frontends is = refl
-settled_is versions event id other used count judged result (outcomes.Refuse cause) frontends is = refl
+-- the open connections once a decision is kept
+frontends_settled : (versions : List Version) (event : OwnedEvent) (id : ConnId) (used : ℕ) (outcome : Outcome) (slots : Slots) (frontends : List FrontendRows) → ((other : ConnId) (count : ℕ) → said_by id used outcome ≡ saids.Wait other count → ⊥) →
+    settled versions id outcome (with_conn id (row_with (present slots)) frontends) ≡ spoken versions event id (reply_with (said_by id used outcome) slots) frontends
+frontends_settled versions event id used outcomes.Wait slots frontends decides = absurd (decides id used refl)
+frontends_settled versions event id used (outcomes.Offer offer) slots frontends decides = changed_twice id (row_with (present slots)) (row_offered versions offer.seat) frontends (λ row. refl)
+frontends_settled versions event id used (outcomes.Refuse cause) slots frontends decides = changed_gone id (row_with (present slots)) frontends (λ row. refl)
 
--- and the tables with them
-pub tables_settled_is : (id : ConnId) (used : ℕ) (outcome : Outcome) (frontends : List FrontendRows) (tables : List TableState) →
-    tables_settled id outcome frontends tables ≡ tables_spoken id (said_by id used outcome) frontends tables
-tables_settled_is id used outcomes.Wait frontends tables = refl
-tables_settled_is id used (outcomes.Offer offer) frontends tables = refl
-tables_settled_is id used (outcomes.Refuse cause) frontends tables = refl
+-- what a connection tracks, once it tracks those too
+tracks_with : (frontends : List FrontendRows) (id : ConnId) (tracks : List Track) → IsSome (row_at frontends id) → tracks_at (with_conn id (row_with tracks) frontends) id ≡ by_counter (tracks_at frontends id ++ tracks)
+tracks_with frontends id tracks there = by (row_at frontends id) refl there
+  where
+    by : (o : Option Row) → row_at frontends id ≡ o → IsSome o → tracks_at (with_conn id (row_with tracks) frontends) id ≡ by_counter (tracks_at frontends id ++ tracks)
+    by None none some = absurd (false≢true some)
+    by (Some row) is some =
+        let now : row_at (with_conn id (row_with tracks) frontends) id ≡ Some (row_with tracks row) = row_changed id (row_with tracks) frontends (λ row. refl) ∙ ap (option_map (row_with tracks)) is in
+        rw (now, is) refl
+
+-- and the tables
+tables_settled : (id : ConnId) (used : ℕ) (outcome : Outcome) (slots : Slots) (frontends : List FrontendRows) (tables : List TableState) → ((other : ConnId) (count : ℕ) → said_by id used outcome ≡ saids.Wait other count → ⊥) →
+    IsSome (row_at frontends id) → settled_tables id outcome (with_conn id (row_with (present slots)) frontends) (with_tracks (open_tracks frontends) (present slots) tables)
+    ≡ tables_by frontends tables (reply_with (said_by id used outcome) slots)
+tables_settled id used outcomes.Wait slots frontends tables decides there = absurd (decides id used refl)
+tables_settled id used (outcomes.Offer offer) slots frontends tables decides there = refl
+tables_settled id used (outcomes.Refuse cause) slots frontends tables decides there =
+    ap (λ ts. without_tracks ts (with_tracks (open_tracks frontends) (present slots) tables)) (tracks_with frontends id (present slots) there)
+
+pub settled_once : (old now after : RowsValue) (event : OwnedEvent) (id : ConnId) (used : ℕ) (judged : PairValue) (result : Result Server Cause) (decided : Decision) (reply : Reply) → IsSome (row_at old.frontends id) →
+    said_by id used decided.outcome ≡ said_of id used judged result →
+    now.frontends ≡ with_conn id (row_with (present decided.tracks)) old.frontends → now.versions ≡ old.versions → now.tables ≡ with_tracks (open_tracks old.frontends) (present decided.tracks) old.tables →
+    after ≡ record now { frontends = settled now.versions id decided.outcome now.frontends; tables = settled_tables id decided.outcome now.frontends now.tables } →
+    reply ≡ reply_by id used decided → state_of after ≡ state_spoken old event id reply
+settled_once old now after event id used judged result decided reply there said fronts versions tables kept reply_is =
+    let f : after.frontends ≡ spoken old.versions event id (reply_by id used decided) old.frontends =
+    ap (λ (r : RowsValue). r.frontends) kept ∙ ap (λ vs. settled vs id decided.outcome now.frontends) versions ∙ ap (settled old.versions id decided.outcome) fronts
+    ∙ frontends_settled old.versions event id used decided.outcome decided.tracks old.frontends decides in
+    let v : after.versions ≡ old.versions = ap (λ (r : RowsValue). r.versions) kept ∙ versions in
+    let t : after.tables ≡ tables_by old.frontends old.tables (reply_by id used decided) =
+    ap (λ (r : RowsValue). r.tables) kept ∙ ap (λ fs. settled_tables id decided.outcome fs now.tables) fronts
+    ∙ ap (settled_tables id decided.outcome (with_conn id (row_with (present decided.tracks)) old.frontends)) tables
+    ∙ tables_settled id used decided.outcome decided.tracks old.frontends old.tables decides there in
+    let all : state_of after ≡ state_spoken old event id (reply_by id used decided) = cc (f, v, t) in
+    all ∙ ap (state_spoken old event id) (sym reply_is)
+  where
+    decides : (other : ConnId) (count : ℕ) → said_by id used decided.outcome ≡ saids.Wait other count → ⊥
+    decides other count waits = no_wait id other used count judged result (sym waits ∙ said)
 
 -- A header that is whole.
 
 -- what is said once the header is whole ends the connection or gives it a server, and either replaces what the piece left
-pub spoken_fed : (frontends : List FrontendRows) (versions : List Version) (event : OwnedEvent) (id : ConnId) (piece : List ℕ) (said : Said) (candidate : Candidate) (used : ℕ) (judged : PairValue) → said ≡ decision candidate used judged →
-    spoken versions event id said (with_conn id (row_fed piece) frontends) ≡ spoken versions event id said frontends
-spoken_fed frontends versions event id piece said candidate used judged is =
-    ap (λ s. spoken versions event id s (with_conn id (row_fed piece) frontends)) is
-    ∙ by (verdict (candidate_worth candidate judged.source.addr) candidate.version candidate.frontend)
-    ∙ ap (λ s. spoken versions event id s frontends) (sym is)
-  where
-    by : (result : Result Server Cause) → spoken versions event id (said_of candidate.id used judged result) (with_conn id (row_fed piece) frontends) ≡ spoken versions event id (said_of candidate.id used judged result) frontends
-    by (Ok server) = changed_twice id (row_fed piece) (row_by versions event (said_of candidate.id used judged (Ok server))) frontends (λ row. refl)
-    by (Err cause) = changed_gone id (row_fed piece) frontends (λ row. refl)
+spoken_fed : (frontends : List FrontendRows) (versions : List Version) (event : OwnedEvent) (id : ConnId) (piece : List ℕ) (used : ℕ) (judged : PairValue) (result : Result Server Cause) (made : Slots) →
+    spoken versions event id (reply_with (said_of id used judged result) made) (with_conn id (row_fed piece) frontends) ≡ spoken versions event id (reply_with (said_of id used judged result) made) frontends
+spoken_fed frontends versions event id piece used judged (Ok server) made =
+    changed_twice id (row_fed piece) (row_by versions event (reply_with (said_of id used judged (Ok server)) made)) frontends (λ row. refl)
+spoken_fed frontends versions event id piece used judged (Err cause) made = changed_gone id (row_fed piece) frontends (λ row. refl)
 
-pub whole_said : (p : Plain) (id : ConnId) (piece : List ℕ) (found : Row × Rest) → waiting_row p.frontends id ≡ Ok found → (judge : Judge p.frontends p.versions id found.0.version) (used : ℕ) (meaning : Meaning) → status_on found.1 piece ≡ Whole used meaning →
-    (said : Said) → said ≡ decision (candidate_of p id judge.version judge.frontend) used (judged_pair found.0.real meaning) → piece_answer p id piece ≡ Ok (reply_of said)
-whole_said p id piece found waits judge used meaning status said is =
-    piece_is p id piece found waits judge ∙ ap (λ st. Ok (reply_of (header_said (candidate_of p id judge.version judge.frontend) found.0.real (length piece) st))) status ∙ ap (λ s. Ok (reply_of s)) (sym is)
+tables_fed : (frontends : List FrontendRows) (tables : List TableState) (id : ConnId) (piece : List ℕ) (used : ℕ) (judged : PairValue) (result : Result Server Cause) (made : Slots) →
+    tables_by (with_conn id (row_fed piece) frontends) tables (reply_with (said_of id used judged result) made) ≡ tables_by frontends tables (reply_with (said_of id used judged result) made)
+tables_fed frontends tables id piece used judged (Ok server) made = ap (λ ts. with_tracks ts (present made) tables) (open_tracks-fed id piece frontends)
+tables_fed frontends tables id piece used judged (Err cause) made =
+    ap (λ ts. without_tracks (by_counter (tracks_at (with_conn id (row_fed piece) frontends) id ++ present made)) (with_tracks ts (present made) tables)) (open_tracks-fed id piece frontends)
+    ∙ ap (λ ts. without_tracks (by_counter (ts ++ present made)) (with_tracks (open_tracks frontends) (present made) tables)) (tracks_at-fed id piece frontends)
+
+pub decided_once : (old fed after : RowsValue) (event : OwnedEvent) (id : ConnId) (piece : List ℕ) (p : Plain) (version : Version) (frontend : Frontend) (used : ℕ) (judged : PairValue) (reply : Reply) →
+    reply ≡ decision (candidate_of p id version frontend) used judged no_tracks → fed ≡ record old { frontends = with_conn id (row_fed piece) old.frontends } → state_of after ≡ state_spoken fed event id reply →
+    state_of after ≡ state_spoken old event id reply
+decided_once old fed after event id piece p version frontend used judged reply reply_is fed_is after_is =
+    after_is
+    ∙ ap (λ (r : RowsValue). state_spoken r event id reply) fed_is
+    ∙ ap (λ (r : Reply). state_spoken fed_rows event id r) reply_is
+    ∙ ap (λ fs. record (state_of old) { frontends = fs; tables = tables_by fed_rows.frontends old.tables said }) (spoken_fed old.frontends old.versions event id piece used judged decided.result decided.made)
+    ∙ ap (λ ts. record (state_of old) { frontends = spoken old.versions event id said old.frontends; tables = ts }) (tables_fed old.frontends old.tables id piece used judged decided.result decided.made)
+    ∙ ap (state_spoken old event id) (sym reply_is)
+  where
+    fed_rows : RowsValue
+    fed_rows = record old { frontends = with_conn id (row_fed piece) old.frontends }
+
+    decided : Verdict
+    decided = verdict (view_of (candidate_of p id version frontend) judged.source.addr) version frontend no_tracks
+
+    said : Reply
+    said = reply_with (said_of id used judged decided.result) decided.made

@@ -1,10 +1,11 @@
 -- The state of a core after one event.
 use Rattle.std.proofs.Common.{◌≡◌, ℕ, [], ◌∷◌, List, Bool, true, false, Option, Some, None, Ok, refl, max, sym, ap, subst, ◌∙◌}
-use Rattle.std.specs.Prelude.{slice_get, slice_set, find, filter, map, not, option_map, ◌==◌, if◌then◌else◌}
+use Rattle.std.specs.Prelude.{slice_get, slice_set, find, filter, not, map, option_map, ◌==◌, ◌++◌}
 use Rattle.std.proofs.Math.Path.{fun_ext}
 use Rattle.plan_types.specs.declared.plan.Plan.{Plan}
 use Rattle.conn_model.specs.declared.event.ConnId.{ConnId}
 use Rattle.conn_model.specs.declared.event.OwnedEvent.{OwnedEvent}
+use Rattle.conn_model.specs.declared.reply.Reply.{Reply}
 use Rattle.conn_model.specs.declared.reply.Said.{Said}
 use Rattle.conn_model.specs.declared.plain.Row.{Row}
 use Rattle.conn_model.specs.declared.plain.FrontendRows.{FrontendRows}
@@ -13,14 +14,15 @@ use Rattle.conn_model.specs.declared.plain.Version.{Version}
 use Rattle.conn_model.specs.declared.plain.Plain.{Plain}
 use Rattle.conn_model.specs.Counts.{change_row}
 use Rattle.conn_model.specs.Answer.{answer_in, reply_of, row_at, row_in}
-use Rattle.conn_model.specs.History.{after, entry, id_of, is_last, phase_by, plan_of, tables_by, tracks_at, Entry}
+use Rattle.conn_model.specs.History.{after, by_counter, entry, id_of, is_last, phase_by, plan_of, tables_by, tracks_at, Entry}
 use Rattle.conn_model.specs.Tables.{without_tracks}
 use Rattle.conn_model.proofs.Parts.{versions-same}
+use Rattle.conn_model.proofs.Trackings.{tables_ended}
 use Rattle.conn_model.proofs.Well.{after-nil, well_after}
-use Rattle.conn_model.proofs.Steps.{after-change, after-end, IsOfOpen}
-use Rattle.conn_model.proofs.Trackings.{tables_ended, tables_kept}
+use Rattle.conn_model.proofs.Steps.{after-change, after-end, row_said, IsOfOpen}
+use Rattle.conn_rows.specs.Changes.{without_conn}
 use Rattle.conn_rows.specs.Stored.{plan_at}
-use Rattle.conn_core.specs.Changes.{row_by, spoken, tables_spoken}
+use Rattle.conn_core.specs.Changes.{row_by, spoken}
 use Rattle.conn_core.specs.Machine.{AreSound, IsCoreState}
 
 -- an answered event leaves a state that a core can be in
@@ -59,28 +61,18 @@ frontend_of frontends id row is = by (slice_get frontends id.frontend) refl
     by None none = absurd (let wrong : None ≡ Some row = ap (row_in id.serial) (sym none) ∙ is in cc)
     by (Some own) there = (own, there)
 
--- a state of those rows and tables, and else as it was at that moment
-abbrev left : Plain → ℕ → List FrontendRows → List TableState → Plain
-left p moment frontends tables = record {
-  clock = max p.clock moment;
-  listeners = p.listeners;
-  frontends = frontends;
-  versions = p.versions;
-  tables = tables;
-}
-
--- the state once something without tracks is said to a connection that is open
-pub after_spoken : (p : Plain) → IsCoreState p → (moment : ℕ) (event : OwnedEvent) (id : ConnId) (said : Said) (row : Row) → row_at p.frontends id ≡ Some row →
-    IsOfOpen event → id_of said ≡ Some id → answer_in p moment event ≡ Ok (reply_of said) →
-    IsAfter p (entry moment event (reply_of said)) (record {
+-- the state once something is said to a connection that is open
+pub after_spoken : (p : Plain) → IsCoreState p → (moment : ℕ) (event : OwnedEvent) (id : ConnId) (reply : Reply) (row : Row) → row_at p.frontends id ≡ Some row →
+    IsOfOpen event → id_of reply.said ≡ Some id → answer_in p moment event ≡ Ok reply →
+    IsAfter p (entry moment event reply) (record {
       clock = max p.clock moment;
       listeners = p.listeners;
-      frontends = spoken p.versions event id said p.frontends;
+      frontends = spoken p.versions event id reply p.frontends;
       versions = p.versions;
-      tables = tables_spoken id said p.frontends p.tables;
+      tables = tables_by p.frontends p.tables reply;
     })
-after_spoken p known moment event id said row open_now old whom is =
-    is_after p known (entry moment event (reply_of said)) _ is (by (is_last said) refl)
+after_spoken p known moment event id reply row open_now old whom is =
+    is_after p known (entry moment event reply) _ is (by (is_last reply.said) refl)
   where
     own : FrontendRows
     own = (frontend_of p.frontends id row open_now).0
@@ -88,23 +80,45 @@ after_spoken p known moment event id said row open_now old whom is =
     there : slice_get p.frontends id.frontend ≡ Some own
     there = (frontend_of p.frontends id row open_now).1
 
-    changes : (λ row. record row { phase = phase_by (plan_of p [] row.version) event said row.phase }) ≡ row_by p.versions event said
-    changes = fun_ext (λ (r : Row). ap (λ plan. record r { phase = phase_by plan event said r.phase }) (plan_is p r.version))
+    state : List FrontendRows → Plain
+    state frontends = record {
+      clock = max p.clock moment;
+      listeners = p.listeners;
+      frontends = frontends;
+      versions = p.versions;
+      tables = tables_by p.frontends p.tables reply;
+    }
 
-    tables : (b : Bool) → is_last said ≡ b → tables_spoken id said p.frontends p.tables ≡ tables_by p.frontends p.tables (reply_of said)
-    tables true last = ap (λ b. if b then without_tracks (tracks_at p.frontends id) p.tables else p.tables) last ∙ sym (tables_ended p known.well id said whom last)
-    tables false last = ap (λ b. if b then without_tracks (tracks_at p.frontends id) p.tables else p.tables) last ∙ sym (tables_kept p said last)
+    changes : row_said p event reply ≡ row_by p.versions event reply
+    changes = fun_ext (λ (r : Row). ap (λ plan. record r { phase = phase_by plan event reply.said r.phase; tracks = by_counter (r.tracks ++ reply.tracks.items) }) (plan_is p r.version))
 
-    by : (b : Bool) → is_last said ≡ b → left p moment (spoken p.versions event id said p.frontends) (tables_spoken id said p.frontends p.tables) ≡ after p (entry moment event (reply_of said) ∷ [])
+    by : (b : Bool) → is_last reply.said ≡ b → state (spoken p.versions event id reply p.frontends) ≡ after p (entry moment event reply ∷ [])
     by true last =
-        let rows : spoken p.versions event id said p.frontends ≡ slice_set p.frontends id.frontend (record own { rows = filter (λ row. not (row.serial == id.serial)) own.rows }) =
-        rw (last, there) refl in
-        ap (λ fs. left p moment fs (tables_spoken id said p.frontends p.tables)) rows
-        ∙ ap (left p moment (slice_set p.frontends id.frontend (record own { rows = filter (λ row. not (row.serial == id.serial)) own.rows }))) (tables true last)
-        ∙ sym (after-end p known.well (entry moment event (reply_of said)) id own there old whom last)
+        let left : spoken p.versions event id reply p.frontends ≡ slice_set p.frontends id.frontend (record own { rows = filter (λ row. not (row.serial == id.serial)) own.rows }) = rw (last, there) refl in
+        ap state left ∙ sym (after-end p known.well (entry moment event reply) id own there old whom last)
     by false last =
-        let rows : spoken p.versions event id said p.frontends ≡ slice_set p.frontends id.frontend (record own { rows = change_row id.serial (λ row. record row { phase = phase_by (plan_of p [] row.version) event said row.phase }) own.rows }) =
+        let changed : spoken p.versions event id reply p.frontends ≡ slice_set p.frontends id.frontend (record own { rows = change_row id.serial (row_said p event reply) own.rows }) =
         rw (last, there) (ap (λ f. slice_set p.frontends id.frontend (record own { rows = change_row id.serial f own.rows })) (sym changes)) in
-        ap (λ fs. left p moment fs (tables_spoken id said p.frontends p.tables)) rows
-        ∙ ap (left p moment (slice_set p.frontends id.frontend (record own { rows = change_row id.serial (λ row. record row { phase = phase_by (plan_of p [] row.version) event said row.phase }) own.rows }))) (tables false last)
-        ∙ sym (after-change p known.well (entry moment event (reply_of said)) id own there old whom last refl)
+        ap state changed ∙ sym (after-change p known.well (entry moment event reply) id own there old whom last)
+
+-- the state once a connection that is open ended
+pub after_last : (p : Plain) → IsCoreState p → (moment : ℕ) (event : OwnedEvent) (id : ConnId) (said : Said) (row : Row) → row_at p.frontends id ≡ Some row →
+    IsOfOpen event → id_of said ≡ Some id → is_last said ≡ true → answer_in p moment event ≡ Ok (reply_of said) →
+    IsAfter p (entry moment event (reply_of said)) (record {
+      clock = max p.clock moment;
+      listeners = p.listeners;
+      frontends = without_conn id p.frontends;
+      versions = p.versions;
+      tables = without_tracks (tracks_at p.frontends id) p.tables;
+    })
+after_last p known moment event id said row open_now old whom last is =
+    subst (IsAfter p (entry moment event (reply_of said))) same (after_spoken p known moment event id (reply_of said) row open_now old whom is)
+  where
+    state : List FrontendRows → List TableState → Plain
+    state frontends tables = record { clock = max p.clock moment; listeners = p.listeners; frontends = frontends; versions = p.versions; tables = tables }
+
+    gone : spoken p.versions event id (reply_of said) p.frontends ≡ without_conn id p.frontends
+    gone = rw last refl
+
+    same : state (spoken p.versions event id (reply_of said) p.frontends) (tables_by p.frontends p.tables (reply_of said)) ≡ state (without_conn id p.frontends) (without_tracks (tracks_at p.frontends id) p.tables)
+    same = ap (λ fs. state fs (tables_by p.frontends p.tables (reply_of said))) gone ∙ ap (state (without_conn id p.frontends)) (tables_ended p known.well id said whom last)

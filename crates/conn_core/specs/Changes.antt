@@ -2,19 +2,23 @@
 use Rattle.std.specs.Prelude.{ℕ, List, [], ◌∷◌, ◌++◌, Some, slice_get, ◌≡◌, ◌+◌, ◌<◌, ◌≤◌, ◌^◌, if◌then◌else◌}
 use Rattle.std.specs.List.{AllByRecursion}
 use Rattle.plan_types.specs.declared.plan.Frontend.{Frontend}
+use Rattle.plan_types.specs.declared.track.Track.{Track}
+use Rattle.rule_engine.specs.Meaning.{present}
 use Rattle.conn_model.specs.declared.event.ConnId.{ConnId}
 use Rattle.conn_model.specs.declared.event.OwnedEvent.{OwnedEvent}
-use Rattle.conn_model.specs.declared.reply.Said.{Said}
+use Rattle.conn_model.specs.declared.reply.Reply.{Reply}
 use Rattle.conn_model.specs.declared.plain.Row.{Row}
 use Rattle.conn_model.specs.declared.plain.FrontendRows.{FrontendRows}
 use Rattle.conn_model.specs.declared.plain.TableState.{TableState}
 use Rattle.conn_model.specs.declared.plain.Version.{Version}
 use Rattle.conn_model.specs.Answer.{frontend_in, new_row, version_at}
-use Rattle.conn_model.specs.History.{is_last, phase_by, tracks_at}
-use Rattle.conn_model.specs.Tables.{without_tracks}
+use Rattle.conn_model.specs.History.{is_last, phase_by}
+use Rattle.conn_model.specs.Tables.{by_counter, tracks_at, without_tracks}
 use Rattle.conn_rows.specs.Changes.{row_offered, with_conn, without_conn}
 use Rattle.conn_rows.specs.Stored.{plan_at}
+use Rattle.conn_core.specs.Tracking.{row_with}
 use Rattle.conn_core.specs.declared.entering.Arrival.{Arrival}
+use Rattle.conn_core.specs.declared.outcome.Decision.{Decision}
 use Rattle.conn_core.specs.declared.outcome.Outcome.{Outcome}
 use Rattle.conn_core.specs.declared.outcome.Outcome.TheVariants.{Wait, Offer, Refuse}
 
@@ -25,27 +29,35 @@ pub record IsComing (frontends : List FrontendRows) (id : ConnId) (own : Fronten
   pub fits : own.serial + 1 < 2 ^ 64
   pub given : AllByRecursion (λ row. row.serial ≤ own.serial) own.rows
 
--- the row that an outcome leaves of a connection
-abbrev pub entered_row : List Version → Arrival → Outcome → ℕ → List Row
-entered_row versions arrival Wait serial = new_row serial arrival.version arrival.real arrival.accepted ∷ []
-entered_row versions arrival (Offer offer) serial = row_offered versions offer.seat (new_row serial arrival.version arrival.real arrival.accepted) ∷ []
-entered_row versions arrival (Refuse cause) serial = []
+-- a connection that came in and tracks those
+abbrev pub newcomer : Arrival → List Track → ℕ → Row
+newcomer arrival tracks serial = row_with tracks (new_row serial arrival.version arrival.real arrival.accepted)
 
 -- its frontend
-abbrev pub entered : List Version → Arrival → Outcome → FrontendRows → FrontendRows
-entered versions arrival outcome own = record own { serial = own.serial + 1; rows = own.rows ++ entered_row versions arrival outcome (own.serial + 1) }
+abbrev pub with_newcomer : Arrival → List Track → FrontendRows → FrontendRows
+with_newcomer arrival tracks own = record own { serial = own.serial + 1; rows = own.rows ++ newcomer arrival tracks (own.serial + 1) ∷ [] }
+
+-- the row that a decision leaves of a connection
+abbrev pub entered_row : List Version → Arrival → List Track → Outcome → ℕ → List Row
+entered_row versions arrival tracks Wait serial = newcomer arrival tracks serial ∷ []
+entered_row versions arrival tracks (Offer offer) serial = row_offered versions offer.seat (newcomer arrival tracks serial) ∷ []
+entered_row versions arrival tracks (Refuse cause) serial = []
+
+-- its frontend
+abbrev pub entered : List Version → Arrival → Decision → FrontendRows → FrontendRows
+entered versions arrival decision own =
+    record own { serial = own.serial + 1; rows = own.rows ++ entered_row versions arrival (present decision.tracks) decision.outcome (own.serial + 1) }
 
 -- a connection to which that is said
-abbrev pub row_by : List Version → OwnedEvent → Said → Row → Row
-row_by versions event said row = record row { phase = phase_by (plan_at versions row.version) event said row.phase }
+abbrev pub row_by : List Version → OwnedEvent → Reply → Row → Row
+row_by versions event reply row = record row {
+  phase = phase_by (plan_at versions row.version) event reply.said row.phase;
+  tracks = by_counter (row.tracks ++ reply.tracks.items);
+}
 
 -- the open connections once that is said to one of them
-abbrev pub spoken : List Version → OwnedEvent → ConnId → Said → List FrontendRows → List FrontendRows
-spoken versions event id said frontends = if is_last said then without_conn id frontends else with_conn id (row_by versions event said) frontends
-
--- the tables once it is said: after a last reply the connection tracks nothing any longer
-abbrev pub tables_spoken : ConnId → Said → List FrontendRows → List TableState → List TableState
-tables_spoken id said frontends tables = if is_last said then without_tracks (tracks_at frontends id) tables else tables
+abbrev pub spoken : List Version → OwnedEvent → ConnId → Reply → List FrontendRows → List FrontendRows
+spoken versions event id reply frontends = if is_last reply.said then without_conn id frontends else with_conn id (row_by versions event reply) frontends
 
 -- what judges a connection: its frontend, the version, and the frontend in it
 pub record Judge (frontends : List FrontendRows) (versions : List Version) (id : ConnId) (number : ℕ) : Type 0 where
@@ -62,8 +74,8 @@ settled versions id Wait frontends = frontends
 settled versions id (Offer offer) frontends = with_conn id (row_offered versions offer.seat) frontends
 settled versions id (Refuse cause) frontends = without_conn id frontends
 
--- and the tables: one that is refused tracks nothing any longer
-abbrev pub tables_settled : ConnId → Outcome → List FrontendRows → List TableState → List TableState
-tables_settled id Wait frontends tables = tables
-tables_settled id (Offer offer) frontends tables = tables
-tables_settled id (Refuse cause) frontends tables = without_tracks (tracks_at frontends id) tables
+-- and the tables
+abbrev pub settled_tables : ConnId → Outcome → List FrontendRows → List TableState → List TableState
+settled_tables id Wait frontends tables = tables
+settled_tables id (Offer offer) frontends tables = tables
+settled_tables id (Refuse cause) frontends tables = without_tracks (tracks_at frontends id) tables

@@ -1,15 +1,26 @@
 -- What the code judges by, in the words of the definitions.
-use Rattle.std.specs.Prelude.{ℕ, Bool, List, Option, Some, None, Result, Ok, Err, ◌+◌, ◌&&◌, nat_le, if◌then◌else◌}
+use Rattle.std.specs.Prelude.{ℕ, Bool, List, Option, Result, Ok, Err, ◌+◌, ◌&&◌, option_and_then, option_map, if◌then◌else◌}
+use Rattle.std.specs.Option.{option_map_or}
 use Rattle.std.specs.Str.{bytes_eq}
-use Rattle.acl_core.specs.declared.criterion.Criterion.{Criterion}
-use Rattle.acl_core.specs.declared.criterion.Criterion.TheVariants as criteria
-use Rattle.acl_core.specs.declared.criterion.Value.{Value}
-use Rattle.acl_core.specs.declared.criterion.Value.TheVariants as values
+use Rattle.addr_core.specs.declared.addr.Addr.{Addr}
+use Rattle.addr_core.specs.PairValue.{PairValue}
+use Rattle.proxy_types.specs.declared.table.Stores.{Stores}
 use Rattle.plan_types.specs.declared.plan.Frontend.{Frontend}
 use Rattle.plan_types.specs.declared.plan.Server.{Server}
+use Rattle.plan_types.specs.declared.track.Track.{Track}
+use Rattle.rule_engine.specs.Meaning.{present}
+use Rattle.rule_engine.specs.Judging.{Slots}
+use Rattle.conn_model.specs.declared.ask.Counts.{Counts}
+use Rattle.conn_model.specs.declared.event.ConnId.{ConnId}
 use Rattle.conn_model.specs.declared.reply.Cause.{Cause}
+use Rattle.conn_model.specs.declared.reply.Reply.{Reply}
+use Rattle.conn_model.specs.declared.plain.TableState.{TableState}
+use Rattle.conn_model.specs.declared.plain.Version.{Version}
+use Rattle.conn_model.specs.Answer.{reply_with, said_of, verdict}
 use Rattle.conn_model.specs.Counts.{open_named, offered_to}
-use Rattle.conn_model.specs.Rules.{rejection}
+use Rattle.conn_model.specs.Rules.{RuleView, counted, current_of, total_of}
+use Rattle.conn_model.specs.Tables.{open_tracks, table_at}
+use Rattle.conn_core.specs.Tracking.{ArePossible}
 use Rattle.conn_core.specs.declared.facts.RuleFacts.{RuleFacts}
 use Rattle.conn_core.specs.declared.judging.Verdict.{Verdict}
 use Rattle.conn_core.specs.declared.judging.Verdict.TheVariants.{Assigned, Refused}
@@ -18,21 +29,44 @@ use Rattle.conn_core.specs.declared.judging.Verdict.TheVariants.{Assigned, Refus
 abbrev pub arrival_in : Bool → List ℕ → List ℕ → ℕ
 arrival_in arriving own name = if arriving && bytes_eq own name then 1 else 0
 
--- the values of the criteria for a connection
-abbrev pub worth_of : RuleFacts → Criterion → Value
-worth_of facts criteria.Source = values.Source facts.source
-worth_of facts (criteria.TrackedConnections counter) = values.Absent
-worth_of facts (criteria.TrackedTotal counter) = values.Absent
-worth_of facts (criteria.SourceConnections table) = values.Number 0
-worth_of facts (criteria.SourceTotal table) = values.Number 0
-worth_of facts (criteria.FrontendConnections None) = values.Number facts.connections
-worth_of facts (criteria.FrontendConnections (Some name)) = values.Number (open_named facts.rows.now.frontends name + arrival_in facts.arriving facts.name.now name)
-worth_of facts (criteria.BackendConnections name) = values.Number (offered_to facts.rows.now.frontends name)
+-- what rules see of a connection once the step tracked those
+abbrev pub facts_view : RuleFacts → List Track → RuleView
+facts_view facts made = record {
+  source = facts.source;
+  version = facts.version.now;
+  frontend = facts.frontend.now;
+  tables = facts.rows.now.tables;
+  tracks = open_tracks facts.rows.now.frontends;
+  own = present facts.own;
+  made = made;
+  connections = facts.connections;
+  named = λ name. open_named facts.rows.now.frontends name + arrival_in facts.arriving facts.name.now name;
+  offered = offered_to facts.rows.now.frontends;
+}
 
--- the line that refuses a connection at its accept, where so many others of its frontend are open
-abbrev pub entry_line : (Criterion → Value) → Frontend → ℕ → Option ℕ
-entry_line worth frontend others = if nat_le frontend.limit others then Some frontend.limit_line else rejection frontend.acls worth frontend.connection_rules
+-- how many track an address in a table and how often it was tracked, this step included: both are 0 where it is no key
+abbrev pub counts_of : RuleView → Addr → TableState → Counts
+counts_of v addr table = record { cur = counted (current_of v) addr table; cnt = counted (total_of v) addr table }
+
+-- what the table of a track stores, and the counts of its key
+abbrev pub tracked_counts : RuleView → Option Track → Option (Stores × Counts)
+tracked_counts v track = option_and_then (λ track. option_map (λ table. (table.table.stores, counts_of v track.key table)) (table_at v.tables track.table)) track
+
+-- the counts of the source in a table, 0 where there is none
+abbrev pub source_counts : RuleView → Option TableState → Counts
+source_counts v table = option_map_or (counts_of v v.source) table (record { cur = 0; cnt = 0 })
 
 abbrev pub result_of : Verdict → Result Server Cause
 result_of (Assigned server) = Ok server.now
 result_of (Refused cause) = Err cause
+
+-- the reply to a connection of that judged pair, of which so many bytes of the piece belong to the header, where the
+-- step tracked those before
+abbrev pub decided : (List Track → RuleView) → Version → Frontend → ConnId → ℕ → PairValue → Slots → Reply
+decided views version frontend id used judged made =
+    let decision = verdict views version frontend made in
+    reply_with (said_of id used judged decision.result) decision.made
+
+-- the step may track those
+abbrev pub AreAllowed : RuleFacts → Slots → Type 0
+AreAllowed facts slots = ArePossible (open_tracks facts.rows.now.frontends) facts.rows.now.tables (present facts.own) facts.source slots

@@ -1,14 +1,22 @@
 //! Connections that come in.
-ghost use Rattle.std.specs.Prelude.{◌≡◌, ◌≤◌, ◌+◌, ◌<◌, ◌^◌, Some, slice_get, OnOk, OnErr};
-ghost use Rattle.std.specs.List.{AllByRecursion};
+ghost use Rattle.std.specs.Prelude.{◌≡◌, [], OnOk, OnErr};
+ghost use Rattle.addr_core.specs.declared.addr.Addr.{Addr};
+ghost use Rattle.rule_engine.specs.Meaning.{present};
 ghost use Rattle.conn_model.specs.declared.plain.FrontendRows.{FrontendRows};
-ghost use Rattle.conn_rows.specs.Changes.{with_arrival, with_item};
-ghost use Rattle.conn_core.specs.Changes.{entered, IsComing};
+ghost use Rattle.conn_model.specs.History.{tables_by};
+ghost use Rattle.conn_model.specs.Tables.{open_tracks, with_tracks};
+ghost use Rattle.conn_rows.specs.Changes.{with_item};
+ghost use Rattle.conn_rows.specs.Value.{state_of};
+ghost use Rattle.conn_core.specs.Changes.{entered, with_newcomer, IsComing};
+ghost use Rattle.conn_core.specs.Outcome.{reply_by};
+ghost use Rattle.conn_core.specs.Tracking.{ArePossible};
 
-use crate::outcome::Outcome;
+use crate::outcome::{Decision, Outcome};
+use crate::tracking::{STEP_TRACKS, track_all, tracks_nothing};
 use addr_core::Pair;
 use conn_model::event::ConnId;
 use conn_rows::Rows;
+use rule_engine::Tracks;
 use std::alloc::AllocError;
 
 /// A connection that came to a listener.
@@ -27,31 +35,47 @@ pub fn enter(
     rows: &mut Rows,
     id: ConnId,
     arrival: &Arrival,
-    outcome: &Outcome,
+    decision: &Decision,
 ) -> Result<(), AllocError>
-    requires { (own : FrontendRows) × IsComing rows.old.frontends id own }
-    ensures ok { OnOk result (rows.new ≡ record rows.old { frontends = with_item id.frontend (entered rows.old.versions arrival.now outcome.now) rows.old.frontends }) }
-    ensures err { OnErr result (rows.new ≡ rows.old) }
+    requires coming { (own : FrontendRows) × IsComing rows.old.frontends id own }
+    requires can { (source : Addr) × ArePossible (open_tracks rows.old.frontends) rows.old.tables [] source decision.now.tracks }
+    ensures ok { OnOk result (state_of rows.new ≡ record (state_of rows.old) {
+      frontends = with_item id.frontend (entered rows.old.versions arrival.now decision.now) rows.old.frontends;
+      tables = tables_by rows.old.frontends rows.old.tables (reply_by id 0 decision.now);
+    }) }
+    ensures err { OnErr result (state_of rows.new ≡ state_of rows.old) }
 {
-    match outcome {
-        Outcome::Wait => insert(rows, id.frontend, arrival),
+    match &decision.outcome {
+        Outcome::Wait => insert(rows, id, arrival, &decision.tracks),
         Outcome::Offer(offer) => {
-            insert(rows, id.frontend, arrival)?;
+            insert(rows, id, arrival, &decision.tracks)?;
             rows.offer(id, offer.seat);
             Ok(())
         }
         Outcome::Refuse(_) => {
-            rows.skip(id.frontend);
+            if tracks_nothing(&decision.tracks) {
+                rows.skip(id.frontend);
+                return Ok(());
+            }
+            insert(rows, id, arrival, &decision.tracks)?;
+            rows.remove(id);
             Ok(())
         }
     }
 }
 
-fn insert(rows: &mut Rows, number: u16, arrival: &Arrival) -> Result<(), AllocError>
-    requires { (own : FrontendRows) × (slice_get rows.old.frontends number ≡ Some own) × (own.serial + 1 < 2 ^ 64) }
-    ensures ok { OnOk result (rows.new ≡ record rows.old { frontends = with_item number (with_arrival arrival.now.version arrival.now.real arrival.now.accepted) rows.old.frontends }) }
-    ensures err { OnErr result (rows.new ≡ rows.old) }
+/// Opens a connection that tracks those.
+fn insert(rows: &mut Rows, id: ConnId, arrival: &Arrival, tracks: &Tracks) -> Result<(), AllocError>
+    requires coming { (own : FrontendRows) × IsComing rows.old.frontends id own }
+    requires can { (source : Addr) × ArePossible (open_tracks rows.old.frontends) rows.old.tables [] source tracks.now }
+    ensures ok { OnOk result (state_of rows.new ≡ record (state_of rows.old) {
+      frontends = with_item id.frontend (with_newcomer arrival.now (present tracks.now)) rows.old.frontends;
+      tables = with_tracks (open_tracks rows.old.frontends) (present tracks.now) rows.old.tables;
+    }) }
+    ensures err { OnErr result (state_of rows.new ≡ state_of rows.old) }
 {
-    let _serial = rows.insert(number, arrival.version, arrival.real, arrival.accepted)?;
+    rows.reserve(STEP_TRACKS)?;
+    let _serial = rows.insert(id.frontend, arrival.version, arrival.real, arrival.accepted)?;
+    track_all(rows, id, tracks);
     Ok(())
 }

@@ -1,19 +1,22 @@
 //! What rules see of a connection.
-ghost use Rattle.std.specs.Prelude.{◌≡◌, ◌+◌, ◌<◌, ◌^◌};
-ghost use Rattle.std.specs.Str.{bytes_eq};
+ghost use Rattle.std.specs.Prelude.{◌≡◌, ◌+◌, ◌<◌};
 ghost use Rattle.conn_model.specs.Counts.{open_named};
 ghost use Rattle.conn_core.specs.Judging.{arrival_in};
 
-use acl_core::{Acl, Criterion, Value, View};
+use crate::tracking::track_by;
+use acl_core::{Acl, Criterion, Value};
 use addr_core::Addr;
+use conn_model::plain::Version;
 use conn_rows::Rows;
-use plan_types::{Frontend, TableId, Track};
-use rule_engine::Scene;
+use plan_types::{Frontend, TableId};
+use rule_engine::{Scene, Tracks};
 
 /// What rules see of a connection.
 #[derive(Drop)]
 pub struct RuleFacts<'a> {
     pub rows: &'a Rows,
+    /// The version that judges it.
+    pub version: &'a Version,
     /// Its frontend, as it is judged.
     pub frontend: &'a Frontend,
     /// The name of its frontend.
@@ -22,22 +25,35 @@ pub struct RuleFacts<'a> {
     pub connections: u64,
     /// Whether it is not among the rows yet.
     pub arriving: bool,
+    /// What it tracks since earlier steps, by counter.
+    pub own: Tracks,
     /// The source that is judged.
     pub source: Addr,
 }
 
-impl View for RuleFacts<'_> {
-    ghost use Rattle.conn_core.specs.Judging.{worth_of};
+impl Scene for RuleFacts<'_> {
+    ghost use Rattle.conn_model.specs.Rules.{scene_of};
+    ghost use Rattle.conn_core.specs.Judging.{facts_view};
 
-    ghost worth = { λ facts. worth_of facts };
+    ghost meaning = { λ facts. scene_of (facts_view facts) };
 
-    ghost acls = { λ facts. facts.frontend.now.acls };
+    fn is_free(&self, counter: u8) -> bool {
+        track_by(&self.own, counter).is_none()
+    }
 
-    fn value(&self, criterion: &Criterion) -> Value {
+    fn acls(&self) -> &[Acl] {
+        self.frontend.acls.as_slice()
+    }
+
+    fn value(&self, tracks: &Tracks, criterion: &Criterion) -> Value {
         match criterion {
             Criterion::Source => Value::Source(self.source),
-            Criterion::TrackedConnections(_) | Criterion::TrackedTotal(_) => Value::Absent,
-            Criterion::SourceConnections(_) | Criterion::SourceTotal(_) => Value::Number(0),
+            Criterion::TrackedConnections(counter) => self.tracked_connections(tracks, *counter),
+            Criterion::TrackedTotal(counter) => self.tracked_total(tracks, *counter),
+            Criterion::SourceConnections(name) => {
+                Value::Number(self.source_counts(tracks, name).cur)
+            }
+            Criterion::SourceTotal(name) => Value::Number(self.source_counts(tracks, name).cnt),
             Criterion::FrontendConnections(None) => Value::Number(self.connections),
             Criterion::FrontendConnections(Some(name)) => {
                 Value::Number(self.open_named(name.as_slice()))
@@ -48,31 +64,10 @@ impl View for RuleFacts<'_> {
         }
     }
 
-    fn acls(&self) -> &[Acl] {
-        self.frontend.acls.as_slice()
-    }
-}
-
-impl Scene for RuleFacts<'_> {
-    ghost use Rattle.conn_model.specs.Rules.{scene_of};
-    ghost use Rattle.conn_core.specs.Judging.{worth_of};
-
-    ghost meaning = { λ facts. scene_of facts.frontend.now.acls (worth_of facts) };
-
-    fn is_free(&self, _counter: u8) -> bool {
-        true
-    }
-
-    fn acls(&self) -> &[Acl] {
-        self.frontend.acls.as_slice()
-    }
-
-    fn value(&self, _made: &[Option<Track>; 3], criterion: &Criterion) -> Value {
-        View::value(self, criterion)
-    }
-
-    fn key(&self, _made: &[Option<Track>; 3], _number: u16) -> Option<(TableId, Addr)> {
-        None
+    fn key(&self, _tracks: &Tracks, number: u16) -> Option<(TableId, Addr)> {
+        let id = self.table_id(usize::from(number))?;
+        let key = self.rows.key_for(id, &self.source)?;
+        Some((id, key))
     }
 }
 

@@ -3,21 +3,23 @@ ghost use Rattle.std.specs.Prelude.{◌≡◌, ℕ, find, slice_get};
 ghost use Rattle.std.specs.Option.{option_copied};
 ghost use Rattle.std.specs.Str.{bytes_eq};
 ghost use Rattle.acl_core.specs.Truth.{applies};
-ghost use Rattle.conn_model.specs.Rules.{backend_for, rejection};
-ghost use Rattle.conn_model.specs.Answer.{admission, candidate_of, candidate_worth, frontend_in, said_of, server_for, verdict};
+ghost use Rattle.rule_engine.specs.Meaning.{present};
+ghost use Rattle.conn_model.specs.Rules.{backend_for, rejection, view_of, worth};
+ghost use Rattle.conn_model.specs.Answer.{admission, candidate_of, frontend_in, server_for, server_unless};
 ghost use Rattle.conn_model.specs.declared.plain.Plain.{Plain};
 ghost use Rattle.conn_model.specs.declared.event.ConnId.{ConnId};
-ghost use Rattle.conn_core.specs.Judging.{worth_of, entry_line, result_of};
-ghost use Rattle.conn_core.specs.Outcome.{said_by};
+ghost use Rattle.conn_core.specs.Judging.{decided, facts_view, result_of, AreAllowed};
+ghost use Rattle.conn_core.specs.Outcome.{outcome_of, reply_by};
 
 use crate::facts::RuleFacts;
-use crate::outcome::{Outcome, offer_of};
+use crate::outcome::{Decision, Outcome, offer_of};
+use crate::tracking::NO_TRACKS;
 use acl_core::When;
 use addr_core::Pair;
 use conn_model::plain::Version;
 use conn_model::reply::Cause;
-use plan_types::{Choice, Frontend, Plan, Rule, Server};
-use rule_engine::judge;
+use plan_types::{Choice, Frontend, Plan, Server};
+use rule_engine::{Judged, Moment, Tracks, judge, judge_after};
 
 /// A server for a connection, or why it gets none.
 #[derive(Drop)]
@@ -49,17 +51,20 @@ fn has_name(frontend: &Frontend, name: &[u8]) -> bool
     frontend.name.as_slice() == name
 }
 
-fn applies(when: &When, facts: &RuleFacts<'_>) -> bool
-    ensures { result ≡ applies facts.now.frontend.now.acls (worth_of facts.now) when.now }
+/// Whether the condition is true once the step made those tracks.
+fn applies(when: &When, facts: &RuleFacts<'_>, tracks: &Tracks) -> bool
+    ensures { result ≡ applies facts.now.frontend.now.acls (worth (facts_view facts.now (present tracks.now))) when.now }
 {
-    when.applies(facts)
+    when.applies(&Moment {
+        scene: facts,
+        tracks,
+    })
 }
 
 /// The line that rejects the connection, if the list does.
-fn rejecting_line(rules: &[Rule], facts: &RuleFacts<'_>) -> Option<u32>
-    ensures { result ≡ rejection facts.now.frontend.now.acls (worth_of facts.now) rules.now }
+fn rejecting_line(says: &Judged) -> Option<u32>
+    ensures { result ≡ rejection says.now }
 {
-    let says = judge(rules, facts);
     match says.verdict {
         rule_engine::Verdict::Accept | rule_engine::Verdict::On => None,
         rule_engine::Verdict::Reject => Some(says.line),
@@ -67,27 +72,29 @@ fn rejecting_line(rules: &[Rule], facts: &RuleFacts<'_>) -> Option<u32>
 }
 
 /// The first `use_backend` line that applies.
-fn choice<'a>(choices: &'a [Choice], facts: &RuleFacts<'_>) -> Option<&'a Choice>
-    ensures { option_copied result ≡ find (λ choice. applies facts.now.frontend.now.acls (worth_of facts.now) choice.when) choices.now }
+fn choice<'a>(choices: &'a [Choice], facts: &RuleFacts<'_>, tracks: &Tracks) -> Option<&'a Choice>
+    ensures { option_copied result ≡ find (λ choice. applies facts.now.frontend.now.acls (worth (facts_view facts.now (present tracks.now))) choice.when) choices.now }
 {
-    choices.iter().find(|choice| applies(&choice.when, facts))
+    choices
+        .iter()
+        .find(|choice| applies(&choice.when, facts, tracks))
 }
 
 /// The number of the backend: that of the first `use_backend` line that applies, or else the default one.
-fn backend_number(facts: &RuleFacts<'_>) -> Option<u16>
-    ensures { result ≡ backend_for (worth_of facts.now) facts.now.frontend.now }
+fn backend_number(facts: &RuleFacts<'_>, tracks: &Tracks) -> Option<u16>
+    ensures { result ≡ backend_for (worth (facts_view facts.now (present tracks.now))) facts.now.frontend.now }
 {
-    match choice(facts.frontend.choices.as_slice(), facts) {
+    match choice(facts.frontend.choices.as_slice(), facts, tracks) {
         Some(choice) => Some(choice.backend),
         None => facts.frontend.default,
     }
 }
 
 /// The first server of the backend of a connection.
-fn assign<'a>(version: &'a Version, facts: &RuleFacts<'_>) -> Verdict<'a>
-    ensures { result_of result ≡ server_for (worth_of facts.now) version.now facts.now.frontend.now }
+fn assign<'a>(version: &'a Version, facts: &RuleFacts<'_>, tracks: &Tracks) -> Verdict<'a>
+    ensures { result_of result ≡ server_for (worth (facts_view facts.now (present tracks.now))) version.now facts.now.frontend.now }
 {
-    let Some(number) = backend_number(facts) else {
+    let Some(number) = backend_number(facts, tracks) else {
         return Verdict::Refused(Cause::NoBackend(facts.frontend.line));
     };
     let Some(backend) = item(version.plan.backends.as_slice(), number) else {
@@ -99,34 +106,35 @@ fn assign<'a>(version: &'a Version, facts: &RuleFacts<'_>) -> Verdict<'a>
     }
 }
 
-/// The line that refuses a connection at its accept, where so many others of its frontend are open: that of the
-/// frontend's limit, or of a connection rule.
-fn refusing_line(others: u64, facts: &RuleFacts<'_>) -> Option<u32>
-    ensures { result ≡ entry_line (worth_of facts.now) facts.now.frontend.now others }
+/// A server for a connection after its session rules.
+fn session_verdict<'a>(version: &'a Version, facts: &RuleFacts<'_>, says: &Judged) -> Verdict<'a>
+    ensures { result_of result ≡ server_unless (worth (facts_view facts.now (present says.now.tracks))) version.now facts.now.frontend.now (rejection says.now) }
 {
-    if others >= facts.frontend.limit {
-        return Some(facts.frontend.limit_line);
-    }
-    rejecting_line(facts.frontend.connection_rules.as_slice(), facts)
-}
-
-/// A server for a connection: the session rules first, then the backend.
-fn session_verdict<'a>(version: &'a Version, facts: &RuleFacts<'_>) -> Verdict<'a>
-    ensures { result_of result ≡ verdict (worth_of facts.now) version.now facts.now.frontend.now }
-{
-    match rejecting_line(facts.frontend.session_rules.as_slice(), facts) {
+    match rejecting_line(says) {
         Some(line) => Verdict::Refused(Cause::Line(line)),
-        None => assign(version, facts),
+        None => assign(version, facts, &says.tracks),
     }
 }
 
-/// What becomes of a connection of that judged pair.
-pub fn decide(version: &Version, judged: Pair, facts: &RuleFacts<'_>) -> Outcome
-    ensures { (id : ConnId) (used : ℕ) → said_by id used result ≡ said_of id used judged (verdict (worth_of facts.now) version.now facts.now.frontend.now) }
+fn outcome(verdict: Verdict<'_>, judged: Pair) -> Outcome
+    ensures { result ≡ outcome_of judged (result_of verdict.entry) }
 {
-    match session_verdict(version, facts) {
+    match verdict {
         Verdict::Assigned(server) => Outcome::Offer(offer_of(server, judged)),
         Verdict::Refused(cause) => Outcome::Refuse(cause),
+    }
+}
+
+/// What becomes of a connection of that judged pair, where the step made those tracks before: the session rules
+/// first, then the backend and its server.
+pub fn decide(version: &Version, judged: Pair, facts: &RuleFacts<'_>, earlier: Tracks) -> Decision
+    ensures reply { (id : ConnId) (used : ℕ) → reply_by id used result ≡ decided (facts_view facts.now) version.now facts.now.frontend.now id used judged earlier }
+    ensures can { AreAllowed facts.now earlier → AreAllowed facts.now result.tracks }
+{
+    let says = judge_after(facts.frontend.session_rules.as_slice(), facts, earlier);
+    Decision {
+        outcome: outcome(session_verdict(version, facts, &says), judged),
+        tracks: says.tracks,
     }
 }
 
@@ -138,18 +146,29 @@ pub fn admission(
     real: Pair,
     others: u64,
     facts: &RuleFacts<'_>,
-) -> Outcome
-    ensures { (state : Plain) (id : ConnId) → candidate_worth (candidate_of state id version.now facts.now.frontend.now) real.source.addr ≡ worth_of facts.now →
-        said_by id 0 result ≡ admission (candidate_of state id version.now facts.now.frontend.now) accept_proxy real others }
+) -> Decision
+    ensures reply { (state : Plain) (id : ConnId) → view_of (candidate_of state id version.now facts.now.frontend.now) real.source.addr ≡ facts_view facts.now →
+        reply_by id 0 result ≡ admission (candidate_of state id version.now facts.now.frontend.now) accept_proxy real others }
+    ensures can { AreAllowed facts.now result.tracks }
 {
-    match refusing_line(others, facts) {
+    if others >= facts.frontend.limit {
+        return Decision {
+            outcome: Outcome::Refuse(Cause::Line(facts.frontend.limit_line)),
+            tracks: NO_TRACKS,
+        };
+    }
+    let says = judge(facts.frontend.connection_rules.as_slice(), facts);
+    let outcome = match rejecting_line(&says) {
         Some(line) => Outcome::Refuse(Cause::Line(line)),
         None => {
-            if accept_proxy {
-                Outcome::Wait
-            } else {
-                decide(version, real, facts)
+            if !accept_proxy {
+                return decide(version, real, facts, says.tracks);
             }
+            Outcome::Wait
         }
+    };
+    Decision {
+        outcome,
+        tracks: says.tracks,
     }
 }

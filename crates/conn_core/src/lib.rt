@@ -4,6 +4,7 @@
 pub use config_core::OpenFault;
 pub use machine::Core;
 
+mod counting;
 mod entering;
 mod facts;
 mod judging;
@@ -11,3 +12,4 @@ mod machine;
 mod opening;
 mod outcome;
 mod receiving;
+mod tracking;

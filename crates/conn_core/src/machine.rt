@@ -1,29 +1,30 @@
 //! The decision core.
-ghost use Rattle.std.specs.Prelude.{◌≡◌, ◌≢◌, ◌⊎◌, ◌+◌, ◌-◌, ◌^◌, ◌<◌, ◌≤◌, length, ℕ, List, [], ◌∷◌, ◌++◌, Option, Some, IfSome, IfNone, IfOk, IfErr, OnOk, OnErr, nat_le, Ok, Err};
-ghost use Rattle.std.specs.Option.{option_map};
+ghost use Rattle.std.specs.Prelude.{◌≡◌, ◌≢◌, ◌⊎◌, ◌+◌, ◌-◌, ◌^◌, ◌<◌, ◌≤◌, List, [], ◌∷◌, Option, Some, IfSome, IfNone, IfOk, IfErr, OnErr, nat_le, Ok, Err};
 ghost use Rattle.plan_types.specs.Sound.{IsSoundPlan};
 ghost use Rattle.pp_any.specs.declared.rest.Rest.{Rest};
 ghost use Rattle.conn_model.specs.declared.event.TheConstants.{HEADER_WAIT};
 ghost use Rattle.conn_model.specs.declared.plain.Row.{Row};
-ghost use Rattle.conn_model.specs.Answer.{answer_in, accept_answer, piece_answer, waiting_row, reply_of};
+ghost use Rattle.conn_model.specs.Answer.{answer_in, accept_answer, piece_answer, waiting_row};
 ghost use Rattle.conn_rows.specs.Summaries.{summary_of};
-ghost use Rattle.conn_model.specs.Counts.{counts_in, open_of};
+ghost use Rattle.conn_model.specs.Counts.{counts_in};
 ghost use Rattle.conn_model.specs.History.{after, answer, counts, owned_event, opening, entry, NeedsNoMemory, IsFault, IsLegal, IsWell, Entry};
 ghost use Rattle.conn_model.specs.declared.event.OwnedEvent.TheVariants as owned;
 ghost use Rattle.conn_model.specs.declared.plain.FrontendRows.{FrontendRows};
 ghost use Rattle.conn_model.specs.declared.plain.Plain.{Plain};
 ghost use Rattle.config_core.specs.Meaning.{meaning};
-ghost use Rattle.conn_core.specs.Outcome.{said_by};
-ghost use Rattle.conn_core.specs.Machine.{IsOpened, IsNext};
+ghost use Rattle.conn_model.specs.Tables.{open_tracks};
+ghost use Rattle.conn_core.specs.Outcome.{reply_by};
+ghost use Rattle.conn_core.specs.Tracking.{ArePossible};
+ghost use Rattle.conn_core.specs.Machine.{AreSound, IsOpened, IsNext};
 
 use crate::entering::{Arrival, enter};
 use crate::facts::RuleFacts;
 use crate::judging::{admission, frontend_named, item};
 use crate::opening::listeners;
-use crate::outcome::{Outcome, said};
+use crate::outcome::{Decision, plain_reply, reply};
 use crate::receiving::{can_judge, receive};
+use crate::tracking::{NO_TRACKS, STEP_TRACKS};
 use addr_core::Pair;
-use arrayvec::ArrayVec;
 use config_core::{OpenFault, read_plan};
 use conn_model::ask::{Ask, Counts};
 use conn_model::event::{ConnId, Event, HEADER_WAIT, Why};
@@ -147,6 +148,7 @@ impl Core {
     pub fn plain(&self) -> Result<Plain, AllocError>
         ensures plain { IfOk result (λ plain. plain ≡ self.now) }
         ensures well { IsWell self.now }
+        ensures plans { AreSound self.now.versions }
     {
         let rows = self.rows.plain(self.alloc)?;
         Ok(Plain {
@@ -169,10 +171,12 @@ impl Core {
         rows.end();
     }
 
-    /// The greatest moment so far, in ms. Of each core it is known that every history can be continued.
+    /// The greatest moment so far, in ms. Of each core it is known that every history can be continued, and that its
+    /// plans are sound.
     fn clock(&self) -> u64
         ensures value { result ≡ self.now.clock }
         ensures well { IsWell self.now }
+        ensures plans { AreSound self.now.versions }
     {
         self.clock
     }
@@ -202,26 +206,24 @@ impl Core {
         let Admission {
             id,
             version,
-            outcome,
+            decision,
         } = self.admit(now, listener, real)?;
         let arrival = Arrival {
             version,
             real,
             accepted: now,
         };
-        let Ok(()) = enter(&mut self.rows, id, &arrival, &outcome) else {
+        let Ok(()) = enter(&mut self.rows, id, &arrival, &decision) else {
             return Err(StepFault::NoMemory);
         };
         self.clock = now;
-        Ok(Reply {
-            said: said(id, 0, outcome),
-            tracks: ArrayVec::new(),
-        })
+        Ok(reply(id, 0, decision))
     }
 
     /// What becomes of a connection at its accept, the name that it gets, and the version that judges it.
     fn admit(&self, now: u64, listener: u16, real: Pair) -> Result<Admission, StepFault>
-        ensures reply { IfOk result (λ a. accept_answer self.now now listener real ≡ Ok (reply_of (said_by a.id 0 a.outcome))) }
+        ensures reply { IfOk result (λ a. accept_answer self.now now listener real ≡ Ok (reply_by a.id 0 a.decision)) }
+        ensures can { IfOk result (λ a. ArePossible (open_tracks self.now.frontends) self.now.tables [] real.source.addr a.decision.tracks) }
         ensures fault { IfErr result (λ f. accept_answer self.now now listener real ≡ Err f) }
         ensures next { IfOk result (λ a. (own : FrontendRows) × IsNext self.now a own) }
     {
@@ -242,13 +244,15 @@ impl Core {
         };
         let facts = RuleFacts {
             rows: &self.rows,
+            version,
             frontend,
             name: own.name,
             connections: own.connections + 1,
             arriving: true,
+            own: NO_TRACKS,
             source: real.source().addr,
         };
-        let outcome = admission(
+        let decision = admission(
             version,
             listener.accept_proxy,
             real,
@@ -261,27 +265,26 @@ impl Core {
                 serial,
             },
             version: version.number,
-            outcome,
+            decision,
         })
     }
 
     fn piece(&mut self, moment: u64, id: ConnId, piece: &[u8]) -> Result<Reply, StepFault>
         ensures reply { IfOk result (λ r. piece_answer self.old id piece.now ≡ Ok r) }
         ensures new { IfOk result (λ r. self.new ≡ after self.old (entry moment (owned.Piece id piece.now) r ∷ [])) }
-        ensures fault { IfErr result (λ f. piece_answer self.old id piece.now ≡ Err f) }
-        ensures no_memory { result ≢ Err StepFault.NoMemory }
+        ensures fault { IfErr result (λ f. IsFault (piece_answer self.old id piece.now) f) }
         ensures err { OnErr result (self.new ≡ self.old) }
     {
         let row = self.waiting_row(id)?;
         if !can_judge(&self.rows, id, row.version) {
             return Err(StepFault::NoSuch);
         }
-        let said = receive(&mut self.rows, id, &row, piece);
+        let Ok(()) = self.rows.reserve(STEP_TRACKS) else {
+            return Err(StepFault::NoMemory);
+        };
+        let reply = receive(&mut self.rows, id, &row, piece);
         self.clock = self.clock.max(moment);
-        Ok(Reply {
-            said,
-            tracks: ArrayVec::new(),
-        })
+        Ok(reply)
     }
 
     /// The open connection of that name, which has to wait for its header.
@@ -311,10 +314,7 @@ impl Core {
         };
         self.rows.remove(id);
         self.clock = self.clock.max(moment);
-        Ok(Reply {
-            said: Said::Closed { id, why },
-            tracks: ArrayVec::new(),
-        })
+        Ok(plain_reply(Said::Closed { id, why }))
     }
 
     fn expire(&mut self, moment: u64, id: ConnId) -> Result<Reply, StepFault>
@@ -331,14 +331,11 @@ impl Core {
         }
         self.rows.remove(id);
         self.clock = now;
-        Ok(Reply {
-            said: Said::Refuse {
-                id,
-                used: 0,
-                cause: Cause::Expired,
-            },
-            tracks: ArrayVec::new(),
-        })
+        Ok(plain_reply(Said::Refuse {
+            id,
+            used: 0,
+            cause: Cause::Expired,
+        }))
     }
 }
 
@@ -370,5 +367,5 @@ struct Admission {
     id: ConnId,
     /// The version of the configuration that judges it.
     version: u64,
-    outcome: Outcome,
+    decision: Decision,
 }

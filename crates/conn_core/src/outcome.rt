@@ -1,16 +1,18 @@
 //! What becomes of a connection.
 ghost use Rattle.std.specs.Prelude.{◌≡◌, ◌≤◌, length};
-ghost use Rattle.conn_model.specs.Answer.{header_sent};
-ghost use Rattle.conn_core.specs.Outcome.{said_by};
+ghost use Rattle.conn_model.specs.Answer.{header_sent, reply_of};
+ghost use Rattle.conn_core.specs.Outcome.{offer_of, reply_by, said_by};
 
+use crate::tracking::present_tracks;
 use addr_core::Pair;
 use arrayvec::ArrayVec;
 use conn_model::event::ConnId;
-use conn_model::reply::{Cause, Said};
+use conn_model::reply::{Cause, Reply, Said};
 use conn_rows::Seat;
 use plan_types::Server;
 use pp_any::{write_v1, write_v2};
 use pp_v1::LINE_LIMIT;
+use rule_engine::Tracks;
 
 /// A server for a connection.
 #[derive(Drop)]
@@ -29,8 +31,36 @@ pub enum Outcome {
     Refuse(Cause),
 }
 
+/// What becomes of a connection, and what the step tracks for it.
+#[derive(Drop)]
+pub struct Decision {
+    pub outcome: Outcome,
+    pub tracks: Tracks,
+}
+
+/// The reply to a connection of which that becomes. So many bytes of the piece belong to its header.
+pub fn reply(id: ConnId, used: u64, decision: Decision) -> Reply
+    ensures { result ≡ reply_by id used decision }
+{
+    let Decision { outcome, tracks } = decision;
+    Reply {
+        said: said(id, used, outcome),
+        tracks: present_tracks(&tracks),
+    }
+}
+
+/// The reply of a step that tracks nothing.
+pub fn plain_reply(said: Said) -> Reply
+    ensures { result ≡ reply_of said }
+{
+    Reply {
+        said,
+        tracks: ArrayVec::new(),
+    }
+}
+
 /// What is said to a connection of that outcome. So many bytes of the piece belong to its header.
-pub fn said(id: ConnId, used: u64, outcome: Outcome) -> Said
+fn said(id: ConnId, used: u64, outcome: Outcome) -> Said
     ensures { result ≡ said_by id used outcome }
 {
     match outcome {
@@ -50,10 +80,7 @@ pub fn said(id: ConnId, used: u64, outcome: Outcome) -> Said
 
 /// The offer of the first server of a backend.
 pub fn offer_of(server: &Server, judged: Pair) -> Offer
-    ensures { result ≡ record {
-      seat = record { server = 0; line = server.now.line; to = server.now.to; judged = judged };
-      send = record { items = header_sent server.now judged };
-    } }
+    ensures { result ≡ offer_of server.now judged }
 {
     Offer {
         seat: Seat {

@@ -1,27 +1,34 @@
 //! Pieces of the headers of connections that wait.
-ghost use Rattle.std.specs.Prelude.{◌≡◌, ℕ, true, false, Ok, Some, IfSome, IfNone, IsSome, slice_get};
-ghost use Rattle.conn_model.specs.Words.{Rise};
-ghost use Rattle.conn_model.specs.declared.plain.FrontendRows.{FrontendRows};
+ghost use Rattle.std.specs.Prelude.{◌≡◌, ◌≤◌, ℕ, true, false, Ok, Some, IfSome, IfNone, IsSome, slice_get};
 ghost use Rattle.pp_any.specs.declared.rest.Rest.{Rest};
+ghost use Rattle.rule_engine.specs.Judging.{no_tracks};
+ghost use Rattle.rule_engine.specs.Meaning.{present};
 ghost use Rattle.conn_model.specs.declared.event.OwnedEvent.{OwnedEvent};
 ghost use Rattle.conn_model.specs.declared.event.OwnedEvent.TheVariants.{Piece};
+ghost use Rattle.conn_model.specs.declared.plain.FrontendRows.{FrontendRows};
 ghost use Rattle.conn_model.specs.declared.plain.Plain.{Plain};
 ghost use Rattle.conn_model.specs.declared.plain.Row.{Row};
-ghost use Rattle.conn_model.specs.Answer.{candidate_of, decision, judged_pair, piece_answer, reply_of, row_at, waiting_row};
+ghost use Rattle.conn_model.specs.Answer.{candidate_of, decision, judged_pair, piece_answer, row_at, waiting_row};
+ghost use Rattle.conn_model.specs.History.{tables_by};
+ghost use Rattle.conn_model.specs.Tables.{open_tracks, tracks_at};
 ghost use Rattle.conn_rows.specs.Summaries.{summary_of};
-ghost use Rattle.conn_core.specs.Changes.{settled, spoken, tables_settled, tables_spoken, Judge};
-ghost use Rattle.conn_core.specs.Counts.{SameCounts};
-ghost use Rattle.conn_core.specs.Outcome.{said_by};
+ghost use Rattle.conn_rows.specs.Value.{state_of};
+ghost use Rattle.conn_core.specs.Changes.{settled, settled_tables, spoken, Judge};
+ghost use Rattle.conn_core.specs.Counts.{IsSeen, IsSorted, IsStateOf};
+ghost use Rattle.conn_core.specs.Outcome.{reply_by};
+ghost use Rattle.conn_core.specs.Tracking.{ArePossible, AreSorted};
 
 use crate::facts::RuleFacts;
 use crate::judging;
 use crate::judging::frontend_named;
-use crate::outcome::{Outcome, said};
+use crate::outcome::{Decision, Outcome, plain_reply, reply};
+use crate::tracking::{NO_TRACKS, track_all};
 use addr_core::Pair;
 use conn_model::event::ConnId;
-use conn_model::reply::{Cause, Said};
+use conn_model::reply::{Cause, Reply, Said};
 use conn_rows::{HeaderStatus, RowSummary, Rows};
 use pp_v1::Meaning;
+use rule_engine::Tracks;
 
 /// Whether there is what judges a connection of that version: the version, and its frontend in it.
 pub fn can_judge(rows: &Rows, id: ConnId, version: u64) -> bool
@@ -41,9 +48,10 @@ pub fn can_judge(rows: &Rows, id: ConnId, version: u64) -> bool
 }
 
 /// What becomes of a connection whose header is whole.
-fn outcome(rows: &Rows, id: ConnId, version: u64, judged: Pair) -> Option<Outcome>
-    ensures some { IfSome result (λ o. (judge : Judge rows.now.frontends rows.now.versions id version) × ((state : Plain) (used : ℕ) → SameCounts id.frontend state.frontends rows.now.frontends →
-        said_by id used o ≡ decision (candidate_of state id judge.version judge.frontend) used judged)) }
+fn decision(rows: &Rows, id: ConnId, version: u64, judged: Pair) -> Option<Decision>
+    ensures some { IfSome result (λ d. (judge : Judge rows.now.frontends rows.now.versions id version) × ((state : Plain) (used : ℕ) → IsSeen id state rows.now →
+        reply_by id used d ≡ decision (candidate_of state id judge.version judge.frontend) used judged no_tracks)) }
+    ensures can { IfSome result (λ d. IsSome (row_at rows.now.frontends id) → ArePossible (open_tracks rows.now.frontends) rows.now.tables (tracks_at rows.now.frontends id) judged.source.addr d.tracks) }
     ensures none { IfNone result (Judge rows.now.frontends rows.now.versions id version → ⊥) }
 {
     let Some(own) = rows.frontend(id.frontend) else {
@@ -57,13 +65,25 @@ fn outcome(rows: &Rows, id: ConnId, version: u64, judged: Pair) -> Option<Outcom
     };
     let facts = RuleFacts {
         rows,
+        version,
         frontend,
         name: own.name,
         connections: own.connections,
         arriving: false,
+        own: tracks_of(rows, id),
         source: judged.source().addr,
     };
-    Some(judging::decide(version, judged, &facts))
+    Some(judging::decide(version, judged, &facts, NO_TRACKS))
+}
+
+/// What a connection tracks since earlier steps, by counter.
+fn tracks_of(rows: &Rows, id: ConnId) -> Tracks
+    ensures { present result ≡ tracks_at rows.now.frontends id }
+{
+    match rows.tracks(id) {
+        Some(tracks) => tracks,
+        None => NO_TRACKS,
+    }
 }
 
 /// The pair by which a connection is judged.
@@ -77,24 +97,33 @@ fn judged_pair(real: Pair, meaning: Meaning) -> Pair
 }
 
 /// Judges a connection whose header is whole: it is offered a server, or ends.
-fn decide(rows: &mut Rows, id: ConnId, version: u64, judged: Pair, used: u64) -> Said
+fn decide(rows: &mut Rows, id: ConnId, version: u64, judged: Pair, used: u64) -> Reply
     requires there { IsSome (row_at rows.old.frontends id) }
+    requires sorted { AreSorted rows.old.frontends id }
     requires judge { Judge rows.old.frontends rows.old.versions id version }
-    ensures said { (judge : Judge rows.old.frontends rows.old.versions id version) (state : Plain) → SameCounts id.frontend state.frontends rows.old.frontends →
-        result ≡ decision (candidate_of state id judge.version judge.frontend) used judged }
-    ensures new { (event : OwnedEvent) → rows.new ≡ record rows.old { frontends = spoken rows.old.versions event id result rows.old.frontends; tables = tables_spoken id result rows.old.frontends rows.old.tables } }
+    requires room { 3 ≤ rows.old.spare }
+    ensures reply { (judge : Judge rows.old.frontends rows.old.versions id version) (state : Plain) → IsSeen id state rows.old →
+        result ≡ decision (candidate_of state id judge.version judge.frontend) used judged no_tracks }
+    ensures new { (event : OwnedEvent) → state_of rows.new ≡ record (state_of rows.old) {
+      frontends = spoken rows.old.versions event id result rows.old.frontends;
+      tables = tables_by rows.old.frontends rows.old.tables result;
+    } }
 {
-    let Some(outcome) = outcome(rows, id, version, judged) else {
+    let Some(decision) = decision(rows, id, version, judged) else {
         unreachable!()
     };
-    settle(rows, id, &outcome);
-    said(id, used, outcome)
+    track_all(rows, id, &decision.tracks);
+    settle(rows, id, &decision.outcome);
+    reply(id, used, decision)
 }
 
 /// Keeps what becomes of a connection that waited.
 fn settle(rows: &mut Rows, id: ConnId, outcome: &Outcome)
     requires { IsSome (row_at rows.old.frontends id) }
-    ensures { rows.new ≡ record rows.old { frontends = settled rows.old.versions id outcome.now rows.old.frontends; tables = tables_settled id outcome.now rows.old.frontends rows.old.tables } }
+    ensures { rows.new ≡ record rows.old {
+      frontends = settled rows.old.versions id outcome.now rows.old.frontends;
+      tables = settled_tables id outcome.now rows.old.frontends rows.old.tables;
+    } }
 {
     match outcome {
         Outcome::Wait => {}
@@ -104,25 +133,29 @@ fn settle(rows: &mut Rows, id: ConnId, outcome: &Outcome)
 }
 
 /// Feeds a piece to a connection that waits, and says what becomes of it.
-pub fn receive(rows: &mut Rows, id: ConnId, row: &RowSummary, piece: &[u8]) -> Said
+pub fn receive(rows: &mut Rows, id: ConnId, row: &RowSummary, piece: &[u8]) -> Reply
     requires waits { (found : Row × Rest) × (waiting_row rows.old.frontends id ≡ Ok found) × (row.now ≡ summary_of found.0) }
     requires judge { Judge rows.old.frontends rows.old.versions id row.now.version }
-    requires rise { (own : FrontendRows) → slice_get rows.old.frontends id.frontend ≡ Some own → Rise (λ row. row.serial) own.rows }
-    ensures said { (p : Plain) → p.frontends ≡ rows.old.frontends → p.versions ≡ rows.old.versions → piece_answer p id piece.now ≡ Ok (reply_of result) }
-    ensures new { rows.new ≡ record rows.old { frontends = spoken rows.old.versions (Piece id piece.now) id result rows.old.frontends; tables = tables_spoken id result rows.old.frontends rows.old.tables } }
+    requires sorted { (own : FrontendRows) → slice_get rows.old.frontends id.frontend ≡ Some own → IsSorted own }
+    requires room { 3 ≤ rows.old.spare }
+    ensures reply { (p : Plain) → IsStateOf p rows.old → piece_answer p id piece.now ≡ Ok result }
+    ensures new { state_of rows.new ≡ record (state_of rows.old) {
+      frontends = spoken rows.old.versions (Piece id piece.now) id result rows.old.frontends;
+      tables = tables_by rows.old.frontends rows.old.tables result;
+    } }
 {
     match rows.feed(id, piece) {
-        HeaderStatus::Wait => Said::Wait {
+        HeaderStatus::Wait => plain_reply(Said::Wait {
             id,
             used: piece.len() as u64,
-        },
+        }),
         HeaderStatus::Bad(fault, used) => {
             rows.remove(id);
-            Said::Refuse {
+            plain_reply(Said::Refuse {
                 id,
                 used: used as u64,
                 cause: Cause::Header(fault),
-            }
+            })
         }
         HeaderStatus::Whole(meaning, used) => {
             let judged = judged_pair(row.real, meaning);

@@ -2,4 +2,8 @@
 #![tactic(auto)]
 
 #[cfg(test)]
+mod entries;
+#[cfg(test)]
 mod states;
+#[cfg(test)]
+mod steps;

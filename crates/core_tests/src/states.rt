@@ -1,38 +1,15 @@
 //! The state of a core after some events, and serials that come to an end.
-use addr_core::{Addr, Endpoint, Pair};
+use crate::steps::{close, offer, pair_from};
+use addr_core::Pair;
 use conn_core::Core;
 use conn_model::ask::{Ask, Counts};
-use conn_model::event::{ConnId, Event, Why};
+use conn_model::event::Event;
 use conn_model::plain::Phase;
-use conn_model::reply::{Said, StepFault};
+use conn_model::reply::StepFault;
 use std::test::Fail;
 
 const EXAMPLE: &str =
     "frontend f\nbind 127.0.0.1:9000\nmaxconn 2\ndefault_backend b\nbackend b\nserver s 10.0.0.20:80\n";
-
-/// The addresses of a connection from a port of 192.0.2.5 to 127.0.0.1:9000.
-fn pair_from(port: u16) -> Result<Pair, Fail> {
-    let source = Endpoint {
-        addr: Addr::V4(0xc000_0205),
-        port,
-    };
-    let destination = Endpoint {
-        addr: Addr::V4(0x7f00_0001),
-        port: 9000,
-    };
-    Ok(Pair::of(source, destination).ok_or("two families")?)
-}
-
-/// The serial that a connection is offered a server with.
-fn offer(core: &mut Core, moment: u64, pair: Pair) -> Option<u64> {
-    match core.step(moment, &Event::Accept(0, pair)) {
-        Ok(reply) => match &reply.said {
-            Said::Offer { id, .. } => Some(id.serial),
-            _ => None,
-        },
-        Err(_) => None,
-    }
-}
 
 /// Whether a connection is refused since the serials have come to an end.
 fn is_exhausted(core: &mut Core, moment: u64, pair: Pair) -> bool {
@@ -40,15 +17,6 @@ fn is_exhausted(core: &mut Core, moment: u64, pair: Pair) -> bool {
         core.step(moment, &Event::Accept(0, pair)),
         Err(StepFault::Exhausted)
     )
-}
-
-/// Whether the connection with a serial is closed.
-fn close(core: &mut Core, moment: u64, serial: u64) -> bool {
-    let id = ConnId {
-        frontend: 0,
-        serial,
-    };
-    core.step(moment, &Event::Close(id, Why::Failed)).is_ok()
 }
 
 #[test]

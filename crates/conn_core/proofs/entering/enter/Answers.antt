@@ -1,19 +1,27 @@
-use Rattle.std.proofs.Common.{◌∙◌, ap, sym, subst}
+use Rattle.std.proofs.Common.{ap, subst, sym}
 use Rattle.std.specs.Prelude.{IsSome}
+use Rattle.rule_engine.specs.Meaning.{present}
 use Rattle.conn_model.specs.Answer.{row_at}
-use Rattle.conn_rows.specs.Value.{RowsValue}
-use Rattle.conn_rows.specs.Changes.{row_offered, with_conn, with_item}
-use Rattle.conn_core.specs.Changes.{entered}
-use Rattle.conn_core.proofs.EnterLemmas.{coming_open, entered_offer}
+use Rattle.conn_rows.specs.declared.rows.RowsState.{RowsState}
+use Rattle.conn_core.proofs.EnterLemmas.{newcomer_open, offered_once, removed_once, skipped_once}
 use Rattle.conn_core.proofs.entering.enter.Goals as goal
 
 pub offer-requires : goal.offer-requires
 offer-requires c =
-    subst (λ (s : RowsValue). IsSome (row_at s.frontends c.args.id)) (sym c.in_ok-insert-in-Offer.ensures.ok) (coming_open c.args.rows.now.frontends c.args.id c.requires.0 c.args.arrival.now c.requires.1)
+    subst (λ fs. IsSome (row_at fs c.args.id)) (sym (ap (λ (s : RowsState). s.frontends) c.in_ok-insert-in-Offer.ensures.ok))
+    (newcomer_open c.args.rows.now.frontends c.args.id c.requires.coming.0 c.args.arrival.now (present c.args.decision.now.tracks) c.requires.coming.1)
+
+pub returns-then-tracks_nothing-clause-ok : goal.returns-then-tracks_nothing-clause-ok
+returns-then-tracks_nothing-clause-ok c =
+    skipped_once c.args.rows.now c.skip.new.self c.args.id c.requires.coming.0 c.args.arrival.now c.args.decision.now c.in-Refuse.field-0 c.requires.coming.1 c.in-Refuse.is
+    (c.tracks_nothing.ensures.0 c.if-tracks_nothing.true) c.skip.ensures
 
 pub returns-in_ok-insert-in-Offer-clause-ok : goal.returns-in_ok-insert-in-Offer-clause-ok
 returns-in_ok-insert-in-Offer-clause-ok c =
-    c.offer.ensures
-    ∙ ap (λ (s : RowsValue). record s { frontends = with_conn c.args.id (row_offered s.versions c.in-Offer.offer.seat) s.frontends }) c.in_ok-insert-in-Offer.ensures.ok
-    ∙ ap (λ fs. record c.args.rows.now { frontends = fs }) (entered_offer c.args.rows.now.frontends c.args.rows.now.versions c.args.id c.requires.0 c.args.arrival.now c.in-Offer.offer c.requires.1)
-    ∙ ap (λ o. record c.args.rows.now { frontends = with_item c.args.id.frontend (entered c.args.rows.now.versions c.args.arrival.now o) c.args.rows.now.frontends }) (sym c.in-Offer.is)
+    offered_once c.args.rows.now c.insert-in-Offer.new.rows c.offer.new.self c.args.id c.requires.coming.0 c.args.arrival.now c.args.decision.now c.in-Offer.offer c.requires.coming.1 c.in-Offer.is
+    c.in_ok-insert-in-Offer.ensures.ok c.offer.ensures
+
+pub returns-in_ok-insert-in-Refuse-clause-ok : goal.returns-in_ok-insert-in-Refuse-clause-ok
+returns-in_ok-insert-in-Refuse-clause-ok c =
+    removed_once c.args.rows.now c.insert-in-Refuse.new.rows c.remove.new.self c.args.id c.requires.coming.0 c.args.arrival.now c.args.decision.now c.in-Refuse.field-0 c.requires.coming.1 c.in-Refuse.is
+    c.in_ok-insert-in-Refuse.ensures.ok c.remove.ensures

@@ -1,24 +1,42 @@
-use Rattle.std.proofs.Common.{refl, sym, ap, ◌∙◌}
-use Rattle.conn_model.specs.Answer.{candidate_of, entry_said, said_of, verdict}
-use Rattle.conn_core.proofs.AcceptLemmas.{admission_by}
-use Rattle.conn_core.specs.Judging.{worth_of}
+use Rattle.std.proofs.Common.{◌≡◌, ap, sym, refl, ◌∙◌}
+use Rattle.rule_engine.specs.Judging.{judged}
+use Rattle.conn_model.specs.Answer.{admission, candidate_of, entry_reply, reply_with}
+use Rattle.conn_model.specs.Rules.{rejection, scene_of}
+use Rattle.conn_core.specs.Judging.{decided, facts_view}
+use Rattle.conn_core.specs.Outcome.{said_by}
+use Rattle.conn_core.proofs.JudgingLemmas.{admission_by, allowed_first}
 use Rattle.conn_core.proofs.judging.admission.Goals as goal
+use Rattle.conn_core.proofs.judging.admission.Goals.{in-Some, in-None+else-not-accept_proxy}
 
-pub returns-in-Some : goal.returns-in-Some
-returns-in-Some c = λ state id same.
-    sym (admission_by (candidate_of state id c.args.version.now c.args.facts.now.frontend.now) c.args.accept_proxy c.args.real c.args.others (worth_of c.args.facts.now) same
-    ∙ ap (entry_said (candidate_of state id c.args.version.now c.args.facts.now.frontend.now) c.args.accept_proxy c.args.real) (sym c.refusing_line.ensures ∙ c.in-Some.is))
+pub returns-then-not-accept_proxy-clause-can : goal.returns-then-not-accept_proxy-clause-can
+returns-then-not-accept_proxy-clause-can c =
+    c.decide.ensures.can (allowed_first c.args.facts.now c.args.facts.now.frontend.now.connection_rules c.judge-says.result (c.judge-says.ensures ∙ ap (judged (scene_of (facts_view c.args.facts.now))) c.as_slice.ensures))
 
-pub returns-then-accept_proxy : goal.returns-then-accept_proxy
-returns-then-accept_proxy c = λ state id same.
-    sym (admission_by (candidate_of state id c.args.version.now c.args.facts.now.frontend.now) c.args.accept_proxy c.args.real c.args.others (worth_of c.args.facts.now) same
-    ∙ ap (entry_said (candidate_of state id c.args.version.now c.args.facts.now.frontend.now) c.args.accept_proxy c.args.real) (sym c.refusing_line.ensures ∙ c.in-None.is)
-    ∙ rw c.if-accept_proxy.true refl)
+pub returns-clause-can : goal.returns-clause-can
+returns-clause-can c = allowed_first c.args.facts.now c.args.facts.now.frontend.now.connection_rules c.judge-says.result (c.judge-says.ensures ∙ ap (judged (scene_of (facts_view c.args.facts.now))) c.as_slice.ensures)
 
-pub returns-else-accept_proxy : goal.returns-else-accept_proxy
-returns-else-accept_proxy c = λ state id same.
-    c.decide.ensures id 0
-    ∙ ap (λ w. said_of id 0 c.args.real (verdict w c.args.version.now c.args.facts.now.frontend.now)) (sym same)
-    ∙ sym (admission_by (candidate_of state id c.args.version.now c.args.facts.now.frontend.now) c.args.accept_proxy c.args.real c.args.others (worth_of c.args.facts.now) same
-    ∙ ap (entry_said (candidate_of state id c.args.version.now c.args.facts.now.frontend.now) c.args.accept_proxy c.args.real) (sym c.refusing_line.ensures ∙ c.in-None.is)
-    ∙ rw c.if-accept_proxy.false refl)
+pub returns-then-not-accept_proxy-clause-reply : goal.returns-then-not-accept_proxy-clause-reply
+returns-then-not-accept_proxy-clause-reply c = λ state id same.
+    let candidate = candidate_of state id c.args.version.now c.args.facts.now.frontend.now in
+    c.decide.ensures.reply id 0
+    ∙ ap (λ views. decided views c.args.version.now c.args.facts.now.frontend.now id 0 c.args.real c.judge-says.result.tracks) (sym same)
+    ∙ sym (admission_by candidate c.args.accept_proxy c.args.real c.args.others (facts_view c.args.facts.now) c.judge-says.result c.if-others-facts.false same
+    (c.judge-says.ensures ∙ ap (judged (scene_of (facts_view c.args.facts.now))) c.as_slice.ensures)
+    ∙ ap (entry_reply candidate c.args.accept_proxy c.args.real c.judge-says.result.tracks) (sym c.rejecting_line.ensures ∙ c.in-None.is)
+    ∙ rw c.if-not-accept_proxy.true refl)
+
+pub returns-clause-reply : goal.returns-clause-reply
+returns-clause-reply c = λ state id same.
+    let candidate = candidate_of state id c.args.version.now c.args.facts.now.frontend.now in
+    let admitted : admission candidate c.args.accept_proxy c.args.real c.args.others ≡ entry_reply candidate c.args.accept_proxy c.args.real c.judge-says.result.tracks (rejection c.judge-says.result) =
+    admission_by candidate c.args.accept_proxy c.args.real c.args.others (facts_view c.args.facts.now) c.judge-says.result c.if-others-facts.false same
+    (c.judge-says.ensures ∙ ap (judged (scene_of (facts_view c.args.facts.now))) c.as_slice.ensures) in
+    elim c.match-rejecting_line.branch [
+      | in-Some w ↦
+          ap (λ o. reply_with (said_by id 0 o) c.judge-says.result.tracks) w.outcome-is
+          ∙ sym (admitted ∙ ap (entry_reply candidate c.args.accept_proxy c.args.real c.judge-says.result.tracks) (sym c.rejecting_line.ensures ∙ w.in-Some.is))
+      | in-None+else-not-accept_proxy w ↦
+          ap (λ o. reply_with (said_by id 0 o) c.judge-says.result.tracks) w.outcome-is
+          ∙ sym (admitted ∙ ap (entry_reply candidate c.args.accept_proxy c.args.real c.judge-says.result.tracks) (sym c.rejecting_line.ensures ∙ w.in-None.is)
+          ∙ rw w.if-not-accept_proxy.false refl)
+    ]

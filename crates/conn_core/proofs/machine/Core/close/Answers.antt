@@ -6,20 +6,20 @@ use Rattle.conn_model.specs.Answer.{answer_in, reply_of}
 use Rattle.conn_model.specs.History.{after, entry}
 use Rattle.conn_core.specs.Machine.{state_of}
 use Rattle.conn_core.proofs.RowLemmas.{open_row}
-use Rattle.conn_core.proofs.StateLemmas.{IsAfter, after_spoken}
+use Rattle.conn_core.proofs.StateLemmas.{IsAfter, after_last}
 use Rattle.conn_core.proofs.machine.Core.close.Goals as goal
 
-state : (c : goal.After-new) → Plain
+state : (c : goal.After-plain_reply) → Plain
 state c = state_of c.self.inside.clock c.self.inside.listeners c.self.inside.rows
 
-after_is : (c : goal.After-new) → IsAfter (state c) (entry c.args.moment (Close c.args.id c.args.why) (reply_of (Closed c.args.id c.args.why)))
+after_is : (c : goal.After-plain_reply) → IsAfter (state c) (entry c.args.moment (Close c.args.id c.args.why) (reply_of (Closed c.args.id c.args.why)))
     (state_of c.max-self-inside.result c.self.inside.listeners c.remove.new.self)
 unfolding state
 after_is c =
     let row = open_row c.self.inside.rows.frontends c.args.id c.in-Some._row (sym c.row.ensures ∙ c.in-Some.is) in
     let is : answer_in (state c) c.args.moment (Close c.args.id c.args.why) ≡ Ok (reply_of (Closed c.args.id c.args.why)) = rw row.1 refl in
     rw (c.remove.ensures, c.max-self-inside.ensures)
-    (after_spoken (state c) c.self.invariant c.args.moment (Close c.args.id c.args.why) c.args.id (Closed c.args.id c.args.why) row.0 row.1 tt refl is)
+    (after_last (state c) c.self.invariant c.args.moment (Close c.args.id c.args.why) c.args.id (Closed c.args.id c.args.why) row.0 row.1 tt refl refl is)
 
 pub invariant_of-self : goal.invariant_of-self
 invariant_of-self c = (after_is c).known
@@ -27,5 +27,4 @@ invariant_of-self c = (after_is c).known
 pub returns-clause-new : goal.returns-clause-new
 unfolding state
 returns-clause-new c =
-    let tracks : c.new.result ≡ record { items = [] } = ap (λ xs. record { items = xs }) c.new.ensures in
-    rw tracks ((after_is c).same ∙ ap (λ s. after s (entry c.args.moment (Close c.args.id c.args.why) (reply_of (Closed c.args.id c.args.why)) ∷ [])) c.self.view_is)
+    rw c.plain_reply.ensures ((after_is c).same ∙ ap (λ s. after s (entry c.args.moment (Close c.args.id c.args.why) (reply_of (Closed c.args.id c.args.why)) ∷ [])) c.self.view_is)

@@ -9,13 +9,13 @@ use Rattle.conn_model.specs.Answer.{answer_in, reply_of, waiting_row}
 use Rattle.conn_model.specs.History.{after, entry}
 use Rattle.conn_model.proofs.Replies.{waiting}
 use Rattle.conn_core.specs.Machine.{state_of}
-use Rattle.conn_core.proofs.StateLemmas.{IsAfter, after_spoken}
+use Rattle.conn_core.proofs.StateLemmas.{IsAfter, after_last}
 use Rattle.conn_core.proofs.machine.Core.expire.Goals as goal
 
-state : (c : goal.After-new) → Plain
+state : (c : goal.After-plain_reply) → Plain
 state c = state_of c.self.inside.clock c.self.inside.listeners c.self.inside.rows
 
-after_is : (c : goal.After-new) → IsAfter (state c) (entry c.args.moment (Expire c.args.id) (reply_of (Refuse c.args.id 0 Expired)))
+after_is : (c : goal.After-plain_reply) → IsAfter (state c) (entry c.args.moment (Expire c.args.id) (reply_of (Refuse c.args.id 0 Expired)))
     (state_of c.max-now.result c.self.inside.listeners c.remove.new.self)
 unfolding state
 after_is c =
@@ -27,7 +27,7 @@ after_is c =
     ∙ sym c.is_due.ensures ∙ c.if-not-is_due.false in
     let is : answer_in (state c) c.args.moment (Expire c.args.id) ≡ Ok (reply_of (Refuse c.args.id 0 Expired)) = rw (waits, due) refl in
     rw (c.remove.ensures, c.max-now.ensures)
-    (after_spoken (state c) c.self.invariant c.args.moment (Expire c.args.id) c.args.id (Refuse c.args.id 0 Expired) found.0 (waiting c.self.inside.rows.frontends c.args.id found waits).there tt refl is)
+    (after_last (state c) c.self.invariant c.args.moment (Expire c.args.id) c.args.id (Refuse c.args.id 0 Expired) found.0 (waiting c.self.inside.rows.frontends c.args.id found waits).there tt refl refl is)
 
 pub invariant_of-self : goal.invariant_of-self
 invariant_of-self c = (after_is c).known
@@ -35,5 +35,4 @@ invariant_of-self c = (after_is c).known
 pub returns-clause-new : goal.returns-clause-new
 unfolding state
 returns-clause-new c =
-    let tracks : c.new.result ≡ record { items = [] } = ap (λ xs. record { items = xs }) c.new.ensures in
-    rw tracks ((after_is c).same ∙ ap (λ s. after s (entry c.args.moment (Expire c.args.id) (reply_of (Refuse c.args.id 0 Expired)) ∷ [])) c.self.view_is)
+    rw c.plain_reply.ensures ((after_is c).same ∙ ap (λ s. after s (entry c.args.moment (Expire c.args.id) (reply_of (Refuse c.args.id 0 Expired)) ∷ [])) c.self.view_is)

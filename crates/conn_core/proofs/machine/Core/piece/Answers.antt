@@ -1,36 +1,55 @@
-use Rattle.std.proofs.Common.{◌≡◌, ◌∙◌, [], ◌∷◌, Ok, ap, refl}
+use Rattle.std.proofs.Common.{◌≡◌, ◌∙◌, [], ◌∷◌, Ok, ap, sym, subst}
+use Rattle.std.specs.Prelude.{slice_get}
 use Rattle.conn_model.specs.declared.event.OwnedEvent.TheVariants.{Piece}
 use Rattle.conn_model.specs.declared.plain.Plain.{Plain}
-use Rattle.conn_model.specs.Answer.{answer_in, reply_of, waiting_row}
-use Rattle.conn_model.specs.History.{after, entry}
+use Rattle.conn_model.specs.Answer.{answer_in, waiting_row}
+use Rattle.conn_model.specs.History.{after, entry, tables_by}
 use Rattle.conn_model.proofs.Goes.{well_at}
 use Rattle.conn_model.proofs.Replies.{answered, waiting}
+use Rattle.conn_rows.specs.declared.rows.RowsState.{RowsState}
+use Rattle.conn_rows.specs.Value.{RowsValue}
+use Rattle.conn_core.specs.Changes.{spoken}
 use Rattle.conn_core.specs.Machine.{state_of}
 use Rattle.conn_core.proofs.StateLemmas.{IsAfter, after_spoken}
 use Rattle.conn_core.proofs.machine.Core.piece.Goals as goal
 
-state : (c : goal.After-new) → Plain
+pub receive-reply-requires-clause-sorted : goal.receive-reply-requires-clause-sorted
+receive-reply-requires-clause-sorted c = λ own there.
+    let same : c.reserve.new.self.frontends ≡ c.self.inside.rows.frontends = ap (λ r. r.frontends) c.reserve.ensures.same in
+    let well = well_at (state_of c.self.inside.clock c.self.inside.listeners c.self.inside.rows) c.self.invariant.well c.args.id.frontend own (ap (λ fs. slice_get fs c.args.id.frontend) (sym same) ∙ there) in
+    record { rise = well.rise; sorted = well.sorted }
+
+state : (c : goal.After-self-1) → Plain
 state c = state_of c.self.inside.clock c.self.inside.listeners c.self.inside.rows
 
-pub receive-said-requires-clause-rise : goal.receive-said-requires-clause-rise
-receive-said-requires-clause-rise c = λ own there. (well_at (state_of c.self.inside.clock c.self.inside.listeners c.self.inside.rows) c.self.invariant.well c.args.id.frontend own there).rise
-
-after_is : (c : goal.After-new) → IsAfter (state c) (entry c.args.moment (Piece c.args.id c.args.piece.now) (reply_of c.receive-said.result))
-    (state_of c.max-self-inside.result c.self.inside.listeners c.receive-said.new.rows)
+after_is : (c : goal.After-self-1) → IsAfter (state c) (entry c.args.moment (Piece c.args.id c.args.piece.now) c.receive-reply.result)
+    (state_of c.max-self-inside.result c.self.inside.listeners c.receive-reply.new.rows)
 unfolding state
 after_is c =
+    let rows : RowsValue = c.self.inside.rows in
+    let room = c.reserve.ensures.same in
     let found = c.in_ok-row.ensures.ok.0 in
-    let waits : waiting_row c.self.inside.rows.frontends c.args.id ≡ Ok found = ap (λ p. waiting_row p.frontends c.args.id) c.self.view_is ∙ c.in_ok-row.ensures.ok.1 in
-    let is : answer_in (state c) c.args.moment (Piece c.args.id c.args.piece.now) ≡ Ok (reply_of c.receive-said.result) = c.receive-said.ensures.said (state c) refl refl in
-    let speaks = (answered (state c) c.args.moment (Piece c.args.id c.args.piece.now) (reply_of c.receive-said.result) is).speaks in
-    rw (c.receive-said.ensures.new, c.max-self-inside.ensures)
-    (after_spoken (state c) c.self.invariant c.args.moment (Piece c.args.id c.args.piece.now) c.args.id c.receive-said.result found.0 (waiting c.self.inside.rows.frontends c.args.id found waits).there tt speaks is)
+    let waits : waiting_row rows.frontends c.args.id ≡ Ok found = ap (λ p. waiting_row p.frontends c.args.id) c.self.view_is ∙ c.in_ok-row.ensures.ok.1 in
+    let is : answer_in (state c) c.args.moment (Piece c.args.id c.args.piece.now) ≡ Ok c.receive-reply.result =
+    c.receive-reply.ensures.reply (state c) (record { frontends = ap (λ r. r.frontends) (sym room); versions = ap (λ r. r.versions) (sym room); tables = ap (λ r. r.tables) (sym room) }) in
+    let speaks = (answered (state c) c.args.moment (Piece c.args.id c.args.piece.now) c.receive-reply.result is).speaks in
+    let left : RowsValue → Plain = λ before. record {
+      clock = c.max-self-inside.result;
+      listeners = c.self.inside.listeners;
+      frontends = spoken before.versions (Piece c.args.id c.args.piece.now) c.args.id c.receive-reply.result before.frontends;
+      versions = before.versions;
+      tables = tables_by before.frontends before.tables c.receive-reply.result;
+    } in
+    let leaves : state_of c.max-self-inside.result c.self.inside.listeners c.receive-reply.new.rows ≡ left rows =
+    ap (λ (s : RowsState). record { clock = c.max-self-inside.result; listeners = c.self.inside.listeners; frontends = s.frontends; versions = s.versions; tables = s.tables }) c.receive-reply.ensures.new
+    ∙ ap left room in
+    subst (IsAfter (state c) (entry c.args.moment (Piece c.args.id c.args.piece.now) c.receive-reply.result))
+    (ap (λ n. record (left rows) { clock = n }) (sym c.max-self-inside.ensures) ∙ sym leaves)
+    (after_spoken (state c) c.self.invariant c.args.moment (Piece c.args.id c.args.piece.now) c.args.id c.receive-reply.result found.0 (waiting rows.frontends c.args.id found waits).there tt speaks is)
 
-pub invariant_of-self : goal.invariant_of-self
-invariant_of-self c = (after_is c).known
+pub invariant_of-self-2 : goal.invariant_of-self-2
+invariant_of-self-2 c = (after_is c).known
 
 pub returns-clause-new : goal.returns-clause-new
 unfolding state
-returns-clause-new c =
-    let tracks : c.new.result ≡ record { items = [] } = ap (λ xs. record { items = xs }) c.new.ensures in
-    rw tracks ((after_is c).same ∙ ap (λ s. after s (entry c.args.moment (Piece c.args.id c.args.piece.now) (reply_of c.receive-said.result) ∷ [])) c.self.view_is)
+returns-clause-new c = (after_is c).same ∙ ap (λ s. after s (entry c.args.moment (Piece c.args.id c.args.piece.now) c.receive-reply.result ∷ [])) c.self.view_is

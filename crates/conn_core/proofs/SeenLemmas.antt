@@ -1,0 +1,224 @@
+-- What rules see of a connection.
+use Rattle.std.proofs.Common.{◌≡◌, ℕ, suc, ◌+◌, ◌≤◌, Bool, true, false, List, [], ◌∷◌, ◌++◌, length, Option, Some, None, refl, ◌∙◌, sym, ap, arith}
+use Rattle.std.specs.Prelude.{slice_get, slice_set, map, filter, flat_map, option_map, ◌==◌, ◌&&◌, if◌then◌else◌}
+use Rattle.std.specs.List.{AllByRecursion}
+use Rattle.std.specs.Option.{option_map_or}
+use Rattle.std.specs.Str.{bytes_eq}
+use Rattle.std.proofs.Math.Path.{fun_ext}
+use Rattle.std.proofs.lemmas.List.{length_push, length-map}
+use Rattle.addr_core.specs.declared.addr.Addr.{Addr}
+use Rattle.addr_core.specs.PairValue.{PairValue}
+use Rattle.plan_types.specs.declared.plan.Frontend.{Frontend}
+use Rattle.plan_types.specs.declared.track.Track.{Track}
+use Rattle.rule_engine.specs.Meaning.{present}
+use Rattle.conn_model.specs.declared.event.ConnId.{ConnId}
+use Rattle.conn_model.specs.declared.plain.Phase.{Phase}
+use Rattle.conn_model.specs.declared.plain.Phase.TheVariants.{Waiting, Offered}
+use Rattle.conn_model.specs.declared.plain.Row.{Row}
+use Rattle.conn_model.specs.declared.plain.FrontendRows.{FrontendRows}
+use Rattle.conn_model.specs.declared.plain.TableState.{TableState}
+use Rattle.conn_model.specs.declared.plain.Version.{Version}
+use Rattle.conn_model.specs.declared.plain.Plain.{Plain}
+use Rattle.conn_model.specs.Counts.{open_in, open_named, open_if, offered_to, offered_in, is_offered_to, total, change_row}
+use Rattle.conn_model.specs.Rules.{RuleView, view_of}
+use Rattle.conn_model.specs.Tables.{open_tracks, tracks_at, tracks_in}
+use Rattle.conn_model.specs.Words.{row_at, row_in}
+use Rattle.conn_model.specs.Answer.{candidate_at, candidate_of, new_row}
+use Rattle.conn_rows.specs.Changes.{phase_fed, row_fed, with_conn, with_item, with_row}
+use Rattle.conn_rows.specs.Value.{RowsValue}
+use Rattle.conn_tables.proofs.PlaceLemmas.{get-set}
+use Rattle.conn_rows.proofs.Changes.{own_changed, row_changed}
+use Rattle.conn_rows.proofs.Totals.{total-set}
+use Rattle.conn_core.specs.declared.facts.RuleFacts.{RuleFacts}
+use Rattle.conn_core.specs.Counts.{IsSeen}
+use Rattle.conn_core.specs.Judging.{arrival_in, facts_view}
+use Rattle.conn_core.proofs.EnterLemmas.{find-new, flat_map-set, tracks-new}
+
+-- a total with one item in place of another that counts for some more
+total-gain : {X : Type 0} (f : X → ℕ) (xs : List X) (n : ℕ) (x y : X) (more : ℕ) → slice_get xs n ≡ Some x → f y ≡ f x + more → total f (slice_set xs n y) ≡ total f xs + more
+total-gain f xs n x y more there is = let all : total f (slice_set xs n y) + f x ≡ total f xs + f y = total-set f xs n x y there in omega (arith, all, is)
+
+-- a total with one item changed that counts the same
+total-item : {X : Type 0} (f : X → ℕ) (change : X → X) (xs : List X) (n : ℕ) → ((x : X) → f (change x) ≡ f x) → total f (with_item n change xs) ≡ total f xs
+total-item {X} f change xs n same = by (slice_get xs n) refl
+  where
+    by : (o : Option X) → slice_get xs n ≡ o → total f (with_item n change xs) ≡ total f xs
+    by None none = rw none refl
+    by (Some x) there =
+        let zero_more : f (change x) ≡ f x + 0 = let e = same x in omega (arith, e) in
+        let set : with_item n change xs ≡ slice_set xs n (change x) = rw there refl in
+        let all = total-gain f xs n x (change x) 0 there zero_more in
+        ap (total f) set ∙ (omega (arith, all))
+
+-- a connection that comes
+
+one_more : (b : Bool) (n : ℕ) → (if b then n + 1 else 0) ≡ (if b then n else 0) + (if true && b then 1 else 0)
+one_more true n = refl
+one_more false n = refl
+
+offered-arrival : (name : List ℕ) (rows : List Row) (serial version clock : ℕ) (real : PairValue) →
+    length (filter (λ row. is_offered_to name row.phase) (rows ++ new_row serial version real clock ∷ [])) ≡ length (filter (λ row. is_offered_to name row.phase) rows)
+offered-arrival name [] serial version clock real = refl
+offered-arrival name (row ∷ rows) serial version clock real = by (is_offered_to name row.phase) refl (offered-arrival name rows serial version clock real)
+  where
+    more : List Row
+    more = rows ++ new_row serial version real clock ∷ []
+
+    by : (b : Bool) → is_offered_to name row.phase ≡ b → length (filter (λ row. is_offered_to name row.phase) more) ≡ length (filter (λ row. is_offered_to name row.phase) rows) →
+        length (filter (λ row. is_offered_to name row.phase) (row ∷ more)) ≡ length (filter (λ row. is_offered_to name row.phase) (row ∷ rows))
+    by true is rest = rw is (ap (λ n. suc n) rest)
+    by false is rest = rw is rest
+
+-- Views.
+
+-- views are equal by their parts
+view_is : {s s' : Addr} {v v' : Version} {f f' : Frontend} {ts ts' : List TableState} {os os' ms ms' : List Track} {n n' : ℕ} {named named' offered offered' : List ℕ → ℕ} {made : List Track} →
+    s ≡ s' → v ≡ v' → f ≡ f' → ts ≡ ts' → os ≡ os' → ms ≡ ms' → n ≡ n' → named ≡ named' → offered ≡ offered' →
+    ◌≡◌ {A = RuleView}
+    (record { source = s; version = v; frontend = f; tables = ts; tracks = os; own = ms; made = made; connections = n; named = named; offered = offered })
+    (record { source = s'; version = v'; frontend = f'; tables = ts'; tracks = os'; own = ms'; made = made; connections = n'; named = named'; offered = offered' })
+view_is e1 e2 e3 e4 e5 e6 e7 e8 e9 = cc (e1, e2, e3, e4, e5, e6, e7, e8, e9)
+
+pub record SeesArrival (p : Plain) (own : FrontendRows) (version : Version) (frontend : Frontend) (facts : RuleFacts) (source : Addr) : Type 0 where
+  pub rows : facts.rows.now.frontends ≡ p.frontends
+  pub tables : facts.rows.now.tables ≡ p.tables
+  pub version_is : facts.version.now ≡ version
+  pub frontend_is : facts.frontend.now ≡ frontend
+  pub name : facts.name.now ≡ own.name
+  pub connections : facts.connections ≡ length own.rows + 1
+  pub arriving : facts.arriving ≡ true
+  pub none : present facts.own ≡ []
+  pub judged : facts.source ≡ source
+
+-- the candidate is one of the open connections of its frontend
+pub view_at_accept : (p : Plain) (clock number : ℕ) (real : PairValue) (own : FrontendRows) (version : Version) (frontend : Frontend) (facts : RuleFacts) →
+    slice_get p.frontends number ≡ Some own → AllByRecursion (λ row. row.serial ≤ own.serial) own.rows → SeesArrival p own version frontend facts real.source.addr →
+    view_of (candidate_at p clock number real own version frontend) real.source.addr ≡ facts_view facts
+view_at_accept p clock number real own version frontend facts there given sees = fun_ext by
+  where
+    after : FrontendRows
+    after = record own { serial = own.serial + 1; rows = own.rows ++ new_row (own.serial + 1) version.number real clock ∷ [] }
+
+    longer : length after.rows ≡ length own.rows + 1
+    longer = length_push own.rows (new_row (own.serial + 1) version.number real clock)
+
+    named : (name : List ℕ) → open_named (slice_set p.frontends number after) name ≡ open_named facts.rows.now.frontends name + arrival_in facts.arriving facts.name.now name
+    named name =
+        let more : open_if name after ≡ open_if name own + arrival_in true own.name name =
+        ap (λ n. if bytes_eq own.name name then n else 0) longer ∙ one_more (bytes_eq own.name name) (length own.rows) in
+        total-gain (open_if name) p.frontends number own after (arrival_in true own.name name) there more
+        ∙ ap (λ fs. open_named fs name + arrival_in true own.name name) (sym sees.rows)
+        ∙ ap (λ n. open_named facts.rows.now.frontends name + arrival_in true n name) (sym sees.name)
+        ∙ ap (λ b. open_named facts.rows.now.frontends name + arrival_in b facts.name.now name) (sym sees.arriving)
+
+    offered : (name : List ℕ) → offered_to (slice_set p.frontends number after) name ≡ offered_to facts.rows.now.frontends name
+    offered name =
+        let same = offered-arrival name own.rows (own.serial + 1) version.number clock real in
+        let all = total-gain (offered_in name) p.frontends number own after 0 there (omega (arith, same)) in
+        (omega (arith, all)) ∙ ap (λ fs. offered_to fs name) (sym sees.rows)
+
+    tracks : open_tracks (slice_set p.frontends number after) ≡ open_tracks facts.rows.now.frontends
+    tracks = flat_map-set tracks_in p.frontends number own after there (tracks-new own.rows (new_row (own.serial + 1) version.number real clock) refl) ∙ ap open_tracks (sym sees.rows)
+
+    nothing : tracks_at (slice_set p.frontends number after) (record { frontend = number; serial = own.serial + 1 }) ≡ present facts.own
+    nothing =
+        ap (λ o. option_map_or (λ row. row.tracks) (row_in (own.serial + 1) o) []) (get-set p.frontends number own after there)
+        ∙ ap (λ o. option_map_or (λ row. row.tracks) o []) (find-new own.serial own.rows (new_row (own.serial + 1) version.number real clock) given refl)
+        ∙ sym sees.none
+
+    count : open_in (slice_set p.frontends number after) number ≡ facts.connections
+    count = ap (λ o. option_map_or (λ f. length f.rows) o 0) (get-set p.frontends number own after there) ∙ longer ∙ sym sees.connections
+
+    by : (made : List Track) → view_of (candidate_at p clock number real own version frontend) real.source.addr made ≡ facts_view facts made
+    by made = view_is (sym sees.judged) (sym sees.version_is) (sym sees.frontend_is) (sym sees.tables) tracks nothing count (fun_ext named) (fun_ext offered)
+
+-- a connection that is open
+
+pub record SeesOpen (number : ℕ) (version : Version) (frontend : Frontend) (facts : RuleFacts) (source : Addr) : Type 0 where
+  pub version_is : facts.version.now ≡ version
+  pub frontend_is : facts.frontend.now ≡ frontend
+  pub connections : facts.connections ≡ open_in facts.rows.now.frontends number
+  pub arriving : facts.arriving ≡ false
+  pub judged : facts.source ≡ source
+
+pub view_later : (state : Plain) (id : ConnId) (version : Version) (frontend : Frontend) (facts : RuleFacts) (source : Addr) →
+    IsSeen id state facts.rows.now → present facts.own ≡ tracks_at facts.rows.now.frontends id → SeesOpen id.frontend version frontend facts source →
+    view_of (candidate_of state id version frontend) source ≡ facts_view facts
+view_later state id version frontend facts source same own sees = fun_ext by
+  where
+    none : (n : ℕ) → n ≡ n + 0
+    none n = omega arith
+
+    named : (name : List ℕ) → open_named state.frontends name ≡ open_named facts.rows.now.frontends name + arrival_in facts.arriving facts.name.now name
+    named name =
+        same.named name ∙ none (open_named facts.rows.now.frontends name)
+        ∙ ap (λ b. open_named facts.rows.now.frontends name + arrival_in b facts.name.now name) (sym sees.arriving)
+
+    by : (made : List Track) → view_of (candidate_of state id version frontend) source made ≡ facts_view facts made
+    by made = view_is (sym sees.judged) (sym sees.version_is) (sym sees.frontend_is) same.tables same.tracks (same.tracked ∙ sym own) (same.own ∙ sym sees.connections) (fun_ext named) (fun_ext same.offered)
+
+-- A piece changes no count.
+
+is_offered-fed : (name piece : List ℕ) (phase : Phase) → is_offered_to name (phase_fed piece phase) ≡ is_offered_to name phase
+is_offered-fed name piece (Waiting rest) = refl
+is_offered-fed name piece (Offered assignment) = refl
+
+offered-fed : (name piece : List ℕ) (serial : ℕ) (rows : List Row) →
+    length (filter (λ row. is_offered_to name row.phase) (map (λ row. if row.serial == serial then row_fed piece row else row) rows)) ≡ length (filter (λ row. is_offered_to name row.phase) rows)
+offered-fed name piece serial [] = refl
+offered-fed name piece serial (row ∷ rows) = by (is_offered_to name row.phase) refl (offered-fed name piece serial rows)
+  where
+    now : Row
+    now = if row.serial == serial then row_fed piece row else row
+
+    same : (b : Bool) → is_offered_to name (if b then row_fed piece row else row).phase ≡ is_offered_to name row.phase
+    same true = is_offered-fed name piece row.phase
+    same false = refl
+
+    later : List Row
+    later = map (λ row. if row.serial == serial then row_fed piece row else row) rows
+
+    by : (b : Bool) → is_offered_to name row.phase ≡ b → length (filter (λ row. is_offered_to name row.phase) later) ≡ length (filter (λ row. is_offered_to name row.phase) rows) →
+        length (filter (λ row. is_offered_to name row.phase) (now ∷ later)) ≡ length (filter (λ row. is_offered_to name row.phase) (row ∷ rows))
+    by true is rest = rw (same (row.serial == serial), is) (ap (λ n. suc n) rest)
+    by false is rest = rw (same (row.serial == serial), is) rest
+
+-- the tracks of a connection of which a piece came
+fed-tracks : (piece : List ℕ) (serial : ℕ) (rows : List Row) → flat_map (λ (row : Row). row.tracks) (change_row serial (row_fed piece) rows) ≡ flat_map (λ (row : Row). row.tracks) rows
+fed-tracks piece serial [] = refl
+fed-tracks piece serial (row ∷ rows) = by (row.serial == serial) refl (fed-tracks piece serial rows)
+  where
+    by : (b : Bool) → (row.serial == serial) ≡ b → flat_map (λ (row : Row). row.tracks) (change_row serial (row_fed piece) rows) ≡ flat_map (λ (row : Row). row.tracks) rows →
+        flat_map (λ (row : Row). row.tracks) (change_row serial (row_fed piece) (row ∷ rows)) ≡ flat_map (λ (row : Row). row.tracks) (row ∷ rows)
+    by true is rest = rw is (ap (λ ts. row.tracks ++ ts) rest)
+    by false is rest = rw is (ap (λ ts. row.tracks ++ ts) rest)
+
+pub open_tracks-fed : (id : ConnId) (piece : List ℕ) (frontends : List FrontendRows) → open_tracks (with_conn id (row_fed piece) frontends) ≡ open_tracks frontends
+open_tracks-fed id piece frontends = by (slice_get frontends id.frontend) refl
+  where
+    by : (o : Option FrontendRows) → slice_get frontends id.frontend ≡ o → open_tracks (with_conn id (row_fed piece) frontends) ≡ open_tracks frontends
+    by None none = rw none refl
+    by (Some own) there = rw there (flat_map-set tracks_in frontends id.frontend own (with_row id.serial (row_fed piece) own) there (fed-tracks piece id.serial own.rows))
+
+pub tracks_at-fed : (id : ConnId) (piece : List ℕ) (frontends : List FrontendRows) → tracks_at (with_conn id (row_fed piece) frontends) id ≡ tracks_at frontends id
+tracks_at-fed id piece frontends = ap (λ o. option_map_or (λ (row : Row). row.tracks) o []) (row_changed id (row_fed piece) frontends (λ row. refl)) ∙ by (row_at frontends id)
+  where
+    by : (o : Option Row) → option_map_or (λ (row : Row). row.tracks) (option_map (row_fed piece) o) [] ≡ option_map_or (λ (row : Row). row.tracks) o []
+    by None = refl
+    by (Some row) = refl
+
+-- after a piece rules see the same
+pub seen_fed : (id : ConnId) (piece : List ℕ) (state : Plain) (rows : RowsValue) → state.frontends ≡ rows.frontends → state.tables ≡ rows.tables →
+    IsSeen id state (record rows { frontends = with_conn id (row_fed piece) rows.frontends })
+seen_fed id piece state rows same tables = record {
+  own = ap (λ fs. open_in fs id.frontend) same ∙ sym (ap (λ o. option_map_or (λ f. length f.rows) o 0) (own_changed id (row_fed piece) rows.frontends) ∙ by (slice_get rows.frontends id.frontend));
+  named = λ name. ap (λ fs. open_named fs name) same ∙ sym (total-item (open_if name) (with_row id.serial (row_fed piece)) rows.frontends id.frontend (λ own. ap (λ n. if bytes_eq own.name name then n else 0) (length-map own.rows (λ row. if row.serial == id.serial then row_fed piece row else row))));
+  offered = λ name. ap (λ fs. offered_to fs name) same ∙ sym (total-item (offered_in name) (with_row id.serial (row_fed piece)) rows.frontends id.frontend (λ own. offered-fed name piece id.serial own.rows));
+  tracks = ap open_tracks same ∙ sym (open_tracks-fed id piece rows.frontends);
+  tracked = ap (λ fs. tracks_at fs id) same ∙ sym (tracks_at-fed id piece rows.frontends);
+  tables = tables;
+}
+  where
+    by : (o : Option FrontendRows) → option_map_or (λ f. length f.rows) (option_map (with_row id.serial (row_fed piece)) o) 0 ≡ option_map_or (λ f. length f.rows) o 0
+    by None = refl
+    by (Some own) = length-map own.rows (λ row. if row.serial == id.serial then row_fed piece row else row)
