@@ -4,3 +4,4 @@ pub mod RecordLemmas
 pub mod ReachLemmas
 pub mod EndLemmas
 pub mod PassLemmas
+pub mod WrittenLemmas

@@ -24,3 +24,8 @@ audit_text peer offered (Wait id used) = None
 audit_text peer offered (Offer id used line server to judged send) = None
 audit_text peer offered (Refuse id used cause) = Some (front_text id peer ++ codes "refuse " ++ cause_text cause)
 audit_text peer offered (Closed id why) = Some (front_text id peer ++ offer_text offered ++ codes "closed " ++ why_text why)
+
+-- what is written of a line, if there is one
+abbrev pub written_line : Option (List ℕ) → List ℕ
+written_line None = []
+written_line (Some line) = line

@@ -9,19 +9,20 @@ ghost use Rattle.conn_model.specs.Counts.{total};
 ghost use Rattle.conn_model.specs.History.{owned_event};
 ghost use Rattle.event_text.specs.Script.{timed_event, words_of};
 ghost use Rattle.replay_core.specs.Turns.{plain_after};
-ghost use Rattle.audit_core.specs.Record.{numbered_event, open_connections, recorded_reply};
+ghost use Rattle.audit_core.specs.Record.{numbered_event, open_connections};
 ghost use Rattle.audit_core.specs.Verdict.{event_at, fault_at, reply_at};
 ghost use Rattle.audit_core.specs.Standing.{after_event, at_end, on_line, after_reply};
 ghost use Rattle.audit_core.specs.Check.{reading_fault, IsLineFault};
 ghost use Rattle.audit_core.specs.declared.fault.TheConstants.{MOST_RECORD_LINES};
 
 use crate::fault::{CheckFault, CheckKind, MOST_RECORD_LINES};
+use crate::writing::write_recorded;
 use addr_core::Endpoint;
 use conn_core::Core;
 use conn_model::event::Event;
 use conn_model::plain::FrontendRows;
 use conn_model::reply::{Reply, StepFault};
-use event_text::{EventRequest, read_event, write_reply_text};
+use event_text::{EventRequest, read_event};
 use line_reader::LineFault;
 use std::alloc::{AllocError, Global};
 use std::marker::Model;
@@ -140,7 +141,7 @@ fn judge_reply(
     match answered {
         Ok(reply) => {
             text.clear();
-            if write_line(text, reply).is_err() {
+            if write_recorded(text, reply).is_err() {
                 return Err(fault_at(0, CheckKind::NoMemory));
             }
             if line != text.as_slice() {
@@ -150,13 +151,6 @@ fn judge_reply(
         }
         Err(_) => Err(fault_at(at, CheckKind::WrongReply)),
     }
-}
-
-fn write_line(text: &mut Vec<u8>, reply: &Reply) -> Result<(), AllocError>
-    ensures { OnOk result (text.new.items ≡ text.old.items ++ recorded_reply reply.now) }
-{
-    text.extend_from_slice(b"= ")?;
-    write_reply_text(text, reply)
 }
 
 /// How many connections are open in all frontends.
@@ -273,24 +267,6 @@ impl Auditor {
         Ok(())
     }
 
-    fn check_reply(
-        &mut self,
-        answered: &Result<Reply, StepFault>,
-        line: &[u8],
-    ) -> Result<(), CheckFault>
-        requires short { length line.now ≤ MOST_LINE_BYTES }
-        requires few { self.old.lines < MOST_RECORD_LINES }
-        requires none { self.old.awaited ≡ None }
-        ensures ok { OnOk result (on_line (record self.old { awaited = Some answered.now }) line.now ≡ Ok self.new) }
-        ensures err { IfErr result (λ f. (f ≡ fault_at 0 CheckKind.NoMemory) ⊎ (IsLineFault f.kind × (on_line (record self.old { awaited = Some answered.now }) line.now ≡ Err f))) }
-    {
-        let at = self.lines + 1;
-        judge_reply(at, answered, line, &mut self.reply)?;
-        self.lines = at;
-        self.records += 1;
-        Ok(())
-    }
-
     /// Checks one line. After a fault the check is over.
     pub fn check_line(&mut self, line: &[u8]) -> Result<(), CheckFault>
         requires { length line.now ≤ MOST_LINE_BYTES }
@@ -301,9 +277,13 @@ impl Auditor {
         if self.lines == MOST_RECORD_LINES {
             return Err(fault_at(self.lines + 1, CheckKind::TooLong));
         }
-        match self.awaited.take() {
-            Some(answered) => self.check_reply(&answered, line),
-            None => self.check_event(line),
+        match &self.awaited {
+            Some(answered) => judge_reply(self.lines + 1, answered, line, &mut self.reply)?,
+            None => return self.check_event(line),
         }
+        self.awaited = None;
+        self.lines += 1;
+        self.records += 1;
+        Ok(())
     }
 }

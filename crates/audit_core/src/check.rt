@@ -13,7 +13,7 @@ ghost use Rattle.replay_core.specs.Reading.{IsSpent};
 ghost use Rattle.audit_core.specs.Standing.{standing_counts, verdict_in, IsStarted};
 ghost use Rattle.audit_core.specs.Verdict.{fault_at, verdict, IsChecked, IsWithinLimits};
 ghost use Rattle.audit_core.specs.Check.{Stops, IsFaultOf, IsOutside, IsRead};
-ghost use Rattle.audit_core.specs.Record.{IsRecord};
+ghost use Rattle.audit_core.specs.Record.{history_text, AreHandedIn, IsRecord};
 
 use crate::auditor::Auditor;
 use crate::fault::{CheckFault, CheckKind, Checked};
@@ -111,6 +111,10 @@ pub fn check_record<I: Input>(
     // So the record of a legal history is found right, unless the device or memory failed.
     ensures passes { IfErr result (λ f. (text : List ℕ) (plan : Plan) (history : List Entry) → I.left reader.old ≡ Some text → meaning config.now ≡ Ok plan →
         IsLegal (opening plan 0) history → IsRecord history (parts is_line_feed text) → IsWithinLimits (parts is_line_feed text) → IsOutside f.kind) }
+
+    // And so is the record that is written of it.
+    ensures written { IfErr result (λ f. (plan : Plan) (history : List Entry) → I.left reader.old ≡ Some (history_text history) → meaning config.now ≡ Ok plan →
+        IsLegal (opening plan 0) history → AreHandedIn history → IsWithinLimits (parts is_line_feed (history_text history)) → IsOutside f.kind) }
 
     // The configuration is opened exactly where it has a meaning.
     ensures opened { IfOk result (λ _. (plan : Plan) × (meaning config.now ≡ Ok plan)) }

@@ -1,5 +1,5 @@
 //! The open connections of a record as their lines will have them, and the lines that were not yet written.
-use crate::line::audit_line;
+use crate::line::write_audit_line;
 use addr_core::Endpoint;
 use conn_model::event::ConnId;
 use conn_model::reply::{Reply, Said};
@@ -34,7 +34,6 @@ struct Known {
 /// The open connections, and the lines of those that ended.
 #[derive(Drop)]
 pub struct Journal {
-    alloc: Global,
     known: BTreeMap<Name, Known>,
     unsent: Vec<u8>,
 }
@@ -42,7 +41,6 @@ pub struct Journal {
 impl Journal {
     pub fn new(alloc: Global) -> Self {
         Journal {
-            alloc,
             known: BTreeMap::new(alloc),
             unsent: Vec::new(alloc),
         }
@@ -115,8 +113,7 @@ impl Journal {
     }
 
     fn add_line(&mut self, known: &Known, reply: &Reply) -> Result<(), AllocError> {
-        if let Some(line) = audit_line(self.alloc, &known.peer, known.offered, reply)? {
-            self.unsent.extend_from_slice(line.as_slice())?;
+        if write_audit_line(&mut self.unsent, &known.peer, known.offered, reply)? {
             self.unsent.push(b'\n')?;
         }
         Ok(())

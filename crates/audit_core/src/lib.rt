@@ -5,6 +5,7 @@ pub use audit::run_audit;
 pub use check::check_record;
 pub use fault::{CheckFault, CheckKind, Checked, MOST_RECORD_LINES};
 pub use line::audit_line;
+pub use writing::write_record;
 
 mod audit;
 mod auditor;
@@ -13,3 +14,4 @@ mod fault;
 mod journal;
 mod line;
 mod reading;
+mod writing;

@@ -1,6 +1,6 @@
 //! The line of a connection that ended.
-ghost use Rattle.std.specs.Prelude.{◌≡◌, ◌++◌, codes, Option, Some, IfOk, OnOk};
-ghost use Rattle.audit_core.specs.Line.{audit_text, front_text, offer_text};
+ghost use Rattle.std.specs.Prelude.{◌≡◌, ◌++◌, codes, Option, Some, is_some, IfOk, OnOk};
+ghost use Rattle.audit_core.specs.Line.{audit_text, front_text, offer_text, written_line};
 
 use addr_core::Endpoint;
 use conn_model::event::ConnId;
@@ -33,6 +33,35 @@ fn write_offer(out: &mut Vec<u8>, offered: Option<(Endpoint, u32)>) -> Result<()
     out.extend_from_slice(b" ")
 }
 
+/// Appends the line of a connection, without its end, where the reply ends it, and says whether it does. Where memory
+/// runs out, the front of that line may be there.
+pub fn write_audit_line(
+    out: &mut Vec<u8>,
+    real: &Endpoint,
+    offered: Option<(Endpoint, u32)>,
+    reply: &Reply,
+) -> Result<bool, AllocError>
+    ensures ends { IfOk result (λ ends. ends ≡ is_some (audit_text real.now offered reply.now.said)) }
+    ensures text { OnOk result (out.new.items ≡ out.old.items ++ written_line (audit_text real.now offered reply.now.said)) }
+{
+    match &reply.said {
+        Said::Wait { .. } | Said::Offer { .. } => Ok(false),
+        Said::Refuse { id, used: _, cause } => {
+            write_front(out, id, real)?;
+            out.extend_from_slice(b"refuse ")?;
+            write_cause(out, cause)?;
+            Ok(true)
+        }
+        Said::Closed { id, why } => {
+            write_front(out, id, real)?;
+            write_offer(out, offered)?;
+            out.extend_from_slice(b"closed ")?;
+            write_why(out, why)?;
+            Ok(true)
+        }
+    }
+}
+
 /// The line of a connection, without its end, where the reply ends it: its peer, and, where it was offered a server, the
 /// source that was judged and the server's line.
 pub fn audit_line(
@@ -44,19 +73,8 @@ pub fn audit_line(
     ensures { IfOk result (λ line. line ≡ audit_text real.now offered reply.now.said) }
 {
     let mut out = Vec::new(alloc);
-    match &reply.said {
-        Said::Wait { .. } | Said::Offer { .. } => return Ok(None),
-        Said::Refuse { id, used: _, cause } => {
-            write_front(&mut out, id, real)?;
-            out.extend_from_slice(b"refuse ")?;
-            write_cause(&mut out, cause)?;
-        }
-        Said::Closed { id, why } => {
-            write_front(&mut out, id, real)?;
-            write_offer(&mut out, offered)?;
-            out.extend_from_slice(b"closed ")?;
-            write_why(&mut out, why)?;
-        }
+    if write_audit_line(&mut out, real, offered, reply)? {
+        return Ok(Some(Seq::of(out)));
     }
-    Ok(Some(Seq::of(out)))
+    Ok(None)
 }

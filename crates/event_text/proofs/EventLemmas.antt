@@ -1,23 +1,17 @@
 -- The line that writes an event hands it in.
-use Rattle.std.proofs.Common.{◌≡◌, ℕ, zero, suc, ◌*◌, ◌/◌, ◌%◌, ◌≤◌, ◌<◌, ◌^◌, length, Bool, true, false, eqb, List, [], ◌∷◌, ◌++◌, Some, Ok, refl, ap, sym, subst, ◌∙◌, append_assoc, arith}
+use Rattle.std.proofs.Common.{◌≡◌, ℕ, zero, suc, ◌*◌, ◌/◌, ◌%◌, ◌≤◌, ◌<◌, ◌^◌, length, Bool, true, false, eqb, List, [], ◌∷◌, Some, Ok, refl, ap, sym, ◌∙◌, append_assoc, arith}
 use Rattle.std.specs.Prelude.{codes, option_map, slice_index, nat_lt, ◌==◌, ◌&&◌, ◌||◌}
 use Rattle.std.specs.Str.{bytes_eq}
 use Rattle.std.specs.Result.{result_ok}
-use Rattle.std.specs.List.{list_all, list_any, slice_split, join_with_byte, All, AllByRecursion}
+use Rattle.std.specs.List.{list_all, list_any, slice_split, join_with_byte, AllByRecursion}
 use Rattle.std.specs.Char.{is_ascii_digit}
 use Rattle.std.proofs.lemmas.Bool.Decides.{nat_tests}
 use Rattle.std.proofs.lemmas.List.Splits.{slice_split_at, slice_split_none}
-use Rattle.std.proofs.lemmas.List.Elements.{All-nil, All-cons, All-append}
 use Rattle.text_core.specs.Decimal.{decimal, decimal_of}
 use Rattle.addr_core.specs.PairValue.{PairValue}
 use Rattle.addr_core.specs.Family.{same_family}
-use Rattle.addr_core.specs.Text.{endpoint_of, endpoint_text, host_text, text_of, IsEndpoint}
-use Rattle.addr_core.specs.declared.addr.Addr.{Addr}
-use Rattle.addr_core.specs.declared.addr.Addr.TheVariants.{V4, V6}
-use Rattle.addr_core.specs.declared.addr.Endpoint.{Endpoint}
-use Rattle.addr_core.specs.Groups.{groups_of}
+use Rattle.addr_core.specs.Text.{endpoint_of, endpoint_text, IsEndpoint}
 use Rattle.addr_core.proofs.AddrLemmas.{endpoint_of_written}
-use Rattle.addr_core.proofs.GroupLemmas.{groups_text_all}
 use Rattle.text_core.proofs.DecimalLemmas.{are_digits_decimal, decimal_of_written}
 use Rattle.conn_model.specs.declared.event.ConnId.{ConnId}
 use Rattle.conn_model.specs.declared.event.OwnedEvent.{OwnedEvent}
@@ -28,66 +22,7 @@ use Rattle.hex.proofs.HexLemmas.{length-encode_with, decode_sized-encode_lower}
 use Rattle.conn_model.specs.declared.event.Why.{Why}
 use Rattle.conn_model.specs.declared.event.Why.TheVariants.{Done, Fault, Stopped, Failed}
 use Rattle.event_text.specs.Script.{bytes_in, bytes_of, bytes_text, ends_of, event_line, event_of, event_words, id_of, id_in, id_text, is_mark, is_upper_digit, why_of, why_text, wanted_of, words_of, IsHandedIn, Wanted}
-
--- no byte is the mark
-abbrev Lacks : ℕ → List ℕ → Type 0
-Lacks mark text = All (λ b. is_mark mark b ≡ false) text
-
--- a byte that is no digit is not among digits
-digits_lack : (mark : ℕ) → mark < 48 → (text : List ℕ) → list_all is_ascii_digit text ≡ true → Lacks mark text
-digits_lack mark low [] all = All-nil (λ b. is_mark mark b ≡ false)
-digits_lack mark low (b ∷ text) all = by (is_ascii_digit b) refl (λ h. digits_lack mark low text h)
-  where
-    by : (t : Bool) → is_ascii_digit b ≡ t → (list_all is_ascii_digit text ≡ true → Lacks mark text) → Lacks mark (b ∷ text)
-    by true is rest = All-cons (λ b. is_mark mark b ≡ false) b text (grind (arith, nat_tests)) (rest (rw is at all))
-    by false is rest = let wrong = rw is at all in absurd cc
-
-decimal_lacks : (mark n : ℕ) → mark < 48 → Lacks mark (decimal n)
-decimal_lacks mark n low = digits_lack mark low (decimal n) (are_digits_decimal n).digits
-
-one_lacks : (mark b : ℕ) → is_mark mark b ≡ false → Lacks mark (b ∷ [])
-one_lacks mark b is = All-cons (λ c. is_mark mark c ≡ false) b [] is (All-nil (λ c. is_mark mark c ≡ false))
-
-both_lack : (mark : ℕ) (xs ys : List ℕ) → Lacks mark xs → Lacks mark ys → Lacks mark (xs ++ ys)
-both_lack mark xs ys first second = All-append (λ b. is_mark mark b ≡ false) xs ys first second
-
-and_lacks : (mark b : ℕ) (xs : List ℕ) → is_mark mark b ≡ false → Lacks mark xs → Lacks mark (b ∷ xs)
-and_lacks mark b xs is rest = All-cons (λ c. is_mark mark c ≡ false) b xs is rest
-
-text_lacks : (addr : Addr) → Lacks 0x20 (text_of addr)
-text_lacks (V4 n) =
-    both_lack 0x20 _ _ (decimal_lacks 0x20 _ (omega arith)) (and_lacks 0x20 46 _ refl
-    (both_lack 0x20 _ _ (decimal_lacks 0x20 _ (omega arith)) (and_lacks 0x20 46 _ refl
-    (both_lack 0x20 _ _ (decimal_lacks 0x20 _ (omega arith)) (and_lacks 0x20 46 _ refl (decimal_lacks 0x20 _ (omega arith)))))))
-text_lacks (V6 n) = groups_text_all (λ b. is_mark 0x20 b ≡ false) (λ d. grind (arith, nat_tests)) refl (groups_of n)
-
-host_lacks : (addr : Addr) → Lacks 0x20 (host_text addr)
-host_lacks (V4 n) = text_lacks (V4 n)
-host_lacks (V6 n) = and_lacks 0x20 91 (text_of (V6 n) ++ 93 ∷ []) refl (both_lack 0x20 (text_of (V6 n)) (93 ∷ []) (text_lacks (V6 n)) (one_lacks 0x20 93 refl))
-
-endpoint_lacks : (endpoint : Endpoint) → Lacks 0x20 (endpoint_text endpoint)
-endpoint_lacks endpoint =
-    both_lack 0x20 (host_text endpoint.addr ++ codes ":") (decimal endpoint.port)
-    (both_lack 0x20 (host_text endpoint.addr) (codes ":") (host_lacks endpoint.addr) (one_lacks 0x20 58 refl)) (decimal_lacks 0x20 endpoint.port (omega arith))
-
-id_lacks : (id : ConnId) → Lacks 0x20 (id_text id)
-id_lacks id =
-    both_lack 0x20 (decimal id.frontend ++ codes ".") (decimal id.serial)
-    (both_lack 0x20 (decimal id.frontend) (codes ".") (decimal_lacks 0x20 id.frontend (omega arith)) (one_lacks 0x20 46 refl)) (decimal_lacks 0x20 id.serial (omega arith))
-
-word_lacks : (text : List ℕ) → list_any (is_mark 0x20) text ≡ false → Lacks 0x20 text
-word_lacks [] none = All-nil (λ b. is_mark 0x20 b ≡ false)
-word_lacks (b ∷ text) none = by (is_mark 0x20 b) refl (λ h. word_lacks text h)
-  where
-    by : (t : Bool) → is_mark 0x20 b ≡ t → (list_any (is_mark 0x20) text ≡ false → Lacks 0x20 text) → Lacks 0x20 (b ∷ text)
-    by true is rest = let wrong = rw is at none in absurd cc
-    by false is rest = and_lacks 0x20 b text is (rest (rw is at none))
-
-why_lacks : (why : Why) → Lacks 0x20 (why_text why)
-why_lacks Done = word_lacks (codes "done") refl
-why_lacks Fault = word_lacks (codes "fault") refl
-why_lacks Stopped = word_lacks (codes "stopped") refl
-why_lacks Failed = word_lacks (codes "failed") refl
+use Rattle.event_text.proofs.LackLemmas.{bytes_lack, decimal_lacks, endpoint_lacks, id_lacks, number_lacks, text_of-bytes, why_lacks, word_lacks, IsAside, Lacks}
 
 or_false : (a b : Bool) → (a || b) ≡ false → (a ≡ false) × (b ≡ false)
 or_false true b is = let wrong : true ≡ false = is in absurd cc
@@ -98,21 +33,6 @@ none_at : (test : ℕ → Bool) → test 0 ≡ false → (text : List ℕ) → l
 none_at test past [] none n = past
 none_at test past (b ∷ text) none zero = (or_false (test b) (list_any test text) none).0
 none_at test past (b ∷ text) none (suc n) = none_at test past text (or_false (test b) (list_any test text) none).1 n
-
--- bytes in hexadecimal
-hex_lacks : (bytes : List ℕ) → Lacks 0x20 (encode_lower bytes)
-unfolding encode_with
-hex_lacks [] = All-nil (λ b. is_mark 0x20 b ≡ false)
-hex_lacks (b ∷ bytes) =
-    and_lacks 0x20 (slice_index lower_digits (b / 16)) (slice_index lower_digits (b % 16) ∷ encode_lower bytes) (none_at (is_mark 0x20) refl lower_digits refl (b / 16))
-    (and_lacks 0x20 (slice_index lower_digits (b % 16)) (encode_lower bytes) (none_at (is_mark 0x20) refl lower_digits refl (b % 16)) (hex_lacks bytes))
-
-text_of-bytes : (b : ℕ) (bytes : List ℕ) → bytes_text (b ∷ bytes) ≡ encode_lower (b ∷ bytes)
-text_of-bytes b bytes = let some : (length (b ∷ bytes) == 0) ≡ false = grind (arith, nat_tests) in rw some refl
-
-bytes_lack : (bytes : List ℕ) → Lacks 0x20 (bytes_text bytes)
-bytes_lack [] = word_lacks (codes "-") refl
-bytes_lack (b ∷ bytes) = subst (Lacks 0x20) (sym (text_of-bytes b bytes)) (hex_lacks (b ∷ bytes))
 
 -- none is of upper case
 hex_lower : (bytes : List ℕ) → list_any is_upper_digit (encode_lower bytes) ≡ false
@@ -171,25 +91,31 @@ ends_of-written real first second same =
     let destination : endpoint_of (endpoint_text real.destination) ≡ Ok real.destination = endpoint_of_written (endpoint_text real.destination) real.destination second refl in
     rw (source, destination, same) refl
 
-words_lack : (moment : ℕ) (event : OwnedEvent) → (word : List ℕ) × (words : List (List ℕ)) × (event_words moment event ≡ word ∷ words) × AllByRecursion (Lacks 0x20) (word ∷ words)
-words_lack moment (Accept listener real) = (
+-- no word has the mark in it
+pub words_lack : (mark : ℕ) → IsAside mark → (moment : ℕ) (event : OwnedEvent)
+    → (word : List ℕ) × (words : List (List ℕ)) × (event_words moment event ≡ word ∷ words) × AllByRecursion (Lacks mark) (word ∷ words)
+words_lack mark aside moment (Accept listener real) = (
   _,
   _,
   refl,
   (
-    decimal_lacks 0x20 moment (omega arith),
-    (word_lacks (codes "accept") refl, (decimal_lacks 0x20 listener (omega arith), (endpoint_lacks real.source, (endpoint_lacks real.destination, tt)))),
+    number_lacks mark moment aside,
+    (word_lacks mark aside (codes "accept") refl, (number_lacks mark listener aside, (endpoint_lacks mark aside real.source, (endpoint_lacks mark aside real.destination, tt)))),
   ),
 )
-words_lack moment (Close id why) =
-    (_, _, refl, (decimal_lacks 0x20 moment (omega arith), (word_lacks (codes "close") refl, (id_lacks id, (why_lacks why, tt)))))
-words_lack moment (Piece id bytes) =
-    (_, _, refl, (decimal_lacks 0x20 moment (omega arith), (word_lacks (codes "piece") refl, (id_lacks id, (bytes_lack bytes, tt)))))
-words_lack moment (Expire id) = (_, _, refl, (decimal_lacks 0x20 moment (omega arith), (word_lacks (codes "expire") refl, (id_lacks id, tt))))
+words_lack mark aside moment (Close id why) =
+    (_, _, refl, (number_lacks mark moment aside, (word_lacks mark aside (codes "close") refl, (id_lacks mark aside id, (why_lacks mark aside why, tt)))))
+words_lack mark aside moment (Piece id bytes) =
+    (_, _, refl, (number_lacks mark moment aside, (word_lacks mark aside (codes "piece") refl, (id_lacks mark aside id, (bytes_lack mark aside bytes, tt)))))
+words_lack mark aside moment (Expire id) =
+    (_, _, refl, (number_lacks mark moment aside, (word_lacks mark aside (codes "expire") refl, (id_lacks mark aside id, tt))))
+
+space : IsAside 0x20
+space = record { some = omega arith; low = omega arith }
 
 words_of-line : (moment : ℕ) (event : OwnedEvent) → words_of (event_line moment event) ≡ event_words moment event
 words_of-line moment event =
-    let parts = words_lack moment event in
+    let parts = words_lack 0x20 space moment event in
     ap (λ ws. words_of (join_with_byte 0x20 ws)) parts.2 ∙ words_of-joined parts.0 parts.1 parts.3 ∙ sym parts.2
 
 event_of-words : (moment : ℕ) (event : OwnedEvent) → moment < 2 ^ 64 → IsHandedIn event → event_of (event_words moment event) ≡ Some (moment, event)

@@ -1,3 +1,5 @@
+pub mod LackLemmas
+pub mod EventLemmas
 pub mod LongLemmas
 pub mod DigitLemmas
-pub mod EventLemmas
+pub mod LineLemmas
