@@ -1,6 +1,6 @@
 -- What is said at an accept and to a piece, and a connection that waits from its accept on.
-use Rattle.std.proofs.Common.{◌≡◌, ◌≢◌, ℕ, zero, suc, ◌+◌, ◌≤◌, Bool, true, false, List, [], ◌∷◌, ◌++◌, length, Option, Some, None, Result, Ok, Err, refl, max, ◌∙◌, sym, ap, subst, arith}
-use Rattle.std.specs.Prelude.{slice_get, slice_set, map, find, nat_le, ◌==◌}
+use Rattle.std.proofs.Common.{◌≡◌, ℕ, zero, suc, ◌+◌, ◌≤◌, Bool, true, false, List, [], ◌∷◌, ◌++◌, length, Option, Some, None, Result, Ok, Err, refl, max, ◌∙◌, sym, ap, subst, arith}
+use Rattle.std.specs.Prelude.{slice_get, slice_set, map, nat_le}
 use Rattle.std.proofs.lemmas.Bool.{eq-eqb}
 use Rattle.addr_core.specs.PairValue.{PairValue}
 use Rattle.pp_any.specs.declared.rest.Rest.TheVariants.{Read}
@@ -21,14 +21,15 @@ use Rattle.conn_model.specs.declared.plain.FrontendRows.{FrontendRows}
 use Rattle.conn_model.specs.declared.plain.Plain.{Plain}
 use Rattle.conn_model.specs.declared.plain.Row.{Row}
 use Rattle.conn_model.specs.declared.plain.Version.{Version}
-use Rattle.conn_model.specs.Rules.{Candidate, rejection}
-use Rattle.conn_model.specs.Answer.{admission, answer_in, candidate_at, candidate_of, candidate_worth, decision, entry_said, frontend_in, header_said, judged_pair, new_row, reply_of, row_in, said_of, verdict}
-use Rattle.conn_model.specs.History.{after, entry, id_of, new_version, opening, IsWell}
+use Rattle.rule_engine.specs.Judging.{no_tracks, Slots}
+use Rattle.conn_model.specs.Rules.{Candidate, rejection, view_of}
+use Rattle.conn_model.specs.Answer.{admission, answer_in, candidate_at, candidate_of, decision, entry_reply, entry_rules, frontend_in, header_reply, judged_pair, new_row, row_in, said_of, verdict}
+use Rattle.conn_model.specs.History.{after, by_counter, entry, id_of, new_version, opening, tables_by, IsWell}
 use Rattle.conn_model.proofs.Replies.{accepted, admission-id, Accepted}
-use Rattle.conn_model.proofs.Steps.{after-accept}
+use Rattle.conn_model.proofs.Steps.{after-accept, rows_left}
 use Rattle.conn_model.proofs.Well.{opening_well}
 use Rattle.pipe_core.specs.Waiting.{Holds}
-use Rattle.pipe_core.proofs.StateLemmas.{get-set, piece_said}
+use Rattle.pipe_core.proofs.StateLemmas.{get-set}
 use Rattle.pipe_core.proofs.PieceLemmas.{reply_said}
 
 -- an offer uses at most so many bytes, and nothing is closed
@@ -38,29 +39,29 @@ UsesAtMost most (saids.Offer id used line server to judged send) = used ≤ most
 UsesAtMost most (saids.Refuse id used cause) = Unit {0}
 UsesAtMost most (saids.Closed id why) = ⊥
 
-decision_uses : (candidate : Candidate) (used most : ℕ) (judged : PairValue) → used ≤ most → UsesAtMost most (decision candidate used judged)
-decision_uses candidate used most judged within = by (verdict (candidate_worth candidate judged.source.addr) candidate.version candidate.frontend)
+decision_uses : (candidate : Candidate) (used most : ℕ) (judged : PairValue) (made : Slots) → used ≤ most → UsesAtMost most (decision candidate used judged made).said
+decision_uses candidate used most judged made within = by (verdict (view_of candidate judged.source.addr) candidate.version candidate.frontend made).result
   where
     by : (result : Result Server Cause) → UsesAtMost most (said_of candidate.id used judged result)
     by (Ok server) = within
     by (Err cause) = tt
 
-entry_uses : (candidate : Candidate) (accept_proxy : Bool) (real : PairValue) (line : Option ℕ) → UsesAtMost 0 (entry_said candidate accept_proxy real line)
-entry_uses candidate accept_proxy real (Some line) = tt
-entry_uses candidate true real None = tt
-entry_uses candidate false real None = decision_uses candidate 0 0 real (omega arith)
+entry_uses : (candidate : Candidate) (accept_proxy : Bool) (real : PairValue) (made : Slots) (line : Option ℕ) → UsesAtMost 0 (entry_reply candidate accept_proxy real made line).said
+entry_uses candidate accept_proxy real made (Some line) = tt
+entry_uses candidate true real made None = tt
+entry_uses candidate false real made None = decision_uses candidate 0 0 real made (omega arith)
 
-admission_uses : (candidate : Candidate) (accept_proxy : Bool) (real : PairValue) (others : ℕ) → UsesAtMost 0 (admission candidate accept_proxy real others)
+admission_uses : (candidate : Candidate) (accept_proxy : Bool) (real : PairValue) (others : ℕ) → UsesAtMost 0 (admission candidate accept_proxy real others).said
 admission_uses candidate accept_proxy real others = by (nat_le candidate.frontend.limit others) refl
   where
-    by : (b : Bool) → nat_le candidate.frontend.limit others ≡ b → UsesAtMost 0 (admission candidate accept_proxy real others)
+    by : (b : Bool) → nat_le candidate.frontend.limit others ≡ b → UsesAtMost 0 (admission candidate accept_proxy real others).said
     by true e = rw e tt
-    by false e = rw e (entry_uses candidate accept_proxy real (rejection candidate.frontend.acls (candidate_worth candidate real.source.addr) candidate.frontend.connection_rules))
+    by false e = rw e (entry_uses candidate accept_proxy real (entry_rules candidate real).tracks (rejection (entry_rules candidate real)))
 
-header_uses : (candidate : Candidate) (real : PairValue) (count : ℕ) (s : Status) → used_by s ≤ count → UsesAtMost count (header_said candidate real count s)
+header_uses : (candidate : Candidate) (real : PairValue) (count : ℕ) (s : Status) → used_by s ≤ count → UsesAtMost count (header_reply candidate real count s).said
 header_uses candidate real count statuses.Wait within = tt
 header_uses candidate real count (statuses.Fault fault used) within = tt
-header_uses candidate real count (statuses.Whole used meaning) within = decision_uses candidate used count (judged_pair real meaning) within
+header_uses candidate real count (statuses.Whole used meaning) within = decision_uses candidate used count (judged_pair real meaning) no_tracks within
 
 -- an accept uses no byte
 pub accept_uses : (p : Plain) (listener : ℕ) (real : PairValue) (reply : Reply) → answer_in p 0 (Accept listener real) ≡ Ok reply → UsesAtMost 0 reply.said
@@ -108,11 +109,8 @@ accepted_waits plan listener real reply id count is said well =
     got : Accepted p 0 listener real reply
     got = accepted p 0 listener real reply is
 
-    said_is : admission (candidate_at p 0 got.at.frontend real got.own got.version got.frontend) got.at.accept_proxy real (length got.own.rows) ≡ saids.Wait id count
+    said_is : (admission (candidate_at p 0 got.at.frontend real got.own got.version got.frontend) got.at.accept_proxy real (length got.own.rows)).said ≡ saids.Wait id count
     said_is = ap (λ (r : Reply). r.said) got.reply_is ∙ said
-
-    reply_is : reply ≡ reply_of (saids.Wait id count)
-    reply_is = sym got.reply_is ∙ ap reply_of said_is
 
     id_is : id ≡ record { frontend = got.at.frontend; serial = got.own.serial + 1 }
     id_is =
@@ -129,7 +127,7 @@ accepted_waits plan listener real reply id count is said well =
     version_is = let e : Some (new_version 1 plan) ≡ Some got.version = got.newest_is in cc
 
     row : Row
-    row = new_row id.serial 1 real 0
+    row = record (new_row id.serial 1 real 0) { tracks = by_counter reply.tracks.items }
 
     next : FrontendRows
     next = record got.own { serial = got.own.serial + 1; rows = got.own.rows ++ row ∷ [] }
@@ -137,13 +135,23 @@ accepted_waits plan listener real reply id count is said well =
     now_there : slice_get (slice_set p.frontends id.frontend next) id.frontend ≡ Some next
     now_there = get-set p.frontends id.frontend got.own next there
 
+    -- where that is said at the accept
+    state_with : Said → Plain
+    state_with said = record {
+      clock = 0;
+      listeners = p.listeners;
+      frontends = slice_set p.frontends id.frontend (record got.own { serial = got.own.serial + 1; rows = got.own.rows ++ rows_left p 0 real reply.tracks.items said });
+      versions = p.versions;
+      tables = tables_by p.frontends p.tables reply;
+    }
+
     state : after (opening plan 0) (entry 0 (Accept listener real) reply ∷ []) ≡ record {
       clock = 0;
       listeners = p.listeners;
       frontends = slice_set p.frontends id.frontend next;
       versions = p.versions;
-      tables = p.tables;
+      tables = tables_by p.frontends p.tables reply;
     }
     state =
-        ap (λ r. after p (entry 0 (Accept listener real) r ∷ [])) reply_is
-        ∙ after-accept p (opening_well plan 0) 0 listener real (saids.Wait id count) id got.own there refl (ap (λ (i : ConnId). i.serial) id_is)
+        after-accept p (opening_well plan 0) 0 listener real reply id got.own there (ap id_of said) (ap (λ (i : ConnId). i.serial) id_is)
+        ∙ ap state_with said

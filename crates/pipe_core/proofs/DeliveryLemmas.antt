@@ -1,5 +1,5 @@
 -- What a server gets.
-use Rattle.std.proofs.Common.{◌≡◌, ◌⊎◌, ℕ, ◌+◌, ◌-◌, ◌<◌, ◌≤◌, List, [], ◌++◌, length, take, drop, Option, Some, None, Result, Ok, Err, refl, ◌∙◌, sym, ap, subst, arith, append_assoc, append-nil, length-append, inl, inr}
+use Rattle.std.proofs.Common.{◌≡◌, ◌⊎◌, ℕ, ◌+◌, ◌-◌, ◌<◌, ◌≤◌, List, [], ◌++◌, length, take, drop, Option, Some, None, Ok, refl, ◌∙◌, sym, ap, subst, arith, append_assoc, append-nil, length-append, inl, inr}
 use Rattle.std.proofs.Math.Seq.{take-append-add}
 use Rattle.std.proofs.lemmas.List.{take-append-drop, take-append-le}
 use Rattle.std.specs.Io.KnownBytes.{Appends, Consumes}
@@ -7,10 +7,8 @@ use Rattle.addr_core.specs.PairValue.{PairValue}
 use Rattle.plan_types.specs.declared.plan.Plan.{Plan}
 use Rattle.config_core.specs.Meaning.{meaning}
 use Rattle.conn_model.specs.declared.plain.Plain.{Plain}
-use Rattle.conn_model.specs.declared.reply.Reply.{Reply}
-use Rattle.conn_model.specs.declared.reply.StepFault.{StepFault}
 use Rattle.conn_model.specs.History.{opening}
-use Rattle.pipe_core.specs.Pipe.{end_by, listener_of, output, output_of, said_to, IsCutShort, IsEnded, IsFront, IsPipedFrom, IsStopped}
+use Rattle.pipe_core.specs.Pipe.{end_by, listener_of, output_of, said_to, IsCutShort, IsEnded, IsPipedFrom, IsStopped}
 use Rattle.pipe_core.specs.Judged.{HasOffer}
 use Rattle.pipe_core.specs.Stream.{Carried, Dropped, ReadsAll, Delivery, DeliveryFront}
 use Rattle.pipe_core.specs.declared.end.PipeEnd.TheVariants as ends

@@ -1,30 +1,27 @@
 -- What is known of a connection by what was said to it.
-use Rattle.std.proofs.Common.{◌≡◌, ◌≢◌, ℕ, ◌+◌, ◌-◌, ◌≤◌, List, [], ◌∷◌, ◌++◌, length, take, drop, Option, Some, None, Result, Ok, Err, refl, ◌∙◌, sym, ap, subst, arith, append-nil, inl, inr}
+use Rattle.std.proofs.Common.{◌≡◌, ℕ, ◌+◌, ◌-◌, ◌≤◌, List, [], ◌∷◌, ◌++◌, length, take, drop, Option, Some, Result, Ok, ◌∙◌, sym, ap, subst, arith, append-nil}
 use Rattle.std.proofs.Math.Path.{fun_ext}
 use Rattle.std.proofs.lemmas.List.{drop-take, length-take-le}
 use Rattle.std.specs.Io.KnownBytes.{Consumes, IsAtEnd, Keeps}
 use Rattle.addr_core.specs.declared.addr.Endpoint.{Endpoint}
 use Rattle.addr_core.specs.PairValue.{PairValue}
 use Rattle.arrayvec.specs.ArrayVec.{ArrayVec}
-use Rattle.pp_any.specs.Status as statuses
 use Rattle.conn_model.specs.declared.event.ConnId.{ConnId}
 use Rattle.conn_model.specs.declared.event.OwnedEvent.TheVariants.{Accept, Piece}
 use Rattle.conn_model.specs.declared.reply.Cause.{Cause}
 use Rattle.conn_model.specs.declared.reply.Reply.{Reply}
-use Rattle.conn_model.specs.declared.reply.Said.{Said}
 use Rattle.conn_model.specs.declared.reply.Said.TheVariants as saids
 use Rattle.conn_model.specs.declared.reply.StepFault.{StepFault}
 use Rattle.conn_model.specs.declared.plain.Plain.{Plain}
-use Rattle.conn_model.specs.Answer.{answer_in, candidate_of, header_said, reply_of}
+use Rattle.conn_model.specs.Answer.{answer_in, candidate_of, header_reply, reply_of}
 use Rattle.plan_types.specs.declared.plan.Plan.{Plan}
 use Rattle.conn_model.specs.History.{after, entry, opening, IsWell}
 use Rattle.pipe_core.proofs.AcceptLemmas.{accepted_waits}
 use Rattle.pipe_core.specs.Pipe.{end_by, end_of, output_of, passed_on, said_on, said_to}
-use Rattle.pipe_core.specs.Judged.{IsJudged, IsReading, IsRefused, HasNoOffer, HasOffer}
+use Rattle.pipe_core.specs.Judged.{IsReading, IsRefused, HasNoOffer, HasOffer}
 use Rattle.pipe_core.specs.Stream.{ReadsAll}
 use Rattle.pipe_core.specs.Waiting.{later, with_used, Holds, IsOffered, Waits}
 use Rattle.pipe_core.specs.declared.end.PipeEnd.TheVariants as ends
-use Rattle.pipe_core.specs.declared.header.Verdict.{Verdict}
 use Rattle.pipe_core.proofs.PieceLemmas.{after_header, decided, later_none, status_nothing}
 use Rattle.pipe_core.proofs.StateLemmas.{piece_said}
 use Rattle.pipe_core.proofs.StreamLemmas.{consumes-both, consumes-nil, keeps-consumes, read_out}
@@ -75,7 +72,7 @@ no_offer first id q old mid new' reading kept = record {
         ap (λ bytes. answer_in first 0 (Piece id bytes)) (sym (append-nil reading.got))
         ∙ reading.waits.same []
         ∙ ap (later (length reading.got))
-        (piece_said q id reading.got h [] ∙ ap (λ s. Ok (reply_of (header_said (candidate_of q id h.version h.frontend) h.row.real 0 s))) (status_nothing reading.got h.rest h.is_rest))
+        (piece_said q id reading.got h [] ∙ ap (λ s. Ok (header_reply (candidate_of q id h.version h.frontend) h.row.real 0 s)) (status_nothing reading.got h.rest h.is_rest))
 
 pub unfinished : (first : Plain) (id : ConnId) (q : Plain) (old mid new' : Option (List ℕ)) → IsReading first id q old mid → IsAtEnd mid → Keeps mid new' →
     HasNoOffer (λ bytes. answer_in first 0 (Piece id bytes)) old new' × ReadsAll old new'

@@ -4,3 +4,4 @@ pub mod PieceLemmas
 pub mod AcceptLemmas
 pub mod JudgedLemmas
 pub mod DeliveryLemmas
+pub mod ListenerLemmas

@@ -1,10 +1,8 @@
 -- What is said to a connection piece by piece is what is said to all its bytes.
-use Rattle.std.proofs.Common.{◌≡◌, ◌≢◌, ℕ, ◌+◌, ◌≤◌, List, [], ◌∷◌, ◌++◌, length, drop, Option, Some, None, Result, Ok, Err, refl, ◌∙◌, sym, ap, subst, arith, append_assoc, append-nil, length-append}
+use Rattle.std.proofs.Common.{◌≡◌, ◌≢◌, ℕ, ◌+◌, ◌≤◌, List, [], ◌∷◌, ◌++◌, length, drop, Result, Ok, Err, refl, ◌∙◌, sym, ap, subst, arith, append_assoc, append-nil, length-append}
 use Rattle.std.proofs.Math.Seq.{drop-append-add}
 use Rattle.std.proofs.lemmas.List.{drop-append-le}
 use Rattle.addr_core.specs.PairValue.{PairValue}
-use Rattle.pp_v1.specs.declared.meaning.Meaning.{Meaning}
-use Rattle.pp_any.specs.declared.fault.HeaderFault.{HeaderFault}
 use Rattle.pp_any.specs.Status as statuses
 use Rattle.pp_any.specs.Status.{Status, status}
 use Rattle.pp_any.specs.Header.{shifted}
@@ -12,8 +10,7 @@ use Rattle.pp_any.specs.Rest.{IsRest}
 use Rattle.pp_any.specs.declared.rest.Rest.{Rest}
 use Rattle.pp_any.specs.NextPiece.{rest_on, status_on}
 use Rattle.pp_any.proofs.First.{decided_once}
-use Rattle.pp_any.proofs.NextPiece.{goes_on, used_by, used_within}
-use Rattle.plan_types.specs.declared.plan.Server.{Server}
+use Rattle.pp_any.proofs.NextPiece.{goes_on}
 use Rattle.conn_model.specs.declared.event.ConnId.{ConnId}
 use Rattle.conn_model.specs.declared.event.OwnedEvent.TheVariants.{Piece}
 use Rattle.conn_model.specs.declared.reply.Cause.{Cause}
@@ -22,11 +19,13 @@ use Rattle.conn_model.specs.declared.reply.Said.{Said}
 use Rattle.conn_model.specs.declared.reply.Said.TheVariants as saids
 use Rattle.conn_model.specs.declared.reply.StepFault.{StepFault}
 use Rattle.conn_model.specs.declared.plain.Plain.{Plain}
-use Rattle.conn_model.specs.Rules.{Candidate}
-use Rattle.conn_model.specs.Answer.{answer_in, candidate_of, candidate_worth, decision, header_said, judged_pair, reply_of, said_of, verdict}
+use Rattle.rule_engine.specs.Judging.{no_tracks}
+use Rattle.plan_types.specs.declared.plan.Server.{Server}
+use Rattle.conn_model.specs.Rules.{Candidate, view_of}
+use Rattle.conn_model.specs.Answer.{answer_in, candidate_of, decision, header_reply, judged_pair, reply_of, reply_with, said_of, verdict, Decision}
 use Rattle.conn_model.specs.History.{after, entry}
 use Rattle.pipe_core.specs.Waiting.{later, with_used, Holds, Waits}
-use Rattle.pipe_core.proofs.StateLemmas.{after_is, holds_on, next_said, piece_said, state_on, worth_on}
+use Rattle.pipe_core.proofs.StateLemmas.{after_is, holds_on, next_said, piece_said, state_on, view_on}
 
 -- Statuses.
 
@@ -87,38 +86,47 @@ status_nothing got rest is =
 
 -- What is said.
 
+-- a reply of which so many more bytes are used
+abbrev reply_used : ℕ → Reply → Reply
+reply_used more reply = record reply { said = with_used more reply.said }
+
 said_more : (id : ConnId) (used more : ℕ) (judged : PairValue) (result : Result Server Cause) → said_of id (used + more) judged result ≡ with_used more (said_of id used judged result)
 said_more id used more judged (Ok server) = refl
 said_more id used more judged (Err cause) = refl
 
-decision_more : (a b : Candidate) (used more : ℕ) (judged : PairValue) → a.id ≡ b.id → a.version ≡ b.version → a.frontend ≡ b.frontend → candidate_worth b judged.source.addr ≡ candidate_worth a judged.source.addr →
-    decision a (used + more) judged ≡ with_used more (decision b used judged)
-decision_more a b used more judged id version frontend worth =
-    said_more a.id used more judged (verdict (candidate_worth a judged.source.addr) a.version a.frontend)
-    ∙ ap (λ w. with_used more (said_of a.id used judged (verdict w a.version a.frontend))) (sym worth)
-    ∙ ap (λ i. with_used more (said_of i used judged (verdict (candidate_worth b judged.source.addr) a.version a.frontend))) id
-    ∙ ap (λ v. with_used more (said_of b.id used judged (verdict (candidate_worth b judged.source.addr) v a.frontend))) version
-    ∙ ap (λ f. with_used more (said_of b.id used judged (verdict (candidate_worth b judged.source.addr) b.version f))) frontend
+-- the reply that a decision makes
+abbrev reply_by : ConnId → ℕ → PairValue → Decision → Reply
+reply_by id used judged decided = reply_with (said_of id used judged decided.result) decided.made
+
+decision_more : (a b : Candidate) (used more : ℕ) (judged : PairValue) → a.id ≡ b.id → a.version ≡ b.version → a.frontend ≡ b.frontend → view_of b judged.source.addr ≡ view_of a judged.source.addr →
+    decision a (used + more) judged no_tracks ≡ reply_used more (decision b used judged no_tracks)
+decision_more a b used more judged id version frontend views =
+    let decided : Decision = verdict (view_of a judged.source.addr) a.version a.frontend no_tracks in
+    ap (λ s. reply_with s decided.made) (said_more a.id used more judged decided.result)
+    ∙ ap (λ v. reply_used more (reply_by a.id used judged (verdict v a.version a.frontend no_tracks))) (sym views)
+    ∙ ap (λ i. reply_used more (reply_by i used judged (verdict (view_of b judged.source.addr) a.version a.frontend no_tracks))) id
+    ∙ ap (λ v. reply_used more (reply_by b.id used judged (verdict (view_of b judged.source.addr) v a.frontend no_tracks))) version
+    ∙ ap (λ f. reply_used more (reply_by b.id used judged (verdict (view_of b judged.source.addr) b.version f no_tracks))) frontend
 
 -- a piece after one that decided nothing
 pub next_piece : (q : Plain) (id : ConnId) (got : List ℕ) (h : Holds q id got) (piece more : List ℕ) → status_on h.rest piece ≡ statuses.Wait →
     answer_in q 0 (Piece id (piece ++ more)) ≡ later (length piece) (answer_in (state_on q id piece h.own) 0 (Piece id more))
 next_piece q id got h piece more waits =
     piece_said q id got h (piece ++ more)
-    ∙ ap (λ s. Ok (reply_of (header_said (candidate_of q id h.version h.frontend) h.row.real (length (piece ++ more)) s))) (status_joined got piece more h.rest h.is_rest waits)
-    ∙ ap (λ s. Ok (reply_of s)) (by (status_on (rest_on h.rest piece) more))
+    ∙ ap (λ s. Ok (header_reply (candidate_of q id h.version h.frontend) h.row.real (length (piece ++ more)) s)) (status_joined got piece more h.rest h.is_rest waits)
+    ∙ ap (λ r. Ok r) (by (status_on (rest_on h.rest piece) more))
     ∙ sym (ap (later (length piece)) (next_said q id got h piece more waits))
   where
     now : Plain
     now = state_on q id piece h.own
 
-    by : (s : Status) → header_said (candidate_of q id h.version h.frontend) h.row.real (length (piece ++ more)) (shifted (length piece) s)
-        ≡ with_used (length piece) (header_said (candidate_of now id h.version h.frontend) h.row.real (length more) s)
-    by statuses.Wait = let e : length (piece ++ more) ≡ length more + length piece = omega (arith, length-append piece more) in ap (λ n. saids.Wait id n) e
+    by : (s : Status) → header_reply (candidate_of q id h.version h.frontend) h.row.real (length (piece ++ more)) (shifted (length piece) s)
+        ≡ reply_used (length piece) (header_reply (candidate_of now id h.version h.frontend) h.row.real (length more) s)
+    by statuses.Wait = let e : length (piece ++ more) ≡ length more + length piece = omega (arith, length-append piece more) in ap (λ n. reply_of (saids.Wait id n)) e
     by (statuses.Fault fault count) = refl
     by (statuses.Whole count meaning) =
         decision_more (candidate_of q id h.version h.frontend) (candidate_of now id h.version h.frontend) count (length piece) (judged_pair h.row.real meaning) refl refl refl
-        (worth_on q id piece h.own h.there h.version h.frontend (judged_pair h.row.real meaning).source.addr)
+        (view_on q id got h piece (judged_pair h.row.real meaning).source.addr)
 
 later_twice : (m n : ℕ) (r : Result Reply StepFault) → later (m + n) r ≡ later m (later n r)
 later_twice m n (Err fault) = refl
@@ -144,19 +152,19 @@ later_none (Ok reply) = ap (λ s. Ok (record reply { said = s })) (by reply.said
 
 -- the reply to a piece, by what the piece decides
 pub reply_said : (q : Plain) (id : ConnId) (got : List ℕ) (h : Holds q id got) (piece : List ℕ) (reply : Reply) → answer_in q 0 (Piece id piece) ≡ Ok reply →
-    reply ≡ reply_of (header_said (candidate_of q id h.version h.frontend) h.row.real (length piece) (status_on h.rest piece))
+    reply ≡ header_reply (candidate_of q id h.version h.frontend) h.row.real (length piece) (status_on h.rest piece)
 reply_said q id got h piece reply is =
-    let same : Ok reply ≡ Ok (reply_of (header_said (candidate_of q id h.version h.frontend) h.row.real (length piece) (status_on h.rest piece))) = sym is ∙ piece_said q id got h piece in cc
+    let same : Ok reply ≡ Ok (header_reply (candidate_of q id h.version h.frontend) h.row.real (length piece) (status_on h.rest piece)) = sym is ∙ piece_said q id got h piece in cc
 
-decision_no_wait : (candidate : Candidate) (used : ℕ) (judged : PairValue) (id : ConnId) (count : ℕ) → decision candidate used judged ≢ saids.Wait id count
-decision_no_wait candidate used judged id count = by (verdict (candidate_worth candidate judged.source.addr) candidate.version candidate.frontend)
+decision_no_wait : (candidate : Candidate) (used : ℕ) (judged : PairValue) (id : ConnId) (count : ℕ) → (decision candidate used judged no_tracks).said ≢ saids.Wait id count
+decision_no_wait candidate used judged id count = by (verdict (view_of candidate judged.source.addr) candidate.version candidate.frontend no_tracks).result
   where
     by : (result : Result Server Cause) → said_of candidate.id used judged result ≢ saids.Wait id count
     by (Ok server) wrong = let e : said_of candidate.id used judged (Ok server) ≡ saids.Wait id count = wrong in cc
     by (Err cause) wrong = let e : said_of candidate.id used judged (Err cause) ≡ saids.Wait id count = wrong in cc
 
 -- the answer is to wait exactly where nothing is decided
-wait_said : (candidate : Candidate) (real : PairValue) (n : ℕ) (s : Status) (id : ConnId) (count : ℕ) → header_said candidate real n s ≡ saids.Wait id count → s ≡ statuses.Wait
+wait_said : (candidate : Candidate) (real : PairValue) (n : ℕ) (s : Status) (id : ConnId) (count : ℕ) → (header_reply candidate real n s).said ≡ saids.Wait id count → s ≡ statuses.Wait
 wait_said candidate real n statuses.Wait id count is = refl
 wait_said candidate real n (statuses.Fault fault used) id count is = absurd (let e : saids.Refuse candidate.id used _ ≡ saids.Wait id count = is in cc)
 wait_said candidate real n (statuses.Whole used meaning) id count is = absurd (decision_no_wait candidate used (judged_pair real meaning) id count is)
@@ -168,7 +176,7 @@ waits_on first id q got piece reply whom count waits is said =
     let h = waits.holds in
     let reply_is = reply_said q id got h piece reply is in
     let status : status_on h.rest piece ≡ statuses.Wait = wait_said (candidate_of q id h.version h.frontend) h.row.real (length piece) (status_on h.rest piece) whom count (ap (λ r. r.said) (sym reply_is) ∙ said) in
-    let waits_is : reply ≡ reply_of (saids.Wait id (length piece)) = reply_is ∙ ap (λ s. reply_of (header_said (candidate_of q id h.version h.frontend) h.row.real (length piece) s)) status in
+    let waits_is : reply ≡ reply_of (saids.Wait id (length piece)) = reply_is ∙ ap (λ s. header_reply (candidate_of q id h.version h.frontend) h.row.real (length piece) s) status in
     let state : state_on q id piece h.own ≡ after q (entry 0 (Piece id piece) reply ∷ []) = sym (after_is q id got h piece (length piece)) ∙ ap (λ r. after q (entry 0 (Piece id piece) r ∷ [])) (sym waits_is) in
     subst (λ s. Waits first id s (got ++ piece)) state (record {
       holds = holds_on q id got h piece status;
@@ -186,16 +194,16 @@ pub decided : (first : Plain) (id : ConnId) (q : Plain) (got piece : List ℕ) (
 decided first id q got piece reply waits is said more =
     let h = waits.holds in
     let reply_is = reply_said q id got h piece reply is in
-    let decides : status_on h.rest piece ≢ statuses.Wait = λ none. said id (length piece) (ap (λ r. r.said) reply_is ∙ ap (header_said (candidate_of q id h.version h.frontend) h.row.real (length piece)) none) in
+    let decides : status_on h.rest piece ≢ statuses.Wait = λ none. said id (length piece) (ap (λ r. r.said) reply_is ∙ ap (λ s. (header_reply (candidate_of q id h.version h.frontend) h.row.real (length piece) s).said) none) in
     ap (λ bytes. answer_in first 0 (Piece id bytes)) (append_assoc got piece more)
     ∙ waits.same (piece ++ more)
     ∙ ap (later (length got))
     (piece_said q id got h (piece ++ more)
-    ∙ ap (λ s. Ok (reply_of (header_said (candidate_of q id h.version h.frontend) h.row.real (length (piece ++ more)) s))) (status_stays got piece more h.rest h.is_rest decides)
-    ∙ ap (λ s. Ok (reply_of s)) (by (status_on h.rest piece) decides)
+    ∙ ap (λ s. Ok (header_reply (candidate_of q id h.version h.frontend) h.row.real (length (piece ++ more)) s)) (status_stays got piece more h.rest h.is_rest decides)
+    ∙ ap (λ r. Ok r) (by (status_on h.rest piece) decides)
     ∙ ap (λ r. Ok r) (sym reply_is))
   where
-    by : (s : Status) → s ≢ statuses.Wait → header_said (candidate_of q id waits.holds.version waits.holds.frontend) waits.holds.row.real (length (piece ++ more)) s ≡ header_said (candidate_of q id waits.holds.version waits.holds.frontend) waits.holds.row.real (length piece) s
+    by : (s : Status) → s ≢ statuses.Wait → header_reply (candidate_of q id waits.holds.version waits.holds.frontend) waits.holds.row.real (length (piece ++ more)) s ≡ header_reply (candidate_of q id waits.holds.version waits.holds.frontend) waits.holds.row.real (length piece) s
     by statuses.Wait some = absurd (some refl)
     by (statuses.Fault fault count) some = refl
     by (statuses.Whole count meaning) some = refl

@@ -1,20 +1,17 @@
 -- A connection that waits, before and after a piece that decides nothing.
-use Rattle.std.proofs.Common.{◌≡◌, ℕ, zero, suc, ◌+◌, ◌≤◌, Bool, true, false, List, [], ◌∷◌, ◌++◌, length, Option, Some, None, Ok, Err, refl, max, ◌∙◌, sym, ap, subst, arith}
-use Rattle.std.specs.Prelude.{slice_get, slice_set, find, map, filter, ◌==◌, if◌then◌else◌}
+use Rattle.std.proofs.Common.{◌≡◌, ℕ, zero, suc, Bool, true, false, List, [], ◌∷◌, ◌++◌, length, Option, Some, None, Ok, refl, max, ◌∙◌, sym, ap, subst, arith, append-nil}
+use Rattle.std.specs.Prelude.{slice_get, slice_set, find, filter, flat_map, ◌==◌, if◌then◌else◌}
+use Rattle.std.specs.List.{AllByRecursion}
 use Rattle.std.specs.Option.{option_map_or}
 use Rattle.std.specs.Str.{bytes_eq}
 use Rattle.std.proofs.Math.Path.{fun_ext}
 use Rattle.std.proofs.lemmas.List.{length-map}
 use Rattle.addr_core.specs.declared.addr.Addr.{Addr}
-use Rattle.acl_core.specs.declared.criterion.Criterion.{Criterion}
-use Rattle.acl_core.specs.declared.criterion.Criterion.TheVariants as criteria
-use Rattle.acl_core.specs.declared.criterion.Value.TheVariants as values
 use Rattle.pp_any.specs.declared.rest.Rest.{Rest}
-use Rattle.pp_any.specs.Rest.{IsRest}
 use Rattle.pp_any.specs.Status.{Wait}
 use Rattle.pp_any.specs.NextPiece.{rest_on, status_on}
 use Rattle.pp_any.proofs.NextPiece.{goes_on}
-use Rattle.plan_types.specs.declared.plan.Frontend.{Frontend}
+use Rattle.plan_types.specs.declared.track.Track.{Track}
 use Rattle.conn_model.specs.declared.event.ConnId.{ConnId}
 use Rattle.conn_model.specs.declared.event.OwnedEvent.TheVariants.{Piece}
 use Rattle.conn_model.specs.declared.reply.Reply.{Reply}
@@ -23,18 +20,20 @@ use Rattle.conn_model.specs.declared.plain.Phase.{Phase}
 use Rattle.conn_model.specs.declared.plain.Phase.TheVariants.{Waiting, Offered}
 use Rattle.conn_model.specs.declared.plain.Row.{Row}
 use Rattle.conn_model.specs.declared.plain.FrontendRows.{FrontendRows}
-use Rattle.conn_model.specs.declared.plain.Version.{Version}
 use Rattle.conn_model.specs.declared.plain.Plain.{Plain}
 use Rattle.conn_model.specs.Counts.{change_row, is_offered_to, offered_in, offered_to, open_if, open_in, open_named, total}
-use Rattle.conn_model.specs.Answer.{answer_in, candidate_of, candidate_worth, header_said, reply_of, rest_in, row_at, row_in, waiting_row}
-use Rattle.conn_model.specs.History.{after, entry, phase_on, IsWell}
-use Rattle.conn_model.proofs.Steps.{after-change}
+use Rattle.conn_model.specs.Rules.{RuleView, view_of}
+use Rattle.conn_model.specs.Answer.{answer_in, candidate_of, header_reply, reply_of, rest_in, row_in, waiting_row}
+use Rattle.conn_model.specs.History.{after, by_counter, entry, phase_on, tracks_at, IsFrontendWell, IsWell}
+use Rattle.conn_model.specs.Tables.{open_tracks, tracks_in}
+use Rattle.conn_model.proofs.Lists.{all-at, all-more}
+use Rattle.conn_model.proofs.Steps.{after-change, row_said}
 use Rattle.conn_model.proofs.Well.{after-nil, well_after}
 use Rattle.pipe_core.specs.Waiting.{Holds}
 
 -- the answer to a piece of a connection that waits
 pub piece_said : (q : Plain) (id : ConnId) (got : List ℕ) (h : Holds q id got) (piece : List ℕ) →
-    answer_in q 0 (Piece id piece) ≡ Ok (reply_of (header_said (candidate_of q id h.version h.frontend) h.row.real (length piece) (status_on h.rest piece)))
+    answer_in q 0 (Piece id piece) ≡ Ok (header_reply (candidate_of q id h.version h.frontend) h.row.real (length piece) (status_on h.rest piece))
 piece_said q id got h piece =
     let waits : waiting_row q.frontends id ≡ Ok (h.row, h.rest) = rw (h.row_is, h.waits) refl in
     rw (waits, h.there, h.kept, h.found) refl
@@ -112,11 +111,35 @@ offered_in-on name piece serial (row ∷ rows) = by (is_offered_to name row.phas
     by true is rest = rw (same (row.serial == serial), is) (ap (λ n. suc n) rest)
     by false is rest = rw (same (row.serial == serial), is) rest
 
--- the criteria of the connection are worth the same
-pub worth_on : (q : Plain) (id : ConnId) (piece : List ℕ) (own : FrontendRows) → slice_get q.frontends id.frontend ≡ Some own → (version : Version) (frontend : Frontend) (source : Addr) →
-    candidate_worth (candidate_of (state_on q id piece own) id version frontend) source ≡ candidate_worth (candidate_of q id version frontend) source
-worth_on q id piece own there version frontend source = fun_ext by
+-- Tracks after the piece.
+
+tracks-on : (piece : List ℕ) (serial : ℕ) (rows : List Row) → flat_map (λ (row : Row). row.tracks) (change_row serial (row_on piece) rows) ≡ flat_map (λ (row : Row). row.tracks) rows
+tracks-on piece serial [] = refl
+tracks-on piece serial (row ∷ rows) = by (row.serial == serial) refl (tracks-on piece serial rows)
   where
+    by : (b : Bool) → (row.serial == serial) ≡ b → flat_map (λ (row : Row). row.tracks) (change_row serial (row_on piece) rows) ≡ flat_map (λ (row : Row). row.tracks) rows →
+        flat_map (λ (row : Row). row.tracks) (change_row serial (row_on piece) (row ∷ rows)) ≡ flat_map (λ (row : Row). row.tracks) (row ∷ rows)
+    by true is rest = rw is (ap (λ ts. row.tracks ++ ts) rest)
+    by false is rest = rw is (ap (λ ts. row.tracks ++ ts) rest)
+
+open_tracks-same : (frontends : List FrontendRows) (n : ℕ) (own next : FrontendRows) → slice_get frontends n ≡ Some own → tracks_in next ≡ tracks_in own → open_tracks (slice_set frontends n next) ≡ open_tracks frontends
+open_tracks-same [] n own next there is = absurd (cc)
+open_tracks-same (f ∷ frontends) zero own next there is =
+    let it : f ≡ own = cc in
+    ap (λ ts. ts ++ open_tracks frontends) (is ∙ ap tracks_in (sym it))
+open_tracks-same (f ∷ frontends) (suc n) own next there is = ap (λ ts. tracks_in f ++ ts) (open_tracks-same frontends n own next there is)
+
+-- rules see the same of the connection
+pub view_on : (q : Plain) (id : ConnId) (got : List ℕ) (h : Holds q id got) (piece : List ℕ) (source : Addr) →
+    view_of (candidate_of (state_on q id piece h.own) id h.version h.frontend) source ≡ view_of (candidate_of q id h.version h.frontend) source
+view_on q id got h piece source = fun_ext by
+  where
+    own : FrontendRows
+    own = h.own
+
+    there : slice_get q.frontends id.frontend ≡ Some own
+    there = h.there
+
     next : FrontendRows
     next = own_on id piece own
 
@@ -134,20 +157,64 @@ worth_on q id piece own there version frontend source = fun_ext by
     offered : (name : List ℕ) → offered_to (slice_set q.frontends id.frontend next) name ≡ offered_to q.frontends name
     offered name = total-same (offered_in name) q.frontends id.frontend own next there (offered_in-on name piece id.serial own.rows)
 
-    by : (criterion : Criterion) → candidate_worth (candidate_of (state_on q id piece own) id version frontend) source criterion ≡ candidate_worth (candidate_of q id version frontend) source criterion
-    by criteria.Source = refl
-    by (criteria.TrackedConnections counter) = refl
-    by (criteria.TrackedTotal counter) = refl
-    by (criteria.SourceConnections table) = refl
-    by (criteria.SourceTotal table) = refl
-    by (criteria.FrontendConnections None) = ap (λ n. values.Number n) open_now
-    by (criteria.FrontendConnections (Some name)) = ap (λ n. values.Number n) (named name)
-    by (criteria.BackendConnections name) = ap (λ n. values.Number n) (offered name)
+    tracks : open_tracks (slice_set q.frontends id.frontend next) ≡ open_tracks q.frontends
+    tracks = open_tracks-same q.frontends id.frontend own next there (tracks-on piece id.serial own.rows)
+
+    row : find (λ row. row.serial == id.serial) own.rows ≡ Some h.row
+    row = ap (row_in id.serial) (sym there) ∙ h.row_is
+
+    tracked : tracks_at (slice_set q.frontends id.frontend next) id ≡ tracks_at q.frontends id
+    tracked =
+        ap (λ (o : Option FrontendRows). option_map_or (λ (row : Row). row.tracks) (row_in id.serial o) []) (get-set q.frontends id.frontend own next there)
+        ∙ ap (λ (o : Option Row). option_map_or (λ (row : Row). row.tracks) o []) (find-on id.serial piece own.rows h.row row)
+        ∙ ap (λ (o : Option Row). option_map_or (λ (row : Row). row.tracks) o []) (sym h.row_is)
+
+    seen : List Track → List Track → ℕ → (List ℕ → ℕ) → (List ℕ → ℕ) → List Track → RuleView
+    seen all own count named offered made = record {
+      source = source;
+      version = h.version;
+      frontend = h.frontend;
+      tables = q.tables;
+      tracks = all;
+      own = own;
+      made = made;
+      connections = count;
+      named = named;
+      offered = offered;
+    }
+
+    by : (made : List Track) → view_of (candidate_of (state_on q id piece own) id h.version h.frontend) source made ≡ view_of (candidate_of q id h.version h.frontend) source made
+    by made =
+        let now : List FrontendRows = slice_set q.frontends id.frontend next in
+        let before : List FrontendRows = q.frontends in
+        ap (λ ts. seen ts (tracks_at now id) (open_in now id.frontend) (open_named now) (offered_to now) made) tracks
+        ∙ ap (λ ts. seen (open_tracks before) ts (open_in now id.frontend) (open_named now) (offered_to now) made) tracked
+        ∙ ap (λ n. seen (open_tracks before) (tracks_at before id) n (open_named now) (offered_to now) made) open_now
+        ∙ ap (λ f. seen (open_tracks before) (tracks_at before id) (open_in before id.frontend) f (offered_to now) made) (fun_ext named)
+        ∙ ap (λ f. seen (open_tracks before) (tracks_at before id) (open_in before id.frontend) (open_named before) f made) (fun_ext offered)
 
 -- The state after the piece.
 
+change_row-same : (serial : ℕ) (f g : Row → Row) (rows : List Row) → AllByRecursion (λ row. f row ≡ g row) rows → change_row serial f rows ≡ change_row serial g rows
+change_row-same serial f g [] same = refl
+change_row-same serial f g (row ∷ rows) same =
+    ap (λ r. (if row.serial == serial then r else row) ∷ change_row serial f rows) same.0
+    ∙ ap (λ rs. (if row.serial == serial then g row else row) ∷ rs) (change_row-same serial f g rows same.1)
+
 pub after_is : (q : Plain) (id : ConnId) (got : List ℕ) (h : Holds q id got) (piece : List ℕ) (count : ℕ) → after q (entry 0 (Piece id piece) (reply_of (saids.Wait id count)) ∷ []) ≡ state_on q id piece h.own
-after_is q id got h piece count = after-change q h.well (entry 0 (Piece id piece) (reply_of (saids.Wait id count))) id h.own h.there tt refl refl refl
+after_is q id got h piece count =
+    after-change q h.well (entry 0 (Piece id piece) reply) id h.own h.there tt refl refl
+    ∙ ap (λ rows. record (state_on q id piece h.own) { frontends = slice_set q.frontends id.frontend (record h.own { rows = rows }) }) (change_row-same id.serial (row_said q (Piece id piece) reply) (row_on piece) h.own.rows same)
+  where
+    reply : Reply
+    reply = reply_of (saids.Wait id count)
+
+    sorted : AllByRecursion (λ row. by_counter row.tracks ≡ row.tracks) h.own.rows
+    sorted = (all-at (IsFrontendWell q.versions) q.frontends id.frontend h.own h.well.frontends h.there).sorted
+
+    same : AllByRecursion (λ row. row_said q (Piece id piece) reply row ≡ row_on piece row) h.own.rows
+    same = all-more (λ row. by_counter row.tracks ≡ row.tracks) (λ row. row_said q (Piece id piece) reply row ≡ row_on piece row) h.own.rows
+        (λ row is. ap (λ ts. record (row_on piece row) { tracks = ts }) (ap by_counter (append-nil row.tracks) ∙ is)) sorted
 
 pub holds_on : (q : Plain) (id : ConnId) (got : List ℕ) (h : Holds q id got) (piece : List ℕ) → status_on h.rest piece ≡ Wait → Holds (state_on q id piece h.own) id (got ++ piece)
 holds_on q id got h piece status = record {
@@ -172,7 +239,7 @@ holds_on q id got h piece status = record {
     row = ap (row_in id.serial) (sym h.there) ∙ h.row_is
 
     answered : answer_in q 0 (Piece id piece) ≡ Ok (reply_of (saids.Wait id (length piece)))
-    answered = piece_said q id got h piece ∙ ap (λ s. Ok (reply_of (header_said (candidate_of q id h.version h.frontend) h.row.real (length piece) s))) status
+    answered = piece_said q id got h piece ∙ ap (λ s. Ok (header_reply (candidate_of q id h.version h.frontend) h.row.real (length piece) s)) status
 
     well_now : IsWell (state_on q id piece h.own)
     well_now =
@@ -182,6 +249,6 @@ holds_on q id got h piece status = record {
 -- the answer to the piece after it
 pub next_said : (q : Plain) (id : ConnId) (got : List ℕ) (h : Holds q id got) (piece more : List ℕ) → status_on h.rest piece ≡ Wait →
     answer_in (state_on q id piece h.own) 0 (Piece id more)
-    ≡ Ok (reply_of (header_said (candidate_of (state_on q id piece h.own) id h.version h.frontend) h.row.real (length more) (status_on (rest_on h.rest piece) more)))
+    ≡ Ok (header_reply (candidate_of (state_on q id piece h.own) id h.version h.frontend) h.row.real (length more) (status_on (rest_on h.rest piece) more))
 unfolding holds_on
 next_said q id got h piece more status = piece_said (state_on q id piece h.own) id (got ++ piece) (holds_on q id got h piece status) more

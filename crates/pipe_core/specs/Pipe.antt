@@ -1,5 +1,5 @@
 -- What becomes of one connection, and what its server is sent of it.
-use Rattle.std.specs.Prelude.{◌≡◌, ℕ, Bool, ◌&&◌, ◌==◌, List, [], ◌∷◌, ◌++◌, length, drop, nat_lt, Option, Some, None, Result, Ok, Err, if◌then◌else◌}
+use Rattle.std.specs.Prelude.{◌≡◌, ℕ, ◌==◌, List, [], ◌∷◌, ◌++◌, length, drop, nat_lt, Option, Some, None, Result, Ok, Err, if◌then◌else◌}
 use Rattle.std.specs.Option.{option_and_then}
 use Rattle.std.specs.List.{position}
 use Rattle.std.specs.Str.{bytes_eq}
@@ -15,7 +15,6 @@ use Rattle.conn_model.specs.declared.reply.StepFault.{StepFault}
 use Rattle.conn_model.specs.Answer.{answer_in}
 use Rattle.conn_model.specs.History.{answer, entry, opening}
 use Rattle.config_core.specs.Meaning.{meaning}
-use Rattle.config_core.specs.declared.fault.OpenFault.{OpenFault}
 use Rattle.pipe_core.specs.declared.end.PipeEnd.{PipeEnd}
 use Rattle.pipe_core.specs.declared.end.PipeEnd.TheVariants.{Offered, Refused, Unfinished}
 use Rattle.pipe_core.specs.declared.end.PipeFault.{PipeFault}
@@ -27,10 +26,13 @@ use Rattle.pipe_core.specs.declared.end.PipeFault.TheVariants as faults
 abbrev pub as_listener : ℕ → Option ℕ
 as_listener number = if nat_lt number 65536 then Some number else None
 
+-- the number of the frontend of that name
+abbrev pub frontend_of : Plain → List ℕ → Option ℕ
+frontend_of p name = position (λ own. bytes_eq own.name name) p.frontends
+
 -- the first listener of the frontend of that name: the first `bind` of its section
 abbrev pub listener_of : Plain → List ℕ → Option ℕ
-listener_of p name =
-    option_and_then (λ number. option_and_then as_listener (position (λ listener. listener.frontend == number) p.listeners)) (position (λ own. bytes_eq own.name name) p.frontends)
+listener_of p name = option_and_then (λ number. option_and_then as_listener (position (λ listener. listener.frontend == number) p.listeners)) (frontend_of p name)
 
 -- One connection.
 
@@ -110,7 +112,7 @@ pub record IsCutShort (p : Plain) (name : List ℕ) (real : PairValue) (input se
 -- how a fault ends it
 abbrev pub IsStopped : Plain → List ℕ → PairValue → List ℕ → List ℕ → Option (List ℕ) → Option (List ℕ) → PipeFault → Type 0
 IsStopped p name real input sent left held (faults.Config fault) = ⊥
-IsStopped p name real input sent left held faults.NoFrontend = (listener_of p name ≡ None) × (held ≡ Some sent)
+IsStopped p name real input sent left held faults.NoFrontend = (frontend_of p name ≡ None) × (held ≡ Some sent)
 IsStopped p name real input sent left held faults.Read = IsCutShort p name real input sent left held
 IsStopped p name real input sent left held faults.Write = IsCutShort p name real input sent left held
 IsStopped p name real input sent left held faults.NoMemory = held ≡ Some sent

@@ -1,5 +1,5 @@
 -- A connection whose header comes in pieces.
-use Rattle.std.specs.Prelude.{◌≡◌, ℕ, ◌+◌, List, ◌++◌, length, slice_get, Option, Some, Result, Ok, Err}
+use Rattle.std.specs.Prelude.{◌≡◌, ℕ, ◌+◌, List, ◌++◌, length, slice_get, Some, Result, Ok, Err}
 use Rattle.pp_any.specs.declared.rest.Rest.{Rest}
 use Rattle.pp_any.specs.Rest.{IsRest}
 use Rattle.plan_types.specs.declared.plan.Frontend.{Frontend}

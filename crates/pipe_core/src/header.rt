@@ -1,5 +1,5 @@
 //! A connection is judged, once its PROXY header came where one is expected.
-ghost use Rattle.std.specs.Prelude.{◌≡◌, ◌⊎◌, ◌-◌, ◌<◌, ◌≤◌, ℕ, List, [], length, Err, IfOk, IfErr, OnOk, OnErr};
+ghost use Rattle.std.specs.Prelude.{◌≡◌, ◌⊎◌, ◌-◌, ◌<◌, ◌≤◌, ℕ, List, [], length, Some, Err, IfOk, IfErr, OnOk, OnErr};
 ghost use Rattle.device_core.specs.Device.{raised_by};
 ghost use Rattle.device_core.specs.Patience.{IsUnblocked};
 ghost use Rattle.plan_types.specs.declared.plan.Plan.{Plan};
@@ -9,7 +9,7 @@ ghost use Rattle.conn_model.specs.Answer.{answer_in};
 ghost use Rattle.conn_model.specs.History.{opening};
 ghost use Rattle.pipe_core.specs.Devices.{Gives, GivesAtMost, HasGivenUp};
 ghost use Rattle.pipe_core.specs.Judged.{Decides, IsJudged, IsWithin, HasNoOffer};
-ghost use Rattle.pipe_core.specs.Pipe.{said_to};
+ghost use Rattle.pipe_core.specs.Pipe.{listener_of, said_to};
 ghost use Rattle.pipe_core.specs.Waiting.{Holds, Waits};
 
 use crate::end::PipeFault;
@@ -18,7 +18,7 @@ use addr_core::Pair;
 use arrayvec::ArrayVec;
 use conn_core::Core;
 use conn_model::event::{ConnId, Event};
-use conn_model::reply::{Cause, Reply, Said};
+use conn_model::reply::{Cause, Reply, Said, StepFault};
 use device_core::{Input, Moved};
 
 /// The most bytes of a piece of a header.
@@ -58,6 +58,17 @@ pub struct Offer {
     pub to: usize,
 }
 
+/// The only fault of a step that has a reply.
+fn want_of_memory(fault: StepFault) -> PipeFault
+    requires { fault ≡ StepFault.NoMemory }
+    ensures { result ≡ PipeFault.NoMemory }
+{
+    match fault {
+        StepFault::NoMemory => PipeFault::NoMemory,
+        _ => unreachable!(),
+    }
+}
+
 /// Hands in one piece of a header.
 fn judge_piece(core: &mut Core, id: ConnId, piece: &[u8]) -> Result<Judgement, PipeFault>
     requires waits { (got : List ℕ) × Holds core.old id got }
@@ -65,8 +76,9 @@ fn judge_piece(core: &mut Core, id: ConnId, piece: &[u8]) -> Result<Judgement, P
     ensures within { IfOk result (IsWithin piece.now) }
     ensures no_memory { IfErr result (λ f. f ≡ PipeFault.NoMemory) }
 {
-    let Ok(reply) = core.step(0, &Event::Piece(id, piece)) else {
-        return Err(PipeFault::NoMemory);
+    let reply = match core.step(0, &Event::Piece(id, piece)) {
+        Ok(reply) => reply,
+        Err(fault) => return Err(want_of_memory(fault)),
     };
     let Reply {
         said,
@@ -154,6 +166,7 @@ pub fn judge<I: Input>(
 ) -> Result<Verdict, PipeFault>
     requires room { 0 < length buffer.old }
     requires opening { (plan : Plan) × (core.old ≡ opening plan 0) }
+    requires listens { (name : List ℕ) × (listener_of core.old name ≡ Some listener) }
     ensures ok { IfOk result (λ verdict. IsJudged (said_to core.old listener real) (I.left reader.old) (I.left reader.new) buffer.new verdict) }
     ensures read { result ≡ Err PipeFault.Read → HasNoOffer (said_to core.old listener real) (I.left reader.old) (I.left reader.new) }
     ensures kind { IfErr result (λ f. (f ≡ PipeFault.Read) ⊎ (f ≡ PipeFault.NoMemory)) }
@@ -164,8 +177,9 @@ pub fn judge<I: Input>(
     ensures stalls { OnOk result (IsUnblocked (I.stalls reader.old) (I.stalls reader.new)) }
     ensures spent { result ≡ Err PipeFault.Read → HasGivenUp (I.failures reader.old) (I.failures reader.new) (I.stalls reader.old) (I.stalls reader.new) reads.new }
 {
-    let Ok(reply) = core.step(0, &Event::Accept(listener, real)) else {
-        return Err(PipeFault::NoMemory);
+    let reply = match core.step(0, &Event::Accept(listener, real)) {
+        Ok(reply) => reply,
+        Err(fault) => return Err(want_of_memory(fault)),
     };
     let Reply {
         said,

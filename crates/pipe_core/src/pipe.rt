@@ -12,14 +12,14 @@ ghost use Rattle.config_core.specs.declared.fault.OpenFault.{OpenFault};
 ghost use Rattle.conn_core.specs.Machine.{IsOpened};
 ghost use Rattle.pipe_core.specs.Devices.{GaveUp, HasGivenUp, IsSpent};
 ghost use Rattle.pipe_core.specs.Stream.{ReadsAll, Delivery, DeliveryFront};
-ghost use Rattle.pipe_core.specs.Pipe.{as_listener, listener_of, IsEnded, IsPiped, IsPipedFrom, IsStopped};
+ghost use Rattle.pipe_core.specs.Pipe.{as_listener, frontend_of, listener_of, IsEnded, IsPiped, IsPipedFrom, IsStopped};
 
 use crate::end::{PipeEnd, PipeFault};
 use crate::header::{Offer, Verdict, judge};
 use crate::stream::{pass_on, send};
 use addr_core::Pair;
 use conn_core::{Core, OpenFault};
-use conn_model::plain::{FrontendRows, Listener, Plain};
+use conn_model::plain::{FrontendRows, Listener};
 use device_core::{Input, MOST_READS, Output};
 use std::alloc::{AllocError, Global};
 
@@ -61,25 +61,21 @@ fn listener_of_frontend(listeners: &[Listener], frontend: usize) -> Option<u16>
     listener_id(number)
 }
 
-/// The first listener of the frontend of that name.
-fn listener_in(plain: &Plain, name: &[u8]) -> Option<u16>
-    ensures { result ≡ listener_of plain.now name.now }
-{
-    let frontend = frontend_number(plain.frontends.as_slice(), name)?;
-    listener_of_frontend(plain.listeners.as_slice(), frontend)
-}
-
-/// The first listener of the frontend of that name.
+/// The first listener of the frontend of that name: each frontend has one.
 fn first_listener(core: &Core, name: &[u8]) -> Result<u16, PipeFault>
+    requires opening { (plan : Plan) × (core.now ≡ opening plan 0) }
     ensures ok { IfOk result (λ listener. listener_of core.now name.now ≡ Some listener) }
-    ensures err { IfErr result (λ f. (f ≡ PipeFault.NoMemory) ⊎ ((f ≡ PipeFault.NoFrontend) × (listener_of core.now name.now ≡ None))) }
+    ensures err { IfErr result (λ f. (f ≡ PipeFault.NoMemory) ⊎ ((f ≡ PipeFault.NoFrontend) × (frontend_of core.now name.now ≡ None))) }
 {
     let Ok(plain) = core.plain() else {
         return Err(PipeFault::NoMemory);
     };
-    match listener_in(&plain, name) {
+    let Some(frontend) = frontend_number(plain.frontends.as_slice(), name) else {
+        return Err(PipeFault::NoFrontend);
+    };
+    match listener_of_frontend(plain.listeners.as_slice(), frontend) {
         Some(listener) => Ok(listener),
-        None => Err(PipeFault::NoFrontend),
+        None => unreachable!(),
     }
 }
 

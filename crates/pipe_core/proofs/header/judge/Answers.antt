@@ -1,5 +1,6 @@
-use Rattle.std.proofs.Common.{◌≡◌, [], arith}
+use Rattle.std.proofs.Common.{[], arith}
 use Rattle.pipe_core.proofs.AcceptLemmas.{accept_uses}
+use Rattle.pipe_core.proofs.ListenerLemmas.{accept_lacks_memory}
 use Rattle.pipe_core.proofs.JudgedLemmas.{offered_at_once, waits_of_accept}
 use Rattle.pipe_core.proofs.StreamLemmas.{consumes-nil}
 use Rattle.pipe_core.proofs.header.judge.Goals as goal
@@ -18,3 +19,12 @@ returns-in-Offer-clause-ok g c = record {
   offers = offered_at_once c.args.core.now c.args.listener c.args.real c.in-Ok.reply c.in-Ok.ensures.plain_reply _ _ _ _ _ _ c.in-Offer.send c.in-Offer.is
       (rw c.in-Offer.is at (accept_uses c.args.core.now c.args.listener c.args.real c.in-Ok.reply c.in-Ok.ensures.plain_reply));
 }
+
+pub want_of_memory-requires : goal.want_of_memory-requires
+want_of_memory-requires g c =
+    let opens = c.requires.opening in
+    let listens = c.requires.listens in
+    accept_lacks_memory c.args.core.now opens.0 opens.1 listens.0 c.args.listener c.args.real c.in-Err.fault listens.1 c.in-Err.ensures.plain_fault
+
+pub unreachable-requires : goal.unreachable-requires
+unreachable-requires g c = rw c.in-Closed.is at (accept_uses c.args.core.now c.args.listener c.args.real c.in-Ok.reply c.in-Ok.ensures.plain_reply)

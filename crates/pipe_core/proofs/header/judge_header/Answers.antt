@@ -1,5 +1,4 @@
-use Rattle.std.proofs.Common.{◌≡◌, ◌∙◌, ◌++◌, ap, sym, subst, inr, take, arith}
-use Rattle.std.proofs.lemmas.List.{length-take-le}
+use Rattle.std.proofs.Common.{◌∙◌, ◌++◌, inr, take, arith}
 use Rattle.device_core.proofs.StallLemmas.{unblocked_on}
 use Rattle.pipe_core.proofs.JudgedLemmas.{has_offer}
 use Rattle.pipe_core.proofs.StreamLemmas.{consumes-both}

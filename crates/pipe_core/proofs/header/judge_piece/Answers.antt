@@ -1,10 +1,8 @@
-use Rattle.std.proofs.Common.{◌≡◌, ◌∙◌, ap, sym}
-use Rattle.conn_model.specs.declared.reply.Reply.{Reply}
-use Rattle.pipe_core.proofs.AcceptLemmas.{piece_uses, UsesAtMost}
+use Rattle.pipe_core.proofs.AcceptLemmas.{piece_uses}
 use Rattle.pipe_core.proofs.JudgedLemmas.{offers, refuses}
+use Rattle.pipe_core.proofs.ListenerLemmas.{lacks_memory}
 use Rattle.pipe_core.proofs.PieceLemmas.{waits_on}
-use Rattle.std.proofs.Common.{subst}
-use Rattle.pipe_core.specs.Waiting.{Waits}
+use Rattle.pipe_core.proofs.StateLemmas.{piece_said}
 use Rattle.pipe_core.proofs.header.judge_piece.Goals as goal
 
 pub returns-in-Wait-clause-decides : goal.returns-in-Wait-clause-decides
@@ -25,3 +23,8 @@ returns-in-Offer-clause-decides c = λ first got waits.
 pub returns-in-Refuse-clause-decides : goal.returns-in-Refuse-clause-decides
 returns-in-Refuse-clause-decides c = λ first got waits.
     refuses first c.args.id c.args.core.now got c.args.piece.now c.in-Ok.reply waits c.in-Ok.ensures.plain_reply _ _ _ c.in-Refuse.is
+
+pub want_of_memory-requires : goal.want_of_memory-requires
+want_of_memory-requires c =
+    let holds = c.requires.waits in
+    lacks_memory _ _ c.in-Err.fault (piece_said c.args.core.now c.args.id holds.0 holds.1 c.args.piece.now) c.in-Err.ensures.plain_fault

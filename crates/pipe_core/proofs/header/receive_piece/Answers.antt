@@ -1,5 +1,4 @@
-use Rattle.std.proofs.Common.{◌≡◌, arith}
-use Rattle.pipe_core.proofs.StreamLemmas.{gives_few, gives_front}
+use Rattle.pipe_core.proofs.StreamLemmas.{gives_front}
 use Rattle.pipe_core.proofs.header.receive_piece.Goals as goal
 
 pub returns-clause-moved : goal.returns-clause-moved

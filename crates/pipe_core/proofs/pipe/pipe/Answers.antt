@@ -1,4 +1,4 @@
-use Rattle.std.proofs.Common.{◌≡◌, ◌-◌, length, take, arith}
+use Rattle.std.proofs.Common.{◌-◌, arith}
 use Rattle.std.proofs.lemmas.Result.{err_from_is_err_and}
 use Rattle.device_core.specs.declared.patience.TheConstants.{MOST_READS}
 use Rattle.pipe_core.proofs.DeliveryLemmas.{cut, piped, stopped}

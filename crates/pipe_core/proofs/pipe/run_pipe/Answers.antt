@@ -1,4 +1,3 @@
-use Rattle.std.proofs.Common.{◌≡◌}
 use Rattle.std.proofs.lemmas.Result.{IfErr-weaker}
 use Rattle.pipe_core.proofs.DeliveryLemmas.{ended}
 use Rattle.pipe_core.proofs.pipe.run_pipe.Goals as goal

@@ -1,4 +1,3 @@
-use Rattle.std.proofs.Common.{◌≡◌, ap, sym}
 use Rattle.std.proofs.lemmas.Result.{err_from_is_err_and, on_err_weaker}
 use Rattle.pipe_core.proofs.DeliveryLemmas.{delivery_part, delivery_payload, delivery_send}
 use Rattle.pipe_core.proofs.pipe.serve.Goals as goal

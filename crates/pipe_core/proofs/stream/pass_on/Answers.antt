@@ -1,4 +1,4 @@
-use Rattle.std.proofs.Common.{◌≡◌, ◌∙◌, ap, inr, arith, length, take}
+use Rattle.std.proofs.Common.{◌∙◌, inr, arith, take}
 use Rattle.std.proofs.lemmas.Result.{err_from_is_err_and}
 use Rattle.device_core.proofs.StallLemmas.{unblocked_on}
 use Rattle.pipe_core.proofs.StreamLemmas.{carried-end, carried-more, dropped-more, dropped-none, fits_on, read_out}
