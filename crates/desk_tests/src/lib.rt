@@ -1,0 +1,10 @@
+//! Tests of `desk_core`, of what no contract says: that its calls do not give up, that threads may share it, and that what is
+//! asked is counted.
+#![tactic(auto)]
+
+#[cfg(test)]
+mod books;
+#[cfg(test)]
+mod leases;
+#[cfg(test)]
+mod threads;
