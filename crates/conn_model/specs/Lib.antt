@@ -1,6 +1,5 @@
 pub mod Words
 pub mod Tables
-pub mod Servers
 pub mod Counts
 pub mod Rules
 pub mod Answer
