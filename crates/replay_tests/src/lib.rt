@@ -1,7 +1,9 @@
-//! Tests of `replay_core`, with devices in memory that are short, blocked or failing by schedule.
+//! Tests of `replay_core` and `audit_core`, with devices in memory that are short, blocked or failing by schedule.
 #![tactic(auto)]
 
 #[cfg(test)]
 mod check;
+#[cfg(test)]
+mod records;
 #[cfg(test)]
 mod replay;
