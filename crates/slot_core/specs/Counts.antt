@@ -1,5 +1,5 @@
 -- Counts of open connections, in the order in which their identities were added.
-use Rattle.std.specs.Prelude.{◌≡◌, ℕ, Bool, false, ◌==◌, List, [], ◌∷◌, ◌++◌, slice_get, slice_set, Option, option_map, if◌then◌else◌}
+use Rattle.std.specs.Prelude.{◌≡◌, ℕ, Bool, false, ◌==◌, List, [], ◌∷◌, ◌++◌, find, slice_get, slice_set, Option, option_map, if◌then◌else◌}
 use Rattle.std.specs.Option.{is_some, option_map_or}
 use Rattle.std.specs.List.{position, AllByRecursion}
 use Rattle.proxy_types.specs.declared.server.ServerIdentity.{ServerIdentity}
@@ -20,6 +20,10 @@ with_identity identity counts = if is_some (place_of identity counts) then count
 -- the open connections of the count at a place, 0 where there is none
 abbrev pub open_at : ℕ → List Count → ℕ
 open_at place counts = option_map_or (λ count. count.connections) (slice_get counts place) 0
+
+-- the open connections of a server, 0 where it has no count
+abbrev pub open_of : ServerIdentity → List Count → ℕ
+open_of identity counts = option_map_or (λ count. count.connections) (find (is_of identity) counts) 0
 
 abbrev pub identity_at : ℕ → List Count → Option ServerIdentity
 identity_at place counts = option_map (λ count. count.identity) (slice_get counts place)

@@ -1,8 +1,10 @@
 //! Counts of open connections.
-ghost use Rattle.std.specs.Prelude.{◌≡◌, ◌↔◌, IsTrue, ◌+◌, ◌-◌, ◌<◌, ◌^◌, ℕ, [], length, Some, IfOk, OnOk, OnErr};
+ghost use Rattle.std.specs.Prelude.{◌≡◌, ◌↔◌, IsTrue, ◌+◌, ◌-◌, ◌<◌, ◌^◌, ℕ, [], length, find, Some, IfOk, OnOk, OnErr};
 ghost use Rattle.std.specs.List.{position};
-ghost use Rattle.slot_core.specs.Counts.{is_of, place_of, with_identity, identity_at, open_at, with_open, slots_at, IdentitiesDiffer};
+ghost use Rattle.std.specs.Option.{option_copied};
+ghost use Rattle.slot_core.specs.Counts.{is_of, place_of, with_identity, identity_at, open_at, open_of, with_open, slots_at, IdentitiesDiffer};
 
+use addr_core::Endpoint;
 use list_core::Duplicate;
 use proxy_types::ServerIdentity;
 use std::alloc::{AllocError, Global};
@@ -123,6 +125,16 @@ impl Slots {
         self.counts[ix.place].connections
     }
 
+    /// How many connections are open to the server of that backend, name and address: none, if it was not added.
+    pub fn count_of(&self, backend: &[u8], name: &[u8], to: &Endpoint) -> u64
+        ensures { result ≡ open_of (record { backend = backend.now; name = name.now; to = to.now }) self.now }
+    {
+        match find_named(self.counts.as_slice(), backend, name, to) {
+            Some(count) => count.connections,
+            None => 0,
+        }
+    }
+
     /// Counts one more open connection, without taking memory.
     pub fn take(&mut self, ix: SlotIx) -> Slot
         requires there { ix.place < length self.old }
@@ -146,6 +158,25 @@ impl Slots {
         let Slot { ix } = slot;
         self.counts[ix.place].connections -= 1;
     }
+}
+
+fn is_of(count: &Count, backend: &[u8], name: &[u8], to: &Endpoint) -> bool
+    ensures { result ≡ is_of (record { backend = backend.now; name = name.now; to = to.now }) count.now }
+{
+    count.identity.backend.as_slice() == backend
+        && count.identity.name.as_slice() == name
+        && count.identity.to.is_same(to)
+}
+
+fn find_named<'a>(
+    counts: &'a [Count],
+    backend: &[u8],
+    name: &[u8],
+    to: &Endpoint,
+) -> Option<&'a Count>
+    ensures { option_copied result ≡ find (is_of (record { backend = backend.now; name = name.now; to = to.now })) counts.now }
+{
+    counts.iter().find(|count| is_of(count, backend, name, to))
 }
 
 fn find(counts: &[Count], identity: &ServerIdentity) -> Option<usize>
