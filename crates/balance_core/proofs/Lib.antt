@@ -4,3 +4,4 @@ pub mod RangeLemmas
 pub mod RankLemmas
 pub mod RoundLemmas
 pub mod LeastLemmas
+pub mod ReadyLemmas

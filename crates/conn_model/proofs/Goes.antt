@@ -4,9 +4,9 @@ use Rattle.std.proofs.Common.{sym, ap, ◌∙◌, subst}
 use Rattle.conn_model.specs.declared.plain.FrontendRows.{FrontendRows}
 use Rattle.conn_model.specs.declared.plain.Plain.{Plain}
 use Rattle.conn_model.specs.Answer.{answer_in}
-use Rattle.conn_model.specs.History.{after, frontends_after, tables_after, tables_by, Entry, IsLegal, IsFrontendWell, IsWell}
+use Rattle.conn_model.specs.History.{after, frontends_after, in_force, newest_number, tables_after, tables_by, versions_after, versions_by, Entry, IsLegal, IsFrontendWell, IsWell}
 use Rattle.conn_model.proofs.Lists.{all-at}
-use Rattle.conn_model.proofs.Parts.{frontends_in_parts, history_parts, AreFresh}
+use Rattle.conn_model.proofs.Parts.{force-append, frontends_in_parts, history_parts, AreFresh}
 use Rattle.conn_model.proofs.Serials.{fresh}
 
 pub well_at : (p : Plain) → IsWell p → (number : ℕ) (own : FrontendRows) → slice_get p.frontends number ≡ Some own → IsFrontendWell p.versions own
@@ -23,8 +23,18 @@ tables_in_parts p well (e ∷ g) h legal later =
     let tables : tables_after (after p h) g ≡ tables_after p (g ++ h) = tables_in_parts p well g h legal later.0 in
     ap (λ fs. tables_by fs (tables_after (after p h) g) e.reply) frontends ∙ ap (λ ts. tables_by (frontends_after p (g ++ h)) ts e.reply) tables
 
+-- and the versions
+versions_in_parts : (p : Plain) → IsWell p → (g h : List Entry) → IsLegal p h → IsLegal (after p h) g → versions_after (after p h) g ≡ versions_after p (g ++ h)
+versions_in_parts p well [] h legal later = refl
+versions_in_parts p well (e ∷ g) h legal later =
+    let frontends : frontends_after (after p h) g ≡ frontends_after p (g ++ h) = frontends_in_parts p g h (are_fresh p well g h legal later.0) in
+    let versions : versions_after (after p h) g ≡ versions_after p (g ++ h) = versions_in_parts p well g h legal later.0 in
+    ap (λ fs. versions_by fs (in_force (newest_number (after p h)) g) (versions_after (after p h) g) e) frontends
+    ∙ ap (λ n. versions_by (frontends_after p (g ++ h)) n (versions_after (after p h) g) e) (force-append p g h)
+    ∙ ap (λ vs. versions_by (frontends_after p (g ++ h)) (in_force (newest_number p) (g ++ h)) vs e) versions
+
 in_parts : (p : Plain) → IsWell p → (g h : List Entry) → IsLegal p h → IsLegal (after p h) g → after (after p h) g ≡ after p (g ++ h)
-in_parts p well g h legal later = history_parts p g h (are_fresh p well g h legal later) (tables_in_parts p well g h legal later)
+in_parts p well g h legal later = history_parts p g h (are_fresh p well g h legal later) (versions_in_parts p well g h legal later) (tables_in_parts p well g h legal later)
 
 -- Legality in two parts.
 

@@ -5,7 +5,6 @@ use Rattle.std.proofs.Common.{sym, ap, ◌∙◌, subst, arith, append-nil}
 use Rattle.std.proofs.lemmas.Bool.{false≢true, eq-eqb, eqb-true}
 use Rattle.std.proofs.lemmas.Bool.Decides.{nat_tests}
 use Rattle.addr_core.specs.PairValue.{PairValue}
-use Rattle.plan_types.specs.declared.plan.Server.{Server}
 use Rattle.plan_types.specs.declared.plan.Plan.{Plan}
 use Rattle.pp_any.specs.declared.rest.Rest.{Rest}
 use Rattle.pp_any.specs.declared.rest.Rest.TheVariants.{Read}
@@ -17,24 +16,26 @@ use Rattle.pp_any.specs.NextPiece.{status_on, rest_on}
 use Rattle.pp_any.proofs.NextPiece.{goes_on}
 use Rattle.conn_model.specs.declared.event.ConnId.{ConnId}
 use Rattle.conn_model.specs.declared.event.OwnedEvent.{OwnedEvent}
-use Rattle.conn_model.specs.declared.event.OwnedEvent.TheVariants.{Accept, Piece, Close, Expire}
+use Rattle.conn_model.specs.declared.event.OwnedEvent.TheVariants.{Accept, Piece, Connected, ConnectFailed, Close, Expire}
 use Rattle.conn_model.specs.declared.reply.Cause.{Cause}
 use Rattle.conn_model.specs.declared.reply.Said.{Said}
+use Rattle.conn_model.specs.declared.event.Why.TheVariants.{Failed}
+use Rattle.conn_model.specs.declared.reply.Said.TheVariants as saids
 use Rattle.conn_model.specs.declared.reply.Said.TheVariants.{Wait, Offer, Refuse, Closed}
 use Rattle.conn_model.specs.declared.reply.Reply.{Reply}
 use Rattle.conn_model.specs.declared.reply.StepFault.TheVariants.{NoSuch}
 use Rattle.conn_model.specs.declared.plain.Phase.{Phase}
-use Rattle.conn_model.specs.declared.plain.Phase.TheVariants.{Waiting, Offered}
+use Rattle.conn_model.specs.declared.plain.Phase.TheVariants.{Waiting, Offered, Up}
 use Rattle.conn_model.specs.declared.plain.Row.{Row}
 use Rattle.conn_model.specs.declared.plain.FrontendRows.{FrontendRows}
 use Rattle.conn_model.specs.declared.plain.Plain.{Plain}
 use Rattle.conn_model.specs.Words.{is_conn, map_from, Rise, or_fault}
 use Rattle.rule_engine.specs.Judging.{no_tracks}
 use Rattle.conn_model.specs.Rules.{Candidate, view_of}
-use Rattle.conn_model.specs.Answer.{row_in, row_at, reply_of, rest_in, verdict, said_of, candidate_of, judged_pair, header_reply, answer_in}
-use Rattle.conn_model.specs.History.{newest_number, speaks_to, plan_of, phase_by, is_last, arrival, has_ended, accepts, row_after, frontend_after, frontends_after, after, piece_for, joined, Entry, IsLegal, IsWell, opening}
+use Rattle.conn_model.specs.Answer.{row_in, row_at, reply_of, rest_in, verdict, said_of, candidate_of, judged_pair, header_reply, answer_in, NumberedServer}
+use Rattle.conn_model.specs.History.{newest_number, speaks_to, plan_of, phase_by, phase_up, is_last, arrival, has_ended, accepts, row_after, frontend_after, frontends_after, after, piece_for, joined, Entry, IsLegal, IsWell, opening}
 use Rattle.conn_model.proofs.Lists.{all-append, all-more, all-each, all-filter_if, all-map, all-found, all-at, all-both}
-use Rattle.conn_model.proofs.Replies.{bind-ok, Says, Received, received, expired, answered}
+use Rattle.conn_model.proofs.Replies.{bind-ok, Says, Received, received, expired, answered, server_answered}
 use Rattle.conn_model.proofs.Parts.{is_spoken_to, either_false}
 use Rattle.conn_model.proofs.Serials.{FrontendFacts, facts_of, next_here, speaks_that, not_yet, arrival-all}
 use Rattle.conn_model.proofs.Goes.{well_at, whole_in_parts}
@@ -47,6 +48,7 @@ conn number serial = record { frontend = number; serial = serial }
 abbrev IsHeld : List ℕ → Phase → Type 0
 IsHeld bytes (Waiting rest) = IsRest bytes rest
 IsHeld bytes (Offered assignment) = Unit {0}
+IsHeld bytes (Up assignment) = Unit {0}
 
 abbrev IsRowHeld : List Entry → ℕ → Row → Type 0
 IsRowHeld h number row = IsHeld (joined (conn number row.serial) h) row.phase
@@ -87,6 +89,8 @@ piece-unspoken q (Accept listener real) said number serial says other = refl
 piece-unspoken q (Piece id bytes) said number serial old other =
     let differs : is_conn number serial id ≡ false = rw old.speaks at other in
     rw differs refl
+piece-unspoken q (Connected id) said number serial says other = refl
+piece-unspoken q (ConnectFailed id) said number serial says other = refl
 piece-unspoken q (Close id why) said number serial says other = refl
 piece-unspoken q (Expire id) said number serial says other = refl
 
@@ -108,10 +112,11 @@ record Known (h : List Entry) (number : ℕ) (own : FrontendRows) (row : Row) : 
 phase_waits : (phase : Phase) (rest : Rest) → rest_in phase ≡ Some rest → phase ≡ Waiting rest
 phase_waits (Waiting held) rest is = let same : held ≡ rest = let it : Some held ≡ Some rest = is in cc in ap (λ r. Waiting r) same
 phase_waits (Offered assignment) rest is = absurd (let wrong : None ≡ Some rest = is in cc)
+phase_waits (Up assignment) rest is = absurd (let wrong : None ≡ Some rest = is in cc)
 
-decided-held : (plan : Option Plan) (event : OwnedEvent) (bytes : List ℕ) (phase : Phase) (id : ConnId) (used : ℕ) (judged : PairValue) (result : Result Server Cause) →
+decided-held : (plan : Option Plan) (event : OwnedEvent) (bytes : List ℕ) (phase : Phase) (id : ConnId) (used : ℕ) (judged : PairValue) (result : Result NumberedServer Cause) →
     is_last (said_of id used judged result) ≡ false → IsHeld bytes (phase_by plan event (said_of id used judged result) phase)
-decided-held plan event bytes phase id used judged (Ok server) open' = tt
+decided-held plan event bytes phase id used judged (Ok given) open' = tt
 decided-held plan event bytes phase id used judged (Err cause) open' = absurd (false≢true (sym open'))
 
 -- after a piece, by what it decides
@@ -122,7 +127,7 @@ status-held plan id before bytes rest candidate real statuses.Wait waits open' =
 status-held plan id before bytes rest candidate real (statuses.Fault fault count) waits open' = absurd (false≢true (sym open'))
 status-held plan id before bytes rest candidate real (statuses.Whole count meaning) waits open' =
     let judged : PairValue = judged_pair real meaning in
-    decided-held plan (Piece id bytes) (before ++ bytes) (Waiting rest) candidate.id count judged (verdict (view_of candidate judged.source.addr) candidate.version candidate.frontend no_tracks).result open'
+    decided-held plan (Piece id bytes) (before ++ bytes) (Waiting rest) candidate.id count judged (verdict (view_of candidate judged.source.addr) candidate.frontend no_tracks).result open'
 
 piece_row : (q : Plain) (h : List Entry) (id : ConnId) (bytes : List ℕ) (reply : Reply) (number : ℕ) (own : FrontendRows) (row : Row) (plan : Option Plan) → slice_get q.frontends number ≡ Some own →
     Received q id bytes reply → Known h number own row → is_conn number row.serial id ≡ true → id.frontend ≡ number → id.serial ≡ row.serial → is_last reply.said ≡ false →
@@ -141,6 +146,12 @@ piece_row q h id bytes reply number own row plan there got known mine frontend s
     subst P said_is (status-held plan id before bytes got.rest candidate got.row.real (status_on got.rest bytes) (goes_on before bytes got.rest held).holds (ap is_last said_is ∙ open')) in
     rw (mine, phase) after_it
 
+-- once its server took the connection
+up-held : (bytes : List ℕ) (phase : Phase) → IsHeld bytes phase → IsHeld (bytes ++ []) (phase_up phase)
+up-held bytes (Waiting rest) held = subst (λ all. IsRest all rest) (sym (append-nil bytes)) held
+up-held bytes (Offered assignment) held = tt
+up-held bytes (Up assignment) held = tt
+
 -- the reply speaks to the connection and leaves it open
 spoken_row : (q : Plain) (h : List Entry) (moment : ℕ) (event : OwnedEvent) (reply : Reply) (number : ℕ) (own : FrontendRows) (row : Row) (plan : Option Plan) → slice_get q.frontends number ≡ Some own →
     answer_in q moment event ≡ Ok reply → Known h number own row → speaks_to number row.serial reply.said ≡ true → is_last reply.said ≡ false →
@@ -155,6 +166,13 @@ spoken_row q h moment (Piece id bytes) reply number own row plan there answer kn
     let old = answered q moment (Piece id bytes) reply answer in
     let that = speaks_that number row.serial reply.said id old.speaks spoken in
     piece_row q h id bytes reply number own row plan there (received q id bytes reply answer) known (rw old.speaks at spoken) that.0 that.1 open'
+spoken_row q h moment (Connected id) reply number own row plan there answer known spoken open' =
+    let got = server_answered q id (saids.Up id) reply answer in
+    let before : List ℕ = joined (conn number row.serial) h in
+    subst (λ said. IsHeld (before ++ []) (phase_by plan (Connected id) said row.phase)) (ap (λ r. r.said) got.reply_is) (up-held before row.phase known.held)
+spoken_row q h moment (ConnectFailed id) reply number own row plan there answer known spoken open' =
+    let got = server_answered q id (Closed id Failed) reply answer in
+    absurd (false≢true (sym (ap (λ r. is_last r.said) got.reply_is ∙ open')))
 spoken_row q h moment (Close id why) reply number own row plan there answer known spoken open' =
     let one = bind-ok (or_fault NoSuch (row_at q.frontends id)) _ reply answer in
     let same : reply_of (Closed id why) ≡ reply = let it : Ok (reply_of (Closed id why)) ≡ Ok reply = one.2 in cc in
@@ -189,6 +207,7 @@ new-held : (plan : Option Plan) (listener : ℕ) (real : PairValue) (said : Said
 new-held plan listener real (Wait id used) true = (refl, refl)
 new-held plan listener real (Offer id used line server to judged send) true = tt
 new-held plan listener real (Refuse id used cause) true = (refl, refl)
+new-held plan listener real (saids.Up id) true = (refl, refl)
 new-held plan listener real (Closed id why) true = (refl, refl)
 new-held plan listener real said false = (refl, refl)
 
@@ -205,6 +224,8 @@ new_rows p well h moment (Accept listener real) reply number own there legal ans
     let none : joined (conn number new.id.serial) h ≡ [] = joined-unspoken p h number new.id.serial legal fresh in
     rw none (new-held (plan_of (after p h) [] version) listener real reply.said (speaks_to number new.id.serial reply.said)))
 new_rows p well h moment (Piece id bytes) reply number own there legal answer version clock = tt
+new_rows p well h moment (Connected id) reply number own there legal answer version clock = tt
+new_rows p well h moment (ConnectFailed id) reply number own there legal answer version clock = tt
 new_rows p well h moment (Close id why) reply number own there legal answer version clock = tt
 new_rows p well h moment (Expire id) reply number own there legal answer version clock = tt
 

@@ -5,6 +5,8 @@ pub mod Parts
 pub mod Serials
 pub mod Goes
 pub mod Nothing
+pub mod Trackings
+pub mod VersionSteps
 pub mod Entries
 pub mod OneTable
 pub mod Listed
@@ -13,5 +15,7 @@ pub mod TableSteps
 pub mod TrackSteps
 pub mod Well
 pub mod Steps
-pub mod Trackings
 pub mod Joined
+pub mod Cursors
+pub mod Offers
+pub mod Counted

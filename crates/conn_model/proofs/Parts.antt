@@ -1,20 +1,22 @@
 -- A history in two parts.
 use Rattle.std.specs.Prelude.{ℕ, suc, Bool, true, false, not, max, List, [], map, filter, slice_get, Some, None, refl, ◌+◌, ◌≡◌, ◌≢◌, ◌==◌, ◌&&◌, ◌||◌, ◌∷◌, ◌++◌, if◌then◌else◌, option_to_list}
 use Rattle.std.specs.List.{list_any, AllByRecursion}
+use Rattle.std.specs.Option.{option_map_or}
 use Rattle.std.proofs.Common.{sym, ap, ◌∙◌, arith, append_assoc, append-nil}
 use Rattle.std.proofs.lemmas.List.{map-append}
 use Rattle.std.proofs.lemmas.List.Elements.{filter-append}
 use Rattle.std.proofs.lemmas.Bool.Decides.{nat_tests}
-use Rattle.plan_types.specs.declared.plan.Plan.{Plan}
 use Rattle.plan_types.specs.declared.track.Track.{Track}
 use Rattle.conn_model.specs.declared.event.OwnedEvent.{OwnedEvent}
-use Rattle.conn_model.specs.declared.event.OwnedEvent.TheVariants.{Accept, Piece, Close, Expire}
+use Rattle.conn_model.specs.declared.event.OwnedEvent.TheVariants.{Accept, Piece, Connected, ConnectFailed, Close, Expire}
+use Rattle.conn_model.specs.declared.reply.Said.{Said}
 use Rattle.conn_model.specs.declared.plain.Phase.{Phase}
 use Rattle.conn_model.specs.declared.plain.Row.{Row}
 use Rattle.conn_model.specs.declared.plain.FrontendRows.{FrontendRows}
 use Rattle.conn_model.specs.declared.plain.Plain.{Plain}
 use Rattle.conn_model.specs.Words.{map_from}
-use Rattle.conn_model.specs.History.{now_of, speaks_to, version_of, in_force, newest_number, plans, plan_of, phase_after, tracks_of, by_counter, is_last, arrival, arrivals, has_ended, accepts, row_after, frontend_after, frontends_after, versions_after, tables_after, after, Entry}
+use Rattle.conn_model.specs.History.{now_of, speaks_to, version_of, in_force, newest_number, plans, plan_of, phase_after, tracks_of, by_counter, is_last, arrival, arrivals, has_ended, accepts, row_after, frontend_after, frontends_after, judging_version, with_said, versions_after, tables_after, after, Entry}
+use Rattle.conn_model.proofs.Versions.{last_number, last_number-map, last_number-with, plan_pair, plan_pairs-map, plan_pairs-with, version_said, version_said-cursors, with_said-each}
 
 -- What goes on one entry after the other.
 
@@ -26,30 +28,53 @@ now_of-append s (e ∷ g) h = ap (λ m. max m e.moment) (now_of-append s g h)
 pub brings_none : (event : OwnedEvent) → version_of event ≡ None
 brings_none (Accept listener real) = refl
 brings_none (Piece id bytes) = refl
+brings_none (Connected id) = refl
+brings_none (ConnectFailed id) = refl
 brings_none (Close id why) = refl
 brings_none (Expire id) = refl
 
-pub in_force-same : (s : ℕ) (h : List Entry) → in_force s h ≡ s
-in_force-same s [] = refl
-in_force-same s (e ∷ h) = rw (brings_none e.event) (in_force-same s h)
+-- the version in force
+pub in_force-append : (s : ℕ) (g h : List Entry) → in_force (in_force s h) g ≡ in_force s (g ++ h)
+in_force-append s [] h = refl
+in_force-append s (e ∷ g) h = ap (λ n. option_map_or (λ brought. brought.0) (version_of e.event) n) (in_force-append s g h)
 
-pub versions-same : (p : Plain) (h : List Entry) → versions_after p h ≡ p.versions
-versions-same p [] = refl
-versions-same p (e ∷ h) = rw (brings_none e.event) (versions-same p h)
+-- what an entry says moves cursors alone
+said-numbers : (p : Plain) (h : List Entry) (said : Said) → last_number (with_said (judging_version (frontends_after p h) (in_force (newest_number p) h) said) said (versions_after p h)) ≡ last_number (versions_after p h)
+said-numbers p h said =
+    let number : ℕ = judging_version (frontends_after p h) (in_force (newest_number p) h) said in
+    ap last_number (with_said-each number said (versions_after p h)) ∙ last_number-map (version_said number said) (version_said-cursors number said) (versions_after p h)
 
-plans-more : (pairs : List (ℕ × Plan)) (event : OwnedEvent) → pairs ++ option_to_list (version_of event) ≡ pairs
-plans-more pairs event = rw (brings_none event) (append-nil pairs)
+said-pairs : (p : Plain) (h : List Entry) (said : Said) → map plan_pair (with_said (judging_version (frontends_after p h) (in_force (newest_number p) h) said) said (versions_after p h)) ≡ map plan_pair (versions_after p h)
+said-pairs p h said =
+    let number : ℕ = judging_version (frontends_after p h) (in_force (newest_number p) h) said in
+    ap (λ vs. map plan_pair vs) (with_said-each number said (versions_after p h)) ∙ plan_pairs-map (version_said number said) (version_said-cursors number said) (versions_after p h)
 
-plans-same : (p : Plain) (h : List Entry) → plans p h ≡ plans p []
-plans-same p [] = refl
-plans-same p (e ∷ h) = plans-more (plans p h) e.event ∙ plans-same p h
+-- the newest version is the one in force
+pub newest_after : (p : Plain) (h : List Entry) → newest_number (after p h) ≡ in_force (newest_number p) h
+newest_after p [] = refl
+newest_after p (e ∷ h) =
+    let number : ℕ = judging_version (frontends_after p h) (in_force (newest_number p) h) e.reply.said in
+    last_number-with (with_said number e.reply.said (versions_after p h)) (version_of e.event)
+    ∙ ap (λ n. option_map_or (λ brought. brought.0) (version_of e.event) n) (said-numbers p h e.reply.said ∙ newest_after p h)
 
-pub newest-same : (p : Plain) (h : List Entry) → newest_number (after p h) ≡ newest_number p
-newest-same p h = rw (versions-same p h) refl
+pub force-append : (p : Plain) (g h : List Entry) → in_force (newest_number (after p h)) g ≡ in_force (newest_number p) (g ++ h)
+force-append p g h = ap (λ n. in_force n g) (newest_after p h) ∙ in_force-append (newest_number p) g h
 
--- the plans by which a row's replies are read are the same from either state
+-- the plans of the versions
+plans_after : (p : Plain) (h : List Entry) → plans (after p h) [] ≡ plans p h
+plans_after p [] = refl
+plans_after p (e ∷ h) =
+    let number : ℕ = judging_version (frontends_after p h) (in_force (newest_number p) h) e.reply.said in
+    plan_pairs-with (with_said number e.reply.said (versions_after p h)) (version_of e.event)
+    ∙ ap (λ pairs. pairs ++ option_to_list (version_of e.event)) (said-pairs p h e.reply.said ∙ plans_after p h)
+
+plans-append : (p : Plain) (g h : List Entry) → plans (after p h) g ≡ plans p (g ++ h)
+plans-append p [] h = plans_after p h
+plans-append p (e ∷ g) h = ap (λ pairs. pairs ++ option_to_list (version_of e.event)) (plans-append p g h)
+
+-- so a row's replies are read by the same plans from either state
 reads_alike : (p : Plain) (h g : List Entry) (number : ℕ) → plan_of (after p h) g number ≡ plan_of p (g ++ h) number
-reads_alike p h g number = rw (plans-same (after p h) g, plans-same p (g ++ h), versions-same p h) refl
+reads_alike p h g number = rw (plans-append p g h) refl
 
 -- One row.
 
@@ -175,8 +200,7 @@ arrivals-append : (p : Plain) (number : ℕ) (g h : List Entry) → arrivals p n
 arrivals-append p number [] h = sym (append-nil (arrivals p number h))
 arrivals-append p number (e ∷ g) h =
     let now : now_of (now_of p.clock h) (e ∷ g) ≡ now_of p.clock (e ∷ (g ++ h)) = now_of-append p.clock (e ∷ g) h in
-    let force : in_force (newest_number (after p h)) g ≡ in_force (newest_number p) (g ++ h) =
-    in_force-same (newest_number (after p h)) g ∙ newest-same p h ∙ sym (in_force-same (newest_number p) (g ++ h)) in
+    let force : in_force (newest_number (after p h)) g ≡ in_force (newest_number p) (g ++ h) = force-append p g h in
     let this : List Row = arrival number (now_of p.clock (e ∷ (g ++ h))) (in_force (newest_number p) (g ++ h)) e.event e.reply.said in
     let that : arrival number (now_of (now_of p.clock h) (e ∷ g)) (in_force (newest_number (after p h)) g) e.event e.reply.said ≡ this = cc (now, force) in
     ap (λ rows. rows ++ this) (arrivals-append p number g h) ∙ append_assoc (arrivals p number h) (arrivals (after p h) number g) this
@@ -306,8 +330,7 @@ frontends_in_parts p g h fresh =
     zero_plus : (n : ℕ) → 0 + n ≡ n
     zero_plus n = omega arith
 
--- a history in two parts, where its tables are those of the whole
-pub history_parts : (p : Plain) (g h : List Entry) → AreFresh p g h → tables_after (after p h) g ≡ tables_after p (g ++ h) → after (after p h) g ≡ after p (g ++ h)
-history_parts p g h fresh tables =
-    let versions : versions_after (after p h) g ≡ versions_after p (g ++ h) = versions-same (after p h) g ∙ versions-same p h ∙ sym (versions-same p (g ++ h)) in
-    cc (now_of-append p.clock g h, frontends_in_parts p g h fresh, versions, tables)
+-- a history in two parts, where its versions and its tables are those of the whole
+pub history_parts : (p : Plain) (g h : List Entry) → AreFresh p g h → versions_after (after p h) g ≡ versions_after p (g ++ h) → tables_after (after p h) g ≡ tables_after p (g ++ h) →
+    after (after p h) g ≡ after p (g ++ h)
+history_parts p g h fresh versions tables = cc (now_of-append p.clock g h, frontends_in_parts p g h fresh, versions, tables)

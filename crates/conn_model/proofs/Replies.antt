@@ -3,22 +3,23 @@ use Rattle.std.specs.Prelude.{ℕ, Bool, true, false, max, List, length, slice_g
 use Rattle.std.proofs.Common.{sym, ap, ◌∙◌}
 use Rattle.list_core.specs.Each.{◌>>=◌}
 use Rattle.addr_core.specs.PairValue.{PairValue}
-use Rattle.plan_types.specs.declared.plan.Server.{Server}
 use Rattle.plan_types.specs.declared.plan.Frontend.{Frontend}
 use Rattle.conn_model.specs.declared.event.ConnId.{ConnId}
 use Rattle.conn_model.specs.declared.event.OwnedEvent.{OwnedEvent}
-use Rattle.conn_model.specs.declared.event.OwnedEvent.TheVariants.{Accept, Piece, Close, Expire}
+use Rattle.conn_model.specs.declared.event.OwnedEvent.TheVariants.{Accept, Piece, Connected, ConnectFailed, Close, Expire}
 use Rattle.conn_model.specs.declared.reply.Cause.{Cause}
 use Rattle.conn_model.specs.declared.reply.Cause.TheVariants.{Expired}
+use Rattle.conn_model.specs.declared.event.Why.TheVariants.{Failed}
 use Rattle.conn_model.specs.declared.event.TheConstants.{HEADER_WAIT}
 use Rattle.pp_any.specs.declared.rest.Rest.{Rest}
 use Rattle.pp_any.specs.Status as statuses
 use Rattle.pp_any.specs.Status.{Status}
 use Rattle.pp_any.specs.NextPiece.{status_on}
 use Rattle.conn_model.specs.declared.reply.Said.{Said}
+use Rattle.conn_model.specs.declared.reply.Said.TheVariants as saids
 use Rattle.conn_model.specs.declared.reply.Said.TheVariants.{Refuse, Closed}
 use Rattle.conn_model.specs.declared.reply.Reply.{Reply}
-use Rattle.conn_model.specs.declared.reply.StepFault.TheVariants.{NoListener, NoSuch, NotWaiting, NotDue, Exhausted}
+use Rattle.conn_model.specs.declared.reply.StepFault.TheVariants.{NoListener, NoSuch, NotWaiting, NotOffered, NotDue, Exhausted}
 use Rattle.conn_model.specs.declared.plain.Row.{Row}
 use Rattle.conn_model.specs.declared.plain.FrontendRows.{FrontendRows}
 use Rattle.conn_model.specs.declared.plain.Listener.{Listener}
@@ -27,7 +28,7 @@ use Rattle.conn_model.specs.declared.plain.Plain.{Plain}
 use Rattle.conn_model.specs.Words.{newest, or_fault}
 use Rattle.rule_engine.specs.Judging.{no_tracks, Slots}
 use Rattle.conn_model.specs.Rules.{Candidate, rejection, view_of}
-use Rattle.conn_model.specs.Answer.{row_at, version_at, frontend_in, reply_of, verdict, said_of, decision, candidate_at, candidate_of, judged_pair, rest_in, waiting_row, entry_reply, entry_rules, admission, header_reply, accept_answer, piece_answer, close_answer, expire_answer, answer_in}
+use Rattle.conn_model.specs.Answer.{awaits_server, row_at, server_answer, version_at, NumberedServer, frontend_in, reply_of, verdict, said_of, decision, candidate_at, candidate_of, judged_pair, rest_in, waiting_row, entry_reply, entry_rules, admission, header_reply, accept_answer, piece_answer, close_answer, expire_answer, answer_in}
 use Rattle.conn_model.specs.History.{id_of}
 
 -- Answers in steps.
@@ -47,12 +48,12 @@ chosen false x y fault is = absurd (let wrong : Err fault ≡ Ok y = is in cc)
 
 -- Whom a reply speaks to.
 
-pub said_of-id : (id : ConnId) (used : ℕ) (judged : PairValue) (result : Result Server Cause) → id_of (said_of id used judged result) ≡ Some id
-said_of-id id used judged (Ok server) = refl
+pub said_of-id : (id : ConnId) (used : ℕ) (judged : PairValue) (result : Result NumberedServer Cause) → id_of (said_of id used judged result) ≡ Some id
+said_of-id id used judged (Ok given) = refl
 said_of-id id used judged (Err cause) = refl
 
 pub decision-id : (candidate : Candidate) (used : ℕ) (judged : PairValue) (made : Slots) → id_of (decision candidate used judged made).said ≡ Some candidate.id
-decision-id candidate used judged made = said_of-id candidate.id used judged (verdict (view_of candidate judged.source.addr) candidate.version candidate.frontend made).result
+decision-id candidate used judged made = said_of-id candidate.id used judged (verdict (view_of candidate judged.source.addr) candidate.frontend made).result
 
 pub header_reply-id : (candidate : Candidate) (real : PairValue) (count : ℕ) (status : Status) → id_of (header_reply candidate real count status).said ≡ Some candidate.id
 header_reply-id candidate real count statuses.Wait = refl
@@ -90,6 +91,8 @@ pub record IsOld (q : Plain) (id : ConnId) (said : Said) : Type 0 where
 abbrev pub Says : Plain → OwnedEvent → Said → Type 0
 Says q (Accept listener real) said = IsNew q said
 Says q (Piece id bytes) said = IsOld q id said
+Says q (Connected id) said = IsOld q id said
+Says q (ConnectFailed id) said = IsOld q id said
 Says q (Close id why) said = IsOld q id said
 Says q (Expire id) said = IsOld q id said
 
@@ -147,6 +150,23 @@ closed q id said reply speaks is =
     let one = bind-ok (or_fault NoSuch (row_at q.frontends id)) _ reply is in
     let same : reply_of said ≡ reply = let it : Ok (reply_of said) ≡ Ok reply = one.2 in cc in
     record { speaks = ap (λ r. id_of r.said) (sym same) ∙ speaks; row = one.0; there = or_fault-ok NoSuch (row_at q.frontends id) one.0 one.1 }
+
+-- what the answer of a server looked up, and the reply that it gave
+pub record ServerAnswered (q : Plain) (id : ConnId) (said : Said) (reply : Reply) : Type 0 where
+  pub row : Row
+  pub row_is : row_at q.frontends id ≡ Some row
+  pub awaits : awaits_server row.phase ≡ true
+  pub reply_is : reply_of said ≡ reply
+
+pub server_answered : (q : Plain) (id : ConnId) (said : Said) (reply : Reply) → server_answer q id said ≡ Ok reply → ServerAnswered q id said reply
+server_answered q id said reply is =
+    let one = bind-ok (or_fault NoSuch (row_at q.frontends id)) _ reply is in
+    let row : Row = one.0 in
+    let last = chosen (awaits_server row.phase) (reply_of said) reply NotOffered one.2 in
+    record { row = row; row_is = or_fault-ok NoSuch (row_at q.frontends id) row one.1; awaits = last.0; reply_is = last.1 }
+
+old_server : (q : Plain) (id : ConnId) (said : Said) (reply : Reply) → id_of said ≡ Some id → ServerAnswered q id said reply → IsOld q id reply.said
+old_server q id said reply speaks got = record { speaks = ap (λ r. id_of r.said) (sym got.reply_is) ∙ speaks; row = got.row; there = got.row_is }
 
 -- a connection that waits
 pub record IsWaiting (frontends : List FrontendRows) (id : ConnId) (row : Row) (rest : Rest) : Type 0 where
@@ -236,5 +256,7 @@ old_expired q clock id reply got = record { speaks = ap (λ r. id_of r.said) (sy
 pub answered : (q : Plain) (moment : ℕ) (event : OwnedEvent) (reply : Reply) → answer_in q moment event ≡ Ok reply → Says q event reply.said
 answered q moment (Accept listener real) reply is = new_at q (max q.clock moment) listener real reply (accepted q (max q.clock moment) listener real reply is)
 answered q moment (Piece id bytes) reply is = old_piece q id bytes reply (received q id bytes reply is)
+answered q moment (Connected id) reply is = old_server q id (saids.Up id) reply refl (server_answered q id (saids.Up id) reply is)
+answered q moment (ConnectFailed id) reply is = old_server q id (Closed id Failed) reply refl (server_answered q id (Closed id Failed) reply is)
 answered q moment (Close id why) reply is = closed q id (Closed id why) reply refl is
 answered q moment (Expire id) reply is = old_expired q (max q.clock moment) id reply (expired q (max q.clock moment) id reply is)

@@ -10,7 +10,7 @@ use Rattle.conn_model.specs.declared.plain.Row.{Row}
 use Rattle.conn_model.specs.declared.plain.FrontendRows.{FrontendRows}
 use Rattle.conn_model.specs.declared.plain.Plain.{Plain}
 use Rattle.addr_core.specs.PairValue.{PairValue}
-use Rattle.conn_model.specs.declared.event.OwnedEvent.TheVariants.{Accept, Piece, Close, Expire}
+use Rattle.conn_model.specs.declared.event.OwnedEvent.TheVariants.{Accept, Piece, Connected, ConnectFailed, Close, Expire}
 use Rattle.conn_model.specs.Words.{is_conn, Rise}
 use Rattle.conn_model.specs.Answer.{row_in, new_row}
 use Rattle.conn_model.specs.History.{now_of, id_of, speaks_to, in_force, newest_number, leaves_open, arrival_of, arrival, arrivals, has_ended, is_accept_at, accepts, row_after, frontend_after, frontends_after, after, Entry, IsLegal, IsFrontendWell}
@@ -39,6 +39,8 @@ arrival-all P q number clock version (Accept listener real) said new each =
     same_number : (n : ℕ) → (n == n) ≡ true
     same_number n = eq-eqb n n refl
 arrival-all P q number clock version (Piece id bytes) said says each = tt
+arrival-all P q number clock version (Connected id) said says each = tt
+arrival-all P q number clock version (ConnectFailed id) said says each = tt
 arrival-all P q number clock version (Close id why) said says each = tt
 arrival-all P q number clock version (Expire id) said says each = tt
 
@@ -57,6 +59,8 @@ arrival-one number clock version (Accept listener real) said = by (id_of said)
     by None = inl refl
     by (Some id) = one id (leaves_open said && (id.frontend == number))
 arrival-one number clock version (Piece id bytes) said = inl refl
+arrival-one number clock version (Connected id) said = inl refl
+arrival-one number clock version (ConnectFailed id) said = inl refl
 arrival-one number clock version (Close id why) said = inl refl
 arrival-one number clock version (Expire id) said = inl refl
 
@@ -136,6 +140,8 @@ spoken_now p h (Accept listener real) said number own there facts new serial is 
     let one : here_now number (Accept listener real) said ≡ 1 = accept_counts number listener real said new.id new.speaks that.0 in
     rw one (omega (arith, next, that.1))
 spoken_now p h (Piece id bytes) said number own there facts says serial is = old_now p h id said number own there facts says serial is
+spoken_now p h (Connected id) said number own there facts says serial is = old_now p h id said number own there facts says serial is
+spoken_now p h (ConnectFailed id) said number own there facts says serial is = old_now p h id said number own there facts says serial is
 spoken_now p h (Close id why) said number own there facts says serial is = old_now p h id said number own there facts says serial is
 spoken_now p h (Expire id) said number own there facts says serial is = old_now p h id said number own there facts says serial is
 

@@ -18,8 +18,10 @@ use Rattle.rule_engine.specs.Judging.{Slots, no_tracks}
 use Rattle.rule_engine.proofs.SlotLemmas.{judged-slots, none_made, AreSlots, Makes}
 use Rattle.conn_model.specs.declared.event.ConnId.{ConnId}
 use Rattle.conn_model.specs.declared.event.OwnedEvent.{OwnedEvent}
-use Rattle.conn_model.specs.declared.event.OwnedEvent.TheVariants.{Accept, Piece, Close, Expire}
+use Rattle.conn_model.specs.declared.event.OwnedEvent.TheVariants.{Accept, Piece, Connected, ConnectFailed, Close, Expire}
 use Rattle.conn_model.specs.declared.reply.Said.{Said}
+use Rattle.conn_model.specs.declared.event.Why.TheVariants.{Failed}
+use Rattle.conn_model.specs.declared.reply.Said.TheVariants as saids
 use Rattle.conn_model.specs.declared.reply.Said.TheVariants.{Closed}
 use Rattle.conn_model.specs.declared.reply.Reply.{Reply}
 use Rattle.conn_model.specs.declared.reply.StepFault.TheVariants.{NoSuch}
@@ -34,7 +36,7 @@ use Rattle.conn_model.specs.Answer.{admission, answer_in, candidate_at, candidat
 use Rattle.conn_model.specs.History.{newest_number, tables_of, IsWell}
 use Rattle.conn_model.proofs.Lists.{or_left, or_right}
 use Rattle.conn_model.proofs.Versions.{newest-at}
-use Rattle.conn_model.proofs.Replies.{accepted, bind-ok, expired, received, Accepted, Received}
+use Rattle.conn_model.proofs.Replies.{accepted, bind-ok, expired, received, server_answered, Accepted, Received}
 use Rattle.conn_model.proofs.OneTable.{key_for, same_id-refl, table_found}
 
 -- the track is of a key of the source that could be listed, in one of those tables
@@ -145,6 +147,8 @@ tracks_with q clock number real own version frontend there =
 abbrev pub judging : Plain → OwnedEvent → ℕ
 judging q (Accept listener real) = newest_number q
 judging q (Piece id bytes) = option_map_or (λ row. row.version) (row_at q.frontends id) 0
+judging q (Connected id) = option_map_or (λ row. row.version) (row_at q.frontends id) 0
+judging q (ConnectFailed id) = option_map_or (λ row. row.version) (row_at q.frontends id) 0
 judging q (Close id why) = option_map_or (λ row. row.version) (row_at q.frontends id) 0
 judging q (Expire id) = option_map_or (λ row. row.version) (row_at q.frontends id) 0
 
@@ -188,5 +192,7 @@ closed_source q id number said reply is =
 pub has_source : (q : Plain) → IsWell q → (moment : ℕ) (event : OwnedEvent) (reply : Reply) → answer_in q moment event ≡ Ok reply → HasSource q (judging q event) reply
 has_source q well moment (Accept listener real) reply is = accepted_source q well (max q.clock moment) listener real reply (accepted q (max q.clock moment) listener real reply is)
 has_source q well moment (Piece id bytes) reply is = received_source q id bytes reply (received q id bytes reply is)
+has_source q well moment (Connected id) reply is = no_source q (judging q (Connected id)) (saids.Up id) reply (server_answered q id (saids.Up id) reply is).reply_is
+has_source q well moment (ConnectFailed id) reply is = no_source q (judging q (ConnectFailed id)) (Closed id Failed) reply (server_answered q id (Closed id Failed) reply is).reply_is
 has_source q well moment (Close id why) reply is = closed_source q id (judging q (Close id why)) (Closed id why) reply is
 has_source q well moment (Expire id) reply is = let got = expired q (max q.clock moment) id reply is in no_source q (judging q (Expire id)) _ reply got.reply_is

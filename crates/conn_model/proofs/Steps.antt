@@ -13,9 +13,10 @@ use Rattle.plan_types.specs.declared.plan.Plan.{Plan}
 use Rattle.plan_types.specs.declared.track.Track.{Track}
 use Rattle.conn_model.specs.declared.event.ConnId.{ConnId}
 use Rattle.conn_model.specs.declared.event.OwnedEvent.{OwnedEvent}
-use Rattle.conn_model.specs.declared.event.OwnedEvent.TheVariants.{Accept, Piece, Close, Expire}
+use Rattle.conn_model.specs.declared.event.OwnedEvent.TheVariants.{Accept, Piece, Connected, ConnectFailed, Close, Expire}
 use Rattle.conn_model.specs.declared.reply.Reply.{Reply}
 use Rattle.conn_model.specs.declared.reply.Said.{Said}
+use Rattle.conn_model.specs.declared.reply.Said.TheVariants as saids
 use Rattle.conn_model.specs.declared.reply.Said.TheVariants.{Wait, Offer, Refuse, Closed}
 use Rattle.conn_model.specs.declared.plain.Phase.TheVariants.{Offered}
 use Rattle.conn_model.specs.declared.plain.Row.{Row}
@@ -25,12 +26,14 @@ use Rattle.conn_model.specs.declared.plain.Version.{Version}
 use Rattle.conn_model.specs.declared.plain.Plain.{Plain}
 use Rattle.conn_model.specs.Words.{map_from, newest}
 use Rattle.conn_model.specs.Counts.{change_row}
-use Rattle.conn_model.proofs.Parts.{brings_none}
 use Rattle.conn_model.specs.Answer.{row_in, version_at, new_row}
-use Rattle.conn_model.specs.History.{id_of, speaks_to, newest_number, plan_of, identity_of, by_counter, phase_by, is_last, is_accept_at, arrival, has_ended, row_after, frontend_after, frontends_after, tables_by, after, entry, Entry, IsFrontendWell, IsWell}
+use Rattle.conn_model.specs.History.{id_of, speaks_to, newest_number, plan_of, identity_of, by_counter, phase_by, is_last, is_accept_at, arrival, has_ended, row_after, frontend_after, frontends_after, judging_version, tables_by, versions_after, with_said, after, entry, Entry, IsFrontendWell, IsWell}
 use Rattle.conn_model.proofs.Lists.{all-more, all-at, all-both}
 use Rattle.conn_model.proofs.Nothing.{after-nil}
+pub use Rattle.conn_model.proofs.Versions.{is_offer, last_no_offer, versions_kept}
 use Rattle.conn_model.proofs.Versions.{newest-at}
+pub use Rattle.conn_model.proofs.VersionSteps.{judging-old}
+use Rattle.conn_model.proofs.VersionSteps.{judging-new, versions_step}
 
 -- Lists of which one item changes.
 
@@ -115,12 +118,13 @@ other_conn number serial said id whom differs =
 frontends_same : (p : Plain) → IsWell p → frontends_after p [] ≡ p.frontends
 frontends_same p well = ap (λ q. q.frontends) (after-nil p well)
 
-abbrev state_with : Plain → ℕ → List FrontendRows → List TableState → Plain
-state_with p clock frontends tables = record { clock = clock; listeners = p.listeners; frontends = frontends; versions = p.versions; tables = tables }
+abbrev state_with : Plain → ℕ → List FrontendRows → List Version → List TableState → Plain
+state_with p clock frontends versions tables = record { clock = clock; listeners = p.listeners; frontends = frontends; versions = versions; tables = tables }
 
-state_is : (p : Plain) (clock : ℕ) (frontends fs : List FrontendRows) (tables ts : List TableState) → tables ≡ ts → frontends ≡ fs →
-    state_with p clock frontends tables ≡ state_with p clock fs ts
-state_is p clock frontends fs tables ts one other = ap (λ x. state_with p clock x tables) other ∙ ap (λ x. state_with p clock fs x) one
+state_is : (p : Plain) (clock : ℕ) (frontends fs : List FrontendRows) (versions vs : List Version) (tables ts : List TableState) → tables ≡ ts → versions ≡ vs → frontends ≡ fs →
+    state_with p clock frontends versions tables ≡ state_with p clock fs vs ts
+state_is p clock frontends fs versions vs tables ts one two three =
+    ap (λ x. state_with p clock x versions tables) three ∙ ap (λ x. state_with p clock fs x tables) two ∙ ap (λ x. state_with p clock fs vs x) one
 
 -- An accept.
 
@@ -137,6 +141,7 @@ rows_left p clock real tracks (Offer id used line server to judged send) =
     } ∷ []
 rows_left p clock real tracks (Wait id used) = record (new_row id.serial (newest_number p) real clock) { tracks = by_counter tracks } ∷ []
 rows_left p clock real tracks (Refuse id used cause) = []
+rows_left p clock real tracks (saids.Up id) = []
 rows_left p clock real tracks (Closed id why) = []
 
 same_number : (n : ℕ) → (n == n) ≡ true
@@ -156,6 +161,7 @@ new_rows_left p moment listener real (Wait id' used) tracks id whom =
     let front : id'.frontend ≡ id.frontend = ap (λ i. i.frontend) same in
     rw (front, same_number id.frontend, same_number id'.serial, same_number id.frontend) refl
 new_rows_left p moment listener real (Refuse id' used cause) tracks id whom = refl
+new_rows_left p moment listener real (saids.Up id') tracks id whom = refl
 new_rows_left p moment listener real (Closed id' why) tracks id whom = refl
 
 accept-here : (p : Plain) (moment listener : ℕ) (real : PairValue) (reply : Reply) (id : ConnId) (own : FrontendRows) → IsFrontendWell p.versions own → id_of reply.said ≡ Some id → id.serial ≡ own.serial + 1 →
@@ -185,22 +191,26 @@ accept-elsewhere p moment listener real reply id number own well whom differs =
     frontend-elsewhere p number (entry moment (Accept listener real) reply) own well (λ serial. other_conn number serial reply.said id whom differs)
     (rw (whom, other) refl) (rw (whom, other, and_false _) refl)
 
--- the state after an accept alone
+-- the state after an accept alone: where it offers a server, a cursor of the version in force moves
 pub after-accept : (p : Plain) → IsWell p → (moment listener : ℕ) (real : PairValue) (reply : Reply) (id : ConnId) (own : FrontendRows) →
     slice_get p.frontends id.frontend ≡ Some own → id_of reply.said ≡ Some id → id.serial ≡ own.serial + 1 →
     after p (entry moment (Accept listener real) reply ∷ []) ≡ record {
       clock = max p.clock moment;
       listeners = p.listeners;
       frontends = slice_set p.frontends id.frontend (record own { serial = own.serial + 1; rows = own.rows ++ rows_left p (max p.clock moment) real reply.tracks.items reply.said });
-      versions = p.versions;
+      versions = with_said (newest_number p) reply.said p.versions;
       tables = tables_by p.frontends p.tables reply;
     }
 after-accept p well moment listener real reply id own there whom next =
     let zero_plus : 0 + id.frontend ≡ id.frontend = omega arith in
+    let fine : IsFrontendWell p.versions own = all-at (IsFrontendWell p.versions) p.frontends id.frontend own well.frontends there in
     let tables : tables_by (frontends_after p []) p.tables reply ≡ tables_by p.frontends p.tables reply = ap (λ fs. tables_by fs p.tables reply) (frontends_same p well) in
-    state_is p (max p.clock moment) _ _ _ _ tables
+    let versions : versions_after p (entry moment (Accept listener real) reply ∷ []) ≡ with_said (newest_number p) reply.said p.versions =
+    versions_step p well (entry moment (Accept listener real) reply)
+    ∙ ap (λ n. with_said n reply.said p.versions) (judging-new p.frontends (newest_number p) reply.said id own whom there fine.given next) in
+    state_is p (max p.clock moment) _ _ _ _ _ _ tables versions
     (map_from-one (IsFrontendWell p.versions) (frontend_after p (entry moment (Accept listener real) reply ∷ [])) 0 id.frontend p.frontends own _ well.frontends there
-    (rw zero_plus (accept-here p moment listener real reply id own (all-at (IsFrontendWell p.versions) p.frontends id.frontend own well.frontends there) whom next))
+    (rw zero_plus (accept-here p moment listener real reply id own fine whom next))
     (λ g y known differs. accept-elsewhere p moment listener real reply id g y known whom (λ e. differs (omega arith))))
 
 -- An event of a connection that is open.
@@ -209,12 +219,16 @@ after-accept p well moment listener real reply id own there whom next =
 abbrev pub IsOfOpen : OwnedEvent → Type 0
 IsOfOpen (Accept listener real) = ⊥
 IsOfOpen (Piece id bytes) = Unit {0}
+IsOfOpen (Connected id) = Unit {0}
+IsOfOpen (ConnectFailed id) = Unit {0}
 IsOfOpen (Close id why) = Unit {0}
 IsOfOpen (Expire id) = Unit {0}
 
 no_arrival : (number clock version : ℕ) (event : OwnedEvent) (said : Said) → IsOfOpen event → (arrival number clock version event said ≡ []) × (is_accept_at number event said ≡ false)
 no_arrival number clock version (Accept listener real) said old = absurd old
 no_arrival number clock version (Piece id bytes) said old = (refl, refl)
+no_arrival number clock version (Connected id) said old = (refl, refl)
+no_arrival number clock version (ConnectFailed id) said old = (refl, refl)
 no_arrival number clock version (Close id why) said old = (refl, refl)
 no_arrival number clock version (Expire id) said old = (refl, refl)
 
@@ -243,16 +257,16 @@ after-old : (p : Plain) → IsWell p → (e : Entry) (id : ConnId) (own : Fronte
       clock = max p.clock e.moment;
       listeners = p.listeners;
       frontends = slice_set p.frontends id.frontend (record own { rows = rows });
-      versions = p.versions;
+      versions = with_said (judging_version p.frontends (newest_number p) e.reply.said) e.reply.said p.versions;
       tables = tables_by p.frontends p.tables e.reply;
     }
 after-old p well e id own rows there old whom is =
     let zero_plus : 0 + id.frontend ≡ id.frontend = omega arith in
     let changed : tables_by (frontends_after p []) p.tables e.reply ≡ tables_by p.frontends p.tables e.reply = ap (λ fs. tables_by fs p.tables e.reply) (frontends_same p well) in
-    rw (brings_none e.event) (state_is p (max p.clock e.moment) _ _ _ _ changed
+    state_is p (max p.clock e.moment) _ _ _ _ _ _ changed (versions_step p well e)
     (map_from-one (IsFrontendWell p.versions) (frontend_after p (e ∷ [])) 0 id.frontend p.frontends own _ well.frontends there
     (rw zero_plus (old-here p e id.frontend own rows old is))
-    (λ g y known differs. old-elsewhere p e id g y known old whom (λ x. differs (omega arith)))))
+    (λ g y known differs. old-elsewhere p e id g y known old whom (λ x. differs (omega arith))))
 
 -- a reply that ends the connection
 ended-rows : (p : Plain) (e : Entry) (id : ConnId) (own : FrontendRows) → IsFrontendWell p.versions own → id_of e.reply.said ≡ Some id → is_last e.reply.said ≡ true →
@@ -267,6 +281,7 @@ ended-rows p e id own well whom last =
     speaks : (row : Row) → not (row.serial == id.serial) ≡ true → speaks_to id.frontend row.serial e.reply.said ≡ false
     speaks row left = rw whom (let on : (id.frontend == id.frontend) ≡ true = same_number id.frontend in grind (arith, nat_tests, on, left))
 
+-- the versions are as they were
 pub after-end : (p : Plain) → IsWell p → (e : Entry) (id : ConnId) (own : FrontendRows) → slice_get p.frontends id.frontend ≡ Some own → IsOfOpen e.event → id_of e.reply.said ≡ Some id → is_last e.reply.said ≡ true →
     after p (e ∷ []) ≡ record {
       clock = max p.clock e.moment;
@@ -276,7 +291,10 @@ pub after-end : (p : Plain) → IsWell p → (e : Entry) (id : ConnId) (own : Fr
       tables = tables_by p.frontends p.tables e.reply;
     }
 after-end p well e id own there old whom last =
-    after-old p well e id own _ there old whom (ended-rows p e id own (all-at (IsFrontendWell p.versions) p.frontends id.frontend own well.frontends there) whom last)
+    let fine : IsFrontendWell p.versions own = all-at (IsFrontendWell p.versions) p.frontends id.frontend own well.frontends there in
+    let versions : with_said (judging_version p.frontends (newest_number p) e.reply.said) e.reply.said p.versions ≡ p.versions =
+    versions_kept (judging_version p.frontends (newest_number p) e.reply.said) e.reply.said p.versions (last_no_offer e.reply.said last) in
+    after-old p well e id own _ there old whom (ended-rows p e id own fine whom last) ∙ state_is p (max p.clock e.moment) _ _ _ _ _ _ refl versions refl
 
 -- a connection once that is said to it, and it tracks those too
 abbrev pub row_said : Plain → OwnedEvent → Reply → Row → Row
@@ -304,12 +322,13 @@ changed-rows p e id (row ∷ rows) sorted whom last =
         let speaks : speaks_to id.frontend row.serial e.reply.said ≡ false = rw (whom, other, and_false _) refl in
         rw is (row-unspoken p id.frontend e row speaks sorted.0)
 
+-- where a server is offered, a cursor of the version that judges the connection moves
 pub after-change : (p : Plain) → IsWell p → (e : Entry) (id : ConnId) (own : FrontendRows) → slice_get p.frontends id.frontend ≡ Some own → IsOfOpen e.event → id_of e.reply.said ≡ Some id → is_last e.reply.said ≡ false →
     after p (e ∷ []) ≡ record {
       clock = max p.clock e.moment;
       listeners = p.listeners;
       frontends = slice_set p.frontends id.frontend (record own { rows = change_row id.serial (row_said p e.event e.reply) own.rows });
-      versions = p.versions;
+      versions = with_said (judging_version p.frontends (newest_number p) e.reply.said) e.reply.said p.versions;
       tables = tables_by p.frontends p.tables e.reply;
     }
 after-change p well e id own there old whom last =

@@ -1,7 +1,6 @@
 -- One step keeps what is known of tables.
 use Rattle.std.specs.Prelude.{ℕ, Bool, true, false, List, [], map, Option, Some, None, IsSome, option_map, Ok, refl, ◌+◌, ◌≤◌, ◌≡◌, ◌==◌, ◌&&◌, ◌∷◌}
 use Rattle.std.specs.List.{AllByRecursion, enumerate_from}
-use Rattle.std.specs.Option.{option_map_or}
 use Rattle.std.proofs.Common.{sym, ap, ◌∙◌, subst, arith}
 use Rattle.std.proofs.lemmas.Bool.Decides.{nat_tests}
 use Rattle.plan_types.specs.declared.plan.Plan.{Plan}
@@ -9,13 +8,14 @@ use Rattle.plan_types.specs.declared.plan.Table.{Table}
 use Rattle.plan_types.specs.declared.track.TableId.{TableId}
 use Rattle.conn_model.specs.declared.reply.Reply.{Reply}
 use Rattle.conn_model.specs.declared.plain.TableState.{TableState}
+use Rattle.conn_model.specs.declared.plain.Version.{Version}
 use Rattle.conn_model.specs.declared.plain.Plain.{Plain}
-use Rattle.conn_model.specs.Words.{newest}
 use Rattle.conn_model.specs.Tables.{new_id, new_table, open_tracks, same_id, table_at, IncarnationsDiffer, IsTableWell}
 use Rattle.conn_model.specs.Answer.{answer_in}
 use Rattle.conn_model.specs.History.{frontends_after, newest_number, opening, tables_by, tables_of, after, Entry, AreTablesWell, IsLegal, IsWell}
 use Rattle.conn_model.proofs.Lists.{all-both, all-map, all-more}
-use Rattle.conn_model.proofs.Parts.{versions-same}
+use Rattle.conn_model.proofs.Versions.{last_number, last_number-map, CursorsChange}
+use Rattle.conn_model.proofs.VersionSteps.{version_step, version_step-cursors, versions_step-each}
 use Rattle.conn_model.proofs.Nothing.{after-nil}
 use Rattle.conn_model.proofs.Sources.{has_source, judging, HasSource, IsOfSource}
 use Rattle.conn_model.proofs.OneTable.{table_at-map, table_by, table_by-entries, table_by-differ, table_by-fits, key_for, same_id-is, same_id-refl, same_id-sym, tables_by-each, AreOfSource, EntriesChange}
@@ -36,13 +36,15 @@ some-map f None is = is
 some-map f (Some x) is = refl
 
 -- where each table changes in its entries alone
-changed_well : (p p' : Plain) (f : TableState → TableState) → EntriesChange f → p'.versions ≡ p.versions → p'.tables ≡ map f p.tables → AreTablesWell p →
-    AllByRecursion (λ table. IsTableWell (f table)) p.tables → AreTablesWell p'
-changed_well p p' f same versions tables well each = record {
+changed_well : (p p' : Plain) (f : TableState → TableState) → EntriesChange f → (g : Version → Version) → CursorsChange g → p'.versions ≡ map g p.versions → p'.tables ≡ map f p.tables →
+    AreTablesWell p → AllByRecursion (λ table. IsTableWell (f table)) p.tables → AreTablesWell p'
+changed_well p p' f same g cursors versions tables well each = record {
   differ = subst IncarnationsDiffer (sym tables) (differ-map f same p.tables well.differ);
   there = subst (λ vs. AllByRecursion (λ version. AllByRecursion (λ id. IsSome (table_at p'.tables id)) version.tables) vs) (sym versions)
-      (all-more (λ version. AllByRecursion (λ id. IsSome (table_at p.tables id)) version.tables) (λ version. AllByRecursion (λ id. IsSome (table_at p'.tables id)) version.tables) p.versions
-      (λ version all. all-more (λ id. IsSome (table_at p.tables id)) (λ id. IsSome (table_at p'.tables id)) version.tables there all) well.there);
+      (all-map (λ version. AllByRecursion (λ id. IsSome (table_at p'.tables id)) version.tables) g p.versions
+      (all-more (λ version. AllByRecursion (λ id. IsSome (table_at p.tables id)) version.tables) (λ version. AllByRecursion (λ id. IsSome (table_at p'.tables id)) (g version).tables) p.versions
+      (λ version all. subst (AllByRecursion (λ id. IsSome (table_at p'.tables id))) (sym (ap (λ v. v.tables) (cursors version)))
+      (all-more (λ id. IsSome (table_at p.tables id)) (λ id. IsSome (table_at p'.tables id)) version.tables there all)) well.there));
   began = subst (AllByRecursion (λ table. table.id.version ≤ newest_number p')) (sym tables)
       (all-map (λ table. table.id.version ≤ newest_number p') f p.tables
       (all-more (λ table. table.id.version ≤ newest_number p) (λ table. (f table).id.version ≤ newest_number p') p.tables older well.began));
@@ -54,7 +56,7 @@ changed_well p p' f same versions tables well each = record {
 
     older : (table : TableState) → table.id.version ≤ newest_number p → (f table).id.version ≤ newest_number p'
     older table le =
-        let number : newest_number p' ≡ newest_number p = ap (λ vs. option_map_or (λ version. version.number) (newest vs) 0) versions in
+        let number : newest_number p' ≡ newest_number p = ap last_number versions ∙ last_number-map g cursors p.versions in
         let id : (f table).id.version ≡ table.id.version = ap (λ t. t.id.version) (same table) in
         omega (arith, le, number, id)
 
@@ -89,7 +91,7 @@ pub tables_step : (q : Plain) → IsWell q → (e : Entry) → IsLegal q (e ∷ 
 tables_step q well e legal =
     let is : answer_in q e.moment e.event ≡ Ok e.reply = subst (λ s. answer_in s e.moment e.event ≡ Ok e.reply) (after-nil q well) legal.1 in
     let has : HasSource q (judging q e.event) e.reply = has_source q well e.moment e.event e.reply is in
-    changed_well q (after q (e ∷ [])) (table_by q.frontends e.reply) (table_by-entries q.frontends e.reply) (versions-same q (e ∷ [])) (tables_after_step q well e) well.tables
+    changed_well q (after q (e ∷ [])) (table_by q.frontends e.reply) (table_by-entries q.frontends e.reply) (version_step q e) (version_step-cursors q e) (versions_step-each q well e) (tables_after_step q well e) well.tables
     (all-more (λ table. (table_at q.tables table.id ≡ Some table) × IsTableWell table) (λ table. IsTableWell (table_by q.frontends e.reply table)) q.tables
     (λ table both. record {
       keys = table_by-differ q.frontends e.reply table both.1.keys;

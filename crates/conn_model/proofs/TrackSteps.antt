@@ -9,7 +9,7 @@ use Rattle.stick_core.specs.PlainEntries.{is_in}
 use Rattle.plan_types.specs.declared.track.TableId.{TableId}
 use Rattle.plan_types.specs.declared.track.Track.{Track}
 use Rattle.conn_model.specs.declared.event.OwnedEvent.{OwnedEvent}
-use Rattle.conn_model.specs.declared.event.OwnedEvent.TheVariants.{Accept, Piece, Close, Expire}
+use Rattle.conn_model.specs.declared.event.OwnedEvent.TheVariants.{Accept, Piece, Connected, ConnectFailed, Close, Expire}
 use Rattle.conn_model.specs.declared.event.ConnId.{ConnId}
 use Rattle.conn_model.specs.declared.reply.Reply.{Reply}
 use Rattle.conn_model.specs.declared.reply.Said.{Said}
@@ -20,9 +20,9 @@ use Rattle.conn_model.specs.declared.plain.Plain.{Plain}
 use Rattle.conn_model.specs.Answer.{answer_in, row_at, row_in}
 use Rattle.conn_model.specs.Words.{Rise}
 use Rattle.conn_model.specs.Tables.{by_counter, is_listed, open_tracks, same_id, table_at, tracks_in, IsTrackListed}
-use Rattle.conn_model.specs.History.{after, arrival, frontend_after, has_ended, newest_number, now_of, row_after, speaks_to, tables_of, versions_after, AreTracksListed, Entry, IsFrontendWell, IsLegal, IsWell}
+use Rattle.conn_model.specs.History.{after, arrival, frontend_after, has_ended, newest_number, now_of, row_after, speaks_to, tables_of, AreTracksListed, Entry, IsFrontendWell, IsLegal, IsWell}
 use Rattle.conn_model.proofs.Lists.{all-append, all-at, all-both, all-each, all-filter, all-found, all-from_zero, all-map, all-more, or_left, or_right}
-use Rattle.conn_model.proofs.Parts.{versions-same}
+use Rattle.conn_model.proofs.VersionSteps.{tables_of_step}
 use Rattle.conn_model.proofs.Replies.{answered, IsNew, IsOld, Says}
 use Rattle.conn_model.proofs.Serials.{arrival-all, speaks_that}
 use Rattle.conn_model.proofs.Goes.{well_at}
@@ -148,6 +148,8 @@ rows_judged : (q : Plain) (number : ℕ) (own : FrontendRows) (event : OwnedEven
     AllByRecursion (λ row. speaks_to number row.serial said ≡ true → row.version ≡ judging q event) own.rows
 rows_judged q number own (Accept listener real) said there well says = new_judged q number own said (newest_number q) there well says
 rows_judged q number own (Piece id bytes) said there well says = old_judged q number own id said _ there well says refl
+rows_judged q number own (Connected id) said there well says = old_judged q number own id said _ there well says refl
+rows_judged q number own (ConnectFailed id) said there well says = old_judged q number own id said _ there well says refl
 rows_judged q number own (Close id why) said there well says = old_judged q number own id said _ there well says refl
 rows_judged q number own (Expire id) said there well says = old_judged q number own id said _ there well says refl
 
@@ -159,6 +161,8 @@ arrivals_judged : (q : Plain) (number clock : ℕ) (event : OwnedEvent) (said : 
 arrivals_judged q number clock (Accept listener real) said says =
     arrival-all (IsArrival q (Accept listener real)) q number clock (newest_number q) (Accept listener real) said says (λ new real' here accepting. (refl, refl))
 arrivals_judged q number clock (Piece id bytes) said says = tt
+arrivals_judged q number clock (Connected id) said says = tt
+arrivals_judged q number clock (ConnectFailed id) said says = tt
 arrivals_judged q number clock (Close id why) said says = tt
 arrivals_judged q number clock (Expire id) said says = tt
 
@@ -224,8 +228,8 @@ rows_listed q well e number own there says source =
 pub tracks_step : (q : Plain) → IsWell q → (e : Entry) → IsLegal q (e ∷ []) → AreTracksListed (after q (e ∷ []))
 tracks_step q well e legal =
     let is : answer_in q e.moment e.event ≡ Ok e.reply = subst (λ s. answer_in s e.moment e.event ≡ Ok e.reply) (after-nil q well) legal.1 in
-    let versions : versions_after q (e ∷ []) ≡ q.versions = versions-same q (e ∷ []) in
-    subst (λ vs. AllByRecursion (λ own. AllByRecursion (λ row. AllByRecursion (IsTrackListed (tables_of vs row.version) (after q (e ∷ [])).tables) row.tracks) own.rows) (after q (e ∷ [])).frontends) (sym versions)
+    subst (λ (ids : ℕ → List TableId). AllByRecursion (λ own. AllByRecursion (λ row. AllByRecursion (IsTrackListed (ids row.version) (after q (e ∷ [])).tables) row.tracks) own.rows) (after q (e ∷ [])).frontends)
+    (sym (tables_of_step q well e))
     (subst (λ ts. AllByRecursion (λ own. AllByRecursion (λ row. AllByRecursion (IsTrackListed (tables_of q.versions row.version) ts) row.tracks) own.rows) (after q (e ∷ [])).frontends) (sym (tables_after_step q well e))
     (all-from_zero (λ own. AllByRecursion (λ row. AllByRecursion (IsTrackListed (tables_of q.versions row.version) (map (table_by q.frontends e.reply) q.tables)) row.tracks) own.rows) (frontend_after q (e ∷ [])) q.frontends
     (λ number own there. rows_listed q well e number own there (answered q e.moment e.event e.reply is) (has_source q well e.moment e.event e.reply is))))

@@ -10,7 +10,7 @@ use Rattle.conn_model.specs.declared.reply.Said.{Said}
 use Rattle.conn_model.specs.declared.plain.Row.{Row}
 use Rattle.conn_model.specs.declared.plain.FrontendRows.{FrontendRows}
 use Rattle.conn_model.specs.declared.plain.Plain.{Plain}
-use Rattle.conn_model.specs.Answer.{reply_of, row_in}
+use Rattle.conn_model.specs.Answer.{reply_of, row_at, row_in}
 use Rattle.conn_model.specs.Tables.{without_tracks}
 use Rattle.conn_model.specs.History.{by_counter, id_of, is_last, tables_by, tracks_at, IsFrontendWell, IsWell}
 use Rattle.conn_model.proofs.Lists.{all-at, all-found}
@@ -23,12 +23,15 @@ unused n m (row ∷ rows) given less =
     let differs : (row.serial == n) ≡ false = grind (arith, nat_tests, less, le) in
     rw differs (unused n m rows given.1 less)
 
+pub row_unused : (frontends : List FrontendRows) (id : ConnId) (own : FrontendRows) → slice_get frontends id.frontend ≡ Some own → AllByRecursion (λ row. row.serial ≤ own.serial) own.rows →
+    id.serial ≡ own.serial + 1 → row_at frontends id ≡ None
+row_unused frontends id own there given next = ap (row_in id.serial) there ∙ unused id.serial own.serial own.rows given (omega (arith, next))
+
 -- so nothing is tracked under its name
 pub none_tracked : (frontends : List FrontendRows) (id : ConnId) (own : FrontendRows) → slice_get frontends id.frontend ≡ Some own → AllByRecursion (λ row. row.serial ≤ own.serial) own.rows →
     id.serial ≡ own.serial + 1 → tracks_at frontends id ≡ []
 none_tracked frontends id own there given next =
-    let none : find (λ row. row.serial == id.serial) own.rows ≡ None = unused id.serial own.serial own.rows given (omega (arith, next)) in
-    ap (λ o. option_map_or (λ row. row.tracks) o []) (ap (row_in id.serial) there ∙ none)
+    ap (λ o. option_map_or (λ row. row.tracks) o []) (row_unused frontends id own there given next)
 
 -- what a connection tracks is in the order of counters
 tracks_sorted : (p : Plain) → IsWell p → (id : ConnId) → by_counter (tracks_at p.frontends id) ≡ tracks_at p.frontends id

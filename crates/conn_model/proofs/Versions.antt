@@ -1,14 +1,25 @@
--- The newest version.
-use Rattle.std.specs.Prelude.{false, List, [], Some, None, ◌<◌, ◌≡◌, ◌==◌, ◌∷◌}
+-- The newest version, and versions of which the cursors move.
+use Rattle.std.specs.Prelude.{ℕ, zero, suc, Bool, true, false, List, [], length, map, position, slice_get, slice_set, Option, Some, None, option_map, option_to_list, refl, ◌<◌, ◌≡◌, ◌==◌, ◌∷◌, ◌++◌}
 use Rattle.std.specs.List.{AllByRecursion}
-use Rattle.std.proofs.Common.{ap, arith}
-use Rattle.std.proofs.lemmas.Bool.{eq-eqb}
+use Rattle.std.specs.Option.{option_map_or}
+use Rattle.std.proofs.Common.{sym, ap, ◌∙◌, arith, append-nil}
+use Rattle.std.proofs.lemmas.Bool.{eq-eqb, false≢true}
 use Rattle.std.proofs.lemmas.Bool.Decides.{nat_tests}
+use Rattle.std.proofs.lemmas.List.{map-append, map-id}
+use Rattle.proxy_types.specs.declared.balance.Place.{Place}
+use Rattle.plan_types.specs.declared.plan.Backend.{Backend}
+use Rattle.plan_types.specs.declared.plan.Plan.{Plan}
+use Rattle.plan_types.specs.Lines.{has_line}
 use Rattle.conn_model.specs.declared.plain.Version.{Version}
+use Rattle.conn_model.specs.declared.reply.Said.{Said}
+use Rattle.conn_model.specs.declared.reply.Said.TheVariants as saids
+use Rattle.conn_model.specs.declared.reply.Said.TheVariants.{Wait, Offer, Refuse, Closed}
 use Rattle.conn_model.specs.Words.{newest, Rise}
 use Rattle.conn_model.specs.Answer.{version_at}
+use Rattle.conn_model.specs.Servers.{cursors_after, with_cursor}
+use Rattle.conn_model.specs.History.{is_last, new_version, tables_of, with_offer, with_said, with_version}
 
--- it is the one of its number
+-- The newest version is the one of its number.
 pub newest-at : (versions : List Version) (v : Version) → Rise (λ version. version.number) versions → newest versions ≡ Some v → version_at versions v.number ≡ Some v
 newest-at [] v rise there = absurd (let wrong : None ≡ Some v = there in cc)
 newest-at (w ∷ []) v rise there = let same : w ≡ v = let it : Some w ≡ Some v = there in cc in rw (eq-eqb w.number v.number (ap (λ u. u.number) same)) (ap (λ u. Some u) same)
@@ -21,3 +32,161 @@ newest-at (w ∷ x ∷ versions) v rise there =
     above [] v there all = absurd (let wrong : None ≡ Some v = there in cc)
     above (u ∷ []) v there all = let same : u ≡ v = let it : Some u ≡ Some v = there in cc in let n : u.number ≡ v.number = ap (λ x. x.number) same in omega (arith, all.0, n)
     above (u ∷ y ∷ vs) v there all = above (y ∷ vs) v there all.1
+
+-- Of a version only the cursors change.
+
+abbrev pub CursorsChange : (Version → Version) → Type 0
+CursorsChange change = (version : Version) → change version ≡ record version { cursors = (change version).cursors }
+
+-- so each is found under its number
+pub version_at-map : (f : Version → Version) → CursorsChange f → (versions : List Version) (number : ℕ) → version_at (map f versions) number ≡ option_map f (version_at versions number)
+version_at-map f same [] number = refl
+version_at-map f same (version ∷ versions) number = by (version.number == number) refl (version_at-map f same versions number)
+  where
+    by : (b : Bool) → (version.number == number) ≡ b → version_at (map f versions) number ≡ option_map f (version_at versions number) →
+        version_at (map f (version ∷ versions)) number ≡ option_map f (version_at (version ∷ versions) number)
+    by true e rest = let changed : ((f version).number == number) ≡ true = ap (λ v. v.number == number) (same version) ∙ e in rw (changed, e) refl
+    by false e rest = let changed : ((f version).number == number) ≡ false = ap (λ v. v.number == number) (same version) ∙ e in rw (changed, e) rest
+
+-- with its tables
+pub tables_of-map : (f : Version → Version) → CursorsChange f → (versions : List Version) (number : ℕ) → tables_of (map f versions) number ≡ tables_of versions number
+tables_of-map f same versions number = ap (λ o. option_map_or (λ version. version.tables) o []) (version_at-map f same versions number) ∙ by (version_at versions number)
+  where
+    by : (o : Option Version) → option_map_or (λ version. version.tables) (option_map f o) [] ≡ option_map_or (λ version. version.tables) o []
+    by None = refl
+    by (Some version) = ap (λ v. v.tables) (same version)
+
+-- and its plan
+pub plan_at-map : (f : Version → Version) → CursorsChange f → (versions : List Version) (number : ℕ) →
+    option_map (λ version. version.plan) (version_at (map f versions) number) ≡ option_map (λ version. version.plan) (version_at versions number)
+plan_at-map f same versions number = ap (λ o. option_map (λ version. version.plan) o) (version_at-map f same versions number) ∙ by (version_at versions number)
+  where
+    by : (o : Option Version) → option_map (λ version. version.plan) (option_map f o) ≡ option_map (λ version. version.plan) o
+    by None = refl
+    by (Some version) = ap (λ v. Some v.plan) (same version)
+
+pub newest-map : (f : Version → Version) (versions : List Version) → newest (map f versions) ≡ option_map f (newest versions)
+newest-map f [] = refl
+newest-map f (version ∷ []) = refl
+newest-map f (version ∷ next ∷ versions) = newest-map f (next ∷ versions)
+
+-- the number of the newest
+abbrev pub last_number : List Version → ℕ
+last_number versions = option_map_or (λ version. version.number) (newest versions) 0
+
+pub last_number-map : (f : Version → Version) → CursorsChange f → (versions : List Version) → last_number (map f versions) ≡ last_number versions
+last_number-map f same versions = ap (λ o. option_map_or (λ version. version.number) o 0) (newest-map f versions) ∙ by (newest versions)
+  where
+    by : (o : Option Version) → option_map_or (λ version. version.number) (option_map f o) 0 ≡ option_map_or (λ version. version.number) o 0
+    by None = refl
+    by (Some version) = ap (λ v. v.number) (same version)
+
+-- a version's number with its plan
+abbrev pub plan_pair : Version → ℕ × Plan
+plan_pair version = (version.number, version.plan)
+
+pub plan_pairs-map : (f : Version → Version) → CursorsChange f → (versions : List Version) → map plan_pair (map f versions) ≡ map plan_pair versions
+plan_pairs-map f same [] = refl
+plan_pairs-map f same (version ∷ versions) = let this : plan_pair (f version) ≡ plan_pair version = ap plan_pair (same version) in cc (this, plan_pairs-map f same versions)
+
+-- What is said moves cursors alone.
+
+-- a version once that is said to a connection that the version of that number judges
+abbrev pub version_said : ℕ → Said → Version → Version
+version_said number (Wait id used) version = version
+version_said number (Offer id used line server to judged send) version = with_offer number line server version
+version_said number (Refuse id used cause) version = version
+version_said number (saids.Up id) version = version
+version_said number (Closed id why) version = version
+
+pub with_said-each : (number : ℕ) (said : Said) (versions : List Version) → with_said number said versions ≡ map (version_said number said) versions
+with_said-each number (Wait id used) versions = sym (map-id versions)
+with_said-each number (Offer id used line server to judged send) versions = refl
+with_said-each number (Refuse id used cause) versions = sym (map-id versions)
+with_said-each number (saids.Up id) versions = sym (map-id versions)
+with_said-each number (Closed id why) versions = sym (map-id versions)
+
+with_offer-cursors : (number line server : ℕ) → CursorsChange (with_offer number line server)
+with_offer-cursors number line server version = by (version.number == number) refl
+  where
+    by : (b : Bool) → (version.number == number) ≡ b → with_offer number line server version ≡ record version { cursors = (with_offer number line server version).cursors }
+    by true e = rw e refl
+    by false e = rw e refl
+
+pub version_said-cursors : (number : ℕ) (said : Said) → CursorsChange (version_said number said)
+version_said-cursors number (Wait id used) version = refl
+version_said-cursors number (Offer id used line server to judged send) version = with_offer-cursors number line server version
+version_said-cursors number (Refuse id used cause) version = refl
+version_said-cursors number (saids.Up id) version = refl
+version_said-cursors number (Closed id why) version = refl
+
+-- the reply offers a server
+abbrev pub is_offer : Said → Bool
+is_offer (Wait id used) = false
+is_offer (Offer id used line server to judged send) = true
+is_offer (Refuse id used cause) = false
+is_offer (saids.Up id) = false
+is_offer (Closed id why) = false
+
+-- the versions are as they were after another reply
+pub versions_kept : (number : ℕ) (said : Said) (versions : List Version) → is_offer said ≡ false → with_said number said versions ≡ versions
+versions_kept number (Wait id used) versions other = refl
+versions_kept number (Offer id used line server to judged send) versions other = absurd (false≢true (sym other))
+versions_kept number (Refuse id used cause) versions other = refl
+versions_kept number (saids.Up id) versions other = refl
+versions_kept number (Closed id why) versions other = refl
+
+-- and so after a last one
+pub last_no_offer : (said : Said) → is_last said ≡ true → is_offer said ≡ false
+last_no_offer (Wait id used) last = absurd (false≢true last)
+last_no_offer (Offer id used line server to judged send) last = absurd (false≢true last)
+last_no_offer (Refuse id used cause) last = refl
+last_no_offer (saids.Up id) last = absurd (false≢true last)
+last_no_offer (Closed id why) last = refl
+
+-- There are as many cursors as before.
+
+length-set : {X : Type 0} (xs : List X) (n : ℕ) (x : X) → length (slice_set xs n x) ≡ length xs
+length-set [] n x = refl
+length-set (y ∷ xs) zero x = refl
+length-set (y ∷ xs) (suc n) x = cc (length-set xs n x)
+
+cursor-length : (backends : List Backend) (number server : ℕ) (cursors : List (Option Place)) → length (with_cursor backends number server cursors) ≡ length cursors
+cursor-length backends number server cursors = by (slice_get backends number) refl
+  where
+    by : (o : Option Backend) → slice_get backends number ≡ o → length (with_cursor backends number server cursors) ≡ length cursors
+    by None e = rw e refl
+    by (Some backend) e = rw e (length-set cursors _ _)
+
+pub cursors-length : (plan : Plan) (line server : ℕ) (cursors : List (Option Place)) → length (cursors_after plan line server cursors) ≡ length cursors
+cursors-length plan line server cursors = by (position (has_line line) plan.backends) refl
+  where
+    by : (o : Option ℕ) → position (has_line line) plan.backends ≡ o → length (cursors_after plan line server cursors) ≡ length cursors
+    by None e = rw e refl
+    by (Some number) e = rw e (cursor-length plan.backends number server cursors)
+
+pub version_said-length : (number : ℕ) (said : Said) (version : Version) → length (version_said number said version).cursors ≡ length version.cursors
+version_said-length number (Wait id used) version = refl
+version_said-length number (Offer id used line server to judged send) version = by (version.number == number) refl
+  where
+    by : (b : Bool) → (version.number == number) ≡ b → length (with_offer number line server version).cursors ≡ length version.cursors
+    by true e = rw e (cursors-length version.plan line server version.cursors)
+    by false e = rw e refl
+version_said-length number (Refuse id used cause) version = refl
+version_said-length number (saids.Up id) version = refl
+version_said-length number (Closed id why) version = refl
+
+-- A version that comes.
+
+newest-end : (versions : List Version) (version : Version) → newest (versions ++ version ∷ []) ≡ Some version
+newest-end [] version = refl
+newest-end (v ∷ []) version = refl
+newest-end (v ∷ w ∷ versions) version = newest-end (w ∷ versions) version
+
+pub last_number-with : (versions : List Version) (brought : Option (ℕ × Plan)) → last_number (with_version versions brought) ≡ option_map_or (λ b. b.0) brought (last_number versions)
+last_number-with versions None = refl
+last_number-with versions (Some (number, plan)) = ap (λ o. option_map_or (λ version. version.number) o 0) (newest-end versions (new_version number plan))
+
+pub plan_pairs-with : (versions : List Version) (brought : Option (ℕ × Plan)) → map plan_pair (with_version versions brought) ≡ map plan_pair versions ++ option_to_list brought
+plan_pairs-with versions None = sym (append-nil (map plan_pair versions))
+plan_pairs-with versions (Some (number, plan)) = map-append plan_pair versions (new_version number plan ∷ [])

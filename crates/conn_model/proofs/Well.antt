@@ -1,8 +1,8 @@
 -- A legal history keeps what is known of a state, and an opening state has it.
-use Rattle.std.specs.Prelude.{ℕ, Bool, not, List, [], map, filter, slice_get, Option, Some, None, IsSome, IfOk, IfErr, Result, Ok, Err, refl, ◌≡◌, ◌∷◌, ◌++◌}
+use Rattle.std.specs.Prelude.{ℕ, Bool, not, max, List, [], map, filter, slice_get, Option, Some, None, IsSome, IfOk, IfErr, Result, Ok, Err, refl, ◌≡◌, ◌∷◌, ◌++◌}
 use Rattle.std.specs.List.{AllByRecursion, enumerate_from}
 use Rattle.std.specs.Option.{option_map_or}
-use Rattle.std.proofs.Common.{sym, ap, ◌∙◌, subst, append-nil}
+use Rattle.std.proofs.Common.{sym, ap, ◌∙◌, subst}
 use Rattle.std.proofs.lemmas.Bool.{false≢true}
 use Rattle.std.proofs.lemmas.List.{length-map}
 use Rattle.std.proofs.lemmas.List.FromFn.{length-enumerate_from}
@@ -18,9 +18,10 @@ use Rattle.conn_model.specs.declared.plain.Plain.{Plain}
 use Rattle.conn_model.specs.Words.{newest}
 use Rattle.conn_model.specs.Answer.{version_at, answer_in}
 use Rattle.conn_model.specs.Tables.{new_id, IsTrackListed}
-use Rattle.conn_model.specs.History.{now_of, in_force, newest_number, tracks_of, by_counter, arrival, arrivals, has_ended, row_after, frontend_after, tables_of, after, answer, entry, Entry, IsFault, IsLegal, IsFrontendWell, IsWell, opening}
-use Rattle.conn_model.proofs.Lists.{all-append, all-each, all-filter, all-map, all-from_zero, rise-filter, rise-map}
-use Rattle.conn_model.proofs.Parts.{in_force-same, versions-same, by_counter-append}
+use Rattle.conn_model.specs.History.{newest_number, tracks_of, by_counter, arrivals, has_ended, row_after, frontend_after, tables_of, versions_after, after, answer, entry, Entry, IsFault, IsLegal, IsFrontendWell, IsWell, opening}
+use Rattle.conn_model.proofs.Lists.{all-append, all-each, all-filter, all-map, all-more, all-from_zero, rise-filter, rise-map}
+use Rattle.conn_model.proofs.Parts.{by_counter-twice}
+use Rattle.conn_model.proofs.VersionSteps.{newest_stays, numbers_rise, version_stays, versions_well}
 use Rattle.conn_model.proofs.Replies.{answered}
 use Rattle.conn_model.proofs.Serials.{FrontendFacts, facts_of, rows_given, arrival-all}
 use Rattle.conn_model.proofs.Goes.{legal_rest, well_at, whole_in_parts}
@@ -36,42 +37,38 @@ force-found p well = by (newest p.versions) refl well.last
     by None e is = absurd (false≢true is)
     by (Some v) e is = rw (ap (λ o. option_map_or (λ version. version.number) o 0) e, newest-at p.versions v well.rise e) refl
 
--- the version of each row that was opened is kept
-arrivals-kept : (p : Plain) → IsWell p → (number : ℕ) (h : List Entry) → IsLegal p h → AllByRecursion (λ row. IsSome (version_at p.versions row.version)) (arrivals p number h)
-arrivals-kept p well number [] legal = tt
-arrivals-kept p well number (e ∷ h) legal =
-    let P : Row → Type 0 = λ row. IsSome (version_at p.versions row.version) in
-    all-append P (arrivals p number h) (arrival number (now_of p.clock (e ∷ h)) (in_force (newest_number p) h) e.event e.reply.said)
-    (arrivals-kept p well number h legal.0)
-    (arrival-all P (after p h) number (now_of p.clock (e ∷ h)) (in_force (newest_number p) h) e.event e.reply.said (answered (after p h) e.moment e.event e.reply legal.1)
-    (λ new real here accepting. rw (in_force-same (newest_number p) h) (force-found p well)))
+-- the version of each row that is opened is kept
+arrivals_kept : (q : Plain) → IsWell q → (number : ℕ) (e : Entry) → IsLegal q (e ∷ []) → AllByRecursion (λ row. IsSome (version_at (versions_after q (e ∷ [])) row.version)) (arrivals q number (e ∷ []))
+arrivals_kept q well number e legal =
+    arrival-all (λ row. IsSome (version_at (versions_after q (e ∷ [])) row.version)) (after q []) number (max q.clock e.moment) (newest_number q) e.event e.reply.said
+    (answered (after q []) e.moment e.event e.reply legal.1) (λ new real here accepting. version_stays q well e (newest_number q) (force-found q well))
 
-frontend_well_after : (p : Plain) → IsWell p → (h : List Entry) → IsLegal p h → (number : ℕ) (own : FrontendRows) → slice_get p.frontends number ≡ Some own →
-    IsFrontendWell p.versions (frontend_after p h number own)
-frontend_well_after p well h legal number own there =
-    let facts : FrontendFacts p h number own = facts_of p h number own there (well_at p well number own there) legal in
+frontend_step : (q : Plain) → IsWell q → (e : Entry) → IsLegal q (e ∷ []) → (number : ℕ) (own : FrontendRows) → slice_get q.frontends number ≡ Some own →
+    IsFrontendWell (versions_after q (e ∷ [])) (frontend_after q (e ∷ []) number own)
+frontend_step q well e legal number own there =
+    let h : List Entry = e ∷ [] in
+    let fine : IsFrontendWell q.versions own = well_at q well number own there in
+    let facts : FrontendFacts q h number own = facts_of q h number own there fine legal in
     let live : Row → Bool = λ row. not (has_ended number h row.serial) in
-    let rows : List Row = own.rows ++ arrivals p number h in
-    let P : Row → Type 0 = λ row. IsSome (version_at p.versions row.version) in
+    let rows : List Row = own.rows ++ arrivals q number h in
+    let P : Row → Type 0 = λ row. IsSome (version_at (versions_after q h) row.version) in
     record {
-      sorted = all-map (λ row. by_counter row.tracks ≡ row.tracks) (row_after p number h) (filter live rows)
-          (all-each (λ row. by_counter (row_after p number h row).tracks ≡ (row_after p number h row).tracks) (filter live rows) (λ row. by_counter-twice (row.tracks ++ tracks_of number row.serial h)));
-      rise = rise-map (λ row. row.serial) (row_after p number h) (λ row. refl) (filter live rows) (rise-filter (λ row. row.serial) live rows facts.rise);
-      given = rows_given p h number own facts;
-      kept = all-map P (row_after p number h) (filter live rows)
-          (all-filter P live rows (all-append P own.rows (arrivals p number h) (well_at p well number own there).kept (arrivals-kept p well number h legal)));
+      sorted = all-map (λ row. by_counter row.tracks ≡ row.tracks) (row_after q number h) (filter live rows)
+          (all-each (λ row. by_counter (row_after q number h row).tracks ≡ (row_after q number h row).tracks) (filter live rows) (λ row. by_counter-twice (row.tracks ++ tracks_of number row.serial h)));
+      rise = rise-map (λ row. row.serial) (row_after q number h) (λ row. refl) (filter live rows) (rise-filter (λ row. row.serial) live rows facts.rise);
+      given = rows_given q h number own facts;
+      kept = all-map P (row_after q number h) (filter live rows)
+          (all-filter P live rows
+          (all-append P own.rows (arrivals q number h) (all-more (λ row. IsSome (version_at q.versions row.version)) P own.rows (λ row is. version_stays q well e row.version is) fine.kept) (arrivals_kept q well number e legal)));
     }
-  where
-    by_counter-twice : (tracks : List _) → by_counter (by_counter tracks) ≡ by_counter tracks
-    by_counter-twice tracks = ap by_counter (sym (append-nil (by_counter tracks))) ∙ by_counter-append tracks [] ∙ ap by_counter (append-nil tracks)
 
 -- one step keeps what is known
 well_step : (q : Plain) → IsWell q → (e : Entry) → IsLegal q (e ∷ []) → IsWell (after q (e ∷ []))
 well_step q well e legal = record {
-  frontends = rw (versions-same q (e ∷ [])) (all-from_zero (IsFrontendWell q.versions) (frontend_after q (e ∷ [])) q.frontends (λ i own there. frontend_well_after q well (e ∷ []) legal i own there));
-  rise = rw (versions-same q (e ∷ [])) well.rise;
-  last = rw (versions-same q (e ∷ [])) well.last;
-  versions = rw (versions-same q (e ∷ [])) well.versions;
+  frontends = all-from_zero (IsFrontendWell (versions_after q (e ∷ []))) (frontend_after q (e ∷ [])) q.frontends (λ i own there. frontend_step q well e legal i own there);
+  rise = numbers_rise q well e;
+  last = newest_stays q well e;
+  versions = versions_well q well e;
   tables = tables_step q well e legal;
   tracks = tracks_step q well e legal;
 }

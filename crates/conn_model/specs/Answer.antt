@@ -1,9 +1,7 @@
 -- What a balancer in a plain state answers to an event.
-use Rattle.std.specs.Prelude.{ℕ, Bool, true, false, List, [], ◌∷◌, ◌++◌, length, max, find, slice_get, slice_set, Option, Some, None, Result, Ok, Err, ◌+◌, ◌==◌, nat_le, nat_lt, if◌then◌else◌}
+use Rattle.std.specs.Prelude.{ℕ, Bool, true, false, List, [], ◌∷◌, ◌++◌, length, max, find, slice_get, slice_set, Option, option_map, Some, None, Result, Ok, Err, ◌+◌, ◌==◌, nat_le, nat_lt, if◌then◌else◌}
 use Rattle.std.specs.Str.{bytes_eq}
 use Rattle.list_core.specs.Each.{◌>>=◌}
-use Rattle.acl_core.specs.declared.criterion.Criterion.{Criterion}
-use Rattle.acl_core.specs.declared.criterion.Value.{Value}
 use Rattle.addr_core.specs.PairValue.{PairValue}
 use Rattle.pp_v1.specs.declared.meaning.Meaning.{Meaning}
 use Rattle.pp_v1.specs.declared.meaning.Meaning.TheVariants.{Real, Declared}
@@ -19,27 +17,31 @@ use Rattle.rule_engine.specs.Judging.{judged, judged_after, no_tracks, Slots}
 use Rattle.rule_engine.specs.declared.judging.Judged.{Judged}
 use Rattle.plan_types.specs.declared.track.Track.{Track}
 use Rattle.plan_types.specs.declared.plan.Server.{Server}
+use Rattle.plan_types.specs.declared.plan.Backend.{Backend}
 use Rattle.plan_types.specs.declared.plan.Frontend.{Frontend}
 use Rattle.plan_types.specs.declared.plan.Plan.{Plan}
 use Rattle.conn_model.specs.declared.event.ConnId.{ConnId}
 use Rattle.conn_model.specs.declared.event.OwnedEvent.{OwnedEvent}
-use Rattle.conn_model.specs.declared.event.OwnedEvent.TheVariants.{Accept, Piece, Close, Expire}
+use Rattle.conn_model.specs.declared.event.OwnedEvent.TheVariants.{Accept, Piece, Connected, ConnectFailed, Close, Expire}
+use Rattle.conn_model.specs.declared.event.Why.TheVariants.{Failed}
 use Rattle.conn_model.specs.declared.event.TheConstants.{HEADER_WAIT}
 use Rattle.conn_model.specs.declared.reply.Cause.{Cause}
 use Rattle.conn_model.specs.declared.reply.Cause.TheVariants.{Line, Header, Expired, NoBackend, NoServer}
 use Rattle.conn_model.specs.declared.reply.Said.{Said}
+use Rattle.conn_model.specs.declared.reply.Said.TheVariants as saids
 use Rattle.conn_model.specs.declared.reply.Said.TheVariants.{Wait, Offer, Refuse, Closed}
 use Rattle.conn_model.specs.declared.reply.Reply.{Reply}
 use Rattle.conn_model.specs.declared.reply.StepFault.{StepFault}
-use Rattle.conn_model.specs.declared.reply.StepFault.TheVariants.{NoListener, NoSuch, NotWaiting, NotDue, Exhausted}
+use Rattle.conn_model.specs.declared.reply.StepFault.TheVariants.{NoListener, NoSuch, NotWaiting, NotOffered, NotDue, Exhausted}
 use Rattle.conn_model.specs.declared.plain.Phase.{Phase}
-use Rattle.conn_model.specs.declared.plain.Phase.TheVariants.{Waiting, Offered}
+use Rattle.conn_model.specs.declared.plain.Phase.TheVariants.{Waiting, Offered, Up}
 use Rattle.conn_model.specs.declared.plain.Row.{Row}
 use Rattle.conn_model.specs.declared.plain.FrontendRows.{FrontendRows}
 use Rattle.conn_model.specs.declared.plain.Version.{Version}
 use Rattle.conn_model.specs.declared.plain.Plain.{Plain}
 use Rattle.conn_model.specs.Words.{newest, or_fault}
 pub use Rattle.conn_model.specs.Words.{row_in, row_at}
+use Rattle.conn_model.specs.Servers.{cursor_at, pick_in}
 use Rattle.conn_model.specs.Rules.{Candidate, RuleView, view_of, worth, scene_of, rejection, backend_for}
 
 -- The state, looked up.
@@ -60,28 +62,37 @@ reply_with said made = record { said = said; tracks = record { items = present m
 
 -- Judging a connection.
 
--- the first server of the backend of a connection of which the criteria have those values, or why there is none
-abbrev pub server_for : (Criterion → Value) → Version → Frontend → Result Server Cause
-server_for worth version frontend = do
-  number ← or_fault (NoBackend frontend.line) (backend_for worth frontend)
-  backend ← or_fault (NoBackend frontend.line) (slice_get version.plan.backends number)
-  or_fault (NoServer backend.line) (slice_get backend.servers 0)
+-- a server, with its number in its backend
+pub record NumberedServer : Type 0 where
+  pub number : ℕ
+  pub server : Server
+
+abbrev pub numbered_server : Backend → ℕ → Option NumberedServer
+numbered_server backend number = option_map (λ server. record { number = number; server = server }) (slice_get backend.servers number)
+
+-- the server that is picked for a connection in that view, or why there is none
+abbrev pub server_for : RuleView → Result NumberedServer Cause
+server_for v = do
+  number ← or_fault (NoBackend v.frontend.line) (backend_for (worth v) v.frontend)
+  backend ← or_fault (NoBackend v.frontend.line) (slice_get v.version.plan.backends number)
+  turn ← or_fault (NoServer backend.line) (pick_in v.served backend (cursor_at v.version.cursors number) v.source)
+  or_fault (NoServer backend.line) (numbered_server backend turn.server)
 
 -- unless the session rules reject it by a line
-abbrev pub server_unless : (Criterion → Value) → Version → Frontend → Option ℕ → Result Server Cause
-server_unless worth version frontend (Some line) = Err (Line line)
-server_unless worth version frontend None = server_for worth version frontend
+abbrev pub server_unless : RuleView → Option ℕ → Result NumberedServer Cause
+server_unless v (Some line) = Err (Line line)
+server_unless v None = server_for v
 
 -- What is decided of a connection: its server, or why it gets none, and what the step tracks, by counter.
 pub record Decision : Type 0 where
-  pub result : Result Server Cause
+  pub result : Result NumberedServer Cause
   pub made : Slots
 
 -- The session rules first, and then the backend and its server, where the step tracked those before.
-abbrev pub verdict : (List Track → RuleView) → Version → Frontend → Slots → Decision
-verdict views version frontend made =
+abbrev pub verdict : (List Track → RuleView) → Frontend → Slots → Decision
+verdict views frontend made =
     let says = judged_after (scene_of views) made frontend.session_rules in
-    record { result = server_unless (worth (views (present says.tracks))) version frontend (rejection says); made = says.tracks }
+    record { result = server_unless (views (present says.tracks)) (rejection says); made = says.tracks }
 
 -- what the server is sent before the stream: the header that states the judged pair, of version 2 where the
 -- server is to get that one
@@ -89,14 +100,14 @@ abbrev pub header_sent : Server → PairValue → List ℕ
 header_sent server judged = if server.send_proxy_v2 then header_of judged else if server.send_proxy then line_of judged else []
 
 -- an offer of the server, or a refusal; so many bytes of the piece belong to the header
-abbrev pub said_of : ConnId → ℕ → PairValue → Result Server Cause → Said
-said_of id used judged (Ok server) = Offer id used server.line 0 server.to judged (record { items = header_sent server judged })
+abbrev pub said_of : ConnId → ℕ → PairValue → Result NumberedServer Cause → Said
+said_of id used judged (Ok given) = Offer id used given.server.line given.number given.server.to judged (record { items = header_sent given.server judged })
 said_of id used judged (Err cause) = Refuse id used cause
 
 -- once the header is whole, or where none is expected: what the step tracked before is given
 abbrev pub decision : Candidate → ℕ → PairValue → Slots → Reply
 decision candidate used judged made =
-    let decided = verdict (view_of candidate judged.source.addr) candidate.version candidate.frontend made in
+    let decided = verdict (view_of candidate judged.source.addr) candidate.frontend made in
     reply_with (said_of candidate.id used judged decided.result) decided.made
 
 -- An accept.
@@ -157,6 +168,7 @@ judged_pair real (Declared pair) = pair
 abbrev pub rest_in : Phase → Option Rest
 rest_in (Waiting rest) = Some rest
 rest_in (Offered assignment) = None
+rest_in (Up assignment) = None
 
 -- the open connection of that name, with what it holds of the header that it waits for
 abbrev pub waiting_row : List FrontendRows → ConnId → Result (Row × Rest) StepFault
@@ -186,6 +198,18 @@ piece_answer p id piece = do
 
 -- Other events.
 
+-- the connection was offered a server, which did not take it yet
+abbrev pub awaits_server : Phase → Bool
+awaits_server (Waiting rest) = false
+awaits_server (Offered assignment) = true
+awaits_server (Up assignment) = false
+
+-- the server of such a connection may take it, and may be out of reach
+abbrev pub server_answer : Plain → ConnId → Said → Result Reply StepFault
+server_answer p id said = do
+  row ← or_fault NoSuch (row_at p.frontends id)
+  if awaits_server row.phase then Ok (reply_of said) else Err NotOffered
+
 -- a connection that is open may be closed
 abbrev pub close_answer : Plain → ConnId → Said → Result Reply StepFault
 close_answer p id said = or_fault NoSuch (row_at p.frontends id) >>= λ row. Ok (reply_of said)
@@ -200,5 +224,7 @@ expire_answer p clock id = do
 abbrev pub answer_in : Plain → ℕ → OwnedEvent → Result Reply StepFault
 answer_in p moment (Accept listener real) = accept_answer p (max p.clock moment) listener real
 answer_in p moment (Piece id bytes) = piece_answer p id bytes
+answer_in p moment (Connected id) = server_answer p id (saids.Up id)
+answer_in p moment (ConnectFailed id) = server_answer p id (Closed id Failed)
 answer_in p moment (Close id why) = close_answer p id (Closed id why)
 answer_in p moment (Expire id) = expire_answer p (max p.clock moment) id

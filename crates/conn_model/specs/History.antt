@@ -5,6 +5,7 @@ use Rattle.std.specs.Option.{option_map_or}
 use Rattle.addr_core.specs.declared.addr.Endpoint.{Endpoint}
 use Rattle.addr_core.specs.PairValue.{PairValue}
 use Rattle.proxy_types.specs.declared.server.ServerIdentity.{ServerIdentity}
+use Rattle.proxy_types.specs.ServerIdentity.{same_server}
 use Rattle.pp_any.specs.NextPiece.{rest_on}
 use Rattle.plan_types.specs.declared.plan.Frontend.{Frontend}
 use Rattle.plan_types.specs.declared.plan.Backend.{Backend}
@@ -16,14 +17,15 @@ use Rattle.conn_model.specs.declared.event.ConnId.{ConnId}
 use Rattle.conn_model.specs.declared.event.Event.{Event}
 use Rattle.conn_model.specs.declared.event.Event.TheVariants as events
 use Rattle.conn_model.specs.declared.event.OwnedEvent.{OwnedEvent}
-use Rattle.conn_model.specs.declared.event.OwnedEvent.TheVariants.{Accept, Piece, Close, Expire}
+use Rattle.conn_model.specs.declared.event.OwnedEvent.TheVariants.{Accept, Piece, Connected, ConnectFailed, Close, Expire}
 use Rattle.conn_model.specs.declared.reply.Said.{Said}
+use Rattle.conn_model.specs.declared.reply.Said.TheVariants as saids
 use Rattle.conn_model.specs.declared.reply.Said.TheVariants.{Wait, Offer, Refuse, Closed}
 use Rattle.conn_model.specs.declared.reply.Reply.{Reply}
 use Rattle.conn_model.specs.declared.reply.StepFault.{StepFault}
 use Rattle.conn_model.specs.declared.reply.StepFault.TheVariants.{NoMemory}
 use Rattle.conn_model.specs.declared.plain.Phase.{Phase}
-use Rattle.conn_model.specs.declared.plain.Phase.TheVariants.{Waiting, Offered}
+use Rattle.conn_model.specs.declared.plain.Phase.TheVariants.{Waiting, Offered, Up}
 use Rattle.conn_model.specs.declared.plain.Row.{Row}
 use Rattle.conn_model.specs.declared.plain.FrontendRows.{FrontendRows}
 use Rattle.conn_model.specs.declared.plain.Listener.{Listener}
@@ -33,8 +35,9 @@ use Rattle.conn_model.specs.declared.plain.Plain.{Plain}
 use Rattle.conn_model.specs.declared.ask.Ask.{Ask}
 use Rattle.conn_model.specs.declared.ask.Counts.{Counts}
 use Rattle.conn_model.specs.Words.{is_conn, newest, map_from, Rise}
-use Rattle.conn_model.specs.Counts.{counts_in}
-use Rattle.conn_model.specs.Answer.{answer_in, new_row, version_at}
+use Rattle.conn_model.specs.Counts.{counts_in, is_served_by}
+use Rattle.conn_model.specs.Answer.{answer_in, new_row, row_at, version_at}
+use Rattle.conn_model.specs.Servers.{cursors_after}
 use Rattle.conn_model.specs.Tables.{new_id, new_table, open_tracks, table_at, with_tracks, without_tracks, IncarnationsDiffer, IsTableWell, IsTrackListed}
 pub use Rattle.conn_model.specs.Tables.{by_counter, tracks_at}
 
@@ -60,6 +63,7 @@ abbrev pub id_of : Said → Option ConnId
 id_of (Wait id used) = Some id
 id_of (Offer id used line server to judged send) = Some id
 id_of (Refuse id used cause) = Some id
+id_of (saids.Up id) = Some id
 id_of (Closed id why) = Some id
 
 -- the reply speaks to the connection of that frontend and serial
@@ -72,6 +76,8 @@ speaks_to number serial said = option_map_or (is_conn number serial) (id_of said
 abbrev pub version_of : OwnedEvent → Option (ℕ × Plan)
 version_of (Accept listener real) = None
 version_of (Piece id bytes) = None
+version_of (Connected id) = None
+version_of (ConnectFailed id) = None
 version_of (Close id why) = None
 version_of (Expire id) = None
 
@@ -107,6 +113,8 @@ identity_of plan line n to = option_map_or (identity_at n to) (option_and_then (
 abbrev pub piece_of : OwnedEvent → List ℕ
 piece_of (Accept listener real) = []
 piece_of (Piece id bytes) = bytes
+piece_of (Connected id) = []
+piece_of (ConnectFailed id) = []
 piece_of (Close id why) = []
 piece_of (Expire id) = []
 
@@ -114,12 +122,20 @@ piece_of (Expire id) = []
 abbrev pub phase_on : List ℕ → Phase → Phase
 phase_on piece (Waiting rest) = Waiting (rest_on rest piece)
 phase_on piece (Offered assignment) = Offered assignment
+phase_on piece (Up assignment) = Up assignment
+
+-- a connection that its server took
+abbrev pub phase_up : Phase → Phase
+phase_up (Waiting rest) = Waiting rest
+phase_up (Offered assignment) = Up assignment
+phase_up (Up assignment) = Up assignment
 
 -- the phase after a reply to an event that speaks to the connection
 abbrev pub phase_by : Option Plan → OwnedEvent → Said → Phase → Phase
 phase_by plan event (Wait id used) phase = phase_on (piece_of event) phase
 phase_by plan event (Offer id used line server to judged send) phase = Offered (record { server = identity_of plan line server to; line = line; judged = judged })
 phase_by plan event (Refuse id used cause) phase = phase
+phase_by plan event (saids.Up id) phase = phase_up phase
 phase_by plan event (Closed id why) phase = phase
 
 abbrev pub phase_after : Plain → ℕ → ℕ → ℕ → Phase → List Entry → Phase
@@ -141,6 +157,7 @@ abbrev pub is_last : Said → Bool
 is_last (Wait id used) = false
 is_last (Offer id used line server to judged send) = false
 is_last (Refuse id used cause) = true
+is_last (saids.Up id) = false
 is_last (Closed id why) = true
 
 -- the reply to an accept leaves the connection open
@@ -148,6 +165,7 @@ abbrev pub leaves_open : Said → Bool
 leaves_open (Wait id used) = true
 leaves_open (Offer id used line server to judged send) = true
 leaves_open (Refuse id used cause) = false
+leaves_open (saids.Up id) = false
 leaves_open (Closed id why) = false
 
 abbrev pub arrival_of : ℕ → ℕ → ℕ → PairValue → Said → Option ConnId → List Row
@@ -158,6 +176,8 @@ arrival_of number clock version real said (Some id) = if leaves_open said && (id
 abbrev pub arrival : ℕ → ℕ → ℕ → OwnedEvent → Said → List Row
 arrival number clock version (Accept listener real) said = arrival_of number clock version real said (id_of said)
 arrival number clock version (Piece id bytes) said = []
+arrival number clock version (Connected id) said = []
+arrival number clock version (ConnectFailed id) said = []
 arrival number clock version (Close id why) said = []
 arrival number clock version (Expire id) said = []
 
@@ -173,6 +193,8 @@ has_ended number h serial = list_any (λ e. is_last e.reply.said && speaks_to nu
 abbrev pub is_accept_at : ℕ → OwnedEvent → Said → Bool
 is_accept_at number (Accept listener real) said = option_map_or (λ id. id.frontend == number) (id_of said) false
 is_accept_at number (Piece id bytes) said = false
+is_accept_at number (Connected id) said = false
+is_accept_at number (ConnectFailed id) said = false
 is_accept_at number (Close id why) said = false
 is_accept_at number (Expire id) said = false
 
@@ -211,10 +233,38 @@ abbrev pub with_version : List Version → Option (ℕ × Plan) → List Version
 with_version versions None = versions
 with_version versions (Some (number, plan)) = versions ++ new_version number plan ∷ []
 
+-- the number of the version that judges the connection of a reply: that of its row, or the one in force where the
+-- connection comes with the reply
+abbrev pub judging_version : List FrontendRows → ℕ → Said → ℕ
+judging_version frontends force said = option_map_or (λ row. row.version) (option_and_then (row_at frontends) (id_of said)) force
+
+-- that version, for a reply in a state
+abbrev pub version_for : Plain → Said → Option Version
+version_for p said = version_at p.versions (judging_version p.frontends (newest_number p) said)
+
+-- a version after an offer by the version of that number: of the server of a line, by its number in its backend
+abbrev pub with_offer : ℕ → ℕ → ℕ → Version → Version
+with_offer number line server version =
+    if version.number == number then record version { cursors = cursors_after version.plan line server version.cursors } else version
+
+-- the versions once that is said to a connection that the version of that number judges
+abbrev pub with_said : ℕ → Said → List Version → List Version
+with_said number (Wait id used) versions = versions
+with_said number (Offer id used line server to judged send) versions = map (with_offer number line server) versions
+with_said number (Refuse id used cause) versions = versions
+with_said number (saids.Up id) versions = versions
+with_said number (Closed id why) versions = versions
+
+-- the versions after an entry, where those were the rows, the number in force and the versions before it
+abbrev pub versions_by : List FrontendRows → ℕ → List Version → Entry → List Version
+versions_by frontends force versions e =
+    let number = judging_version frontends force e.reply.said in
+    with_version (with_said number e.reply.said versions) (version_of e.event)
+
 -- the versions, one entry after the other
 abbrev pub versions_after : Plain → List Entry → List Version
 versions_after p [] = p.versions
-versions_after p (e ∷ h) = with_version (versions_after p h) (version_of e.event)
+versions_after p (e ∷ h) = versions_by (frontends_after p h) (in_force (newest_number p) h) (versions_after p h) e
 
 -- what is no longer tracked after a reply: where it is a last one, all that its connection tracked, in the order of
 -- counters
@@ -249,6 +299,22 @@ answer p h moment event = answer_in (after p h) moment event
 abbrev pub counts : Plain → List Entry → Ask → Option Counts
 counts p h ask = counts_in (after p h) ask
 
+-- how many more open connections count for a server once that is said
+abbrev pub served_more : Plain → Said → ServerIdentity → ℕ
+served_more p (Wait id used) server = 0
+served_more p (Offer id used line n to judged send) server =
+    let plan = option_map (λ version. version.plan) (version_for p (Offer id used line n to judged send)) in
+    if same_server server (identity_of plan line n to) then 1 else 0
+served_more p (Refuse id used cause) server = 0
+served_more p (saids.Up id) server = 0
+served_more p (Closed id why) server = 0
+
+-- and how many fewer: a connection that ends counts no longer
+abbrev pub served_less : Plain → Said → ServerIdentity → ℕ
+served_less p said server =
+    let row = option_and_then (row_at p.frontends) (id_of said) in
+    if is_last said && option_map_or (λ row. is_served_by server row.phase) row false then 1 else 0
+
 -- a step may end in that fault: it is the answer, or there was no memory for a reply
 abbrev pub IsFault : Result Reply StepFault → StepFault → Type 0
 IsFault answer fault = (answer ≡ Err fault) ⊎ ((fault ≡ NoMemory) × ((reply : Reply) × (answer ≡ Ok reply)))
@@ -257,6 +323,8 @@ IsFault answer fault = (answer ≡ Err fault) ⊎ ((fault ≡ NoMemory) × ((rep
 abbrev pub piece_for : ConnId → OwnedEvent → List ℕ
 piece_for id (Accept listener real) = []
 piece_for id (Piece other bytes) = if is_conn id.frontend id.serial other then bytes else []
+piece_for id (Connected other) = []
+piece_for id (ConnectFailed other) = []
 piece_for id (Close other why) = []
 piece_for id (Expire other) = []
 
@@ -327,6 +395,8 @@ opening plan last = record {
 abbrev pub owned_event : Event → OwnedEvent
 owned_event (events.Accept listener real) = Accept listener real
 owned_event (events.Piece id bytes) = Piece id bytes.now
+owned_event (events.Connected id) = Connected id
+owned_event (events.ConnectFailed id) = ConnectFailed id
 owned_event (events.Close id why) = Close id why
 owned_event (events.Expire id) = Expire id
 
@@ -334,5 +404,7 @@ owned_event (events.Expire id) = Expire id
 abbrev pub NeedsNoMemory : Event → Type 0
 NeedsNoMemory (events.Accept listener real) = ⊥
 NeedsNoMemory (events.Piece id bytes) = ⊥
+NeedsNoMemory (events.Connected id) = Unit {0}
+NeedsNoMemory (events.ConnectFailed id) = Unit {0}
 NeedsNoMemory (events.Close id why) = Unit {0}
 NeedsNoMemory (events.Expire id) = Unit {0}

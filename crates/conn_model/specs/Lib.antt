@@ -1,5 +1,6 @@
 pub mod Words
 pub mod Tables
+pub mod Servers
 pub mod Counts
 pub mod Rules
 pub mod Answer

@@ -2,6 +2,7 @@
 use Rattle.std.specs.Prelude.{ℕ, Bool, min, List, [], ◌++◌, ◌+◌, ◌==◌, find, slice_get, is_none, Option, Some, None, option_map, option_and_then, if◌then◌else◌}
 use Rattle.std.specs.Option.{option_map_or, option_or}
 use Rattle.addr_core.specs.declared.addr.Addr.{Addr}
+use Rattle.proxy_types.specs.declared.server.ServerIdentity.{ServerIdentity}
 use Rattle.proxy_types.specs.declared.table.Stores.{Stores}
 use Rattle.stick_core.specs.Key.{key_in}
 use Rattle.stick_core.specs.PlainEntries.{count_in, tracked_key}
@@ -22,7 +23,7 @@ use Rattle.conn_model.specs.declared.event.ConnId.{ConnId}
 use Rattle.conn_model.specs.declared.plain.TableState.{TableState}
 use Rattle.conn_model.specs.declared.plain.Version.{Version}
 use Rattle.conn_model.specs.declared.plain.Plain.{Plain}
-use Rattle.conn_model.specs.Counts.{open_in, open_named, offered_to}
+use Rattle.conn_model.specs.Counts.{open_in, open_named, offered_to, served_by}
 use Rattle.conn_model.specs.Tables.{open_tracks, table_at, trackers, tracks_at}
 
 -- Where a connection is judged: in a state in which it is one of the rows, by a frontend of a version
@@ -33,7 +34,7 @@ pub record Candidate : Type 0 where
   pub frontend : Frontend
   pub id : ConnId
 
--- What rules see of a connection.
+-- What rules, and the choice of a server, see of a connection.
 pub record RuleView : Type 0 where
   -- the source that is judged
   pub source : Addr
@@ -44,11 +45,12 @@ pub record RuleView : Type 0 where
   pub tracks : List Track
   pub own : List Track
   pub made : List Track
-  -- how many connections are open: of its frontend, of those of a name, and of those that were offered a server of the
-  -- backend of a name
+  -- how many connections are open: of its frontend, of those of a name, of those that were offered a server of the
+  -- backend of a name, and of those that were offered a server
   pub connections : ℕ
   pub named : List ℕ → ℕ
   pub offered : List ℕ → ℕ
+  pub served : ServerIdentity → ℕ
 
 -- a candidate of that source, where the step tracked those so far
 abbrev pub view_of : Candidate → Addr → List Track → RuleView
@@ -63,6 +65,7 @@ view_of candidate source made = record {
   connections = open_in candidate.state.frontends candidate.id.frontend;
   named = open_named candidate.state.frontends;
   offered = offered_to candidate.state.frontends;
+  served = served_by candidate.state.frontends;
 }
 
 -- Tables in a view.

@@ -6,6 +6,10 @@ use addr_core::Addr;
 pub enum Ask {
     /// A frontend, by its number.
     Frontend(u16),
+    /// A backend of the newest version, by its number.
+    Backend(u16),
+    /// A server of a backend of the newest version, by the number of the backend and its own there.
+    Server(u16, u16),
     /// The entry of an address in a table of the newest version, by the table's number.
     Entry(u16, Addr),
 }

@@ -33,6 +33,10 @@ pub enum Event<'a> {
     Accept(u16, Pair),
     /// The next bytes of a connection that waits for its header, at most `PIECE_LIMIT`.
     Piece(ConnId, &'a [u8]),
+    /// The server of a connection that was offered one took it.
+    Connected(ConnId),
+    /// The server of a connection that was offered one could not be reached.
+    ConnectFailed(ConnId),
     /// A connection ended.
     Close(ConnId, Why),
     /// A connection may have waited for its header for too long.
@@ -44,6 +48,8 @@ pub enum Event<'a> {
 pub enum OwnedEvent {
     Accept(u16, Pair),
     Piece(ConnId, Seq<u8>),
+    Connected(ConnId),
+    ConnectFailed(ConnId),
     Close(ConnId, Why),
     Expire(ConnId),
 }

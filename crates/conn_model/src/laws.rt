@@ -1,5 +1,5 @@
 //! Laws of the definitions, which every body meets that does by them.
-ghost use Rattle.std.specs.Prelude.{◌≡◌, ◌≤◌, ℕ, true, List, [], Some, IsSome, length, ◌++◌, ◌∷◌};
+ghost use Rattle.std.specs.Prelude.{◌≡◌, ◌≢◌, ◌≤◌, ℕ, true, List, [], map, slice_get, Option, Some, Ok, IsSome, length, ◌++◌, ◌∷◌, ◌+◌};
 ghost use Rattle.std.specs.List.{list_any, AllByRecursion};
 ghost use Rattle.pp_any.specs.declared.rest.Rest.{Rest};
 ghost use Rattle.pp_any.specs.Header.{shifted};
@@ -7,13 +7,34 @@ ghost use Rattle.pp_any.specs.NextPiece.{status_on};
 ghost use Rattle.pp_any.specs.Rest.{IsRest};
 ghost use Rattle.pp_any.specs.Status.{status};
 ghost use Rattle.stick_core.specs.PlainEntries.{KeysDiffer};
-ghost use Rattle.conn_model.specs.Answer.{row_at};
-ghost use Rattle.conn_model.specs.History.{after, answer, counts, joined, opening, tables_of, IsLegal, IsWell, Entry};
+ghost use Rattle.addr_core.specs.declared.addr.Endpoint.{Endpoint};
+ghost use Rattle.addr_core.specs.PairValue.{PairValue};
+ghost use Rattle.arrayvec.specs.ArrayVec.{ArrayVec};
+ghost use Rattle.proxy_types.specs.declared.server.ServerIdentity.{ServerIdentity};
+ghost use Rattle.plan_types.specs.Lines.{LinesDiffer};
+ghost use Rattle.plan_types.specs.Sound.{IsSoundPlan};
+ghost use Rattle.plan_types.specs.declared.plan.Backend.{Backend};
+ghost use Rattle.plan_types.specs.declared.plan.Server.{Server};
+ghost use Rattle.proxy_types.specs.declared.balance.Place.{Place};
+ghost use Rattle.balance_core.specs.Cycles.{turn_at, IsRound};
+ghost use Rattle.balance_core.specs.Picks.{used_now};
+ghost use Rattle.addr_core.specs.declared.addr.Addr.{Addr};
+ghost use Rattle.conn_model.specs.Answer.{reply_of, row_at};
+ghost use Rattle.conn_model.specs.Counts.{served_by};
+ghost use Rattle.conn_model.specs.Servers.{cursor_after, cursor_at, cursors_after, identity_in, pick_in, weight_of, MayOffer};
+ghost use Rattle.conn_model.specs.History.{after, answer, counts, identity_of, joined, opening, served_less, served_more, tables_of, version_for, IsLegal, IsWell, Entry};
 ghost use Rattle.conn_model.specs.Tables.{is_listed, same_id, table_at, IncarnationsDiffer};
 ghost use Rattle.conn_model.specs.declared.event.ConnId.{ConnId};
-ghost use Rattle.conn_model.specs.declared.plain.Phase.TheVariants.{Waiting};
+ghost use Rattle.conn_model.specs.declared.event.OwnedEvent.TheVariants.{Connected, ConnectFailed};
+ghost use Rattle.conn_model.specs.declared.event.Why.TheVariants.{Failed};
+ghost use Rattle.conn_model.specs.declared.reply.Reply.{Reply};
+ghost use Rattle.conn_model.specs.declared.reply.Said.TheVariants as saids;
+ghost use Rattle.conn_model.specs.declared.reply.Said.TheVariants.{Offer, Closed};
+ghost use Rattle.conn_model.specs.declared.plain.Assignment.{Assignment};
+ghost use Rattle.conn_model.specs.declared.plain.Phase.TheVariants.{Waiting, Offered};
 ghost use Rattle.conn_model.specs.declared.plain.Row.{Row};
 ghost use Rattle.conn_model.specs.declared.plain.Plain.{Plain};
+ghost use Rattle.conn_model.specs.declared.plain.Version.{Version};
 ghost use Rattle.plan_types.specs.declared.plan.Plan as plans;
 ghost use Rattle.conn_model.specs.declared.event.OwnedEvent.{OwnedEvent};
 ghost use Rattle.conn_model.specs.declared.ask.Ask.{Ask};
@@ -71,4 +92,53 @@ pub fn pieces_are_judged_joined()
     ensures decides { (plan : plans.Plan) (last : ℕ) (h : List Entry) → IsLegal (opening plan last) h → (id : ConnId) (row : Row) (rest : Rest) →
         row_at (after (opening plan last) h).frontends id ≡ Some row → row.phase ≡ Waiting rest → (piece : List ℕ) →
         status (joined id h ++ piece) ≡ shifted (length (joined id h)) (status_on rest piece) }
+{}
+
+/// A server that is offered after a legal history from an opening is one of the plan of the version that judges the
+/// connection: it is not disabled, its weight is above 0, and its limit is 0 or above the number of open connections
+/// that were offered it before. Where no two backends of the plan have servers of one line, the connection counts from
+/// then on for that very server.
+pub fn offers_have_room()
+    ensures room { (plan : plans.Plan) (last : ℕ) (h : List Entry) → IsLegal (opening plan last) h → (moment : ℕ) (event : OwnedEvent) (reply : Reply) →
+        (id : ConnId) (used line number : ℕ) (to : Endpoint) (judged : PairValue) (send : ArrayVec ℕ) →
+        answer (opening plan last) h moment event ≡ Ok reply → reply.said ≡ Offer id used line number to judged send →
+        (version : Version) × (version_for (after (opening plan last) h) reply.said ≡ Some version) ×
+        MayOffer (served_by (after (opening plan last) h).frontends) version.plan line number to }
+    ensures counted { (served : ServerIdentity → ℕ) (plan : plans.Plan) (line number : ℕ) (to : Endpoint) → (offer : MayOffer served plan line number to) →
+        LinesDiffer plan → identity_of (Some plan) line number to ≡ identity_in offer.backend offer.server }
+{}
+
+/// A server takes a connection, or cannot be reached for it, exactly where the connection is open, was offered a server,
+/// and no server took it yet.
+pub fn servers_answer_offers()
+    ensures connected { (p : Plain) (h : List Entry) (moment : ℕ) (id : ConnId) (row : Row) (assignment : Assignment) →
+        row_at (after p h).frontends id ≡ Some row → row.phase ≡ Offered assignment → answer p h moment (Connected id) ≡ Ok (reply_of (saids.Up id)) }
+    ensures failed { (p : Plain) (h : List Entry) (moment : ℕ) (id : ConnId) (row : Row) (assignment : Assignment) →
+        row_at (after p h).frontends id ≡ Some row → row.phase ≡ Offered assignment → answer p h moment (ConnectFailed id) ≡ Ok (reply_of (Closed id Failed)) }
+    ensures only_connected { (p : Plain) (h : List Entry) (moment : ℕ) (id : ConnId) (reply : Reply) → answer p h moment (Connected id) ≡ Ok reply →
+        (row : Row) × (assignment : Assignment) × (row_at (after p h).frontends id ≡ Some row) × (row.phase ≡ Offered assignment) × (reply ≡ reply_of (saids.Up id)) }
+    ensures only_failed { (p : Plain) (h : List Entry) (moment : ℕ) (id : ConnId) (reply : Reply) → answer p h moment (ConnectFailed id) ≡ Ok reply →
+        (row : Row) × (assignment : Assignment) × (row_at (after p h).frontends id ≡ Some row) × (row.phase ≡ Offered assignment) × (reply ≡ reply_of (Closed id Failed)) }
+{}
+
+/// An offer moves the cursor of the backend whose server is offered, and that of no other backend: by round robin it is
+/// then at the turn that was picked, by least connections at the server, and by source as it was.
+pub fn offers_move_cursors()
+    ensures own { (plan : plans.Plan) → IsSoundPlan plan → (place line number : ℕ) (backend : Backend) (server : Server) (cursors : List (Option Place)) →
+        length cursors ≡ length plan.backends → slice_get plan.backends place ≡ Some backend → slice_get backend.servers number ≡ Some server → server.line ≡ line →
+        cursor_at (cursors_after plan line number cursors) place ≡ cursor_after backend number (cursor_at cursors place) }
+    ensures others { (plan : plans.Plan) → IsSoundPlan plan → (place line number : ℕ) (backend : Backend) (server : Server) (cursors : List (Option Place)) →
+        slice_get plan.backends place ≡ Some backend → slice_get backend.servers number ≡ Some server → server.line ≡ line → (other : ℕ) → other ≢ place →
+        cursor_at (cursors_after plan line number cursors) other ≡ cursor_at cursors other }
+    ensures turn { (served : ServerIdentity → ℕ) (backend : Backend) (cycle : List Place) (last : Option ℕ) (source : Addr) (turn : Place) →
+        IsRound (map weight_of backend.servers) cycle → pick_in served backend (turn_at cycle last) source ≡ Some turn →
+        cursor_after backend turn.server (turn_at cycle last) ≡ used_now backend.method (turn_at cycle last) turn }
+{}
+
+/// The open connections of a server are one more after each offer of it, one fewer after each end of a connection that
+/// was offered it, and as many as before after all else: one that the server took still counts.
+pub fn servers_are_counted()
+    ensures { (plan : plans.Plan) (last : ℕ) (h : List Entry) (e : Entry) → IsLegal (opening plan last) (e ∷ h) → (server : ServerIdentity) →
+        served_by (after (opening plan last) (e ∷ h)).frontends server + served_less (after (opening plan last) h) e.reply.said server ≡
+        served_by (after (opening plan last) h).frontends server + served_more (after (opening plan last) h) e.reply.said server }
 {}

@@ -23,6 +23,8 @@ pub enum Phase {
     Waiting(Rest),
     /// It was offered a server.
     Offered(Assignment),
+    /// Its server took it.
+    Up(Assignment),
 }
 
 /// An open connection of one frontend.

@@ -50,6 +50,10 @@ pub enum Said {
         used: u64,
         cause: Cause,
     },
+    /// Its server took it.
+    Up {
+        id: ConnId,
+    },
     /// It ended.
     Closed {
         id: ConnId,
@@ -74,6 +78,8 @@ pub enum StepFault {
     NoSuch,
     /// The connection does not wait for a header.
     NotWaiting,
+    /// The connection was not offered a server, or its server took it already.
+    NotOffered,
     /// The connection may wait longer for its header.
     NotDue,
     /// The serial 2^64 - 1 was given out.

@@ -1,0 +1,307 @@
+-- A server that is offered is usable and has room.
+use Rattle.std.specs.Prelude.{ℕ, zero, suc, Bool, true, false, List, [], length, max, filter, find, slice_get, slice_set, Option, Some, None, option_map, Result, Ok, Err, refl, ◌+◌, ◌<◌, ◌≡◌, ◌⊎◌, ◌==◌, ◌&&◌, ◌∷◌, nat_lt, nat_le}
+use Rattle.std.specs.Option.{option_map_or}
+use Rattle.std.proofs.Common.{sym, ap, ◌∙◌, subst, arith, inl, inr, append-nil}
+use Rattle.std.proofs.Math.Path.{fun_ext}
+use Rattle.std.proofs.lemmas.Bool.{false≢true, eq-eqb, eqb-true}
+use Rattle.std.proofs.lemmas.Bool.Decides.{nat_tests}
+use Rattle.std.proofs.lemmas.List.Elements.{filter-append}
+use Rattle.std.proofs.lemmas.Option.{slice_get-map}
+use Rattle.addr_core.specs.declared.addr.Endpoint.{Endpoint}
+use Rattle.addr_core.specs.PairValue.{PairValue}
+use Rattle.arrayvec.specs.ArrayVec.{ArrayVec}
+use Rattle.proxy_types.specs.declared.balance.Place.{Place}
+use Rattle.proxy_types.specs.declared.server.ServerIdentity.{ServerIdentity}
+use Rattle.balance_core.specs.Loads.{weight_at, has_room_at, is_ready_at}
+use Rattle.balance_core.proofs.ReadyLemmas.{picked_ready}
+use Rattle.plan_types.specs.declared.plan.Backend.{Backend}
+use Rattle.plan_types.specs.declared.plan.Frontend.{Frontend}
+use Rattle.plan_types.specs.declared.plan.Plan.{Plan}
+use Rattle.plan_types.specs.declared.plan.Server.{Server}
+use Rattle.plan_types.specs.Lines.{has_line, LinesDiffer}
+use Rattle.pp_any.specs.Status as statuses
+use Rattle.pp_any.specs.Status.{Status}
+use Rattle.pp_any.specs.NextPiece.{status_on}
+use Rattle.rule_engine.specs.Meaning.{present}
+use Rattle.rule_engine.specs.Judging.{judged_after, no_tracks, Slots}
+use Rattle.conn_model.specs.declared.event.ConnId.{ConnId}
+use Rattle.conn_model.specs.declared.event.OwnedEvent.{OwnedEvent}
+use Rattle.conn_model.specs.declared.event.OwnedEvent.TheVariants.{Accept, Piece, Connected, ConnectFailed, Close, Expire}
+use Rattle.conn_model.specs.declared.event.Why.TheVariants.{Failed}
+use Rattle.conn_model.specs.declared.reply.Cause.{Cause}
+use Rattle.conn_model.specs.declared.reply.Cause.TheVariants.{Line, NoBackend, NoServer}
+use Rattle.conn_model.specs.declared.reply.Reply.{Reply}
+use Rattle.conn_model.specs.declared.reply.Said.{Said}
+use Rattle.conn_model.specs.declared.reply.Said.TheVariants as saids
+use Rattle.conn_model.specs.declared.reply.Said.TheVariants.{Offer, Closed}
+use Rattle.conn_model.specs.declared.reply.StepFault.TheVariants.{NoSuch}
+use Rattle.conn_model.specs.declared.plain.Assignment.{Assignment}
+use Rattle.conn_model.specs.declared.plain.Phase.{Phase}
+use Rattle.conn_model.specs.declared.plain.Phase.TheVariants.{Waiting, Offered, Up}
+use Rattle.conn_model.specs.declared.plain.Row.{Row}
+use Rattle.conn_model.specs.declared.plain.FrontendRows.{FrontendRows}
+use Rattle.conn_model.specs.declared.plain.Plain.{Plain}
+use Rattle.conn_model.specs.declared.plain.Version.{Version}
+use Rattle.conn_model.specs.Words.{or_fault, row_at}
+use Rattle.conn_model.specs.Servers.{cursor_at, has_room, identity_in, load_of, loads_of, pick_in, weight_of, MayOffer}
+use Rattle.conn_model.specs.Counts.{is_served_by, served_by, served_in, total}
+use Rattle.conn_model.specs.Rules.{backend_for, rejection, scene_of, view_of, worth, Candidate, RuleView}
+use Rattle.conn_model.specs.Answer.{admission, answer_in, awaits_server, candidate_at, candidate_of, decision, entry_reply, entry_rules, header_reply, judged_pair, new_row, numbered_server, reply_of, said_of, server_answer, server_for, server_unless, version_at, NumberedServer}
+use Rattle.conn_model.specs.History.{after, answer, identity_at, identity_of, id_of, judging_version, newest_number, nobody, opening, version_for, Entry, IsLegal, IsWell}
+use Rattle.conn_model.proofs.Lists.{or_true}
+use Rattle.conn_model.proofs.Versions.{is_offer, newest-at}
+use Rattle.conn_model.proofs.VersionSteps.{judging-new, judging-old}
+use Rattle.conn_model.proofs.Replies.{accepted, answered, bind-ok, expired, or_fault-ok, received, server_answered, Accepted, IsNew, IsOld, Received, ServerAnswered}
+use Rattle.conn_model.proofs.Goes.{well_at}
+use Rattle.conn_model.proofs.Sources.{any-at}
+use Rattle.conn_model.proofs.Well.{history_well}
+
+-- The load of a server.
+
+above : (n : ℕ) → nat_lt 0 n ≡ true → 0 < n
+above n e = grind (arith, nat_tests)
+
+both_true : (a b : Bool) → (a && b) ≡ true → (a ≡ true) × (b ≡ true)
+both_true true b e = (refl, e)
+both_true false b e = absurd (false≢true e)
+
+-- a server of some weight is not disabled
+weighs-enabled : (server : Server) → nat_lt 0 (weight_of server) ≡ true → (server.disabled ≡ false) × (0 < server.weight)
+weighs-enabled server weighs = by server.disabled refl
+  where
+    by : (b : Bool) → server.disabled ≡ b → (server.disabled ≡ false) × (0 < server.weight)
+    by true e = absurd (let wrong : nat_lt 0 0 ≡ true = rw e at weighs in false≢true wrong)
+    by false e = (e, above server.weight (rw e at weighs))
+
+room-is : (limit connections : ℕ) → has_room limit connections ≡ true → (limit ≡ 0) ⊎ (connections < limit)
+room-is limit connections has = elim (or_true (limit == 0) (nat_lt connections limit) has) [
+  | inl none ↦ inl (eqb-true limit 0 none)
+  | inr less ↦ inr (grind (arith, nat_tests, less))
+]
+
+-- a server that is ready, and where it is
+record IsReady (served : ServerIdentity → ℕ) (backend : Backend) (n : ℕ) (server : Server) : Type 0 where
+  pub enabled : server.disabled ≡ false
+  pub weighs : 0 < server.weight
+  pub room : (server.limit ≡ 0) ⊎ (served (identity_in backend server) < server.limit)
+
+ready-server : (served : ServerIdentity → ℕ) (backend : Backend) (n : ℕ) (server : Server) → slice_get backend.servers n ≡ Some server → is_ready_at (loads_of served backend) n ≡ true →
+    IsReady served backend n server
+ready-server served backend n server there ready =
+    let load : slice_get (loads_of served backend) n ≡ Some (load_of served backend server) = slice_get-map (load_of served backend) backend.servers n ∙ ap (λ o. option_map (load_of served backend) o) there in
+    let both = both_true (nat_lt 0 (weight_at (loads_of served backend) n)) (has_room_at (loads_of served backend) n) ready in
+    let weighs : nat_lt 0 (weight_of server) ≡ true = sym (ap (λ o. nat_lt 0 (option_map_or (λ l. l.weight) o 0)) load) ∙ both.0 in
+    let room : has_room server.limit (served (identity_in backend server)) ≡ true = sym (ap (λ o. option_map_or (λ l. l.has_room) o false) load) ∙ both.1 in
+    let enabled = weighs-enabled server weighs in
+    record { enabled = enabled.0; weighs = enabled.1; room = room-is server.limit (served (identity_in backend server)) room }
+
+-- What is picked for a view.
+
+-- the server is one of the plan, and may be offered
+abbrev IsPicked : RuleView → NumberedServer → Type 0
+IsPicked v given = MayOffer v.served v.version.plan given.server.line given.number given.server.to
+
+-- a server with its number
+abbrev numbered : ℕ → Server → NumberedServer
+numbered n server = record { number = n; server = server }
+
+numbered-at : (backend : Backend) (n : ℕ) (given : NumberedServer) → numbered_server backend n ≡ Some given → (slice_get backend.servers n ≡ Some given.server) × (n ≡ given.number)
+numbered-at backend n given is = by (slice_get backend.servers n) refl
+  where
+    by : (o : Option Server) → slice_get backend.servers n ≡ o → (slice_get backend.servers n ≡ Some given.server) × (n ≡ given.number)
+    by None e = absurd (let wrong : None ≡ Some given = sym (ap (λ o. option_map (λ s. numbered n s) o) e) ∙ is in cc)
+    by (Some server) e =
+        let it : Some (numbered n server) ≡ Some given = sym (ap (λ o. option_map (λ s. numbered n s) o) e) ∙ is in
+        let same : numbered n server ≡ given = cc in
+        (e ∙ ap (λ g. Some g.server) same, ap (λ g. g.number) same)
+
+server_picked : (v : RuleView) (given : NumberedServer) → server_for v ≡ Ok given → IsPicked v given
+server_picked v given is =
+    let one = bind-ok (or_fault (NoBackend v.frontend.line) (backend_for (worth v) v.frontend)) _ given is in
+    let place : ℕ = one.0 in
+    let two = bind-ok (or_fault (NoBackend v.frontend.line) (slice_get v.version.plan.backends place)) _ given one.2 in
+    let backend : Backend = two.0 in
+    let last : Option Place = cursor_at v.version.cursors place in
+    let three = bind-ok (or_fault (NoServer backend.line) (pick_in v.served backend last v.source)) _ given two.2 in
+    let turn : Place = three.0 in
+    let picked = or_fault-ok (NoServer backend.line) (pick_in v.served backend last v.source) turn three.1 in
+    let at = numbered-at backend turn.server given (or_fault-ok (NoServer backend.line) (numbered_server backend turn.server) given three.2) in
+    let ready = ready-server v.served backend turn.server given.server at.0 (picked_ready (loads_of v.served backend) backend.method last v.source turn picked) in
+    record {
+      place = place;
+      backend = backend;
+      server = given.server;
+      among = or_fault-ok (NoBackend v.frontend.line) (slice_get v.version.plan.backends place) backend two.1;
+      found = ap (slice_get backend.servers) (sym at.1) ∙ at.0;
+      line_is = refl;
+      to_is = refl;
+      enabled = ready.enabled;
+      weighs = ready.weighs;
+      room = ready.room;
+    }
+
+-- What a reply offers.
+
+-- where it offers a server, that one may be offered
+abbrev pub OffersWell : (ServerIdentity → ℕ) → Plan → Said → Type 0
+OffersWell served plan (saids.Wait id used) = Unit {0}
+OffersWell served plan (Offer id used line server to judged send) = MayOffer served plan line server to
+OffersWell served plan (saids.Refuse id used cause) = Unit {0}
+OffersWell served plan (saids.Up id) = Unit {0}
+OffersWell served plan (Closed id why) = Unit {0}
+
+said-offers : (v : RuleView) (id : ConnId) (used : ℕ) (judged : PairValue) (line : Option ℕ) (result : Result NumberedServer Cause) → server_unless v line ≡ result →
+    OffersWell v.served v.version.plan (said_of id used judged result)
+said-offers v id used judged line (Err cause) is = tt
+said-offers v id used judged None (Ok given) is = server_picked v given is
+said-offers v id used judged (Some line) (Ok given) is = absurd (let wrong : Err (Line line) ≡ Ok given = is in cc)
+
+abbrev served_there : Candidate → ServerIdentity → ℕ
+served_there candidate = served_by candidate.state.frontends
+
+pub decision-offers : (candidate : Candidate) (used : ℕ) (judged : PairValue) (made : Slots) → OffersWell (served_there candidate) candidate.version.plan (decision candidate used judged made).said
+decision-offers candidate used judged made =
+    let views = view_of candidate judged.source.addr in
+    let says = judged_after (scene_of views) made candidate.frontend.session_rules in
+    said-offers (views (present says.tracks)) candidate.id used judged (rejection says) (server_unless (views (present says.tracks)) (rejection says)) refl
+
+entry-offers : (candidate : Candidate) (accept_proxy : Bool) (real : PairValue) (made : Slots) (line : Option ℕ) →
+    OffersWell (served_there candidate) candidate.version.plan (entry_reply candidate accept_proxy real made line).said
+entry-offers candidate accept_proxy real made (Some line) = tt
+entry-offers candidate true real made None = tt
+entry-offers candidate false real made None = decision-offers candidate 0 real made
+
+pub admission-offers : (candidate : Candidate) (accept_proxy : Bool) (real : PairValue) (others : ℕ) →
+    OffersWell (served_there candidate) candidate.version.plan (admission candidate accept_proxy real others).said
+admission-offers candidate accept_proxy real others = by (nat_le candidate.frontend.limit others) refl
+  where
+    by : (b : Bool) → nat_le candidate.frontend.limit others ≡ b → OffersWell (served_there candidate) candidate.version.plan (admission candidate accept_proxy real others).said
+    by true e = rw e tt
+    by false e = rw e (entry-offers candidate accept_proxy real (entry_rules candidate real).tracks (rejection (entry_rules candidate real)))
+
+header-offers : (candidate : Candidate) (real : PairValue) (count : ℕ) (status : Status) → OffersWell (served_there candidate) candidate.version.plan (header_reply candidate real count status).said
+header-offers candidate real count statuses.Wait = tt
+header-offers candidate real count (statuses.Fault fault used) = tt
+header-offers candidate real count (statuses.Whole used meaning) = decision-offers candidate used (judged_pair real meaning) no_tracks
+
+-- A connection that comes in was offered nothing yet.
+
+total-set : {X : Type 0} (worth : X → ℕ) (xs : List X) (n : ℕ) (x new' : X) → slice_get xs n ≡ Some x → worth new' ≡ worth x → total worth (slice_set xs n new') ≡ total worth xs
+total-set worth [] n x new' there same = refl
+total-set worth (y ∷ xs) zero x new' there same = let it : y ≡ x = cc in ap (λ m. m + total worth xs) (same ∙ ap worth (sym it))
+total-set worth (y ∷ xs) (suc n) x new' there same = ap (λ m. worth y + m) (total-set worth xs n x new' there same)
+
+pub served_with : (q : Plain) (clock number : ℕ) (real : PairValue) (own : FrontendRows) (version : Version) (frontend : Frontend) → slice_get q.frontends number ≡ Some own →
+    served_by (candidate_at q clock number real own version frontend).state.frontends ≡ served_by q.frontends
+served_with q clock number real own version frontend there = fun_ext (λ identity.
+    let test : Row → Bool = λ row. is_served_by identity row.phase in
+    total-set (served_in identity) q.frontends number own _ there
+    (ap length (filter-append test own.rows (new_row (own.serial + 1) version.number real clock ∷ []) ∙ append-nil (filter test own.rows))))
+
+-- Answers.
+
+-- what an answer offers is of the version that judges
+abbrev pub HasRoom : Plain → Said → Type 0
+HasRoom q said = (version : Version) × (version_for q said ≡ Some version) × OffersWell (served_by q.frontends) version.plan said
+
+accepted-room : (q : Plain) → IsWell q → (clock listener : ℕ) (real : PairValue) (reply : Reply) → Accepted q clock listener real reply → IsNew q reply.said → HasRoom q reply.said
+accepted-room q well clock listener real reply got new =
+    let candidate : Candidate = candidate_at q clock got.at.frontend real got.own got.version got.frontend in
+    let number : newest_number q ≡ got.version.number = ap (λ o. option_map_or (λ version. version.number) o 0) got.newest_is in
+    let judges : judging_version q.frontends (newest_number q) reply.said ≡ newest_number q =
+    judging-new q.frontends (newest_number q) reply.said new.id new.own new.speaks new.there (well_at q well new.id.frontend new.own new.there).given new.next in
+    let served : served_there candidate ≡ served_by q.frontends = served_with q clock got.at.frontend real got.own got.version got.frontend got.there in
+    let offers : OffersWell (served_there candidate) got.version.plan reply.said = subst (λ r. OffersWell (served_there candidate) got.version.plan r.said) got.reply_is
+    (admission-offers candidate got.at.accept_proxy real (length got.own.rows)) in (
+      got.version,
+      ap (version_at q.versions) (judges ∙ number) ∙ newest-at q.versions got.version well.rise got.newest_is,
+      subst (λ s. OffersWell s got.version.plan reply.said) served offers,
+    )
+
+received-room : (q : Plain) (id : ConnId) (piece : List ℕ) (reply : Reply) → Received q id piece reply → id_of reply.said ≡ Some id → HasRoom q reply.said
+received-room q id piece reply got speaks =
+    let candidate : Candidate = candidate_of q id got.version got.frontend in
+    let judges : judging_version q.frontends (newest_number q) reply.said ≡ got.row.version = judging-old q.frontends (newest_number q) reply.said id got.row speaks got.row_is in (
+      got.version,
+      ap (version_at q.versions) judges ∙ got.kept,
+      subst (λ r. OffersWell (served_by q.frontends) got.version.plan r.said) got.reply_is (header-offers candidate got.row.real (length piece) (status_on got.rest piece)),
+    )
+
+-- a reply that is no offer
+not_offered : (q : Plain) (said : Said) (reply : Reply) → reply_of said ≡ reply → is_offer said ≡ false → is_offer reply.said ≡ true → HasRoom q reply.said
+not_offered q said reply same other is = absurd (false≢true (sym other ∙ ap (λ r. is_offer r.said) same ∙ is))
+
+offer_room : (q : Plain) → IsWell q → (moment : ℕ) (event : OwnedEvent) (reply : Reply) → answer_in q moment event ≡ Ok reply → is_offer reply.said ≡ true → HasRoom q reply.said
+offer_room q well moment (Accept listener real) reply answer is =
+    accepted-room q well (max q.clock moment) listener real reply (accepted q (max q.clock moment) listener real reply answer) (answered q moment (Accept listener real) reply answer)
+offer_room q well moment (Piece id bytes) reply answer is =
+    let old : IsOld q id reply.said = answered q moment (Piece id bytes) reply answer in
+    received-room q id bytes reply (received q id bytes reply answer) old.speaks
+offer_room q well moment (Connected id) reply answer is = not_offered q (saids.Up id) reply (server_answered q id (saids.Up id) reply answer).reply_is refl is
+offer_room q well moment (ConnectFailed id) reply answer is = not_offered q (Closed id Failed) reply (server_answered q id (Closed id Failed) reply answer).reply_is refl is
+offer_room q well moment (Close id why) reply answer is =
+    let one = bind-ok (or_fault NoSuch (row_at q.frontends id)) _ reply answer in
+    let same : reply_of (Closed id why) ≡ reply = let it : Ok (reply_of (Closed id why)) ≡ Ok reply = one.2 in cc in
+    not_offered q (Closed id why) reply same refl is
+offer_room q well moment (Expire id) reply answer is = not_offered q _ reply (expired q (max q.clock moment) id reply answer).reply_is refl is
+
+-- after a legal history
+pub offered_with_room : (plan : Plan) (last : ℕ) (h : List Entry) → IsLegal (opening plan last) h → (moment : ℕ) (event : OwnedEvent) (reply : Reply) →
+    (id : ConnId) (used line number : ℕ) (to : Endpoint) (judged : PairValue) (send : ArrayVec ℕ) → answer (opening plan last) h moment event ≡ Ok reply →
+    reply.said ≡ Offer id used line number to judged send →
+    (version : Version) × (version_for (after (opening plan last) h) reply.said ≡ Some version) × MayOffer (served_by (after (opening plan last) h).frontends) version.plan line number to
+offered_with_room plan last h legal moment event reply id used line number to judged send answer said =
+    let q : Plain = after (opening plan last) h in
+    let got : HasRoom q reply.said = offer_room q (history_well plan last h legal) moment event reply answer (ap is_offer said) in
+    (got.0, got.1, subst (OffersWell (served_by q.frontends) got.0.plan) said got.2)
+
+-- The identity by which a connection is counted from its offer on.
+
+-- what is found first is in the list
+found_at : {X : Type 0} (test : X → Bool) (xs : List X) (n : ℕ) (x : X) → slice_get xs n ≡ Some x → test x ≡ true →
+    (y : X) × (i : ℕ) × (find test xs ≡ Some y) × (slice_get xs i ≡ Some y) × (test y ≡ true)
+found_at test [] n x there is = absurd (let wrong : None ≡ Some x = there in cc)
+found_at {X} test (z ∷ xs) zero x there is = let same : z ≡ x = cc in let passes : test z ≡ true = ap test same ∙ is in (z, 0, rw passes refl, refl, passes)
+found_at {X} test (z ∷ xs) (suc n) x there is = by (test z) refl (found_at test xs n x there is)
+  where
+    by : (b : Bool) → test z ≡ b → (y : X) × (i : ℕ) × (find test xs ≡ Some y) × (slice_get xs i ≡ Some y) × (test y ≡ true) →
+        (y : X) × (i : ℕ) × (find test (z ∷ xs) ≡ Some y) × (slice_get (z ∷ xs) i ≡ Some y) × (test y ≡ true)
+    by true e later = (z, 0, rw e refl, refl, e)
+    by false e later = (later.0, suc later.1, rw e later.2, later.3, later.4)
+
+-- the backend whose server is offered is the one that has its line
+pub offered_backend : (served : ServerIdentity → ℕ) (plan : Plan) (line number : ℕ) (to : Endpoint) → (offer : MayOffer served plan line number to) → LinesDiffer plan →
+    find (has_line line) plan.backends ≡ Some offer.backend
+offered_backend served plan line number to offer differ =
+    let own : (offer.server.line == line) ≡ true = eq-eqb offer.server.line line offer.line_is in
+    let has : has_line line offer.backend ≡ true = any-at (λ server. server.line == line) offer.backend.servers number offer.server offer.found own in
+    let first = found_at (has_line line) plan.backends offer.place offer.backend offer.among has in
+    let same : first.0 ≡ offer.backend = differ line first.1 offer.place first.0 offer.backend first.3 offer.among first.4 has in
+    first.2 ∙ ap (λ b. Some b) same
+
+pub offer_identity : (served : ServerIdentity → ℕ) (plan : Plan) (line number : ℕ) (to : Endpoint) → (offer : MayOffer served plan line number to) → LinesDiffer plan →
+    identity_of (Some plan) line number to ≡ identity_in offer.backend offer.server
+offer_identity served plan line number to offer differ =
+    ap (λ o. option_map_or (identity_at number to) o (nobody to)) (offered_backend served plan line number to offer differ)
+    ∙ ap (λ o. named (option_map_or (λ server. server.name) o []) to) offer.found ∙ ap (named offer.server.name) (sym offer.to_is)
+  where
+    named : List ℕ → Endpoint → ServerIdentity
+    named name at = record { backend = offer.backend.name; name = name; to = at }
+
+-- Which connections a server takes, or fails.
+
+awaits-offered : (phase : Phase) → awaits_server phase ≡ true → (assignment : Assignment) × (phase ≡ Offered assignment)
+awaits-offered (Waiting rest) awaits = absurd (false≢true awaits)
+awaits-offered (Offered assignment) awaits = (assignment, refl)
+awaits-offered (Up assignment) awaits = absurd (false≢true awaits)
+
+pub server_answers : (q : Plain) (id : ConnId) (said : Said) (row : Row) (assignment : Assignment) → row_at q.frontends id ≡ Some row → row.phase ≡ Offered assignment →
+    server_answer q id said ≡ Ok (reply_of said)
+server_answers q id said row assignment there phase = rw (there, phase) refl
+
+pub server_answers_only : (q : Plain) (id : ConnId) (said : Said) (reply : Reply) → server_answer q id said ≡ Ok reply →
+    (row : Row) × (assignment : Assignment) × (row_at q.frontends id ≡ Some row) × (row.phase ≡ Offered assignment) × (reply ≡ reply_of said)
+server_answers_only q id said reply answer =
+    let got : ServerAnswered q id said reply = server_answered q id said reply answer in
+    let offered = awaits-offered got.row.phase got.awaits in
+    (got.row, offered.0, got.row_is, offered.1, sym got.reply_is)
