@@ -1,0 +1,5 @@
+pub mod Places
+pub mod Identities
+pub mod ServerLoads
+pub mod Moves
+pub mod Founds

@@ -1,0 +1,4 @@
+pub mod Versions
+pub mod Slots
+pub mod Picks
+pub mod Kept

@@ -1,0 +1,11 @@
+//! The versions of the configuration that are kept, what was last used of each backend, and the open connections of each
+//! server.
+#![tactic(auto)]
+
+pub use slot_core::Slot;
+pub use versions::Versions;
+
+mod loads;
+mod opening;
+mod picks;
+mod versions;

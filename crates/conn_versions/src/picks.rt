@@ -1,0 +1,208 @@
+//! What picks of a backend go by.
+ghost use Rattle.std.specs.Prelude.{◌≡◌, ◌<◌, ◌≤◌, length, map, option_map, slice_get, None, Some, IfOk};
+ghost use Rattle.balance_core.specs.Cycles.{turn_at, IsRound};
+ghost use Rattle.balance_core.specs.Rounds.{next_turn, used_turn, weights_of};
+ghost use Rattle.conn_model.specs.Servers.{cursor_after, identity_in, pick_in, weight_of};
+ghost use Rattle.slot_core.specs.Counts.{IdentitiesDiffer};
+ghost use Rattle.conn_versions.specs.Versions.{open_to};
+ghost use Rattle.conn_versions.specs.Slots.{AreSlots, IsServed, OnlyAdds};
+ghost use Rattle.conn_versions.specs.Picks.{IsTied};
+
+use crate::loads::{BackendLoad, OneServer, weight_of};
+use addr_core::Addr;
+use balance_core::{Cycle, pick_least, pick_round, pick_source};
+use list_core::{Duplicate, Seq};
+use plan_types::{Backend, Server};
+use proxy_types::{Method, Place, ServerIdentity};
+use slot_core::{SlotIx, Slots};
+use std::alloc::{AllocError, Global};
+
+/// What picks of a backend go by.
+#[derive(Debug, Drop)]
+pub struct BackendPicks {
+    /// Where the open connections of each server are counted.
+    pub slots: Seq<SlotIx>,
+    /// The turns of the servers.
+    pub cycle: Cycle,
+    /// The place of the turn that was last used, by round robin.
+    pub used: Option<usize>,
+}
+
+/// The name of a server, by which it is counted.
+fn identity_of(
+    alloc: Global,
+    backend: &Backend,
+    server: &Server,
+) -> Result<ServerIdentity, AllocError>
+    ensures { IfOk result (λ identity. identity ≡ identity_in backend.now server.now) }
+{
+    Ok(ServerIdentity {
+        backend: backend.name.duplicate(alloc)?,
+        name: server.name.duplicate(alloc)?,
+        to: server.to,
+    })
+}
+
+/// The slot of each server. One that is new has no open connection.
+fn slots_of(alloc: Global, backend: &Backend, slots: &mut Slots) -> Result<Seq<SlotIx>, AllocError>
+    requires { IdentitiesDiffer slots.old }
+    ensures each { IfOk result (λ places. AreSlots slots.new backend.now places) }
+    ensures adds { IfOk result (λ places. OnlyAdds slots.old slots.new) }
+{
+    let mut places = Seq::new(alloc);
+    for server in backend.servers.as_slice() {
+        let identity = identity_of(alloc, backend, server)?;
+        let ix = slots.add(&identity)?;
+        places.push(ix)?;
+    }
+    Ok(places)
+}
+
+/// The weight of each server.
+fn weights_of(alloc: Global, servers: &[Server]) -> Result<Vec<u16>, AllocError>
+    ensures { IfOk result (λ weights. weights.items ≡ map weight_of servers.now) }
+{
+    let mut weights = Vec::new(alloc);
+    for server in servers {
+        weights.push(weight_of(server))?;
+    }
+    Ok(weights)
+}
+
+/// The cycle of a backend.
+fn cycle_of(alloc: Global, servers: &[Server]) -> Result<Cycle, AllocError>
+    requires { length servers.now ≤ 64 }
+    ensures { IfOk result (IsRound (map weight_of servers.now)) }
+{
+    let weights = weights_of(alloc, servers)?;
+    Cycle::of(alloc, weights.as_slice())
+}
+
+/// What picks of a backend go by where nothing of it was used.
+pub fn picks_of(
+    alloc: Global,
+    backend: &Backend,
+    slots: &mut Slots,
+) -> Result<BackendPicks, AllocError>
+    requires few { length backend.now.servers ≤ 64 }
+    requires apart { IdentitiesDiffer slots.old }
+    ensures slots { IfOk result (λ own. AreSlots slots.new backend.now own.slots) }
+    ensures adds { IfOk result (λ own. OnlyAdds slots.old slots.new) }
+    ensures tied { IfOk result (IsTied backend.now None) }
+{
+    let cycle = cycle_of(alloc, backend.servers.as_slice())?;
+    let places = slots_of(alloc, backend, slots)?;
+    Ok(BackendPicks {
+        slots: places,
+        cycle,
+        used: None,
+    })
+}
+
+/// Where the open connections of the server of that number are counted.
+pub fn slot_of(own: &BackendPicks, number: u16) -> SlotIx
+    requires { number < length own.now.slots }
+    ensures { slice_get own.now.slots number ≡ Some result }
+{
+    own.slots.as_slice()[usize::from(number)]
+}
+
+/// The server that was last offered.
+fn server_of(cursor: Option<Place>) -> Option<u16>
+    ensures { result ≡ option_map (λ turn. turn.server) cursor }
+{
+    match cursor {
+        Some(turn) => Some(turn.server),
+        None => None,
+    }
+}
+
+/// The number of the server that is picked by round robin.
+fn pick_next(cycle: &Cycle, used: Option<usize>, load: &BackendLoad<'_>) -> Option<u16>
+    ensures { IsRound (weights_of load.now) cycle.now → result ≡ option_map (λ turn. turn.server) (next_turn load.now (turn_at cycle.now used)) }
+{
+    match pick_round(cycle, used, load) {
+        Some(placed) => Some(placed.server),
+        None => None,
+    }
+}
+
+/// The number of the server of a backend that is picked for a source.
+pub fn pick(
+    backend: &Backend,
+    cursor: Option<Place>,
+    own: &BackendPicks,
+    slots: &Slots,
+    source: &Addr,
+) -> Option<u16>
+    requires served { IsServed slots.now backend.now own.now.slots }
+    requires tied { IsTied backend.now cursor own.now }
+    ensures { result ≡ option_map (λ turn. turn.server) (pick_in (open_to slots.now) backend.now cursor source.now) }
+{
+    let load = BackendLoad {
+        backend,
+        places: own.slots.as_slice(),
+        slots,
+    };
+    match backend.method {
+        Method::RoundRobin => pick_next(&own.cycle, own.used, &load),
+        Method::LeastConn => pick_least(server_of(cursor), &load),
+        Method::Source => pick_source(source, &load),
+    }
+}
+
+/// The next place of that server, going round.
+fn next_of_server(
+    cycle: &Cycle,
+    used: Option<usize>,
+    servers: &[Server],
+    number: u16,
+) -> Option<usize>
+    requires few { length servers.now ≤ 64 }
+    requires round { IsRound (map weight_of servers.now) cycle.now }
+    ensures { turn_at cycle.now result ≡ used_turn (map weight_of servers.now) (turn_at cycle.now used) number }
+{
+    match pick_round(cycle, used, &OneServer { servers, number }) {
+        Some(placed) => Some(placed.place),
+        None => None,
+    }
+}
+
+/// The turn at a place.
+fn turn_at(cycle: &Cycle, place: Option<usize>) -> Option<Place>
+    ensures { result ≡ turn_at cycle.now place }
+{
+    match place {
+        Some(place) => match cycle.places().get(place) {
+            Some(turn) => Some(*turn),
+            None => None,
+        },
+        None => None,
+    }
+}
+
+/// Moves what was last used of a backend, once that server of it was offered. It takes no memory.
+pub fn use_server(
+    backend: &Backend,
+    cursor: Option<Place>,
+    own: &mut BackendPicks,
+    number: u16,
+) -> Option<Place>
+    requires few { length backend.now.servers ≤ 64 }
+    requires tied { IsTied backend.now cursor own.old }
+    ensures cursor { result ≡ cursor_after backend.now number cursor }
+    ensures tied { IsTied backend.now result own.new }
+    ensures slots { own.new.slots ≡ own.old.slots }
+{
+    match backend.method {
+        Method::RoundRobin => {
+            own.used = next_of_server(&own.cycle, own.used, backend.servers.as_slice(), number);
+            turn_at(&own.cycle, own.used)
+        }
+        Method::LeastConn => Some(Place {
+            server: number,
+            turn: 0,
+        }),
+        Method::Source => cursor,
+    }
+}

@@ -1,0 +1,246 @@
+//! Versions that are kept.
+ghost use Rattle.std.specs.Prelude.{◌≡◌, ◌+◌, ◌-◌, ◌<◌, ◌^◌, ℕ, List, [], ◌∷◌, map, length, position, slice_get, slice_set, option_map, None, Some, IfOk};
+ghost use Rattle.std.specs.List.{AllByRecursion};
+ghost use Rattle.slot_core.specs.declared.slots.Count.{Count};
+ghost use Rattle.slot_core.specs.Counts.{identity_at, open_at, slots_at, IdentitiesDiffer};
+ghost use Rattle.plan_types.specs.Lines.{has_line};
+ghost use Rattle.plan_types.specs.Sound.{IsSoundBackend, IsSoundPlan};
+ghost use Rattle.plan_types.specs.declared.plan.Backend as backends;
+ghost use Rattle.conn_model.specs.declared.plain.Version as versions;
+ghost use Rattle.conn_model.specs.Answer.{version_at};
+ghost use Rattle.conn_model.specs.History.{new_version, with_offer};
+ghost use Rattle.conn_model.specs.Servers.{cursor_at, identity_in, pick_in, with_cursor};
+ghost use Rattle.conn_versions.specs.Kept.{AreCounted, AreTied};
+ghost use Rattle.conn_versions.specs.Slots.{OnlyAdds};
+ghost use Rattle.conn_versions.specs.Versions.{has_number, open_to, AreSound, HasServer};
+
+use crate::opening::{cursors, table_ids};
+use crate::picks::{BackendPicks, pick, picks_of, slot_of, use_server};
+use addr_core::Addr;
+use conn_model::plain::Version;
+use list_core::Seq;
+use plan_types::{Backend, Plan, Server};
+use proxy_types::Place;
+use slot_core::{Slot, Slots};
+use std::alloc::{AllocError, Global};
+use std::marker::Model;
+use std::mem;
+
+/// What picks of the backends of one version go by.
+#[derive(Debug, Drop)]
+pub struct VersionPicks {
+    pub backends: Vec<BackendPicks>,
+}
+
+/// The versions that are kept, with what picks of their servers need. Of each server the open connections are counted,
+/// by the name of its backend, its own name and its address, through all versions.
+#[derive(Debug, Drop)]
+pub struct Versions {
+    alloc: Global,
+    versions: Vec<Version>,
+    /// Of each version.
+    picks: Vec<VersionPicks>,
+    slots: Slots,
+}
+
+impl Model for Versions {
+    ghost use Rattle.conn_versions.specs.Versions.{VersionsValue};
+    ghost use Rattle.conn_versions.specs.Kept.{AreKept};
+
+    ghost Value = { VersionsValue };
+
+    ghost view = { λ v. record { versions = v.versions.items; counts = v.slots } };
+
+    ghost invariant = { λ v. AreKept v.slots v.versions.items v.picks.items };
+}
+
+impl Versions {
+    /// The first version, of that plan. No connection is open, and nothing of its backends was used.
+    pub fn new(alloc: Global, plan: Plan) -> Result<Versions, AllocError>
+        requires { IsSoundPlan plan }
+        ensures versions { IfOk result (λ kept. kept.versions ≡ new_version 1 plan ∷ []) }
+        ensures open { IfOk result (λ kept. (place : ℕ) → open_at place kept.counts ≡ 0) }
+    {
+        let mut slots = Slots::new(alloc);
+        let backends = picks_of_all(alloc, plan.backends.as_slice(), &mut slots)?;
+        let mut picks = Vec::new(alloc);
+        picks.push(VersionPicks { backends })?;
+        let mut versions = Vec::new(alloc);
+        versions.push(first_version(alloc, plan)?)?;
+        Ok(Versions {
+            alloc,
+            versions,
+            picks,
+            slots,
+        })
+    }
+
+    /// By number, the newest last.
+    pub fn as_slice(&self) -> &[Version]
+        ensures versions { result.now ≡ self.now.versions }
+        ensures sound { AreSound self.now.versions }
+        ensures apart { IdentitiesDiffer self.now.counts }
+    {
+        self.versions.as_slice()
+    }
+
+    /// The number of the server that is picked for a source (HAProxy manual, `balance`), of the backend of that number
+    /// in the version of that number. None where no server that may be used has room, or where there is no such backend.
+    pub fn pick(&self, version: u64, backend: u16, source: &Addr) -> Option<u16>
+        ensures { (kept : versions.Version) (found : backends.Backend) → version_at self.now.versions version ≡ Some kept → slice_get kept.plan.backends backend ≡ Some found →
+            result ≡ option_map (λ turn. turn.server) (pick_in (open_to self.now.counts) found (cursor_at kept.cursors backend) source.now) }
+    {
+        let place = place_of(self.versions.as_slice(), version)?;
+        let number = usize::from(backend);
+        let kept = &self.versions[place];
+        let own = &self.picks[place];
+        if number < kept.plan.backends.len() {
+            pick(
+                &kept.plan.backends.as_slice()[number],
+                cursor_at(kept.cursors.as_slice(), number),
+                &own.backends[number],
+                &self.slots,
+                source,
+            )
+        } else {
+            None
+        }
+    }
+
+    /// How many connections to a server of a backend are open.
+    pub fn connections(&self, backend: &Backend, server: &Server) -> u64
+        ensures { result ≡ open_to self.now.counts (identity_in backend.now server.now) }
+    {
+        self.slots.count_of(backend.name.as_slice(), server.name.as_slice(), &server.to)
+    }
+
+    /// Counts one more open connection of the server of a line, which has that number in its backend, and moves what was
+    /// last used of the backend. It takes no memory.
+    pub fn offer(&mut self, version: u64, line: u32, server: u16) -> Slot
+        requires there { HasServer self.old.versions version line server }
+        requires below { (place : ℕ) → open_at place self.old.counts < 2 ^ 64 - 1 }
+        ensures versions { self.new.versions ≡ map (with_offer version line server) self.old.versions }
+        ensures slot { (there : HasServer self.old.versions version line server) → identity_at result.place self.new.counts ≡ Some (identity_in there.backend there.server) }
+        ensures open { (place : ℕ) → open_at place self.new.counts ≡ open_at place self.old.counts + slots_at place result }
+        ensures identities { (place : ℕ) → identity_at place self.new.counts ≡ identity_at place self.old.counts }
+    {
+        let Some(place) = place_of(self.versions.as_slice(), version) else {
+            unreachable!()
+        };
+        let Some(number) = line_place(self.versions[place].plan.backends.as_slice(), line) else {
+            unreachable!()
+        };
+        let ix = slot_of(&self.picks[place].backends[number], server);
+        let version = &mut self.versions[place];
+        let own = &mut self.picks[place].backends;
+        move_cursor(self.alloc, version, own, number, server);
+        self.slots.take(ix)
+    }
+
+    /// Counts one open connection of a server less. It takes no memory.
+    pub fn give_back(&mut self, slot: Slot)
+        requires { 0 < open_at slot.place self.old.counts }
+        ensures versions { self.new.versions ≡ self.old.versions }
+        ensures open { (place : ℕ) → open_at place self.new.counts + slots_at place slot ≡ open_at place self.old.counts }
+        ensures identities { (place : ℕ) → identity_at place self.new.counts ≡ identity_at place self.old.counts }
+    {
+        self.slots.give_back(slot);
+    }
+}
+
+/// The first version, of that plan.
+fn first_version(alloc: Global, plan: Plan) -> Result<Version, AllocError>
+    requires { IsSoundPlan plan }
+    ensures { IfOk result (λ version. version ≡ new_version 1 plan) }
+{
+    let tables = table_ids(alloc, 1, plan.tables.as_slice())?;
+    let cursors = cursors(alloc, plan.backends.as_slice())?;
+    Ok(Version {
+        number: 1,
+        plan,
+        tables,
+        cursors,
+    })
+}
+
+/// What picks of each backend go by where nothing was used.
+fn picks_of_all(
+    alloc: Global,
+    backends: &[Backend],
+    slots: &mut Slots,
+) -> Result<Vec<BackendPicks>, AllocError>
+    requires sound { AllByRecursion IsSoundBackend backends.now }
+    requires apart { IdentitiesDiffer slots.old }
+    ensures tied { IfOk result (λ own. AreTied backends.now (map (λ backend. None) backends.now) own.items) }
+    ensures counted { IfOk result (λ own. AreCounted slots.new backends.now own.items) }
+    ensures adds { IfOk result (λ own. OnlyAdds slots.old slots.new) }
+{
+    let mut all = Vec::new(alloc);
+    for backend in backends {
+        all.push(picks_of(alloc, backend, slots)?)?;
+    }
+    Ok(all)
+}
+
+fn place_of(versions: &[Version], number: u64) -> Option<usize>
+    ensures { result ≡ position (has_number number) versions.now }
+{
+    versions.iter().position(|version| version.number == number)
+}
+
+fn has_line(backend: &Backend, line: u32) -> bool
+    ensures { result ≡ has_line line backend.now }
+{
+    backend
+        .servers
+        .as_slice()
+        .iter()
+        .any(|server| server.line == line)
+}
+
+fn line_place(backends: &[Backend], line: u32) -> Option<usize>
+    ensures { result ≡ position (has_line line) backends.now }
+{
+    backends.iter().position(|backend| has_line(backend, line))
+}
+
+fn cursor_at(cursors: &[Option<Place>], number: usize) -> Option<Place>
+    ensures { result ≡ cursor_at cursors.now number }
+{
+    match cursors.get(number) {
+        Some(cursor) => *cursor,
+        None => None,
+    }
+}
+
+/// Puts a cursor in place of one of a version.
+fn set_cursor(alloc: Global, version: &mut Version, number: usize, cursor: Option<Place>)
+    requires { number < length version.old.cursors }
+    ensures { version.new ≡ record version.old { cursors = slice_set version.old.cursors number cursor } }
+{
+    let cursors = mem::replace(&mut version.cursors, Seq::new(alloc));
+    let mut cursors = cursors.into_vec();
+    cursors[number] = cursor;
+    version.cursors = Seq::of(cursors);
+}
+
+/// Moves what was last used of the backend of that number, once that server of it was offered.
+fn move_cursor(
+    alloc: Global,
+    version: &mut Version,
+    own: &mut Vec<BackendPicks>,
+    number: usize,
+    server: u16,
+)
+    requires there { number < length version.old.plan.backends }
+    requires sound { AllByRecursion IsSoundBackend version.old.plan.backends }
+    requires tied { AreTied version.old.plan.backends version.old.cursors own.old.items }
+    ensures version { version.new ≡ record version.old { cursors = with_cursor version.old.plan.backends number server version.old.cursors } }
+    ensures tied { AreTied version.new.plan.backends version.new.cursors own.new.items }
+    ensures counted { (counts : List Count) → AreCounted counts version.old.plan.backends own.old.items → AreCounted counts version.new.plan.backends own.new.items }
+{
+    let backend = &version.plan.backends.as_slice()[number];
+    let cursor = cursor_at(version.cursors.as_slice(), number);
+    let next = use_server(backend, cursor, &mut own[number], server);
+    set_cursor(alloc, version, number, next);
+}
