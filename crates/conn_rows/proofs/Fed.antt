@@ -11,7 +11,7 @@ use Rattle.conn_rows.specs.declared.row.Stage.{Stage}
 use Rattle.conn_rows.specs.declared.row.Stage.TheVariants.{Waiting, Offered}
 use Rattle.conn_rows.specs.declared.row.StoredRow.{StoredRow}
 use Rattle.conn_rows.specs.Stored.{IsHeld, has_serial, rest_kept, rest_within}
-use Rattle.conn_rows.specs.Changes.{held_under, stage_fed}
+use Rattle.conn_rows.specs.Changes.{held_under, stage_fed, stage_up}
 
 -- nothing is held of nothing
 pub none_held : (rest : Rest) → IsRest [] rest → rest ≡ Read (record { items = [] })
@@ -26,6 +26,11 @@ fed_held (Waiting rest) piece (b, is) = by (status_on rest piece) refl
     by Wait waits = (b ++ piece, (goes_on b piece rest is).holds waits)
     by (Whole count meaning) decided = ([], (refl, refl))
     by (Fault fault count) decided = ([], (refl, refl))
+
+-- and after its server took it
+pub up_held : (stage : Stage) → IsHeld stage → IsHeld (stage_up stage)
+up_held (Waiting rest) held = held
+up_held (Offered seat) held = tt
 
 -- a connection that waits is open
 pub found_waiting : (serial : ℕ) (rows : List StoredRow) → IsSome (rest_kept serial rows) → IsSome (find (has_serial serial) rows)

@@ -1,4 +1,6 @@
 pub mod Serials
+pub mod Served
+pub mod OpenTo
 pub mod Fed
 pub mod Plain
 pub mod Totals

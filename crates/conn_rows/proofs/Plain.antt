@@ -16,7 +16,8 @@ use Rattle.conn_model.specs.declared.plain.Row.{Row}
 use Rattle.conn_model.specs.declared.plain.FrontendRows.{FrontendRows}
 use Rattle.plan_types.specs.declared.plan.Frontend.{Frontend}
 use Rattle.plan_types.specs.declared.plan.Plan.{Plan}
-use Rattle.conn_model.specs.History.{new_version, opening, tracks_at}
+use Rattle.conn_model.specs.History.{new_version, opening, phase_up, tracks_at, with_offer}
+use Rattle.slot_core.specs.declared.slots.SlotIx.{SlotIx}
 use Rattle.plan_types.specs.declared.track.Track.{Track}
 use Rattle.conn_tables.proofs.CounterLemmas.{free_counter}
 use Rattle.std.specs.List.{enumerate_from}
@@ -26,13 +27,16 @@ use Rattle.conn_model.specs.declared.plain.Version.{Version}
 use Rattle.conn_model.specs.Answer.{row_at, row_in, rest_in}
 use Rattle.conn_tables.specs.Tables.{StoredTables, plain_table}
 use Rattle.conn_rows.specs.Value.{RowsValue, rows_of}
+use Rattle.conn_model.specs.Answer.{awaits_server}
+use Rattle.conn_model.specs.declared.plain.Phase.{Phase}
 use Rattle.conn_rows.specs.Summaries.{is_waiting, stored_summary, summary_of}
 use Rattle.conn_rows.specs.declared.row.Seat.{Seat}
 use Rattle.conn_rows.specs.declared.row.Stage.{Stage}
 use Rattle.conn_rows.specs.declared.row.Stage.TheVariants.{Waiting, Offered}
 use Rattle.conn_rows.specs.declared.row.StoredRow.{StoredRow}
-use Rattle.conn_rows.specs.Stored.{StoredFrontend, at_stage, has_serial, phase_of, plan_at, plain_frontend, plain_row, rest_kept, rest_within, stored_arrival, stored_in, waits, with_stored}
-use Rattle.conn_rows.specs.Changes.{rest_at, row_fed, row_offered, row_tracking, stored_fed, phase_fed, stage_fed, with_arrival, with_item, with_conn, with_row, without_conn, without_row}
+use Rattle.conn_rows.specs.Stored.{StoredFrontend, assignment_in, at_stage, awaits, has_serial, phase_of, phase_with, plan_at, plain_frontend, plain_row, rest_kept, rest_within, stored_arrival, stored_in, waits, with_stored}
+use Rattle.conn_rows.proofs.Served.{version-offer}
+use Rattle.conn_rows.specs.Changes.{rest_at, row_fed, row_offered, row_tracking, row_up, stored_fed, stored_up, phase_fed, stage_fed, stage_offered, stage_up, with_arrival, with_item, with_conn, with_row, without_conn, without_row}
 
 pub get-map : {X Y : Type 0} (f : X → Y) (xs : List X) (n : ℕ) → slice_get (map f xs) n ≡ option_map f (slice_get xs n)
 get-map f [] n = refl
@@ -100,12 +104,32 @@ fed_plain versions own serial piece =
       where
         by : (stage : Stage) → phase_of (plan_at versions row.version) (stage_fed piece stage) ≡ phase_fed piece (phase_of (plan_at versions row.version) stage)
         by (Waiting rest) = refl
-        by (Offered seat) = refl
+        by (Offered held) = taken held.is_up
+          where
+            taken : (b : Bool) → phase_with b (assignment_in (plan_at versions row.version) held.seat) ≡ phase_fed piece (phase_with b (assignment_in (plan_at versions row.version) held.seat))
+            taken true = refl
+            taken false = refl
 
-pub offered_plain : (versions : List Version) (own : StoredFrontend) (serial : ℕ) (seat : Seat) →
-    plain_frontend versions (record own { rows = with_stored serial (at_stage (Offered seat)) own.rows }) ≡ with_row serial (row_offered versions seat) (plain_frontend versions own)
-offered_plain versions own serial seat =
-    ap (λ rows. record { name = own.name; serial = own.serial; rows = rows }) (with-plain versions serial (at_stage (Offered seat)) (row_offered versions seat) own.rows (λ row. refl))
+pub up_plain : (versions : List Version) (own : StoredFrontend) (serial : ℕ) →
+    plain_frontend versions (record own { rows = with_stored serial stored_up own.rows }) ≡ with_row serial row_up (plain_frontend versions own)
+up_plain versions own serial =
+    ap (λ rows. record { name = own.name; serial = own.serial; rows = rows }) (with-plain versions serial stored_up row_up own.rows same)
+  where
+    same : (row : StoredRow) → plain_row versions (stored_up row) ≡ row_up (plain_row versions row)
+    same row = ap (λ phase. record (plain_row versions row) { phase = phase }) (by row.stage)
+      where
+        by : (stage : Stage) → phase_of (plan_at versions row.version) (stage_up stage) ≡ phase_up (phase_of (plan_at versions row.version) stage)
+        by (Waiting rest) = refl
+        by (Offered held) = taken held.is_up
+          where
+            taken : (b : Bool) → phase_with true (assignment_in (plan_at versions row.version) held.seat) ≡ phase_up (phase_with b (assignment_in (plan_at versions row.version) held.seat))
+            taken true = refl
+            taken false = refl
+
+pub offered_plain : (versions : List Version) (own : StoredFrontend) (serial : ℕ) (seat : Seat) (slot : SlotIx) →
+    plain_frontend versions (record own { rows = with_stored serial (at_stage (stage_offered seat slot)) own.rows }) ≡ with_row serial (row_offered versions seat) (plain_frontend versions own)
+offered_plain versions own serial seat slot =
+    ap (λ rows. record { name = own.name; serial = own.serial; rows = rows }) (with-plain versions serial (at_stage (stage_offered seat slot)) (row_offered versions seat) own.rows (λ row. refl))
 
 pub others_plain : (versions : List Version) (own : StoredFrontend) (serial : ℕ) →
     plain_frontend versions (record own { rows = filter (λ row. not (has_serial serial row)) own.rows }) ≡ without_row serial (plain_frontend versions own)
@@ -126,7 +150,11 @@ rest_is versions frontends id own there =
   where
     stage : (row : StoredRow) (s : Stage) → rest_in (phase_of (plan_at versions row.version) s) ≡ rest_within s
     stage row (Waiting rest) = refl
-    stage row (Offered seat) = refl
+    stage row (Offered held) = taken held.is_up
+      where
+        taken : (b : Bool) → rest_in (phase_with b (assignment_in (plan_at versions row.version) held.seat)) ≡ None
+        taken true = refl
+        taken false = refl
 
     by : (o : Option StoredRow) → option_and_then (λ row. rest_in row.phase) (option_map (plain_row versions) o) ≡ option_and_then (λ row. rest_within row.stage) o
     by None = refl
@@ -195,6 +223,20 @@ rest_there frontends id some = row_there frontends id (by (row_at frontends id) 
     by None some = absurd (cc)
     by (Some row) some = refl
 
+pub rest_open : (frontends : List FrontendRows) (id : ConnId) → IsSome (rest_at frontends id) → IsSome (row_at frontends id)
+rest_open frontends id some = by (row_at frontends id) some
+  where
+    by : (o : Option Row) → IsSome (option_and_then (λ row. rest_in row.phase) o) → IsSome o
+    by None some = absurd (cc)
+    by (Some row) some = refl
+
+-- the version that judges a connection
+pub judged_there : (frontends : List StoredFrontend) (versions : List Version) (tables : StoredTables) (state : RowsValue) (id : ConnId) (own : StoredFrontend) (row : StoredRow) (version : ℕ) →
+    value_of frontends versions tables ≡ state → slice_get frontends id.frontend ≡ Some own → find (has_serial id.serial) own.rows ≡ Some row → IfSome (row_at state.frontends id) (λ row. row.version ≡ version) → row.version ≡ version
+judged_there frontends versions tables state id own row version state_is there found judged =
+    subst (λ o. IfSome o (λ (row : Row). row.version ≡ version))
+    (row_of_state frontends versions tables state id state_is ∙ ap (λ o. option_map (plain_row versions) (stored_in id.serial o)) there ∙ ap (option_map (plain_row versions)) found) judged
+
 -- frontends of which nothing is open
 pub empty_plain : (versions : List Version) (frontends : List Frontend) (last : ℕ) →
     map (plain_frontend versions) (map (λ frontend. record { name = frontend.name; serial = last; rows = [] }) frontends) ≡ map (λ frontend. record { name = frontend.name; serial = last; rows = [] }) frontends
@@ -203,11 +245,25 @@ empty_plain versions (f ∷ frontends) last = ap (λ fs. record { name = f.name;
 
 -- what is said of a row
 pub summed : (versions : List Version) (row : StoredRow) → stored_summary row ≡ summary_of (plain_row versions row)
-summed versions row = ap (λ b. record { version = row.version; real = row.real; accepted = row.accepted; waits = b }) (by row.stage)
+summed versions row =
+    ap (λ b. record { version = row.version; real = row.real; accepted = row.accepted; waits = b; awaits_server = awaits row.stage }) (by row.stage)
+    ∙ ap (λ b. record { version = row.version; real = row.real; accepted = row.accepted; waits = is_waiting (phase_of (plan_at versions row.version) row.stage); awaits_server = b }) (offered row.stage)
   where
     by : (stage : Stage) → waits stage ≡ is_waiting (phase_of (plan_at versions row.version) stage)
     by (Waiting rest) = refl
-    by (Offered seat) = refl
+    by (Offered held) = taken held.is_up
+      where
+        taken : (b : Bool) → false ≡ is_waiting (phase_with b (assignment_in (plan_at versions row.version) held.seat))
+        taken true = refl
+        taken false = refl
+
+    offered : (stage : Stage) → awaits stage ≡ awaits_server (phase_of (plan_at versions row.version) stage)
+    offered (Waiting rest) = refl
+    offered (Offered held) = taken held.is_up
+      where
+        taken : (b : Bool) → not b ≡ awaits_server (phase_with b (assignment_in (plan_at versions row.version) held.seat))
+        taken true = refl
+        taken false = refl
 
 pub on_ok : {X E P Q : Type 0} (r : Result X E) → (P → Q) → OnOk r P → OnOk r Q
 on_ok (Ok x) more p = more p
@@ -316,3 +372,38 @@ tracking_value frontends versions tables rest value n id own next track value_is
     ap (λ n. map (plain_frontend versions) (set frontends n next)) n_is ∙ set-map (plain_frontend versions) (with_row id.serial (row_tracking track)) frontends id.frontend own next there next_is in
     let less : rest.spare ≡ tables.spare - 1 = omega (arith, spare) in
     subst P value_is (rw (all, tables_are, less) refl)
+
+-- versions of the same plans say the same of the rows
+rows_alike : (versions others : List Version) → ((n : ℕ) → plan_at others n ≡ plan_at versions n) → (rows : List StoredRow) → map (plain_row others) rows ≡ map (plain_row versions) rows
+rows_alike versions others same [] = refl
+rows_alike versions others same (row ∷ rows) =
+    let here : plain_row others row ≡ plain_row versions row = ap (λ plan. record (plain_row versions row) { phase = phase_of plan row.stage }) (same row.version) in
+    let more = rows_alike versions others same rows in
+    cc (here, more)
+
+frontends_alike : (versions others : List Version) → ((n : ℕ) → plan_at others n ≡ plan_at versions n) → (frontends : List StoredFrontend) → map (plain_frontend others) frontends ≡ map (plain_frontend versions) frontends
+frontends_alike versions others same [] = refl
+frontends_alike versions others same (own ∷ frontends) =
+    let here : plain_frontend others own ≡ plain_frontend versions own = ap (λ rows. record { name = own.name; serial = own.serial; rows = rows }) (rows_alike versions others same own.rows) in
+    let more = frontends_alike versions others same frontends in
+    cc (here, more)
+
+-- a connection is offered a server, which moves what was last used of its backend
+pub offered_value : (frontends : List StoredFrontend) (versions others : List Version) (tables : StoredTables) (value : RowsValue) (n : ℕ) (id : ConnId) (own : StoredFrontend) (version : ℕ) (seat : Seat) (slot : SlotIx) →
+    value_of frontends versions tables ≡ value → n ≡ id.frontend → slice_get frontends id.frontend ≡ Some own → others ≡ map (with_offer version seat.line seat.server) versions →
+    value_of (set frontends n (record own { rows = with_stored id.serial (at_stage (stage_offered seat slot)) own.rows })) others tables ≡
+    record value { frontends = with_conn id (row_offered value.versions seat) value.frontends; versions = map (with_offer version seat.line seat.server) value.versions }
+offered_value frontends versions others tables value n id own version seat slot value_is n_is there others_are =
+    let next : StoredFrontend = record own { rows = with_stored id.serial (at_stage (stage_offered seat slot)) own.rows } in
+    let moved : value_of (set frontends n next) versions tables ≡ record value { frontends = with_conn id (row_offered value.versions seat) value.frontends } =
+    changed frontends versions tables value n id.frontend own next (λ versions. with_row id.serial (row_offered versions seat)) value_is n_is there (offered_plain versions own id.serial seat slot) in
+    let alike : map (plain_frontend others) (set frontends n next) ≡ map (plain_frontend versions) (set frontends n next) =
+    frontends_alike versions others (λ m. ap (λ vs. plan_at vs m) others_are ∙ version-offer version seat.line seat.server versions m) (set frontends n next) in
+    let named : others ≡ map (with_offer version seat.line seat.server) value.versions = others_are ∙ ap (λ v. map (with_offer version seat.line seat.server) v.versions) value_is in
+    let first : value_of (set frontends n next) others tables ≡ record (value_of (set frontends n next) versions tables) { versions = others } =
+    ap {B = RowsValue} (λ fs. record { frontends = fs; versions = others; tables = map plain_table tables.tables; spare = tables.spare }) alike in
+    let second : record (value_of (set frontends n next) versions tables) { versions = others } ≡ record (value_of (set frontends n next) versions tables) { versions = map (with_offer version seat.line seat.server) value.versions } =
+    ap (λ vs. record (value_of (set frontends n next) versions tables) { versions = vs }) named in
+    let third : record (value_of (set frontends n next) versions tables) { versions = map (with_offer version seat.line seat.server) value.versions } ≡ record value { frontends = with_item id.frontend (with_row id.serial (row_offered value.versions seat)) value.frontends; versions = map (with_offer version seat.line seat.server) value.versions } =
+    ap (λ (v : RowsValue). record v { versions = map (with_offer version seat.line seat.server) value.versions }) moved in
+    first ∙ second ∙ third

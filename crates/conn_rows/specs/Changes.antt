@@ -1,5 +1,5 @@
 -- What the calls make of the open connections.
-use Rattle.std.specs.Prelude.{ℕ, not, List, [], ◌∷◌, filter, slice_get, slice_set, ◌++◌, ◌+◌, ◌==◌, Option, option_and_then}
+use Rattle.std.specs.Prelude.{ℕ, true, false, not, List, [], ◌∷◌, filter, slice_get, slice_set, ◌++◌, ◌+◌, ◌==◌, Option, option_and_then}
 use Rattle.std.specs.Option.{option_map_or}
 use Rattle.addr_core.specs.PairValue.{PairValue}
 use Rattle.pp_any.specs.declared.rest.Rest.{Rest}
@@ -8,14 +8,15 @@ use Rattle.pp_any.specs.Status.{Status, Wait, Whole, Fault}
 use Rattle.pp_any.specs.NextPiece.{rest_on, status_on}
 use Rattle.conn_model.specs.declared.event.ConnId.{ConnId}
 use Rattle.conn_model.specs.declared.plain.Phase.{Phase}
-use Rattle.conn_model.specs.declared.plain.Phase.TheVariants.{Waiting, Offered}
+use Rattle.slot_core.specs.declared.slots.SlotIx.{SlotIx}
+use Rattle.conn_model.specs.declared.plain.Phase.TheVariants.{Waiting, Offered, Up}
 use Rattle.conn_model.specs.declared.plain.Row.{Row}
 use Rattle.conn_model.specs.declared.plain.FrontendRows.{FrontendRows}
 use Rattle.conn_model.specs.declared.plain.Version.{Version}
 use Rattle.conn_model.specs.Counts.{change_row}
 use Rattle.plan_types.specs.declared.track.Track.{Track}
 use Rattle.conn_model.specs.Answer.{new_row, rest_in, row_at}
-use Rattle.conn_model.specs.History.{by_counter}
+use Rattle.conn_model.specs.History.{by_counter, phase_up}
 use Rattle.conn_rows.specs.declared.row.Seat.{Seat}
 use Rattle.conn_rows.specs.declared.row.Stage.{Stage}
 use Rattle.conn_rows.specs.declared.row.Stage.TheVariants as stages
@@ -79,6 +80,7 @@ held_after rest piece = held_under (status_on rest piece) (rest_on rest piece)
 abbrev pub phase_fed : List ℕ → Phase → Phase
 phase_fed piece (Waiting rest) = Waiting (held_after rest piece)
 phase_fed piece (Offered assignment) = Offered assignment
+phase_fed piece (Up assignment) = Up assignment
 
 -- a connection after a piece
 abbrev pub row_fed : List ℕ → Row → Row
@@ -86,7 +88,7 @@ row_fed piece row = record row { phase = phase_fed piece row.phase }
 
 abbrev pub stage_fed : List ℕ → Stage → Stage
 stage_fed piece (stages.Waiting rest) = stages.Waiting (held_after rest piece)
-stage_fed piece (stages.Offered seat) = stages.Offered seat
+stage_fed piece (stages.Offered held) = stages.Offered held
 
 abbrev pub stored_fed : List ℕ → StoredRow → StoredRow
 stored_fed piece row = record row { stage = stage_fed piece row.stage }
@@ -96,6 +98,20 @@ stored_fed piece row = record row { stage = stage_fed piece row.stage }
 -- a connection that is offered a server of its version
 abbrev pub row_offered : List Version → Seat → Row → Row
 row_offered versions seat row = record row { phase = Offered (assignment_in (plan_at versions row.version) seat) }
+
+abbrev pub stage_offered : Seat → SlotIx → Stage
+stage_offered seat slot = stages.Offered (record { seat = seat; slot = slot; is_up = false })
+
+-- a connection that its server took
+abbrev pub row_up : Row → Row
+row_up row = record row { phase = phase_up row.phase }
+
+abbrev pub stage_up : Stage → Stage
+stage_up (stages.Waiting rest) = stages.Waiting rest
+stage_up (stages.Offered held) = stages.Offered (record held { is_up = true })
+
+abbrev pub stored_up : StoredRow → StoredRow
+stored_up row = record row { stage = stage_up row.stage }
 
 -- A tracking.
 

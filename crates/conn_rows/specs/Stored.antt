@@ -1,5 +1,5 @@
 -- What the rows keep, and the plain state that it says.
-use Rattle.std.specs.Prelude.{ℕ, Bool, true, false, List, [], map, ◌≤◌, ◌==◌, if◌then◌else◌, find, Option, Some, None, option_and_then}
+use Rattle.std.specs.Prelude.{ℕ, Bool, true, false, not, List, [], map, ◌≤◌, ◌==◌, if◌then◌else◌, find, Option, Some, None, option_and_then}
 use Rattle.std.specs.List.{AllByRecursion}
 use Rattle.std.specs.Option.{option_map}
 use Rattle.plan_types.specs.declared.plan.Plan.{Plan}
@@ -7,6 +7,7 @@ use Rattle.addr_core.specs.PairValue.{PairValue}
 use Rattle.pp_any.specs.declared.rest.Rest.{Rest}
 use Rattle.pp_any.specs.declared.rest.Rest.TheVariants.{Read}
 use Rattle.pp_any.specs.Rest.{IsRest}
+use Rattle.slot_core.specs.declared.slots.SlotIx.{SlotIx}
 use Rattle.conn_model.specs.declared.plain.Assignment.{Assignment}
 use Rattle.conn_model.specs.declared.plain.Phase.{Phase}
 use Rattle.conn_model.specs.declared.plain.Phase.TheVariants as phases
@@ -36,9 +37,14 @@ plan_at versions number = option_map (λ version. version.plan) (version_at vers
 abbrev pub assignment_in : Option Plan → Seat → Assignment
 assignment_in plan seat = record { server = identity_of plan seat.line seat.server seat.to; line = seat.line; judged = seat.judged }
 
+-- a connection that was offered a server, which took it or did not yet
+abbrev pub phase_with : Bool → Assignment → Phase
+phase_with false assignment = phases.Offered assignment
+phase_with true assignment = phases.Up assignment
+
 abbrev pub phase_of : Option Plan → Stage → Phase
 phase_of plan (Waiting rest) = phases.Waiting rest
-phase_of plan (Offered seat) = phases.Offered (assignment_in plan seat)
+phase_of plan (Offered held) = phase_with held.is_up (assignment_in plan held.seat)
 
 abbrev pub plain_row : List Version → StoredRow → Row
 plain_row versions row = record {
@@ -56,7 +62,7 @@ plain_frontend versions own = record { name = own.name; serial = own.serial; row
 -- where it waits, its parser was fed some bytes
 abbrev pub IsHeld : Stage → Type 0
 IsHeld (Waiting rest) = (b : List ℕ) × IsRest b rest
-IsHeld (Offered seat) = Unit {0}
+IsHeld (Offered held) = Unit {0}
 
 -- the serials rise, and none is above the last that was given out
 pub record AreOpen (last : ℕ) (rows : List StoredRow) : Type 0 where
@@ -80,7 +86,7 @@ stored_tracking counter tracking row = record row { tracks = at_counter counter 
 
 abbrev pub rest_within : Stage → Option Rest
 rest_within (Waiting rest) = Some rest
-rest_within (Offered seat) = None
+rest_within (Offered held) = None
 
 -- what the connection of a serial holds of its header, where it waits
 abbrev pub rest_kept : ℕ → List StoredRow → Option Rest
@@ -92,7 +98,17 @@ stored_arrival serial version real accepted = record { serial = serial; version 
 
 abbrev pub waits : Stage → Bool
 waits (Waiting rest) = true
-waits (Offered seat) = false
+waits (Offered held) = false
+
+-- it was offered a server, which did not take it yet
+abbrev pub awaits : Stage → Bool
+awaits (Waiting rest) = false
+awaits (Offered held) = not held.is_up
+
+-- the open connection of a server that it is
+abbrev pub slot_of : Stage → Option SlotIx
+slot_of (Waiting rest) = None
+slot_of (Offered held) = Some held.slot
 
 -- the row of a serial in a frontend, if there are both
 abbrev pub stored_in : ℕ → Option StoredFrontend → Option StoredRow

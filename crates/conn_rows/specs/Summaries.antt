@@ -1,23 +1,25 @@
 -- What is said of one open connection, and of one frontend.
 use Rattle.std.specs.Prelude.{Bool, true, false, length, ◌≡◌}
 use Rattle.conn_model.specs.declared.plain.Phase.{Phase}
-use Rattle.conn_model.specs.declared.plain.Phase.TheVariants.{Waiting, Offered}
+use Rattle.conn_model.specs.declared.plain.Phase.TheVariants.{Waiting, Offered, Up}
 use Rattle.conn_model.specs.declared.plain.Row.{Row}
+use Rattle.conn_model.specs.Answer.{awaits_server}
 use Rattle.conn_model.specs.declared.plain.FrontendRows.{FrontendRows}
 use Rattle.conn_rows.specs.declared.row.RowSummary.{RowSummary}
 use Rattle.conn_rows.specs.declared.row.StoredRow.{StoredRow}
-use Rattle.conn_rows.specs.Stored.{waits}
+use Rattle.conn_rows.specs.Stored.{awaits, waits}
 use Rattle.conn_rows.specs.declared.rows.FrontendSummary.{FrontendSummary}
 
 abbrev pub is_waiting : Phase → Bool
 is_waiting (Waiting rest) = true
 is_waiting (Offered assignment) = false
+is_waiting (Up assignment) = false
 
 abbrev pub summary_of : Row → RowSummary
-summary_of row = record { version = row.version; real = row.real; accepted = row.accepted; waits = is_waiting row.phase }
+summary_of row = record { version = row.version; real = row.real; accepted = row.accepted; waits = is_waiting row.phase; awaits_server = awaits_server row.phase }
 
 abbrev pub stored_summary : StoredRow → RowSummary
-stored_summary row = record { version = row.version; real = row.real; accepted = row.accepted; waits = waits row.stage }
+stored_summary row = record { version = row.version; real = row.real; accepted = row.accepted; waits = waits row.stage; awaits_server = awaits row.stage }
 
 pub record Sums (own : FrontendRows) (summary : FrontendSummary) : Type 0 where
   pub name : summary.name.now ≡ own.name

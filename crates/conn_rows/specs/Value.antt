@@ -1,18 +1,23 @@
 -- What contracts see of the rows, and what is always true of them.
-use Rattle.std.specs.Prelude.{ℕ, List, length, ◌≡◌, ◌≤◌, ◌<◌, ◌^◌}
+use Rattle.std.specs.Prelude.{ℕ, List, length, Option, Some, None, ◌≡◌, ◌≤◌, ◌<◌, ◌^◌}
 use Rattle.std.specs.List.{AllByRecursion}
+use Rattle.std.specs.Option.{option_map_or}
 use Rattle.addr_core.specs.declared.addr.Addr.{Addr}
+use Rattle.proxy_types.specs.declared.server.ServerIdentity.{ServerIdentity}
+use Rattle.slot_core.specs.declared.slots.SlotIx.{SlotIx}
+use Rattle.slot_core.specs.Counts.{identity_at, open_at, slots_at}
 use Rattle.plan_types.specs.Sound.{most_frontends}
 use Rattle.plan_types.specs.declared.track.TableId.{TableId}
 use Rattle.conn_model.specs.declared.plain.FrontendRows.{FrontendRows}
 use Rattle.conn_model.specs.declared.plain.Plain.{Plain}
 use Rattle.conn_model.specs.declared.plain.TableState.{TableState}
 use Rattle.conn_model.specs.declared.plain.Version.{Version}
-use Rattle.conn_model.specs.Counts.{total}
+use Rattle.conn_model.specs.Counts.{server_of, total}
 use Rattle.conn_rows.specs.declared.row.StoredRow.{StoredRow}
 use Rattle.conn_rows.specs.declared.rows.RowsState.{RowsState}
 use Rattle.conn_tables.specs.declared.tables.StoredTable.{StoredTable}
-use Rattle.conn_rows.specs.Stored.{StoredFrontend}
+use Rattle.conn_versions.specs.Versions.{VersionsValue}
+use Rattle.conn_rows.specs.Stored.{StoredFrontend, phase_of, plan_at, slot_of}
 use Rattle.conn_tables.specs.Tables.{cur_in}
 use Rattle.conn_tables.specs.Tracks.{tracks_on}
 
@@ -46,3 +51,28 @@ pub record AreRows (frontends : List StoredFrontend) (tables : List StoredTable)
   pub few : length frontends ≤ most_frontends
   pub small : AllByRecursion (λ own. length own.rows < 2 ^ 56) frontends
   pub counted : (id : TableId) (key : Addr) → cur_in id key tables ≡ rows_total (row_on id key) frontends
+
+-- how many open connections of the server of a slot a row is: one, or none
+abbrev pub row_slots : ℕ → StoredRow → ℕ
+row_slots place row = option_map_or (slots_at place) (slot_of row.stage) 0
+
+-- a slot counts for that server
+abbrev pub CountsFor : VersionsValue → Option SlotIx → Option ServerIdentity → Type 0
+CountsFor kept None server = Unit {0}
+CountsFor kept (Some slot) server = identity_at slot.place kept.counts ≡ server
+
+-- the slot of a row counts for the server that the connection was offered
+abbrev pub HasSlot : VersionsValue → StoredRow → Type 0
+HasSlot kept row = CountsFor kept (slot_of row.stage) (server_of (phase_of (plan_at kept.versions row.version) row.stage))
+
+abbrev pub AllRows : (StoredRow → Type 0) → List StoredFrontend → Type 0
+AllRows P frontends = AllByRecursion (λ own. AllByRecursion P own.rows) frontends
+
+-- each open connection of a server is a row, and counts for the server that it was offered
+pub record AreServed (frontends : List StoredFrontend) (kept : VersionsValue) : Type 0 where
+  pub counted : (place : ℕ) → open_at place kept.counts ≡ rows_total (row_slots place) frontends
+  pub slots : AllRows (HasSlot kept) frontends
+
+pub record IsRowsState (frontends : List StoredFrontend) (kept : VersionsValue) (tables : List StoredTable) : Type 0 where
+  pub rows : AreRows frontends tables
+  pub served : AreServed frontends kept

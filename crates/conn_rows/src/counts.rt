@@ -45,7 +45,7 @@ fn is_at(stage: &Stage, plan: Option<&Plan>, name: &[u8]) -> bool
 {
     match stage {
         Stage::Waiting(_) => false,
-        Stage::Offered(seat) => match backend_of(plan, seat.line) {
+        Stage::Offered(held) => match backend_of(plan, held.seat.line) {
             Some(backend) => backend.name.as_slice() == name,
             None => name.is_empty(),
         },

@@ -1,5 +1,5 @@
 //! The open connections of one frontend.
-ghost use Rattle.std.specs.Prelude.{◌≡◌, ◌+◌, ◌^◌, ◌<◌, ◌≤◌, ℕ, List, [], ◌∷◌, ◌++◌, length, not, filter, find, map, IfOk, IfSome, IfNone, OnOk, OnErr, IsSome, None, Some, vec_len};
+ghost use Rattle.std.specs.Prelude.{◌≡◌, ◌+◌, ◌^◌, ◌<◌, ◌≤◌, ℕ, List, [], ◌∷◌, ◌++◌, length, slice_get, slice_set, not, filter, find, map, IfOk, IfSome, IfNone, OnOk, OnErr, IsSome, None, Some, vec_len};
 ghost use Rattle.std.specs.List.{position, AllByRecursion};
 ghost use Rattle.std.specs.Option.{option_copied};
 ghost use Rattle.pp_any.specs.declared.rest.Rest.{Rest};
@@ -11,17 +11,20 @@ ghost use Rattle.conn_model.specs.declared.plain.Version.{Version};
 ghost use Rattle.conn_model.specs.Counts.{change_row, total};
 ghost use Rattle.conn_model.specs.Words.{Rise};
 ghost use Rattle.conn_rows.specs.declared.row.StoredRow.{StoredRow};
-ghost use Rattle.conn_rows.specs.declared.row.Stage.TheVariants.{Offered};
 ghost use Rattle.conn_rows.specs.Stored.{IsHeld, StoredFrontend, at_stage, has_serial, plain_frontend, plain_row, rest_kept, rest_within, stored_arrival, stored_tracking, with_stored};
+ghost use Rattle.slot_core.specs.Counts.{open_at, slots_at};
 ghost use Rattle.conn_tables.specs.Tables.{cur_in};
 ghost use Rattle.conn_tables.specs.Tracks.{counter_on, on_counter, track_by};
-ghost use Rattle.conn_rows.specs.Value.{row_on, rows_total};
-ghost use Rattle.conn_rows.specs.Changes.{held_after, row_tracking, with_row, stage_fed, status_of, stored_fed, used_by};
+ghost use Rattle.conn_versions.specs.Versions.{VersionsValue};
+ghost use Rattle.conn_rows.specs.Value.{row_on, row_slots, rows_total, HasSlot};
+ghost use Rattle.conn_rows.specs.Changes.{held_after, row_tracking, with_row, stage_fed, stage_offered, stage_up, status_of, stored_fed, stored_up, used_by};
 
-use crate::row::{Seat, Stage, StoredRow};
+use crate::row::{HeldSeat, Holdings, Seat, Stage, StoredRow};
+use crate::slots::give_back;
 use addr_core::Pair;
 use conn_model::plain::{FrontendRows, Row, Version};
 use conn_tables::{Tables, Tracking};
+use conn_versions::{Slot, Versions};
 use list_core::{Duplicate, Seq};
 use pp_any::{Fed, HeaderFault, Parser};
 use pp_v1::Meaning;
@@ -139,13 +142,34 @@ impl FrontendState {
         feed_row(&mut self.rows, serial, piece)
     }
 
-    /// Gives a connection to a server.
-    pub fn offer(&mut self, serial: u64, seat: Seat)
-        requires { IsSome (find (has_serial serial) self.old.rows) }
-        ensures new { self.new ≡ record self.old { rows = with_stored serial (at_stage (Offered seat)) self.old.rows } }
+    /// Gives a connection that waits to a server.
+    pub fn offer(&mut self, serial: u64, seat: Seat, slot: Slot)
+        requires { IsSome (rest_kept serial self.old.rows) }
+        ensures new { self.new ≡ record self.old { rows = with_stored serial (at_stage (stage_offered seat slot)) self.old.rows } }
+        ensures slots { (place : ℕ) → total (row_slots place) self.new.rows ≡ total (row_slots place) self.old.rows + slots_at place slot }
+        ensures each { (kept : VersionsValue) → ((row : StoredRow) → find (has_serial serial) self.old.rows ≡ Some row → HasSlot kept (at_stage (stage_offered seat slot) row)) → AllByRecursion (HasSlot kept) self.old.rows → AllByRecursion (HasSlot kept) self.new.rows }
         ensures few { length self.new.rows < 2 ^ 56 }
     {
-        put_stage(&mut self.rows, serial, Stage::Offered(seat)).end();
+        let held = HeldSeat {
+            seat,
+            slot,
+            is_up: false,
+        };
+        match put_stage(&mut self.rows, serial, Stage::Offered(held)) {
+            Stage::Waiting(parser) => {
+                let _parser = parser;
+            }
+            Stage::Offered(_held) => unreachable!(),
+        }
+    }
+
+    /// Notes that its server took a connection, if it was offered one.
+    pub fn up(&mut self, serial: u64)
+        requires { IsSome (find (has_serial serial) self.old.rows) }
+        ensures new { self.new ≡ record self.old { rows = with_stored serial stored_up self.old.rows } }
+        ensures few { length self.new.rows < 2 ^ 56 }
+    {
+        up_row(&mut self.rows, serial);
     }
 
     /// Lets a counter of a connection, which tracks nothing, track.
@@ -154,6 +178,8 @@ impl FrontendState {
         requires free { (row : StoredRow) × (find (has_serial serial) self.old.rows ≡ Some row) × (on_counter counter row.tracks ≡ None) }
         ensures plain { (versions : List Version) → plain_frontend versions self.new ≡ with_row serial (row_tracking (track_by counter tracking)) (plain_frontend versions self.old) }
         ensures counts { (id : TableId) (key : Addr) → total (row_on id key) self.new.rows ≡ total (row_on id key) self.old.rows + counter_on id key (Some tracking) }
+        ensures slots { (place : ℕ) → total (row_slots place) self.new.rows ≡ total (row_slots place) self.old.rows }
+        ensures each { (kept : VersionsValue) → AllByRecursion (HasSlot kept) self.old.rows → AllByRecursion (HasSlot kept) self.new.rows }
         ensures few { length self.new.rows < 2 ^ 56 }
     {
         put_tracking(&mut self.rows, serial, counter, tracking);
@@ -180,10 +206,12 @@ impl FrontendState {
         })
     }
 
-    /// Ends the frontend with its rows, and what they track.
-    pub fn end(self, tables: &mut Tables)
-        requires { (id : TableId) (key : Addr) → total (row_on id key) self.rows ≤ cur_in id key tables.old.tables }
-        ensures { (id : TableId) (key : Addr) → cur_in id key tables.new.tables + total (row_on id key) self.rows ≡ cur_in id key tables.old.tables }
+    /// Ends the frontend with its rows, and what they hold.
+    pub fn end(self, kept: &mut Versions, tables: &mut Tables)
+        requires tables { (id : TableId) (key : Addr) → total (row_on id key) self.rows ≤ cur_in id key tables.old.tables }
+        requires kept { (place : ℕ) → total (row_slots place) self.rows ≤ open_at place kept.old.counts }
+        ensures tables { (id : TableId) (key : Addr) → cur_in id key tables.new.tables + total (row_on id key) self.rows ≡ cur_in id key tables.old.tables }
+        ensures kept { (place : ℕ) → open_at place kept.new.counts + total (row_slots place) self.rows ≡ open_at place kept.old.counts }
     {
         let FrontendState {
             name: _name,
@@ -191,7 +219,9 @@ impl FrontendState {
             mut rows,
         } = self;
         while let Some(row) = last_row(&mut rows) {
-            tables.release(row.end());
+            let Holdings { tracks, slot } = row.end();
+            tables.release(tracks);
+            give_back(kept, slot);
         }
         rows.destroy_empty();
     }
@@ -219,12 +249,13 @@ pub fn end_all_empty(mut frontends: Vec<FrontendState>)
     frontends.destroy_empty();
 }
 
-/// Ends all frontends with their rows, and what they track.
-pub fn end_all(mut frontends: Vec<FrontendState>, tables: &mut Tables)
-    requires { (id : TableId) (key : Addr) → rows_total (row_on id key) frontends.items ≤ cur_in id key tables.old.tables }
+/// Ends all frontends with their rows, and what they hold.
+pub fn end_all(mut frontends: Vec<FrontendState>, kept: &mut Versions, tables: &mut Tables)
+    requires tables { (id : TableId) (key : Addr) → rows_total (row_on id key) frontends.items ≤ cur_in id key tables.old.tables }
+    requires kept { (place : ℕ) → rows_total (row_slots place) frontends.items ≤ open_at place kept.old.counts }
 {
     while let Some(own) = last_frontend(&mut frontends) {
-        own.end(tables);
+        own.end(kept, tables);
     }
     frontends.destroy_empty();
 }
@@ -293,10 +324,31 @@ fn take_row(rows: &mut Vec<StoredRow>, serial: u64) -> Option<StoredRow>
 fn put_stage(rows: &mut Vec<StoredRow>, serial: u64, stage: Stage) -> Stage
     requires rise { Rise (λ row. row.serial) rows.old.items }
     requires there { IsSome (find (has_serial serial) rows.old.items) }
-    ensures { rows.new.items ≡ with_stored serial (at_stage stage) rows.old.items }
+    ensures rows { rows.new.items ≡ with_stored serial (at_stage stage) rows.old.items }
+    ensures before { (row : StoredRow) → find (has_serial serial) rows.old.items ≡ Some row → result ≡ row.stage }
+    ensures place { (row : StoredRow) → find (has_serial serial) rows.old.items ≡ Some row → (place : ℕ) × (slice_get rows.old.items place ≡ Some row) × (rows.new.items ≡ slice_set rows.old.items place (at_stage stage row)) }
 {
     let place = place_there(rows.as_slice(), serial);
     mem::replace(&mut rows[place].stage, stage)
+}
+
+/// Notes that its server took the connection of a row, if it was offered one.
+fn up_row(rows: &mut Vec<StoredRow>, serial: u64)
+    requires rise { Rise (λ row. row.serial) rows.old.items }
+    requires there { IsSome (find (has_serial serial) rows.old.items) }
+    ensures { rows.new.items ≡ with_stored serial stored_up rows.old.items }
+{
+    let place = place_there(rows.as_slice(), serial);
+    up_stage(&mut rows[place].stage);
+}
+
+fn up_stage(stage: &mut Stage)
+    ensures { stage.new ≡ stage_up stage.old }
+{
+    match stage {
+        Stage::Waiting(_) => {}
+        Stage::Offered(held) => held.is_up = true,
+    }
 }
 
 /// Lets a counter of a row, which tracks nothing, track.

@@ -11,3 +11,4 @@ pub mod laws;
 mod opening;
 mod row;
 mod rows;
+mod slots;

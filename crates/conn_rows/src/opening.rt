@@ -1,13 +1,9 @@
 //! What there is when a plan is opened.
-ghost use Rattle.std.specs.Prelude.{◌≡◌, ◌≤◌, ◌++◌, ◌∷◌, [], map, length, None, IfOk, OnOk, OnErr};
-ghost use Rattle.std.specs.List.{enumerate_from};
-ghost use Rattle.plan_types.specs.Sound.{most_tables};
-ghost use Rattle.conn_model.specs.Tables.{new_id};
+ghost use Rattle.std.specs.Prelude.{◌≡◌, ◌++◌, ◌∷◌, [], map, IfOk, OnOk, OnErr};
 
 use crate::frontend::{FrontendState, end_all_empty};
-use list_core::{Duplicate, Seq};
-use plan_types::{Backend, Frontend, Table, TableId};
-use proxy_types::Place;
+use list_core::Duplicate;
+use plan_types::Frontend;
 use std::alloc::{AllocError, Global};
 
 /// Adds a frontend of which nothing is open.
@@ -46,30 +42,4 @@ pub fn frontends(
         }
     }
     Ok(states)
-}
-
-/// A cursor for each backend, unset.
-pub fn cursors(alloc: Global, backends: &[Backend]) -> Result<Seq<Option<Place>>, AllocError>
-    ensures { IfOk result (λ cursors. cursors ≡ map (λ backend. None) backends.now) }
-{
-    let mut cursors = Seq::new(alloc);
-    for _backend in backends {
-        cursors.push(None)?;
-    }
-    Ok(cursors)
-}
-
-/// The names of the tables that begin with a version.
-pub fn table_ids(alloc: Global, version: u64, tables: &[Table]) -> Result<Seq<TableId>, AllocError>
-    requires { length tables.now ≤ most_tables }
-    ensures { IfOk result (λ ids. ids ≡ map (new_id version) (enumerate_from 0 tables.now)) }
-{
-    let mut ids = Seq::new(alloc);
-    for (position, _table) in tables.iter().enumerate() {
-        ids.push(TableId {
-            version,
-            position: position as u16,
-        })?;
-    }
-    Ok(ids)
 }

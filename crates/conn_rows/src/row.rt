@@ -5,11 +5,12 @@ ghost use Rattle.plan_types.specs.Lines.{has_line};
 ghost use Rattle.conn_model.specs.Answer.{version_at};
 ghost use Rattle.conn_model.specs.History.{identity_at, nobody};
 ghost use Rattle.conn_rows.specs.Summaries.{stored_summary};
-ghost use Rattle.conn_rows.specs.Stored.{assignment_in, phase_of, plan_at, plain_row, stored_arrival, waits};
+ghost use Rattle.conn_rows.specs.Stored.{assignment_in, awaits, phase_of, phase_with, plan_at, plain_row, slot_of, stored_arrival, waits};
 
 use addr_core::{Endpoint, Pair};
 use conn_model::plain::{Assignment, Phase, Row, Version};
 use conn_tables::Trackings;
+use conn_versions::Slot;
 use list_core::{Duplicate, Seq};
 use plan_types::{Backend, Plan, Server};
 use pp_any::Parser;
@@ -28,6 +29,15 @@ pub struct Seat {
     pub judged: Pair,
 }
 
+/// The server that a connection was offered. It cannot be dropped.
+pub struct HeldSeat {
+    pub seat: Seat,
+    /// The connection is one of those that are open to the server.
+    pub slot: Slot,
+    /// Whether the server took it.
+    pub is_up: bool,
+}
+
 /// What is said of an open connection.
 #[derive(Clone, Copy, Debug, PartialEq, Eq)]
 pub struct RowSummary {
@@ -39,6 +49,8 @@ pub struct RowSummary {
     pub accepted: u64,
     /// Whether it waits for its PROXY header.
     pub waits: bool,
+    /// Whether it was offered a server, which did not take it yet.
+    pub awaits_server: bool,
 }
 
 /// How far a connection is.
@@ -46,7 +58,7 @@ pub enum Stage {
     /// It waits for its PROXY header, or for the rest of it.
     Waiting(Parser),
     /// It was offered a server.
-    Offered(Seat),
+    Offered(HeldSeat),
 }
 
 impl Stage {
@@ -59,24 +71,56 @@ impl Stage {
         }
     }
 
+    pub fn awaits(&self) -> bool
+        ensures { result ≡ awaits self.now }
+    {
+        match self {
+            Stage::Waiting(_) => false,
+            Stage::Offered(held) => !held.is_up,
+        }
+    }
+
     /// The same as plain data, by that plan.
     fn plain(&self, alloc: Global, plan: Option<&Plan>) -> Result<Phase, AllocError>
         ensures { IfOk result (λ phase. phase ≡ phase_of (option_copied plan.entry) self.now) }
     {
         match self {
             Stage::Waiting(parser) => Ok(Phase::Waiting(parser.rest())),
-            Stage::Offered(seat) => Ok(Phase::Offered(assignment(alloc, plan, seat)?)),
+            Stage::Offered(held) => Ok(phase(assignment(alloc, plan, &held.seat)?, held.is_up)),
         }
     }
 
-    pub fn end(self) {
+    /// Ends the stage. The slot is still to be given back.
+    pub fn end(self) -> Option<Slot>
+        ensures { result ≡ slot_of self }
+    {
         match self {
             Stage::Waiting(parser) => {
                 let _parser = parser;
+                None
             }
-            Stage::Offered(_) => {}
+            Stage::Offered(held) => Some(held.end()),
         }
     }
+}
+
+impl HeldSeat {
+    fn end(self) -> Slot
+        ensures { result ≡ self.slot }
+    {
+        let HeldSeat {
+            seat: _,
+            slot,
+            is_up: _,
+        } = self;
+        slot
+    }
+}
+
+/// What an open connection holds. It cannot be dropped.
+pub struct Holdings {
+    pub tracks: Trackings,
+    pub slot: Option<Slot>,
 }
 
 /// An open connection. It cannot be dropped: it ends by `end`.
@@ -117,6 +161,7 @@ impl StoredRow {
             real: self.real,
             accepted: self.accepted,
             waits: self.stage.waits(),
+            awaits_server: self.stage.awaits(),
         }
     }
 
@@ -135,9 +180,10 @@ impl StoredRow {
         })
     }
 
-    /// Ends the row. What it tracks is still to be ended in the tables.
-    pub fn end(self) -> Trackings
-        ensures { result ≡ self.tracks }
+    /// Ends the row. What it holds is still to be given back.
+    pub fn end(self) -> Holdings
+        ensures tracks { result.tracks ≡ self.tracks }
+        ensures slot { result.slot ≡ slot_of self.stage }
     {
         let StoredRow {
             serial: _,
@@ -147,8 +193,10 @@ impl StoredRow {
             stage,
             tracks,
         } = self;
-        stage.end();
-        tracks
+        Holdings {
+            tracks,
+            slot: stage.end(),
+        }
     }
 }
 
@@ -199,6 +247,16 @@ fn has_line(backend: &Backend, line: u32) -> bool
         .as_slice()
         .iter()
         .any(|server| server.line == line)
+}
+
+fn phase(assignment: Assignment, is_up: bool) -> Phase
+    ensures { result ≡ phase_with is_up assignment }
+{
+    if is_up {
+        Phase::Up(assignment)
+    } else {
+        Phase::Offered(assignment)
+    }
 }
 
 fn assignment(alloc: Global, plan: Option<&Plan>, seat: &Seat) -> Result<Assignment, AllocError>

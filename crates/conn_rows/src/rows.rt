@@ -6,14 +6,18 @@ ghost use Rattle.addr_core.specs.declared.addr.Addr.{Addr};
 ghost use Rattle.plan_types.specs.declared.track.TableId.{TableId};
 ghost use Rattle.pp_any.specs.declared.rest.Rest.{Rest};
 ghost use Rattle.pp_any.specs.NextPiece.{status_on};
-ghost use Rattle.plan_types.specs.Sound.{most_frontends, most_tables};
+ghost use Rattle.plan_types.specs.Sound.{IsSoundPlan};
+ghost use Rattle.plan_types.specs.declared.plan.Backend as backends;
 ghost use Rattle.conn_model.specs.declared.plain.FrontendRows.{FrontendRows};
 ghost use Rattle.conn_model.specs.Words.{newest};
 ghost use Rattle.conn_model.specs.Answer.{row_at, version_at};
-ghost use Rattle.conn_model.specs.History.{opening, tracks_at};
+ghost use Rattle.conn_model.specs.History.{opening, tracks_at, with_offer};
+ghost use Rattle.conn_model.specs.Servers.{cursor_at, identity_in, pick_in};
+ghost use Rattle.conn_model.specs.declared.plain.Row.{Row};
+ghost use Rattle.conn_versions.specs.Versions.{AreSound, HasServer, VersionsValue};
 ghost use Rattle.conn_rows.specs.Stored.{plain_frontend, stored_in};
-ghost use Rattle.conn_rows.specs.Changes.{rest_at, row_fed, row_offered, row_tracking, status_of, used_by, with_arrival, with_conn, with_item, with_refusal, without_conn};
-ghost use Rattle.conn_model.specs.Counts.{offered_to, open_named};
+ghost use Rattle.conn_rows.specs.Changes.{rest_at, row_fed, row_offered, row_tracking, row_up, status_of, used_by, with_arrival, with_conn, with_item, with_refusal, without_conn};
+ghost use Rattle.conn_model.specs.Counts.{offered_to, open_named, served_by};
 ghost use Rattle.conn_model.specs.Tables.{entry_counts, open_tracks, table_at, trackers, with_track, without_tracks};
 ghost use Rattle.rule_engine.specs.Meaning.{present};
 ghost use Rattle.conn_tables.specs.Tables.{key_at};
@@ -21,19 +25,21 @@ ghost use Rattle.conn_tables.specs.Tracks.{slots_of, track_of};
 ghost use Rattle.conn_rows.specs.declared.row.StoredRow.{StoredRow};
 ghost use Rattle.conn_model.specs.declared.plain.Version.{Version};
 ghost use Rattle.conn_rows.specs.Summaries.{Sums, summary_of};
-ghost use Rattle.conn_rows.specs.Value.{rows_of, rows_total, state_of};
+ghost use Rattle.conn_rows.specs.Value.{rows_of, rows_total, state_of, AllRows, HasSlot};
 
 use crate::counts;
-use crate::frontend::{FrontendState, HeaderStatus, end_all};
-use crate::opening::{cursors, frontends, table_ids};
-use crate::row::{RowSummary, Seat, StoredRow, item, version_at};
+use crate::frontend::{FrontendState, HeaderStatus, end_all, end_all_empty};
+use crate::opening::frontends;
+use crate::row::{Holdings, RowSummary, Seat, StoredRow, item, version_at};
+use crate::slots::give_back;
 use addr_core::{Addr, Pair};
 use conn_model::ask::Counts;
 use conn_model::event::ConnId;
 use conn_model::plain::{FrontendRows, TableState, Version};
 use conn_tables::Tables;
-use list_core::{Duplicate, Seq, newest};
-use plan_types::{Plan, Table, TableId, Track};
+use conn_versions::Versions;
+use list_core::{Seq, newest};
+use plan_types::{Backend, Plan, Server, Table, TableId, Track};
 use rule_engine::Tracks;
 use std::alloc::{AllocError, Global};
 use std::marker::Model;
@@ -60,10 +66,11 @@ pub struct FrontendSummary<'a> {
 }
 
 /// The open connections of all frontends, and the versions and tables that are kept. Open rows change by its calls
-/// alone, and each table counts what they track. It cannot be dropped: it ends by `end`.
+/// alone; each table counts what they track, and each server those that were offered it. It cannot be dropped: it ends
+/// by `end`.
 pub struct Rows {
     frontends: Vec<FrontendState>,
-    versions: Seq<Version>,
+    kept: Versions,
     tables: Tables,
 }
 
@@ -71,53 +78,60 @@ impl Model for Rows {
     ghost use Rattle.std.specs.Prelude.{map};
     ghost use Rattle.conn_rows.specs.Stored.{plain_frontend};
     ghost use Rattle.conn_tables.specs.Tables.{plain_table};
-    ghost use Rattle.conn_rows.specs.Value.{AreRows, RowsValue};
+    ghost use Rattle.conn_rows.specs.Value.{IsRowsState, RowsValue};
 
     ghost Value = { RowsValue };
 
-    ghost view = { λ r. record { frontends = map (plain_frontend r.versions) r.frontends.items; versions = r.versions; tables = map plain_table r.tables.tables; spare = r.tables.spare } };
+    ghost view = { λ r. record { frontends = map (plain_frontend r.kept.versions) r.frontends.items; versions = r.kept.versions; tables = map plain_table r.tables.tables; spare = r.tables.spare } };
 
-    ghost invariant = { λ r. AreRows r.frontends.items r.tables.tables };
+    ghost invariant = { λ r. IsRowsState r.frontends.items r.kept r.tables.tables };
 }
 
 impl Rows {
     /// What there is when a plan is opened: its version is the first, its tables are empty, and nothing is open. The
     /// first serial of each frontend is one more than `last`.
     pub fn new(alloc: Global, plan: Plan, last: u64) -> Result<Rows, AllocError>
-        requires frontends { length plan.frontends ≤ most_frontends }
-        requires tables { length plan.tables ≤ most_tables }
+        requires { IsSoundPlan plan }
         ensures { IfOk result (λ rows. rows ≡ rows_of (opening plan last)) }
     {
-        let cursors = cursors(alloc, plan.backends.as_slice())?;
-        let ids = table_ids(alloc, 1, plan.tables.as_slice())?;
         let tables = Tables::new(alloc, 1, plan.tables.as_slice())?;
-        let mut versions = Vec::with_capacity(alloc, 1)?;
         let frontends = frontends(alloc, plan.frontends.as_slice(), last)?;
-        versions.push_reserved(Version {
-            number: 1,
-            tables: ids,
-            cursors,
-            plan,
-        });
-        Ok(Rows {
-            frontends,
-            versions: Seq::of(versions),
-            tables,
-        })
+        match Versions::new(alloc, plan) {
+            Ok(kept) => Ok(Rows {
+                frontends,
+                kept,
+                tables,
+            }),
+            Err(error) => {
+                end_all_empty(frontends);
+                Err(error)
+            }
+        }
     }
 
-    /// The newest version.
+    /// The newest version. Each is of a plan as plans are made.
     pub fn newest(&self) -> Option<&Version>
-        ensures { option_copied result ≡ newest self.now.versions }
+        ensures newest { option_copied result ≡ newest self.now.versions }
+        ensures sound { AreSound self.now.versions }
     {
-        newest(self.versions.as_slice())
+        newest(self.kept.as_slice())
     }
 
     /// The version of that number.
     pub fn version(&self, number: u64) -> Option<&Version>
         ensures { option_copied result ≡ version_at self.now.versions number }
     {
-        version_at(self.versions.as_slice(), number)
+        version_at(self.kept.as_slice(), number)
+    }
+
+    /// The number of the server that is picked for a source, of the backend of that number in the version of that
+    /// number. None where no server that may be used has room.
+    pub fn pick(&self, version: u64, backend: u16, source: &Addr) -> Option<u16>
+        ensures { (kept : Version) (found : backends.Backend) → version_at self.now.versions version ≡ Some kept → slice_get kept.plan.backends backend ≡ Some found →
+            result ≡ option_map (λ turn. turn.server) (pick_in (served_by self.now.frontends) found (cursor_at kept.cursors backend) source.now) }
+    {
+        let _versions = self.kept.as_slice();
+        self.kept.pick(version, backend, source)
     }
 
     /// The frontend of that number.
@@ -162,7 +176,15 @@ impl Rows {
     pub fn offered_to(&self, name: &[u8]) -> u64
         ensures { result ≡ offered_to self.now.frontends name.now }
     {
-        counts::offered_to(self.frontends.as_slice(), self.versions.as_slice(), name)
+        counts::offered_to(self.frontends.as_slice(), self.kept.as_slice(), name)
+    }
+
+    /// How many open connections were offered a server of a backend.
+    pub fn served_by(&self, backend: &Backend, server: &Server) -> u64
+        ensures { result ≡ served_by self.now.frontends (identity_in backend.now server.now) }
+    {
+        let _versions = self.kept.as_slice();
+        self.kept.connections(backend, server)
     }
 
     /// How many open connections track an address in the table of that incarnation, and how often it was tracked.
@@ -241,12 +263,24 @@ impl Rows {
         self.frontends[usize::from(id.frontend)].feed(id.serial, piece)
     }
 
-    /// Gives a connection to a server.
-    pub fn offer(&mut self, id: ConnId, seat: Seat)
-        requires { IsSome (row_at self.old.frontends id) }
-        ensures { self.new ≡ record self.old { frontends = with_conn id (row_offered self.old.versions seat) self.old.frontends } }
+    /// Gives a connection that waits, and that the version of that number judges, to a server of that version. It takes
+    /// no memory.
+    pub fn offer(&mut self, id: ConnId, version: u64, seat: Seat)
+        requires waits { IsSome (rest_at self.old.frontends id) }
+        requires judged { IfSome (row_at self.old.frontends id) (λ row. row.version ≡ version) }
+        requires server { (there : HasServer self.old.versions version seat.line seat.server) × (there.server.to ≡ seat.to) }
+        ensures { self.new ≡ record self.old { frontends = with_conn id (row_offered self.old.versions seat) self.old.frontends; versions = map (with_offer version seat.line seat.server) self.old.versions } }
     {
-        self.frontends[usize::from(id.frontend)].offer(id.serial, seat);
+        let slot = self.kept.offer(version, seat.line, seat.server);
+        self.frontends[usize::from(id.frontend)].offer(id.serial, seat, slot);
+    }
+
+    /// Notes that its server took a connection, if it was offered one.
+    pub fn up(&mut self, id: ConnId)
+        requires { IsSome (row_at self.old.frontends id) }
+        ensures { self.new ≡ record self.old { frontends = with_conn id row_up self.old.frontends } }
+    {
+        self.frontends[usize::from(id.frontend)].up(id.serial);
     }
 
     /// Lets a counter of a connection, which tracks nothing, track a key that can be tracked. It takes no memory.
@@ -270,7 +304,9 @@ impl Rows {
         ensures { self.new ≡ record self.old { frontends = without_conn id self.old.frontends; tables = without_tracks (tracks_at self.old.frontends id) self.old.tables } }
     {
         if let Some(row) = take_conn(&mut self.frontends, id) {
-            self.tables.release(row.end());
+            let Holdings { tracks, slot } = row.end();
+            self.tables.release(tracks);
+            give_back(&mut self.kept, slot);
         }
     }
 
@@ -279,8 +315,8 @@ impl Rows {
         ensures { IfOk result (λ state. state ≡ state_of self.now) }
     {
         Ok(RowsState {
-            frontends: plain_frontends(alloc, self.versions.as_slice(), self.frontends.as_slice())?,
-            versions: self.versions.duplicate(alloc)?,
+            frontends: plain_frontends(alloc, self.kept.as_slice(), self.frontends.as_slice())?,
+            versions: Seq::duplicate_of(alloc, self.kept.as_slice())?,
             tables: self.tables.plain(alloc)?,
         })
     }
@@ -289,10 +325,10 @@ impl Rows {
     pub fn end(self) {
         let Rows {
             frontends,
-            versions: _versions,
+            mut kept,
             mut tables,
         } = self;
-        end_all(frontends, &mut tables);
+        end_all(frontends, &mut kept, &mut tables);
     }
 }
 
@@ -324,6 +360,7 @@ fn take_conn(frontends: &mut Vec<FrontendState>, id: ConnId) -> Option<StoredRow
     ensures counts { IfSome result (λ row. (worth : StoredRow → ℕ) → rows_total worth frontends.new.items + worth row ≡ rows_total worth frontends.old.items) }
     ensures none { IfNone result ((worth : StoredRow → ℕ) → rows_total worth frontends.new.items ≡ rows_total worth frontends.old.items) }
     ensures len { length frontends.new.items ≡ length frontends.old.items }
+    ensures rows { (kept : VersionsValue) → AllRows (HasSlot kept) frontends.old.items → AllRows (HasSlot kept) frontends.new.items }
     ensures small { AllByRecursion (λ own. length own.rows < 2 ^ 56) frontends.old.items → AllByRecursion (λ own. length own.rows < 2 ^ 56) frontends.new.items }
 {
     let number = usize::from(id.frontend);

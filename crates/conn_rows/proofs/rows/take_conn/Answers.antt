@@ -4,6 +4,8 @@ use Rattle.conn_rows.specs.Stored.{StoredFrontend, has_serial, plain_frontend}
 use Rattle.conn_rows.specs.Changes.{without_row}
 use Rattle.conn_rows.proofs.Counted.{fewer, gone_if, none_if, still_small}
 use Rattle.conn_rows.proofs.Plain.{others_plain, own_below, set-map}
+use Rattle.conn_rows.specs.Value.{HasSlot}
+use Rattle.conn_rows.proofs.Served.{all-without}
 use Rattle.conn_rows.proofs.rows.take_conn.Goals as goal
 
 there : (c : goal.After-frontends-1) → slice_get c.args.frontends.now.items c.args.id.frontend ≡ Some c.index_mut.result.now
@@ -28,3 +30,8 @@ pub returns-clause-small : goal.returns-clause-small
 returns-clause-small c =
     still_small c.args.frontends.now.items c.from-number.result c.index_mut.result.now c.remove.new.self (ap (slice_get c.args.frontends.now.items) c.from-number.ensures ∙ there c)
     (let less = fewer (λ row. not (has_serial c.args.id.serial row)) c.index_mut.result.now.rows in let is = ap (λ f. length f.rows) c.remove.ensures.left in omega (arith, less, is))
+
+pub returns-clause-rows : goal.returns-clause-rows
+returns-clause-rows c = λ kept.
+    all-without (HasSlot kept) c.args.frontends.now.items c.from-number.result c.index_mut.result.now c.remove.new.self (λ row. not (has_serial c.args.id.serial row)) (ap (slice_get c.args.frontends.now.items) c.from-number.ensures ∙ there c)
+    (ap (λ f. f.rows) c.remove.ensures.left)

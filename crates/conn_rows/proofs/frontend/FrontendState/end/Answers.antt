@@ -1,9 +1,18 @@
-use Rattle.std.proofs.Common.{arith}
-use Rattle.conn_rows.specs.Value.{row_on}
+use Rattle.std.proofs.Common.{◌+◌, ◌≤◌, ℕ, arith}
+use Rattle.std.specs.Option.{option_map_or}
+use Rattle.slot_core.specs.Counts.{open_at, slots_at}
+use Rattle.conn_rows.specs.Value.{row_on, row_slots}
+use Rattle.conn_rows.proofs.Served.{slot_counted}
 use Rattle.conn_rows.proofs.frontend.FrontendState.end.Goals as goal
 
-pub returns : goal.returns
-returns c = λ id key.
+pub returns-clause-tables : goal.returns-clause-tables
+returns-clause-tables c = λ id key.
     let all = c.loop-row.invariant.gone id key in
     let none = c.in_default.ensures.none (row_on id key) in
+    omega (arith, all, none)
+
+pub returns-clause-kept : goal.returns-clause-kept
+returns-clause-kept c = λ place.
+    let all = c.loop-row.invariant.back place in
+    let none = c.in_default.ensures.none (row_slots place) in
     omega (arith, all, none)

@@ -8,9 +8,9 @@ use Rattle.conn_rows.proofs.rows.Rows.counts.Goals as goal
 pub returns-clause-value : goal.returns-clause-value
 returns-clause-value c =
     rw (← c.self.view_is)
-    (c.counts.ensures (open_tracks (map (plain_frontend c.self.inside.versions) c.self.inside.frontends.items)) (are_counted c.self.inside.versions c.self.inside.frontends.items c.self.inside.tables.tables c.self.invariant))
+    (c.counts.ensures (open_tracks (map (plain_frontend c.self.inside.kept.versions) c.self.inside.frontends.items)) (are_counted c.self.inside.kept.versions c.self.inside.frontends.items c.self.inside.tables.tables c.self.invariant.rows))
 
 pub returns-clause-few : goal.returns-clause-few
 returns-clause-few c =
-    rw (c.counts.ensures (open_tracks (map (plain_frontend c.self.inside.versions) c.self.inside.frontends.items)) (are_counted c.self.inside.versions c.self.inside.frontends.items c.self.inside.tables.tables c.self.invariant))
-    (counts_few c.self.inside.versions c.self.inside.frontends.items c.self.inside.tables.tables c.args.addr.now (table_at (map plain_table c.self.inside.tables.tables) c.args.id) c.self.invariant)
+    rw (c.counts.ensures (open_tracks (map (plain_frontend c.self.inside.kept.versions) c.self.inside.frontends.items)) (are_counted c.self.inside.kept.versions c.self.inside.frontends.items c.self.inside.tables.tables c.self.invariant.rows))
+    (counts_few c.self.inside.kept.versions c.self.inside.frontends.items c.self.inside.tables.tables c.args.addr.now (table_at (map plain_table c.self.inside.tables.tables) c.args.id) c.self.invariant.rows)

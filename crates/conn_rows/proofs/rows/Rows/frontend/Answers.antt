@@ -11,12 +11,12 @@ returns-clause-some c =
     let own = c.in_ok-own.own.now in
     let there : slice_get c.self.inside.frontends.items c.args.number ≡ Some own =
     ap (λ xs. slice_get xs c.args.number) (sym c.as_slice.ensures.value) ∙ sym c.item.ensures ∙ ap option_copied c.in_ok-own.was in (
-      plain_frontend c.self.inside.versions own,
-      ap (λ s. slice_get s.frontends c.args.number) (sym c.self.view_is) ∙ get-map (plain_frontend c.self.inside.versions) c.self.inside.frontends.items c.args.number
-          ∙ ap (option_map (plain_frontend c.self.inside.versions)) there,
+      plain_frontend c.self.inside.kept.versions own,
+      ap (λ s. slice_get s.frontends c.args.number) (sym c.self.view_is) ∙ get-map (plain_frontend c.self.inside.kept.versions) c.self.inside.frontends.items c.args.number
+          ∙ ap (option_map (plain_frontend c.self.inside.kept.versions)) there,
       record {
         name = c.name.ensures;
         serial = c.serial.ensures;
-        connections = c.count.ensures.value ∙ sym (length-map own.rows (plain_row c.self.inside.versions));
+        connections = c.count.ensures.value ∙ sym (length-map own.rows (plain_row c.self.inside.kept.versions));
       },
     )

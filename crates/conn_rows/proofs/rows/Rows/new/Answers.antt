@@ -1,22 +1,33 @@
-use Rattle.std.proofs.Common.{◌≡◌, rules, sym, ap, ◌∙◌, map, []}
-use Rattle.conn_rows.specs.Value.{row_on, rows_total}
+use Rattle.std.proofs.Common.{◌≡◌, rules, sym, ap, ◌∙◌, map, [], length}
+use Rattle.slot_core.specs.Counts.{open_at}
+use Rattle.conn_model.specs.Counts.{total}
+use Rattle.conn_rows.specs.Stored.{StoredFrontend}
+use Rattle.conn_rows.specs.Value.{row_on, row_slots, rows_total}
 use Rattle.conn_rows.proofs.Counted.{small-empty}
 use Rattle.conn_rows.proofs.Plain.{opened}
-use Rattle.conn_rows.proofs.Totals.{few-map, rows-empty}
+use Rattle.conn_rows.proofs.Served.{none-served}
+use Rattle.conn_rows.proofs.Totals.{few-map, rows-empty, total-empty}
 use Rattle.conn_rows.proofs.rows.Rows.new.Goals as goal
 
-pub returns : goal.returns
-returns c = opened c.args.plan c.args.last c.in_ok-frontends.frontends.items c.of.result c.in_ok-tables.tables (search rules) (search rules) (search rules) (search rules)
+pub end_all_empty-requires : goal.end_all_empty-requires
+end_all_empty-requires c =
+    let all : c.in_ok-frontends.frontends.items ≡ map (λ frontend. record { name = frontend.name; serial = c.args.last; rows = [] }) c.args.plan.frontends = search rules in
+    ap (total (λ (own : StoredFrontend). length own.rows)) all ∙ total-empty c.args.plan.frontends c.args.last
+
+pub returns-in-Ok : goal.returns-in-Ok
+returns-in-Ok c = opened c.args.plan c.args.last c.in_ok-frontends.frontends.items c.in-Ok.kept.versions c.in_ok-tables.tables (search rules) (search rules) (search rules) (search rules)
 
 pub invariant_of-result : goal.invariant_of-result
-invariant_of-result c = record {
-  few =
-      let all : c.in_ok-frontends.frontends.items ≡ map (λ frontend. record { name = frontend.name; serial = c.args.last; rows = [] }) c.args.plan.frontends = search rules in
-      rw all (few-map c.args.plan.frontends c.args.last c.requires.frontends);
-  small =
-      let all : c.in_ok-frontends.frontends.items ≡ map (λ frontend. record { name = frontend.name; serial = c.args.last; rows = [] }) c.args.plan.frontends = search rules in
-      rw all (small-empty c.args.plan.frontends c.args.last);
-  counted = λ id key.
-      let all : c.in_ok-frontends.frontends.items ≡ map (λ frontend. record { name = frontend.name; serial = c.args.last; rows = [] }) c.args.plan.frontends = search rules in
-      c.in_ok-tables.ensures.counts id key ∙ sym (ap (rows_total (row_on id key)) all ∙ rows-empty (row_on id key) c.args.plan.frontends c.args.last);
-}
+invariant_of-result c =
+    let all : c.in_ok-frontends.frontends.items ≡ map (λ frontend. record { name = frontend.name; serial = c.args.last; rows = [] }) c.args.plan.frontends = search rules in
+    record {
+      rows = record {
+        few = rw all (few-map c.args.plan.frontends c.args.last c.requires.frontends);
+        small = rw all (small-empty c.args.plan.frontends c.args.last);
+        counted = λ id key. c.in_ok-tables.ensures.counts id key ∙ sym (ap (rows_total (row_on id key)) all ∙ rows-empty (row_on id key) c.args.plan.frontends c.args.last);
+      };
+      served = record {
+        counted = λ place. c.in-Ok.ensures.open place ∙ sym (ap (rows_total (row_slots place)) all ∙ rows-empty (row_slots place) c.args.plan.frontends c.args.last);
+        slots = rw all (none-served c.in-Ok.kept c.args.plan.frontends c.args.last);
+      };
+    }

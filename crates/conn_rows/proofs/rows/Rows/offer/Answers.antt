@@ -1,37 +1,72 @@
-use Rattle.std.proofs.Common.{◌≡◌, Some, ap, ◌∙◌, refl}
-use Rattle.std.specs.Prelude.{slice_get}
-use Rattle.conn_rows.specs.declared.row.Stage.TheVariants.{Offered}
-use Rattle.conn_rows.specs.Stored.{at_stage, with_stored}
-use Rattle.conn_rows.specs.Changes.{row_offered, with_row}
-use Rattle.conn_rows.proofs.Plain.{changed, offered_plain, own_there, row_there, stored_open}
+use Rattle.std.proofs.Common.{◌≡◌, ℕ, ◌<◌, ◌≤◌, Some, ap, ◌∙◌, refl, sym, subst, length, arith}
+use Rattle.std.specs.Prelude.{slice_get, find, IsSome}
+use Rattle.slot_core.specs.Counts.{open_at}
 use Rattle.conn_model.specs.Counts.{total}
-use Rattle.conn_rows.specs.Value.{row_on}
+use Rattle.conn_model.specs.History.{with_offer}
+use Rattle.conn_rows.specs.declared.row.StoredRow.{StoredRow}
+use Rattle.conn_rows.specs.Changes.{row_offered, stage_offered, with_row}
+use Rattle.conn_rows.specs.Stored.{at_stage, has_serial, with_stored}
+use Rattle.conn_rows.specs.Value.{HasSlot, row_on, RowsValue}
 use Rattle.conn_rows.proofs.Counted.{still_rows, total-with}
+use Rattle.conn_rows.proofs.Plain.{changed, judged_there, offered_plain, offered_value, own_exists, own_there, rest_of_state, rest_open, rest_there}
+use Rattle.conn_rows.proofs.Served.{all_slots_few, more_served, offered_has, slots-offer}
+use Rattle.conn_versions.specs.Versions.{HasServer}
 use Rattle.conn_rows.proofs.rows.Rows.offer.Goals as goal
+
+pub offer-slot-requires-clause-there : goal.offer-slot-requires-clause-there
+offer-slot-requires-clause-there c = subst (λ (v : RowsValue). HasServer v.versions c.args.version c.args.seat.line c.args.seat.server) (sym c.self.view_is) c.requires.server.0
+
+pub offer-slot-requires-clause-below : goal.offer-slot-requires-clause-below
+offer-slot-requires-clause-below c = λ place.
+    let is = c.self.invariant.served.counted place in
+    let most = all_slots_few place c.self.inside.frontends.items c.self.invariant.rows.small in
+    let few : length c.self.inside.frontends.items ≤ 64 = c.self.invariant.rows.few in
+    omega (arith, is, most, few)
+
+pub index_mut-requires : goal.index_mut-requires
+index_mut-requires c =
+    let less : c.args.id.frontend < length c.self.inside.frontends.items =
+    own_exists c.self.inside.frontends.items c.self.inside.kept.versions c.self.inside.tables c.args.self.now c.args.id c.self.view_is (rest_open c.args.self.now.frontends c.args.id c.requires.waits) in
+    let is = c.from.ensures in
+    omega (arith, less, is)
 
 there : (c : goal.After-index_mut) → slice_get c.self.inside.frontends.items c.args.id.frontend ≡ Some c.index_mut.result.now
 there c =
-    own_there c.self.inside.frontends.items c.self.inside.versions c.self.inside.tables c.args.self.now c.from.result c.args.id.frontend c.index_mut.result.now c.self.view_is c.from.ensures c.index_mut.ensures.value
-    (row_there c.args.self.now.frontends c.args.id c.requires)
+    own_there c.self.inside.frontends.items c.self.inside.kept.versions c.self.inside.tables c.args.self.now c.from.result c.args.id.frontend c.index_mut.result.now c.self.view_is c.from.ensures c.index_mut.ensures.value
+    (rest_there c.args.self.now.frontends c.args.id c.requires.waits)
 
 there_after : (c : goal.After-self-1) → slice_get c.self.inside.frontends.items c.args.id.frontend ≡ Some c.index_mut.result.now
 there_after c =
-    own_there c.self.inside.frontends.items c.self.inside.versions c.self.inside.tables c.args.self.now c.from.result c.args.id.frontend c.index_mut.result.now c.self.view_is c.from.ensures c.index_mut.ensures.value
-    (row_there c.args.self.now.frontends c.args.id c.requires)
+    own_there c.self.inside.frontends.items c.self.inside.kept.versions c.self.inside.tables c.args.self.now c.from.result c.args.id.frontend c.index_mut.result.now c.self.view_is c.from.ensures c.index_mut.ensures.value
+    (rest_there c.args.self.now.frontends c.args.id c.requires.waits)
 
 pub offer-requires : goal.offer-requires
-offer-requires c = stored_open c.self.inside.frontends.items c.self.inside.versions c.self.inside.tables c.args.self.now c.args.id c.index_mut.result.now c.self.view_is (there c) c.requires
+offer-requires c =
+    subst IsSome (rest_of_state c.self.inside.frontends.items c.self.inside.kept.versions c.self.inside.tables c.args.self.now c.args.id c.index_mut.result.now c.self.view_is (there c)) c.requires.waits
 
 pub returns : goal.returns
 returns c =
     let own = c.index_mut.result.now in
     rw c.offer.ensures.new
-    (changed c.self.inside.frontends.items c.self.inside.versions c.self.inside.tables c.args.self.now c.from.result c.args.id.frontend own (record own { rows = with_stored c.args.id.serial (at_stage (Offered c.args.seat)) own.rows })
-    (λ versions. with_row c.args.id.serial (row_offered versions c.args.seat)) c.self.view_is c.from.ensures (there_after c)
-    (offered_plain c.self.inside.versions own c.args.id.serial c.args.seat))
+    (offered_value c.self.inside.frontends.items c.self.inside.kept.versions c.offer-slot.new.self.versions c.self.inside.tables c.args.self.now c.from.result c.args.id own c.args.version c.args.seat c.offer-slot.result
+    c.self.view_is c.from.ensures (there_after c) c.offer-slot.ensures.versions)
 
 pub invariant_of-self : goal.invariant_of-self
 invariant_of-self c =
     let own = c.index_mut.result.now in
-    still_rows c.self.inside.frontends.items c.self.inside.tables.tables c.from.result own c.offer.new.self (ap (slice_get c.self.inside.frontends.items) c.from.ensures ∙ there_after c) c.offer.ensures.few
-    (λ id key. ap (λ f. total (row_on id key) f.rows) c.offer.ensures.new ∙ total-with (row_on id key) c.args.id.serial (at_stage (Offered c.args.seat)) own.rows (λ row. refl)) c.self.invariant
+    let frontends = c.self.inside.frontends.items in
+    let kept = c.self.inside.kept in
+    let rest = c.offer-slot.new.self in
+    let has = subst (λ (v : RowsValue). (there : HasServer v.versions c.args.version c.args.seat.line c.args.seat.server) × (there.server.to ≡ c.args.seat.to)) (sym c.self.view_is) c.requires.server in
+    record {
+      rows =
+          still_rows frontends c.self.inside.tables.tables c.from.result own c.offer.new.self (ap (slice_get frontends) c.from.ensures ∙ there_after c) c.offer.ensures.few
+          (λ id key. ap (λ f. total (row_on id key) f.rows) c.offer.ensures.new ∙ total-with (row_on id key) c.args.id.serial (at_stage (stage_offered c.args.seat c.offer-slot.result)) own.rows (λ row. refl)) c.self.invariant.rows;
+      served =
+          more_served frontends kept rest c.from.result own c.offer.new.self c.offer-slot.result (ap (slice_get frontends) c.from.ensures ∙ there_after c) c.offer.ensures.slots c.offer-slot.ensures.open
+          (c.offer.ensures.each rest
+          (λ row found.
+          offered_has kept rest c.args.version c.args.seat c.offer-slot.result c.offer-slot.ensures.versions has.0 has.1 (c.offer-slot.ensures.slot has.0) row
+          (judged_there frontends kept.versions c.self.inside.tables c.args.self.now c.args.id own row c.args.version c.self.view_is (there_after c) found c.requires.judged)))
+          (slots-offer frontends kept rest c.args.version c.args.seat.line c.args.seat.server c.offer-slot.ensures.versions c.offer-slot.ensures.identities c.self.invariant.served.slots) c.self.invariant.served;
+    }

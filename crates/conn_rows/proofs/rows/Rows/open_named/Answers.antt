@@ -8,5 +8,5 @@ pub returns-clause-value : goal.returns-clause-value
 returns-clause-value c =
     c.open_named.ensures.value
     ∙ ap (total (open_stored c.args.name.now)) c.as_slice.ensures.value
-    ∙ open_is c.self.inside.versions c.self.inside.frontends.items c.args.name.now
+    ∙ open_is c.self.inside.kept.versions c.self.inside.frontends.items c.args.name.now
     ∙ ap (λ s. open_named s.frontends c.args.name.now) c.self.view_is

@@ -1,33 +1,57 @@
-use Rattle.std.proofs.Common.{◌≡◌, ◌+◌, refl, sym, ◌∙◌, arith}
+use Rattle.std.proofs.Common.{◌≡◌, ◌+◌, ◌≤◌, ℕ, refl, sym, ap, ◌∙◌, arith}
+use Rattle.slot_core.specs.Counts.{open_at, slots_at}
+use Rattle.std.specs.Option.{option_map_or}
 use Rattle.conn_tables.specs.Tables.{cur_in}
-use Rattle.conn_rows.specs.Value.{row_on}
+use Rattle.conn_rows.specs.Value.{row_on, row_slots}
 use Rattle.conn_rows.proofs.Plain.{removed}
+use Rattle.conn_rows.proofs.Served.{left_served, slot_counted}
 use Rattle.conn_rows.proofs.rows.Rows.remove.Goals as goal
+
+pub give_back-requires : goal.give_back-requires
+give_back-requires c =
+    slot_counted (λ place. open_at place c.self.inside.kept.counts) c.end-tracks.result.slot
+    (λ place.
+    let before = c.self.invariant.served.counted place in
+    let gone = c.in-Some.ensures.counts (row_slots place) in
+    let is : option_map_or (slots_at place) c.end-tracks.result.slot 0 ≡ row_slots place c.in-Some.row = ap (λ o. option_map_or (slots_at place) o 0) c.end-tracks.ensures.slot in
+    omega (arith, before, gone, is))
 
 pub returns-in-Some : goal.returns-in-Some
 returns-in-Some c =
-    removed c.self.inside.frontends.items c.take_conn.new.frontends.items c.self.inside.versions c.self.inside.tables c.release.new.self c.args.self.now c.args.id c.take_conn.result c.self.view_is
-    c.take_conn.ensures.row (c.take_conn.ensures.left c.self.inside.versions) (rw (c.in-Some.is, ← c.end.ensures) c.release.ensures.plain) c.release.ensures.spare
+    rw c.give_back.ensures.versions
+    (removed c.self.inside.frontends.items c.take_conn.new.frontends.items c.self.inside.kept.versions c.self.inside.tables c.release.new.self c.args.self.now c.args.id c.take_conn.result c.self.view_is
+    c.take_conn.ensures.row (c.take_conn.ensures.left c.self.inside.kept.versions) (rw (c.in-Some.is, ← c.end-tracks.ensures.tracks) c.release.ensures.plain) c.release.ensures.spare)
 
 pub returns-in_default : goal.returns-in_default
 returns-in_default c =
-    removed c.self.inside.frontends.items c.take_conn.new.frontends.items c.self.inside.versions c.self.inside.tables c.self.inside.tables c.args.self.now c.args.id c.take_conn.result c.self.view_is
-    c.take_conn.ensures.row (c.take_conn.ensures.left c.self.inside.versions) (rw c.in_default.is refl) refl
+    removed c.self.inside.frontends.items c.take_conn.new.frontends.items c.self.inside.kept.versions c.self.inside.tables c.self.inside.tables c.args.self.now c.args.id c.take_conn.result c.self.view_is
+    c.take_conn.ensures.row (c.take_conn.ensures.left c.self.inside.kept.versions) (rw c.in_default.is refl) refl
 
 pub invariant_of-self : goal.invariant_of-self
 invariant_of-self c = record {
-  few = rw c.take_conn.ensures.len c.self.invariant.few;
-  small = c.take_conn.ensures.small c.self.invariant.small;
-  counted = λ id key.
-      let before = c.self.invariant.counted id key in
-      let gone = c.in-Some.ensures.counts (row_on id key) in
-      let ended : cur_in id key c.release.new.self.tables + row_on id key c.in-Some.row ≡ cur_in id key c.self.inside.tables.tables = rw (← c.end.ensures) (c.release.ensures.counts id key) in
-      omega (arith, before, gone, ended);
+  rows = record {
+    few = rw c.take_conn.ensures.len c.self.invariant.rows.few;
+    small = c.take_conn.ensures.small c.self.invariant.rows.small;
+    counted = λ id key.
+        let before = c.self.invariant.rows.counted id key in
+        let gone = c.in-Some.ensures.counts (row_on id key) in
+        let ended : cur_in id key c.release.new.self.tables + row_on id key c.in-Some.row ≡ cur_in id key c.self.inside.tables.tables = rw (← c.end-tracks.ensures.tracks) (c.release.ensures.counts id key) in
+        omega (arith, before, gone, ended);
+  };
+  served =
+      left_served c.self.inside.frontends.items c.take_conn.new.frontends.items c.self.inside.kept c.give_back.new.kept c.in-Some.row c.in-Some.ensures.counts c.take_conn.ensures.rows c.give_back.ensures.versions
+      (λ place. ap (λ o. open_at place c.give_back.new.kept.counts + option_map_or (slots_at place) o 0) (sym c.end-tracks.ensures.slot) ∙ c.give_back.ensures.open place) c.give_back.ensures.identities c.self.invariant.served;
 }
 
 pub invariant_of-self-in_default : goal.invariant_of-self-in_default
 invariant_of-self-in_default c = record {
-  few = rw c.take_conn.ensures.len c.self.invariant.few;
-  small = c.take_conn.ensures.small c.self.invariant.small;
-  counted = λ id key. c.self.invariant.counted id key ∙ sym (c.in_default.ensures.none (row_on id key));
+  rows = record {
+    few = rw c.take_conn.ensures.len c.self.invariant.rows.few;
+    small = c.take_conn.ensures.small c.self.invariant.rows.small;
+    counted = λ id key. c.self.invariant.rows.counted id key ∙ sym (c.in_default.ensures.none (row_on id key));
+  };
+  served = record {
+    counted = λ place. c.self.invariant.served.counted place ∙ sym (c.in_default.ensures.none (row_slots place));
+    slots = c.take_conn.ensures.rows _ c.self.invariant.served.slots;
+  };
 }

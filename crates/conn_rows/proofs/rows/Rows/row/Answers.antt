@@ -11,11 +11,11 @@ returns-in_err-row c =
     let none : stored_in c.args.id.serial (slice_get c.self.inside.frontends.items c.args.id.frontend) ≡ None =
     ap (λ xs. stored_in c.args.id.serial (slice_get xs c.args.id.frontend)) (sym c.as_slice.ensures.value) ∙ sym c.find_row.ensures ∙ ap option_copied c.in_err-row.was in
     c.from_residual.ensures
-    ∙ sym (ap (option_map summary_of) (row_of_state c.self.inside.frontends.items c.self.inside.versions c.self.inside.tables c.args.self.now c.args.id c.self.view_is ∙ ap (option_map (plain_row c.self.inside.versions)) none))
+    ∙ sym (ap (option_map summary_of) (row_of_state c.self.inside.frontends.items c.self.inside.kept.versions c.self.inside.tables c.args.self.now c.args.id c.self.view_is ∙ ap (option_map (plain_row c.self.inside.kept.versions)) none))
 
 pub returns : goal.returns
 returns c =
     let there : stored_in c.args.id.serial (slice_get c.self.inside.frontends.items c.args.id.frontend) ≡ Some c.in_ok-row.row.now =
     ap (λ xs. stored_in c.args.id.serial (slice_get xs c.args.id.frontend)) (sym c.as_slice.ensures.value) ∙ sym c.find_row.ensures ∙ ap option_copied c.in_ok-row.was in
-    ap (λ s. Some s) (c.summary.ensures ∙ summed c.self.inside.versions c.in_ok-row.row.now)
-    ∙ sym (ap (option_map summary_of) (row_of_state c.self.inside.frontends.items c.self.inside.versions c.self.inside.tables c.args.self.now c.args.id c.self.view_is ∙ ap (option_map (plain_row c.self.inside.versions)) there))
+    ap (λ s. Some s) (c.summary.ensures ∙ summed c.self.inside.kept.versions c.in_ok-row.row.now)
+    ∙ sym (ap (option_map summary_of) (row_of_state c.self.inside.frontends.items c.self.inside.kept.versions c.self.inside.tables c.args.self.now c.args.id c.self.view_is ∙ ap (option_map (plain_row c.self.inside.kept.versions)) there))

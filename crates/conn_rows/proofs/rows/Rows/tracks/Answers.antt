@@ -16,19 +16,19 @@ there c = ap (λ xs. stored_in c.args.id.serial (slice_get xs c.args.id.frontend
 pub returns-in_err-row-clause-slots : goal.returns-in_err-row-clause-slots
 returns-in_err-row-clause-slots c =
     c.from_residual.ensures
-    ∙ sym (ap (option_map (λ row. slots_of row.tracks)) (row_of_state c.self.inside.frontends.items c.self.inside.versions c.self.inside.tables c.args.self.now c.args.id c.self.view_is ∙ ap (option_map (plain_row c.self.inside.versions)) (none c)))
+    ∙ sym (ap (option_map (λ row. slots_of row.tracks)) (row_of_state c.self.inside.frontends.items c.self.inside.kept.versions c.self.inside.tables c.args.self.now c.args.id c.self.view_is ∙ ap (option_map (plain_row c.self.inside.kept.versions)) (none c)))
 
 pub returns-in_err-row-clause-present : goal.returns-in_err-row-clause-present
 returns-in_err-row-clause-present c =
     ap (option_map present) c.from_residual.ensures
-    ∙ sym (ap (option_map (λ row. row.tracks)) (row_of_state c.self.inside.frontends.items c.self.inside.versions c.self.inside.tables c.args.self.now c.args.id c.self.view_is ∙ ap (option_map (plain_row c.self.inside.versions)) (none c)))
+    ∙ sym (ap (option_map (λ row. row.tracks)) (row_of_state c.self.inside.frontends.items c.self.inside.kept.versions c.self.inside.tables c.args.self.now c.args.id c.self.view_is ∙ ap (option_map (plain_row c.self.inside.kept.versions)) (none c)))
 
 pub returns-clause-slots : goal.returns-clause-slots
 returns-clause-slots c =
     ap (λ s. Some s) c.slots.ensures.slots
-    ∙ sym (ap (option_map (λ row. slots_of row.tracks)) (row_of_state c.self.inside.frontends.items c.self.inside.versions c.self.inside.tables c.args.self.now c.args.id c.self.view_is ∙ ap (option_map (plain_row c.self.inside.versions)) (there c)))
+    ∙ sym (ap (option_map (λ row. slots_of row.tracks)) (row_of_state c.self.inside.frontends.items c.self.inside.kept.versions c.self.inside.tables c.args.self.now c.args.id c.self.view_is ∙ ap (option_map (plain_row c.self.inside.kept.versions)) (there c)))
 
 pub returns-clause-present : goal.returns-clause-present
 returns-clause-present c =
     ap (λ s. Some s) c.slots.ensures.present
-    ∙ sym (ap (option_map (λ row. row.tracks)) (row_of_state c.self.inside.frontends.items c.self.inside.versions c.self.inside.tables c.args.self.now c.args.id c.self.view_is ∙ ap (option_map (plain_row c.self.inside.versions)) (there c)))
+    ∙ sym (ap (option_map (λ row. row.tracks)) (row_of_state c.self.inside.frontends.items c.self.inside.kept.versions c.self.inside.tables c.args.self.now c.args.id c.self.view_is ∙ ap (option_map (plain_row c.self.inside.kept.versions)) (there c)))

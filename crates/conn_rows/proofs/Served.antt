@@ -1,0 +1,278 @@
+-- Open connections of servers, as the rows change.
+use Rattle.std.proofs.Common.{◌≡◌, ℕ, zero, suc, ◌*◌, ◌+◌, Bool, true, false, List, [], ◌∷◌, ◌++◌, length, map, set, Option, Some, None, refl, sym, ap, subst, ◌∙◌, arith}
+use Rattle.std.specs.Prelude.{filter, find, ◌^◌, ◌<◌, ◌≤◌, slice_get, slice_set, option_map, not, ◌==◌, if◌then◌else◌, Result, Ok, Err, OnOk, OnErr, IfSome, IfNone, IsSome, option_and_then}
+use Rattle.std.specs.List.{AllByRecursion}
+use Rattle.std.proofs.lemmas.Bool.Decides.{nat_tests}
+use Rattle.std.specs.Option.{option_map_or}
+use Rattle.plan_types.specs.declared.plan.Backend.{Backend}
+use Rattle.plan_types.specs.declared.plan.Frontend.{Frontend}
+use Rattle.plan_types.specs.declared.plan.Plan.{Plan}
+use Rattle.plan_types.specs.declared.plan.Server.{Server}
+use Rattle.slot_core.specs.declared.slots.SlotIx.{SlotIx}
+use Rattle.slot_core.specs.Counts.{identity_at, open_at, slots_at}
+use Rattle.conn_model.specs.declared.plain.Version.{Version}
+use Rattle.conn_model.specs.Answer.{version_at}
+use Rattle.conn_model.specs.Counts.{server_of, total}
+use Rattle.conn_model.specs.History.{identity_of, with_offer}
+use Rattle.conn_model.specs.Servers.{cursors_after, identity_in}
+use Rattle.proxy_types.specs.declared.balance.Place.{Place}
+use Rattle.conn_model.proofs.Lists.{all-append, all-at, all-filter, all-map, all-more}
+use Rattle.conn_tables.proofs.PlaceLemmas.{all_set}
+use Rattle.conn_versions.specs.Versions.{HasServer, VersionsValue}
+use Rattle.conn_rows.specs.declared.row.HeldSeat.{HeldSeat}
+use Rattle.conn_rows.specs.declared.row.Seat.{Seat}
+use Rattle.conn_rows.specs.declared.row.Stage.{Stage}
+use Rattle.conn_rows.specs.declared.row.Stage.TheVariants.{Waiting, Offered}
+use Rattle.conn_rows.specs.declared.row.StoredRow.{StoredRow}
+use Rattle.conn_rows.specs.Changes.{stage_fed, stage_offered, stage_up, stored_fed, stored_up}
+use Rattle.conn_rows.specs.Stored.{StoredFrontend, at_stage, has_serial, phase_of, phase_with, plan_at, rest_kept, rest_within, slot_of, with_stored}
+use Rattle.conn_rows.specs.Value.{AllRows, AreServed, CountsFor, HasSlot, row_slots, rows_total}
+use Rattle.conn_rows.proofs.Totals.{total-set}
+
+-- a frontend is changed, whose rows are as many open connections of each server as they were
+pub still_served : (frontends : List StoredFrontend) (kept : VersionsValue) (n : ℕ) (own next : StoredFrontend) → slice_get frontends n ≡ Some own →
+    ((place : ℕ) → total (row_slots place) next.rows ≡ total (row_slots place) own.rows) → (AllByRecursion (HasSlot kept) own.rows → AllByRecursion (HasSlot kept) next.rows) →
+    AreServed frontends kept → AreServed (set frontends n next) kept
+still_served frontends kept n own next there same each known = record {
+  counted = λ place.
+      let all : rows_total (row_slots place) (set frontends n next) + total (row_slots place) own.rows ≡ rows_total (row_slots place) frontends + total (row_slots place) next.rows =
+      total-set (λ own. total (row_slots place) own.rows) frontends n own next there in
+      let before = known.counted place in
+      let is = same place in
+      omega (arith, all, before, is);
+  slots = all_set (λ own. AllByRecursion (HasSlot kept) own.rows) frontends n next known.slots (each (all-at (λ own. AllByRecursion (HasSlot kept) own.rows) frontends n own known.slots there));
+}
+
+-- rows of which one is changed
+pub all-with : (P : StoredRow → Type 0) (serial : ℕ) (change : StoredRow → StoredRow) (rows : List StoredRow) → ((row : StoredRow) → P row → P (change row)) → AllByRecursion P rows → AllByRecursion P (with_stored serial change rows)
+all-with P serial change rows keeps all =
+    all-map P (λ row. if row.serial == serial then change row else row) rows (all-more P (λ row. P (if row.serial == serial then change row else row)) rows kept all)
+  where
+    kept : (row : StoredRow) → P row → P (if row.serial == serial then change row else row)
+    kept row known = by (row.serial == serial)
+      where
+        by : (b : Bool) → P (if b then change row else row)
+        by true = keeps row known
+        by false = known
+
+-- a connection that is fed, and one that its server took
+
+pub fed_slot : (piece : List ℕ) (stage : Stage) → slot_of (stage_fed piece stage) ≡ slot_of stage
+fed_slot piece (Waiting rest) = refl
+fed_slot piece (Offered held) = refl
+
+fed_server : (plan : Option Plan) (piece : List ℕ) (stage : Stage) → server_of (phase_of plan (stage_fed piece stage)) ≡ server_of (phase_of plan stage)
+fed_server plan piece (Waiting rest) = refl
+fed_server plan piece (Offered held) = refl
+
+pub up_slot : (stage : Stage) → slot_of (stage_up stage) ≡ slot_of stage
+up_slot (Waiting rest) = refl
+up_slot (Offered held) = refl
+
+up_server : (plan : Option Plan) (stage : Stage) → server_of (phase_of plan (stage_up stage)) ≡ server_of (phase_of plan stage)
+up_server plan (Waiting rest) = refl
+up_server plan (Offered held) = by held.is_up
+  where
+    by : (b : Bool) → server_of (phase_of plan (stage_up (Offered (record held { is_up = b })))) ≡ server_of (phase_of plan (Offered (record held { is_up = b })))
+    by true = refl
+    by false = refl
+
+-- a stage in the place of another one, of the same slot and server
+pub at-stage : (kept : VersionsValue) (row : StoredRow) (stage : Stage) → slot_of stage ≡ slot_of row.stage → server_of (phase_of (plan_at kept.versions row.version) stage) ≡ server_of (phase_of (plan_at kept.versions row.version) row.stage) →
+    HasSlot kept row → HasSlot kept (at_stage stage row)
+at-stage kept row stage slot server known =
+    subst (λ s. CountsFor kept s (server_of (phase_of (plan_at kept.versions row.version) stage))) (sym slot)
+    (subst (λ s. CountsFor kept (slot_of row.stage) s) (sym server) known)
+
+pub fed_has : (kept : VersionsValue) (piece : List ℕ) (row : StoredRow) → HasSlot kept row → HasSlot kept (stored_fed piece row)
+fed_has kept piece row = at-stage kept row (stage_fed piece row.stage) (fed_slot piece row.stage) (fed_server (plan_at kept.versions row.version) piece row.stage)
+
+pub up_has : (kept : VersionsValue) (row : StoredRow) → HasSlot kept row → HasSlot kept (stored_up row)
+up_has kept row = at-stage kept row (stage_up row.stage) (up_slot row.stage) (up_server (plan_at kept.versions row.version) row.stage)
+
+pub slots-fed : (place : ℕ) (piece : List ℕ) (row : StoredRow) → row_slots place (stored_fed piece row) ≡ row_slots place row
+slots-fed place piece row = ap (λ o. option_map_or (slots_at place) o 0) (fed_slot piece row.stage)
+
+pub slots-up : (place : ℕ) (row : StoredRow) → row_slots place (stored_up row) ≡ row_slots place row
+slots-up place row = ap (λ o. option_map_or (slots_at place) o 0) (up_slot row.stage)
+
+-- a row more, which waits
+pub all-arrival : {E : Type 0} (P : StoredRow → Type 0) (r : Result ℕ E) (own next : StoredFrontend) (row : StoredRow) → P row →
+    OnOk r (next ≡ record own { serial = own.serial + 1; rows = own.rows ++ row ∷ [] }) → OnErr r (next ≡ own) → AllByRecursion P own.rows → AllByRecursion P next.rows
+all-arrival P (Ok serial) own next row new' ok err known = subst (λ (f : StoredFrontend). AllByRecursion P f.rows) (sym ok) (all-append P own.rows (row ∷ []) known (new', tt))
+all-arrival P (Err e) own next row new' ok err known = subst (λ (f : StoredFrontend). AllByRecursion P f.rows) (sym err) known
+
+-- Frontends of which nothing is open.
+
+pub none-served : (kept : VersionsValue) (frontends : List Frontend) (last : ℕ) → AllRows (HasSlot kept) (map (λ frontend. record { name = frontend.name; serial = last; rows = [] }) frontends)
+none-served kept [] last = tt
+none-served kept (f ∷ frontends) last = (tt, none-served kept frontends last)
+
+-- Not too many open connections.
+
+one-slot : (place : ℕ) (o : Option SlotIx) → option_map_or (slots_at place) o 0 ≤ 1
+one-slot place None = omega arith
+one-slot place (Some slot) = by (slot.place == place)
+  where
+    by : (b : Bool) → (if b then 1 else 0) ≤ 1
+    by true = omega arith
+    by false = omega arith
+
+slots-few : (place : ℕ) (rows : List StoredRow) → total (row_slots place) rows ≤ length rows
+slots-few place [] = omega arith
+slots-few place (row ∷ rows) = let one = one-slot place (slot_of row.stage) in let more = slots-few place rows in omega (arith, one, more)
+
+pub all_slots_few : (place : ℕ) (frontends : List StoredFrontend) → AllByRecursion (λ own. length own.rows < 2 ^ 56) frontends → rows_total (row_slots place) frontends ≤ 0x100_0000_0000_0000 * length frontends
+all_slots_few place [] small = omega arith
+all_slots_few place (own ∷ frontends) small =
+    let here = slots-few place own.rows in
+    let less : length own.rows < 0x100_0000_0000_0000 = small.0 in
+    let more = all_slots_few place frontends small.1 in
+    omega (arith, here, less, more)
+
+-- An offer.
+
+pub version-offer : (number line server : ℕ) (versions : List Version) (n : ℕ) → option_map (λ version. version.plan) (version_at (map (with_offer number line server) versions) n) ≡ plan_at versions n
+version-offer number line server [] n = refl
+version-offer number line server (v ∷ versions) n = by (v.number == number) refl (version-offer number line server versions n)
+  where
+    by : (b : Bool) → (v.number == number) ≡ b → option_map (λ version. version.plan) (version_at (map (with_offer number line server) versions) n) ≡ plan_at versions n →
+        option_map (λ version. version.plan) (version_at (map (with_offer number line server) (v ∷ versions)) n) ≡ plan_at (v ∷ versions) n
+    by b is rest = rw is (here (cursors_after v.plan line server v.cursors) b (v.number == n) refl)
+      where
+        here : (cursors : List (Option Place)) (b c : Bool) → (v.number == n) ≡ c →
+            option_map (λ version. version.plan) (version_at ((if b then record v { cursors = cursors } else v) ∷ map (with_offer number line server) versions) n) ≡ plan_at (v ∷ versions) n
+        here cursors true true c = rw c refl
+        here cursors true false c = rw c rest
+        here cursors false true c = rw c refl
+        here cursors false false c = rw c rest
+
+-- a slot is taken: one connection more is open to its server
+pub more_served : (frontends : List StoredFrontend) (kept rest : VersionsValue) (n : ℕ) (own next : StoredFrontend) (slot : SlotIx) → slice_get frontends n ≡ Some own →
+    ((place : ℕ) → total (row_slots place) next.rows ≡ total (row_slots place) own.rows + slots_at place slot) →
+    ((place : ℕ) → open_at place rest.counts ≡ open_at place kept.counts + slots_at place slot) →
+    (AllByRecursion (HasSlot rest) own.rows → AllByRecursion (HasSlot rest) next.rows) → AllRows (HasSlot rest) frontends →
+    AreServed frontends kept → AreServed (set frontends n next) rest
+more_served frontends kept rest n own next slot there rows counts each slots known = record {
+  counted = λ place.
+      let all : rows_total (row_slots place) (set frontends n next) + total (row_slots place) own.rows ≡ rows_total (row_slots place) frontends + total (row_slots place) next.rows =
+      total-set (λ own. total (row_slots place) own.rows) frontends n own next there in
+      let before = known.counted place in
+      let more = rows place in
+      let count = counts place in
+      omega (arith, all, before, more, count);
+  slots = all_set (λ own. AllByRecursion (HasSlot rest) own.rows) frontends n next slots (each (all-at (λ own. AllByRecursion (HasSlot rest) own.rows) frontends n own slots there));
+}
+
+-- the others count for their servers as before
+pub slots-offer : (frontends : List StoredFrontend) (kept rest : VersionsValue) (number line server : ℕ) → rest.versions ≡ map (with_offer number line server) kept.versions →
+    ((place : ℕ) → identity_at place rest.counts ≡ identity_at place kept.counts) → AllRows (HasSlot kept) frontends → AllRows (HasSlot rest) frontends
+slots-offer frontends kept rest number line server versions identities known =
+    all-more (λ own. AllByRecursion (HasSlot kept) own.rows) (λ own. AllByRecursion (HasSlot rest) own.rows) frontends (λ own. all-more (HasSlot kept) (HasSlot rest) own.rows each) known
+  where
+    counts : (o : Option SlotIx) (s : Option _) → CountsFor kept o s → CountsFor rest o s
+    counts None s is = tt
+    counts (Some slot) s is = identities slot.place ∙ is
+
+    plans : (row : StoredRow) → plan_at kept.versions row.version ≡ plan_at rest.versions row.version
+    plans row = sym (ap (λ vs. plan_at vs row.version) versions ∙ version-offer number line server kept.versions row.version)
+
+    each : (row : StoredRow) → HasSlot kept row → HasSlot rest row
+    each row is = subst (λ plan. CountsFor rest (slot_of row.stage) (server_of (phase_of plan row.stage))) (plans row) (counts (slot_of row.stage) (server_of (phase_of (plan_at kept.versions row.version) row.stage)) is)
+
+-- and so does the connection that is offered a server
+pub offered_has : (kept rest : VersionsValue) (number : ℕ) (seat : Seat) (slot : SlotIx) → rest.versions ≡ map (with_offer number seat.line seat.server) kept.versions →
+    (there : HasServer kept.versions number seat.line seat.server) → there.server.to ≡ seat.to → identity_at slot.place rest.counts ≡ Some (identity_in there.backend there.server) →
+    (row : StoredRow) → row.version ≡ number → HasSlot rest (at_stage (stage_offered seat slot) row)
+offered_has kept rest number seat slot versions there to identity row judged =
+    identity ∙ ap (λ s. Some s) (sym server)
+  where
+    plan_is : plan_at rest.versions row.version ≡ Some there.kept.plan
+    plan_is =
+        ap (λ vs. plan_at vs row.version) versions ∙ version-offer number seat.line seat.server kept.versions row.version ∙ ap (plan_at kept.versions) judged
+        ∙ ap (option_map (λ version. version.plan)) there.version_is
+
+    server : identity_of (plan_at rest.versions row.version) seat.line seat.server seat.to ≡ identity_in there.backend there.server
+    server = rw (plan_is, there.backend_is, there.server_is, to) refl
+
+-- what waited had no slot
+pub waited : (stage : Stage) → IsSome (rest_within stage) → (place : ℕ) → option_map_or (slots_at place) (slot_of stage) 0 ≡ 0
+waited (Waiting rest) some place = refl
+waited (Offered held) some place = absurd (cc)
+
+pub not_waiting : (serial : ℕ) (rows : List StoredRow) (stage : Stage) (held : HeldSeat) → IsSome (rest_kept serial rows) → ((row : StoredRow) → find (has_serial serial) rows ≡ Some row → stage ≡ row.stage) → stage ≡ Offered held → ⊥
+not_waiting serial rows stage held some before is = by (find (has_serial serial) rows) refl some
+  where
+    wrong : (s : Stage) → stage ≡ s → IsSome (rest_within s) → ⊥
+    wrong (Waiting rest) same some = absurd (let no : Waiting rest ≡ Offered held = sym same ∙ is in cc)
+    wrong (Offered held) same some = absurd (cc)
+
+    by : (o : Option StoredRow) → find (has_serial serial) rows ≡ o → IsSome (option_and_then (λ row. rest_within row.stage) o) → ⊥
+    by None none some = absurd (cc)
+    by (Some row) found some = wrong row.stage (before row found) some
+
+pub slots_offered : (serial : ℕ) (rows next : List StoredRow) (seat : Seat) (slot : SlotIx) → IsSome (rest_kept serial rows) →
+    ((row : StoredRow) → find (has_serial serial) rows ≡ Some row → (place : ℕ) × (slice_get rows place ≡ Some row) × (next ≡ slice_set rows place (at_stage (stage_offered seat slot) row))) →
+    (place : ℕ) → total (row_slots place) next ≡ total (row_slots place) rows + slots_at place slot
+slots_offered serial rows next seat slot some places place = by (find (has_serial serial) rows) refl some
+  where
+    by : (o : Option StoredRow) → find (has_serial serial) rows ≡ o → IsSome (option_and_then (λ row. rest_within row.stage) o) → total (row_slots place) next ≡ total (row_slots place) rows + slots_at place slot
+    by None none some = absurd (cc)
+    by (Some row) found some =
+        let at = places row found in
+        let all : total (row_slots place) (slice_set rows at.0 (at_stage (stage_offered seat slot) row)) + row_slots place row ≡ total (row_slots place) rows + row_slots place (at_stage (stage_offered seat slot) row) =
+        total-set (row_slots place) rows at.0 row (at_stage (stage_offered seat slot) row) at.1 in
+        let none : row_slots place row ≡ 0 = waited row.stage some place in
+        let is : total (row_slots place) next ≡ total (row_slots place) (slice_set rows at.0 (at_stage (stage_offered seat slot) row)) = ap (total (row_slots place)) at.2 in
+        omega (arith, all, none, is)
+
+pub each_offered : (P : StoredRow → Type 0) (serial : ℕ) (rows next : List StoredRow) (seat : Seat) (slot : SlotIx) → IsSome (rest_kept serial rows) →
+    ((row : StoredRow) → find (has_serial serial) rows ≡ Some row → (place : ℕ) × (slice_get rows place ≡ Some row) × (next ≡ slice_set rows place (at_stage (stage_offered seat slot) row))) →
+    ((row : StoredRow) → find (has_serial serial) rows ≡ Some row → P (at_stage (stage_offered seat slot) row)) → AllByRecursion P rows → AllByRecursion P next
+each_offered P serial rows next seat slot some places offered all = by (find (has_serial serial) rows) refl some
+  where
+    by : (o : Option StoredRow) → find (has_serial serial) rows ≡ o → IsSome (option_and_then (λ row. rest_within row.stage) o) → AllByRecursion P next
+    by None none some = absurd (cc)
+    by (Some row) found some =
+        let at = places row found in
+        subst (AllByRecursion P) (sym at.2) (all_set P rows at.0 (at_stage (stage_offered seat slot) row) all (offered row found))
+
+-- An end.
+
+pub all-without : (P : StoredRow → Type 0) (frontends : List StoredFrontend) (n : ℕ) (own next : StoredFrontend) (test : StoredRow → Bool) → slice_get frontends n ≡ Some own → next.rows ≡ filter test own.rows →
+    AllRows P frontends → AllRows P (set frontends n next)
+all-without P frontends n own next test there rows known =
+    all_set (λ own. AllByRecursion P own.rows) frontends n next known (subst (AllByRecursion P) (sym rows) (all-filter P test own.rows (all-at (λ own. AllByRecursion P own.rows) frontends n own known there)))
+
+-- after a connection ended its slot is given back
+pub left_served : (frontends next : List StoredFrontend) (kept rest : VersionsValue) (row : StoredRow) →
+    ((worth : StoredRow → ℕ) → rows_total worth next + worth row ≡ rows_total worth frontends) → ((kept : VersionsValue) → AllRows (HasSlot kept) frontends → AllRows (HasSlot kept) next) →
+    rest.versions ≡ kept.versions → ((place : ℕ) → open_at place rest.counts + row_slots place row ≡ open_at place kept.counts) →
+    ((place : ℕ) → identity_at place rest.counts ≡ identity_at place kept.counts) → AreServed frontends kept → AreServed next rest
+left_served frontends next kept rest row counts each versions backs identities known = record {
+  counted = λ place.
+      let before = known.counted place in
+      let gone = counts (row_slots place) in
+      let back = backs place in
+      omega (arith, before, gone, back);
+  slots = all-more (λ own. AllByRecursion (HasSlot kept) own.rows) (λ own. AllByRecursion (HasSlot rest) own.rows) next (λ own. all-more (HasSlot kept) (HasSlot rest) own.rows still) (each kept known.slots);
+}
+  where
+    same : (o : Option SlotIx) (s : Option _) → CountsFor kept o s → CountsFor rest o s
+    same None s is = tt
+    same (Some slot) s is = identities slot.place ∙ is
+
+    still : (row : StoredRow) → HasSlot kept row → HasSlot rest row
+    still row is = subst (λ vs. CountsFor rest (slot_of row.stage) (server_of (phase_of (plan_at vs row.version) row.stage))) (sym versions) (same (slot_of row.stage) (server_of (phase_of (plan_at kept.versions row.version) row.stage)) is)
+
+-- a slot that is given back is one of those that are counted
+pub slot_counted : (counts : ℕ → ℕ) (o : Option SlotIx) → ((place : ℕ) → option_map_or (slots_at place) o 0 ≤ counts place) → IfSome o (λ slot. 0 < counts slot.place)
+slot_counted counts None below = tt
+slot_counted counts (Some slot) below = let one : slots_at slot.place slot ≤ counts slot.place = below slot.place in let is = itself slot.place in by (slot.place == slot.place) refl one is
+  where
+    itself : (n : ℕ) → (n == n) ≡ true
+    itself n = grind (arith, nat_tests)
+
+    by : (b : Bool) → (slot.place == slot.place) ≡ b → slots_at slot.place slot ≤ counts slot.place → (slot.place == slot.place) ≡ true → 0 < counts slot.place
+    by true is one same = let less : 1 ≤ counts slot.place = rw is at one in omega (arith, less)
+    by false is one same = absurd (cc)

@@ -1,5 +1,0 @@
-use Rattle.std.proofs.Common.{◌≡◌, None, map, take}
-use Rattle.conn_rows.proofs.opening.cursors.Given as goal
-
-abbrev pub invariant-loop-backend : goal.invariant-loop-backend
-invariant-loop-backend l = l.cursors ≡ map (λ backend. None) (take l._backend-index l.backends)
