@@ -6,4 +6,3 @@ pub use planning::read_plan;
 
 mod fault;
 mod planning;
-mod support;

@@ -1,28 +1,22 @@
 //! The plan of a text.
 ghost use Rattle.std.specs.Prelude.{◌≡◌, ◌⊎◌, IfOk, IfErr, Ok, Err};
+ghost use Rattle.plan_core.specs.Compiled.{plan_of};
 ghost use Rattle.plan_types.specs.Sound.{IsSoundPlan};
-ghost use Rattle.config_core.specs.Meaning.{supported_plan, meaning};
+ghost use Rattle.config_core.specs.Meaning.{opened, meaning};
 
 use crate::fault::OpenFault;
-use crate::support::unsupported_line;
-use conf_tree::{ConfFault, ConfKind, Tree, read_config};
+use conf_tree::{ConfKind, Tree, read_config};
 use plan_core::{Plan, PlanKind, compile};
 use std::alloc::Global;
 
-/// The plan of a configuration whose lines are right and supported.
+/// The plan of a configuration whose lines are right.
 fn plan(alloc: Global, tree: &Tree<'_>) -> Result<Plan, OpenFault>
-    ensures ok { IfOk result (λ plan. supported_plan tree.now ≡ Ok plan) }
-    ensures fault { IfErr result (λ f. (f ≡ OpenFault.NoMemory) ⊎ (supported_plan tree.now ≡ Err f)) }
+    ensures ok { IfOk result (λ plan. opened (plan_of tree.now) ≡ Ok plan) }
+    ensures fault { IfErr result (λ f. (f ≡ OpenFault.NoMemory) ⊎ (opened (plan_of tree.now) ≡ Err f)) }
     ensures sound { IfOk result IsSoundPlan }
 {
     match compile(alloc, tree) {
-        Ok(plan) => match unsupported_line(tree.items()) {
-            None => Ok(plan),
-            Some(line) => Err(OpenFault::Config(ConfFault {
-                line,
-                kind: ConfKind::Unsupported,
-            })),
-        },
+        Ok(plan) => Ok(plan),
         Err(fault) => {
             if matches!(fault.kind, PlanKind::NoMemory) {
                 return Err(OpenFault::NoMemory);
