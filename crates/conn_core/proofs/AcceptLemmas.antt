@@ -17,7 +17,7 @@ use Rattle.conn_model.specs.declared.plain.Plain.{Plain}
 use Rattle.conn_model.specs.declared.plain.Row.{Row}
 use Rattle.conn_model.specs.declared.plain.Version.{Version}
 use Rattle.conn_model.specs.Answer.{accept_answer, admission, candidate_at, frontend_in, new_row}
-use Rattle.conn_model.specs.History.{by_counter, entry, id_of, identity_of, newest_number, tables_by}
+use Rattle.conn_model.specs.History.{by_counter, entry, id_of, identity_of, newest_number, tables_by, with_said}
 use Rattle.conn_model.specs.Words.{newest}
 use Rattle.conn_model.proofs.Steps.{after-accept, rows_left}
 use Rattle.conn_rows.specs.Changes.{with_item}
@@ -26,7 +26,7 @@ use Rattle.conn_core.specs.declared.entering.Arrival.{Arrival}
 use Rattle.conn_core.specs.declared.outcome.Decision.{Decision}
 use Rattle.conn_core.specs.declared.outcome.Outcome.{Outcome}
 use Rattle.conn_core.specs.declared.outcome.Outcome.TheVariants.{Wait, Offer, Refuse}
-use Rattle.conn_core.specs.Changes.{entered, entered_row}
+use Rattle.conn_core.specs.Changes.{entered, entered_row, settled_versions}
 use Rattle.conn_core.specs.Machine.{IsCoreState}
 use Rattle.conn_core.specs.Outcome.{reply_by, said_by}
 use Rattle.conn_core.proofs.StateLemmas.{IsAfter, is_after, plan_is}
@@ -63,6 +63,12 @@ row_is p arrival tracks (Offer offer) id version =
     } ∷ []
 row_is p arrival tracks (Refuse cause) id version = refl
 
+-- and so are the versions
+pub versions_are : (id : ConnId) (used number : ℕ) (outcome : Outcome) (versions : List Version) → settled_versions number outcome versions ≡ with_said number (said_by id used outcome) versions
+versions_are id used number Wait versions = refl
+versions_are id used number (Offer offer) versions = refl
+versions_are id used number (Refuse cause) versions = refl
+
 -- the state once a connection came in
 pub accepted : (p : Plain) → IsCoreState p → (moment listener : ℕ) (arrival : Arrival) (decision : Decision) (id : ConnId) (own : FrontendRows) →
     slice_get p.frontends id.frontend ≡ Some own → id.serial ≡ own.serial + 1 → arrival.version ≡ newest_number p → arrival.accepted ≡ max p.clock moment →
@@ -71,21 +77,24 @@ pub accepted : (p : Plain) → IsCoreState p → (moment listener : ℕ) (arriva
       clock = max p.clock moment;
       listeners = p.listeners;
       frontends = with_item id.frontend (entered p.versions arrival decision) p.frontends;
-      versions = p.versions;
+      versions = settled_versions arrival.version decision.outcome p.versions;
       tables = tables_by p.frontends p.tables (reply_by id 0 decision);
     })
 accepted p known moment listener arrival decision id own there next version clock is =
     is_after p known (entry moment (Accept listener arrival.real) (reply_by id 0 decision)) _ is
-    (rw there (ap state rows ∙ sym (after-accept p known.well moment listener arrival.real (reply_by id 0 decision) id own there (says decision.outcome) next)))
+    (rw there (ap (λ vs. state vs (entered_row p.versions arrival tracks decision.outcome (own.serial + 1))) versions ∙ ap (state (with_said (newest_number p) (said_by id 0 decision.outcome) p.versions)) rows ∙ sym (after-accept p known.well moment listener arrival.real (reply_by id 0 decision) id own there (says decision.outcome) next)))
   where
-    state : List Row → Plain
-    state rs = record {
+    state : List Version → List Row → Plain
+    state vs rs = record {
       clock = max p.clock moment;
       listeners = p.listeners;
       frontends = slice_set p.frontends id.frontend (record own { serial = own.serial + 1; rows = own.rows ++ rs });
-      versions = p.versions;
+      versions = vs;
       tables = tables_by p.frontends p.tables (reply_by id 0 decision);
     }
+
+    versions : settled_versions arrival.version decision.outcome p.versions ≡ with_said (newest_number p) (said_by id 0 decision.outcome) p.versions
+    versions = ap (λ n. settled_versions n decision.outcome p.versions) version ∙ versions_are id 0 (newest_number p) decision.outcome p.versions
 
     tracks : List Track
     tracks = present decision.tracks

@@ -1,6 +1,6 @@
 -- A connection that comes in.
 use Rattle.std.proofs.Common.{◌≡◌, ℕ, zero, suc, ◌+◌, ◌≤◌, true, false, not, List, [], ◌∷◌, ◌++◌, Some, refl, ◌∙◌, sym, ap, subst, arith, append-nil}
-use Rattle.std.specs.Prelude.{filter, find, flat_map, slice_get, slice_set, IsSome, ◌==◌}
+use Rattle.std.specs.Prelude.{filter, find, flat_map, map, option_and_then, slice_get, slice_set, IfSome, IsSome, ◌==◌}
 use Rattle.std.specs.List.{AllByRecursion}
 use Rattle.std.specs.Option.{option_map_or}
 use Rattle.std.proofs.lemmas.Bool.Decides.{nat_tests}
@@ -15,11 +15,12 @@ use Rattle.conn_model.specs.declared.plain.FrontendRows.{FrontendRows}
 use Rattle.conn_model.specs.declared.plain.TableState.{TableState}
 use Rattle.conn_model.specs.declared.plain.Version.{Version}
 use Rattle.conn_model.specs.Counts.{change_row}
-use Rattle.conn_model.specs.History.{tables_by}
+use Rattle.conn_model.specs.Answer.{rest_in}
+use Rattle.conn_model.specs.History.{tables_by, with_offer}
 use Rattle.conn_model.specs.Tables.{by_counter, open_tracks, tracks_at, tracks_in, with_tracks, without_tracks}
 use Rattle.conn_model.specs.Words.{row_at, row_in}
 use Rattle.conn_model.proofs.Trackings.{none_tracked}
-use Rattle.conn_rows.specs.Changes.{row_offered, with_arrival, with_conn, with_item, with_refusal, with_row, without_conn, without_row}
+use Rattle.conn_rows.specs.Changes.{rest_at, row_offered, with_arrival, with_conn, with_item, with_refusal, with_row, without_conn, without_row}
 use Rattle.conn_rows.specs.declared.rows.RowsState.{RowsState}
 use Rattle.conn_rows.specs.Value.{state_of, RowsValue}
 use Rattle.conn_tables.proofs.PlaceLemmas.{get-set}
@@ -29,7 +30,7 @@ use Rattle.conn_core.specs.declared.outcome.Decision.{Decision}
 use Rattle.conn_core.specs.declared.outcome.Offer.{Offer}
 use Rattle.conn_core.specs.declared.outcome.Outcome.{Outcome}
 use Rattle.conn_core.specs.declared.outcome.Outcome.TheVariants as outcomes
-use Rattle.conn_core.specs.Changes.{entered, entered_row, newcomer, with_newcomer, IsComing}
+use Rattle.conn_core.specs.Changes.{entered, entered_row, newcomer, settled_versions, with_newcomer, IsComing}
 use Rattle.conn_core.specs.Outcome.{reply_by}
 use Rattle.conn_core.specs.Tracking.{row_with, ArePossible, AreSorted}
 
@@ -87,6 +88,16 @@ newcomer_there frontends id own arrival tracks coming =
 pub newcomer_open : (frontends : List FrontendRows) (id : ConnId) (own : FrontendRows) (arrival : Arrival) (tracks : List Track) → IsComing frontends id own →
     IsSome (row_at (with_item id.frontend (with_newcomer arrival tracks) frontends) id)
 newcomer_open frontends id own arrival tracks coming = subst (λ o. IsSome o) (sym (newcomer_there frontends id own arrival tracks coming)) refl
+
+-- it waits, and its version judges it
+pub newcomer_waits : (frontends : List FrontendRows) (id : ConnId) (own : FrontendRows) (arrival : Arrival) (tracks : List Track) → IsComing frontends id own →
+    IsSome (rest_at (with_item id.frontend (with_newcomer arrival tracks) frontends) id)
+newcomer_waits frontends id own arrival tracks coming =
+    subst (λ o. IsSome (option_and_then (λ row. rest_in row.phase) o)) (sym (newcomer_there frontends id own arrival tracks coming)) refl
+
+pub newcomer_judged : (frontends : List FrontendRows) (id : ConnId) (own : FrontendRows) (arrival : Arrival) (tracks : List Track) → IsComing frontends id own →
+    IfSome (row_at (with_item id.frontend (with_newcomer arrival tracks) frontends) id) (λ row. row.version ≡ arrival.version)
+newcomer_judged frontends id own arrival tracks coming = subst (λ o. IfSome o (λ row. row.version ≡ arrival.version)) (sym (newcomer_there frontends id own arrival tracks coming)) refl
 
 -- it tracks those, in the order of counters
 pub newcomer_tracks : (frontends : List FrontendRows) (id : ConnId) (own : FrontendRows) (arrival : Arrival) (tracks : List Track) → IsComing frontends id own →
@@ -242,18 +253,20 @@ state_with old id arrival tracks = record (state_of old) {
 abbrev state_entered : RowsValue → ConnId → Arrival → Decision → RowsState
 state_entered old id arrival decision = record (state_of old) {
   frontends = with_item id.frontend (entered old.versions arrival decision) old.frontends;
+  versions = settled_versions arrival.version decision.outcome old.versions;
   tables = tables_by old.frontends old.tables (reply_by id 0 decision);
 }
 
 pub offered_once : (old now after : RowsValue) (id : ConnId) (own : FrontendRows) (arrival : Arrival) (decision : Decision) (offer : Offer) → IsComing old.frontends id own → decision.outcome ≡ outcomes.Offer offer →
-    state_of now ≡ state_with old id arrival (present decision.tracks) → after ≡ record now { frontends = with_conn id (row_offered now.versions offer.seat) now.frontends } →
+    state_of now ≡ state_with old id arrival (present decision.tracks) → after ≡ record now { frontends = with_conn id (row_offered now.versions offer.seat) now.frontends; versions = map (with_offer arrival.version offer.seat.line offer.seat.server) now.versions } →
     state_of after ≡ state_entered old id arrival decision
 offered_once old now after id own arrival decision offer coming is came offered =
     let versions : now.versions ≡ old.versions = ap (λ (s : RowsState). s.versions) came in
     let f : after.frontends ≡ with_item id.frontend (entered old.versions arrival decision) old.frontends =
     ap (λ (r : RowsValue). r.frontends) offered ∙ ap (λ vs. with_conn id (row_offered vs offer.seat) now.frontends) versions
     ∙ ap (λ (s : RowsState). with_conn id (row_offered old.versions offer.seat) s.frontends) came ∙ entered_offer old.frontends old.versions id own arrival decision offer coming is in
-    let v : after.versions ≡ old.versions = ap (λ (r : RowsValue). r.versions) offered ∙ versions in
+    let v : after.versions ≡ settled_versions arrival.version decision.outcome old.versions =
+    ap (λ (r : RowsValue). r.versions) offered ∙ ap (map (with_offer arrival.version offer.seat.line offer.seat.server)) versions ∙ ap (λ o. settled_versions arrival.version o old.versions) (sym is) in
     let t : after.tables ≡ tables_by old.frontends old.tables (reply_by id 0 decision) =
     ap (λ (r : RowsValue). r.tables) offered ∙ ap (λ (s : RowsState). s.tables) came ∙ tables_offer old.frontends old.tables id decision offer is in
     cc (f, v, t)
@@ -264,7 +277,8 @@ pub skipped_once : (old after : RowsValue) (id : ConnId) (own : FrontendRows) (a
 skipped_once old after id own arrival decision cause coming is none skipped =
     let f : after.frontends ≡ with_item id.frontend (entered old.versions arrival decision) old.frontends =
     ap (λ (r : RowsValue). r.frontends) skipped ∙ entered_skip old.frontends old.versions id own arrival decision cause coming is in
-    let v : after.versions ≡ old.versions = ap (λ (r : RowsValue). r.versions) skipped in
+    let v : after.versions ≡ settled_versions arrival.version decision.outcome old.versions =
+    ap (λ (r : RowsValue). r.versions) skipped ∙ ap (λ o. settled_versions arrival.version o old.versions) (sym is) in
     let t : after.tables ≡ tables_by old.frontends old.tables (reply_by id 0 decision) =
     ap (λ (r : RowsValue). r.tables) skipped ∙ ap (λ ts. without_tracks (by_counter ts) (with_tracks (open_tracks old.frontends) ts old.tables)) (sym none)
     ∙ tables_refused old.frontends old.tables id own decision cause coming is in
@@ -279,7 +293,8 @@ removed_once old now after id own arrival decision cause coming is came removed 
     let fronts : now.frontends ≡ with_item id.frontend (with_newcomer arrival tracks) old.frontends = ap (λ (s : RowsState). s.frontends) came in
     let f : after.frontends ≡ with_item id.frontend (entered old.versions arrival decision) old.frontends =
     ap (λ (r : RowsValue). r.frontends) removed ∙ ap (without_conn id) fronts ∙ entered_gone old.frontends old.versions id own arrival decision cause coming is in
-    let v : after.versions ≡ old.versions = ap (λ (r : RowsValue). r.versions) removed ∙ ap (λ (s : RowsState). s.versions) came in
+    let v : after.versions ≡ settled_versions arrival.version decision.outcome old.versions =
+    ap (λ (r : RowsValue). r.versions) removed ∙ ap (λ (s : RowsState). s.versions) came ∙ ap (λ o. settled_versions arrival.version o old.versions) (sym is) in
     let made : tracks_at now.frontends id ≡ by_counter tracks = ap (λ fs. tracks_at fs id) fronts ∙ newcomer_tracks old.frontends id own arrival tracks coming in
     let t : after.tables ≡ tables_by old.frontends old.tables (reply_by id 0 decision) =
     ap (λ (r : RowsValue). r.tables) removed ∙ ap (λ ts. without_tracks ts now.tables) made ∙ ap (λ (s : RowsState). without_tracks (by_counter tracks) s.tables) came

@@ -1,12 +1,14 @@
 -- How a connection is judged.
-use Rattle.std.proofs.Common.{◌≡◌, ℕ, Bool, false, List, Result, Ok, Err, refl, sym, ap, subst, ◌∙◌, arith}
-use Rattle.std.specs.Prelude.{nat_le, ◌<◌, if◌then◌else◌}
+use Rattle.std.proofs.Common.{◌≡◌, ℕ, Bool, false, List, length, Some, Result, Ok, Err, refl, sym, ap, subst, ◌∙◌, arith}
+use Rattle.std.specs.Prelude.{nat_le, ◌<◌, ◌==◌, if◌then◌else◌}
+use Rattle.std.proofs.lemmas.Bool.{eqb-true}
 use Rattle.std.proofs.lemmas.Bool.Decides.{nat_tests}
 use Rattle.addr_core.specs.PairValue.{PairValue}
+use Rattle.proxy_types.specs.declared.server.ServerIdentity.{ServerIdentity}
 use Rattle.plan_types.specs.declared.plan.Frontend.{Frontend}
 use Rattle.plan_types.specs.declared.plan.Rule.{Rule}
-use Rattle.plan_types.specs.declared.plan.Server.{Server}
 use Rattle.plan_types.specs.declared.track.Track.{Track}
+use Rattle.plan_types.specs.Sound.{IsSoundPlan}
 use Rattle.rule_engine.specs.Meaning.{present}
 use Rattle.rule_engine.specs.Judging.{judged, judged_after, no_tracks, Slots}
 use Rattle.rule_engine.specs.declared.judging.Judged.{Judged}
@@ -16,30 +18,78 @@ use Rattle.conn_model.specs.declared.reply.Cause.{Cause}
 use Rattle.conn_model.specs.declared.reply.Cause.TheVariants.{Line}
 use Rattle.conn_model.specs.declared.reply.Reply.{Reply}
 use Rattle.conn_model.specs.declared.reply.Said.TheVariants.{Refuse}
+use Rattle.conn_model.specs.declared.plain.Plain.{Plain}
 use Rattle.conn_model.specs.declared.plain.Version.{Version}
-use Rattle.conn_model.specs.Answer.{admission, entry_reply, reply_of, reply_with, said_of, server_unless}
-use Rattle.conn_model.specs.Rules.{Candidate, RuleView, rejection, scene_of, view_of, worth}
+use Rattle.conn_model.specs.Answer.{accept_answer, admission, candidate_at, entry_reply, reply_of, reply_with, said_of, server_unless, version_at, NumberedServer}
+use Rattle.conn_model.specs.Rules.{Candidate, RuleView, rejection, scene_of, view_of}
+use Rattle.conn_model.specs.Words.{newest}
+use Rattle.conn_model.specs.Counts.{served_by}
 use Rattle.conn_model.specs.Tables.{open_tracks}
+use Rattle.conn_model.proofs.Lists.{all-each, all-found}
+use Rattle.conn_model.proofs.Offers.{admission-offers, offered_backend, OffersWell}
+use Rattle.conn_model.proofs.Replies.{accepted, Accepted}
+use Rattle.conn_model.proofs.Versions.{newest-at}
 use Rattle.conn_core.specs.declared.facts.RuleFacts.{RuleFacts}
+use Rattle.conn_core.specs.declared.outcome.Decision.{Decision}
 use Rattle.conn_core.specs.declared.outcome.Outcome.{Outcome}
+use Rattle.conn_core.specs.declared.outcome.Outcome.TheVariants as outcomes
+use Rattle.conn_core.specs.Changes.{CanOffer}
+use Rattle.conn_core.specs.Machine.{AreSound, IsCoreState}
 use Rattle.conn_core.specs.Judging.{decided, facts_view, AreAllowed}
 use Rattle.conn_core.specs.Outcome.{outcome_of, reply_by, said_by}
 use Rattle.conn_core.specs.Tracking.{IsPossible}
 use Rattle.conn_core.proofs.TrackLemmas.{allowed_after}
 
-said_of_outcome : (id : ConnId) (used : ℕ) (judged : PairValue) (result : Result Server Cause) → said_by id used (outcome_of judged result) ≡ said_of id used judged result
-said_of_outcome id used judged (Ok server) = refl
+said_of_outcome : (id : ConnId) (used : ℕ) (judged : PairValue) (result : Result NumberedServer Cause) → said_by id used (outcome_of judged result) ≡ said_of id used judged result
+said_of_outcome id used judged (Ok given) = refl
 said_of_outcome id used judged (Err cause) = refl
 
+-- a version is found under its own number
+pub own_number : (versions : List Version) (number : ℕ) (version : Version) → version_at versions number ≡ Some version → version_at versions version.number ≡ Some version
+own_number versions number version there =
+    let is : version.number ≡ number = eqb-true version.number number (all-found (λ v. v ≡ v) (λ v. v.number == number) versions version (all-each (λ v. v ≡ v) versions (λ v. refl)) there).1 in
+    ap (version_at versions) is ∙ there
+
+-- a decision offers a server of the version that judges, where the plans are sound
+pub can_offer : (served : ServerIdentity → ℕ) (versions : List Version) (number : ℕ) (version : Version) (id : ConnId) (used : ℕ) (outcome : Outcome) → AreSound versions → version_at versions number ≡ Some version →
+    OffersWell served version.plan (said_by id used outcome) → CanOffer versions number outcome
+can_offer served versions number version id used outcomes.Wait sound there offers = tt
+can_offer served versions number version id used (outcomes.Offer offer) sound there offers =
+    let plan = (all-found (λ v. IsSoundPlan v.plan) (λ v. v.number == number) versions version sound there).0 in (
+      record {
+        kept = version;
+        backend = offers.backend;
+        server = offers.server;
+        version_is = there;
+        backend_is = offered_backend served version.plan offer.seat.line offer.seat.server offer.seat.to offers plan.lines;
+        server_is = offers.found;
+      },
+      offers.to_is,
+    )
+can_offer served versions number version id used (outcomes.Refuse cause) sound there offers = tt
+
+-- so does one at an accept
+pub accept_offers : (q : Plain) → IsCoreState q → (clock listener : ℕ) (real : PairValue) (id : ConnId) (decision : Decision) (version : Version) → newest q.versions ≡ Some version →
+    accept_answer q clock listener real ≡ Ok (reply_by id 0 decision) → CanOffer q.versions version.number decision.outcome
+accept_offers q known clock listener real id decision version newest_is answer =
+    let got : Accepted q clock listener real (reply_by id 0 decision) = accepted q clock listener real (reply_by id 0 decision) answer in
+    let candidate : Candidate = candidate_at q clock got.at.frontend real got.own got.version got.frontend in
+    let served : ServerIdentity → ℕ = served_by candidate.state.frontends in
+    let same : got.version ≡ version = let it : Some got.version ≡ Some version = sym got.newest_is ∙ newest_is in cc in
+    let offers : OffersWell served got.version.plan (said_by id 0 decision.outcome) =
+    subst (λ (r : Reply). OffersWell served got.version.plan r.said) got.reply_is (admission-offers candidate got.at.accept_proxy real (length got.own.rows)) in
+    can_offer served q.versions version.number version id 0 decision.outcome known.plans (newest-at q.versions version known.well.rise newest_is)
+    (subst (λ (v : Version). OffersWell served v.plan (said_by id 0 decision.outcome)) same offers)
+
 -- the reply of what the session rules and then the backend decide
-pub decided_by : (views : List Track → RuleView) (version : Version) (frontend : Frontend) (earlier : Slots) (judged : PairValue) (says : Judged) (result : Result Server Cause) (outcome : Outcome) →
-    says ≡ judged_after (scene_of views) earlier frontend.session_rules → result ≡ server_unless (worth (views (present says.tracks))) version frontend (rejection says) → outcome ≡ outcome_of judged result →
-    (id : ConnId) (used : ℕ) → reply_by id used (record { outcome = outcome; tracks = says.tracks }) ≡ decided views version frontend id used judged earlier
-decided_by views version frontend earlier judged says result outcome says_is result_is outcome_is id used =
+pub decided_by : (views : List Track → RuleView) (frontend : Frontend) (earlier : Slots) (judged : PairValue) (says : Judged) (result : Result NumberedServer Cause) (outcome : Outcome) →
+    says ≡ judged_after (scene_of views) earlier frontend.session_rules → result ≡ server_unless (views (present says.tracks)) (rejection says) → outcome ≡ outcome_of judged result →
+    (id : ConnId) (used : ℕ) → reply_by id used (record { outcome = outcome; tracks = says.tracks }) ≡ decided views frontend id used judged earlier
+decided_by views frontend earlier judged says result outcome says_is result_is outcome_is id used =
     ap (λ (o : Outcome). reply_with (said_by id used o) says.tracks) outcome_is
     ∙ ap (λ s. reply_with s says.tracks) (said_of_outcome id used judged result)
-    ∙ ap (λ (r : Result Server Cause). reply_with (said_of id used judged r) says.tracks) result_is
-    ∙ ap (λ (s : Judged). reply_with (said_of id used judged (server_unless (worth (views (present s.tracks))) version frontend (rejection s))) s.tracks) says_is
+    ∙ ap (λ (r : Result NumberedServer Cause). reply_with (said_of id used judged r) says.tracks) result_is
+    ∙ ap (λ (s : Judged). reply_with (said_of id used judged (server_unless (views (present s.tracks)) (rejection s))) s.tracks) says_is
 
 -- the limit of the frontend lets a candidate pass: the connection rules decide
 pub admission_by : (candidate : Candidate) (accept_proxy : Bool) (real : PairValue) (others : ℕ) (views : List Track → RuleView) (says : Judged) → others < candidate.frontend.limit →

@@ -10,7 +10,6 @@ use Rattle.pp_any.specs.declared.rest.Rest.{Rest}
 use Rattle.pp_any.specs.Status.{Wait}
 use Rattle.pp_any.specs.NextPiece.{status_on}
 use Rattle.plan_types.specs.declared.plan.Frontend.{Frontend}
-use Rattle.plan_types.specs.declared.plan.Server.{Server}
 use Rattle.plan_types.specs.declared.track.Track.{Track}
 use Rattle.rule_engine.specs.Meaning.{present}
 use Rattle.rule_engine.specs.Judging.{no_tracks, Slots}
@@ -22,7 +21,7 @@ use Rattle.conn_model.specs.declared.reply.Reply.{Reply}
 use Rattle.conn_model.specs.declared.reply.Said.TheVariants as saids
 use Rattle.conn_model.specs.declared.reply.StepFault.TheVariants.{NoSuch}
 use Rattle.conn_model.specs.declared.plain.Phase.{Phase}
-use Rattle.conn_model.specs.declared.plain.Phase.TheVariants.{Waiting, Offered}
+use Rattle.conn_model.specs.declared.plain.Phase.TheVariants.{Waiting, Offered, Up}
 use Rattle.conn_model.specs.declared.plain.Row.{Row}
 use Rattle.conn_model.specs.declared.plain.FrontendRows.{FrontendRows}
 use Rattle.conn_model.specs.declared.plain.TableState.{TableState}
@@ -31,8 +30,8 @@ use Rattle.conn_model.specs.declared.plain.Plain.{Plain}
 use Rattle.conn_model.specs.Counts.{change_row}
 use Rattle.conn_model.specs.Words.{Rise}
 use Rattle.conn_model.specs.Rules.{view_of}
-use Rattle.conn_model.specs.Answer.{candidate_of, decision, frontend_in, header_reply, piece_answer, reply_of, reply_with, rest_in, row_at, row_in, said_of, verdict, version_at, waiting_row, Decision as Verdict}
-use Rattle.conn_model.specs.History.{phase_on, tables_by}
+use Rattle.conn_model.specs.Answer.{candidate_of, decision, frontend_in, header_reply, piece_answer, reply_of, reply_with, rest_in, row_at, row_in, said_of, verdict, version_at, waiting_row, Decision as Verdict, NumberedServer}
+use Rattle.conn_model.specs.History.{phase_on, tables_by, with_said}
 use Rattle.conn_model.specs.Tables.{by_counter, open_tracks, tracks_at, with_tracks, without_tracks}
 use Rattle.conn_model.proofs.Lists.{all-found}
 use Rattle.conn_model.proofs.Replies.{waiting, IsWaiting}
@@ -42,14 +41,15 @@ use Rattle.conn_rows.specs.Changes.{phase_fed, rest_at, row_fed, row_offered, wi
 use Rattle.conn_rows.specs.Summaries.{summary_of}
 use Rattle.conn_rows.specs.Value.{state_of, RowsValue}
 use Rattle.conn_rows.proofs.Changes.{changed_gone, changed_twice, own_changed, row_changed}
-use Rattle.conn_core.specs.Changes.{row_by, settled, settled_tables, spoken, Judge}
+use Rattle.conn_core.specs.Changes.{row_by, settled, settled_tables, settled_versions, spoken, IsJudged, Judge}
 use Rattle.conn_core.specs.Counts.{IsSorted, IsStateOf}
 use Rattle.conn_core.specs.Outcome.{reply_by, said_by}
 use Rattle.conn_core.specs.Tracking.{row_with}
 use Rattle.conn_core.specs.declared.outcome.Decision.{Decision}
 use Rattle.conn_core.specs.declared.outcome.Outcome.{Outcome}
 use Rattle.conn_core.specs.declared.outcome.Outcome.TheVariants as outcomes
-use Rattle.conn_core.proofs.SeenLemmas.{open_tracks-fed, tracks_at-fed}
+use Rattle.conn_core.proofs.AcceptLemmas.{versions_are}
+use Rattle.conn_core.proofs.SeenLemmas.{fed_unseen, open_tracks-same, tracks_at-same}
 
 -- the answer to a piece, from what the rows have
 pub piece_by : (p : Plain) (rows : RowsValue) (id : ConnId) (piece : List ℕ) (found : Row × Rest) (row : RowSummary) → IsStateOf p rows → waiting_row rows.frontends id ≡ Ok found → row ≡ summary_of found.0 →
@@ -95,17 +95,31 @@ rest_is frontends id found waits =
     let w = waiting frontends id found waits in
     ap (option_and_then (λ row. rest_in row.phase)) w.there ∙ w.holds
 
--- a connection that is changed is open still
-pub still_open : (id : ConnId) (change : Row → Row) (frontends : List FrontendRows) → ((row : Row) → (change row).serial ≡ row.serial) → IsSome (row_at frontends id) → IsSome (row_at (with_conn id change frontends) id)
-still_open id change frontends keeps there = subst (λ o. IsSome o) (sym (row_changed id change frontends keeps)) (by (row_at frontends id) there)
-  where
-    by : (o : Option Row) → IsSome o → IsSome (option_map change o)
-    by None some = some
-    by (Some row) some = some
+-- a connection that waits and is judged does so after a change that leaves it waiting
+pub still_judged : (id : ConnId) (change : Row → Row) (frontends : List FrontendRows) (version : ℕ) → ((row : Row) → (change row).serial ≡ row.serial) → ((row : Row) → (change row).version ≡ row.version) →
+    ((row : Row) → IsSome (rest_in row.phase) → IsSome (rest_in (change row).phase)) → IsJudged frontends id version → IsJudged (with_conn id change frontends) id version
+still_judged id change frontends version serial same waits judged = record {
+  row = change judged.row;
+  there = row_changed id change frontends serial ∙ ap (option_map change) judged.there;
+  waits = waits judged.row judged.waits;
+  judged = same judged.row ∙ judged.judged;
+}
 
--- a connection that waits is open
-pub open_waiting : (frontends : List FrontendRows) (id : ConnId) (found : Row × Rest) → waiting_row frontends id ≡ Ok found → IsSome (row_at frontends id)
-open_waiting frontends id found waits = subst (λ o. IsSome o) (sym (waiting frontends id found waits).there) refl
+-- also after a piece
+pub fed_waits : (piece : List ℕ) (phase : Phase) → IsSome (rest_in phase) → IsSome (rest_in (phase_fed piece phase))
+fed_waits piece (Waiting rest) waits = refl
+fed_waits piece (Offered assignment) waits = waits
+fed_waits piece (Up assignment) waits = waits
+
+-- a connection that waits, and its version
+pub judged_by : (frontends : List FrontendRows) (id : ConnId) (found : Row × Rest) → waiting_row frontends id ≡ Ok found → IsJudged frontends id found.0.version
+judged_by frontends id found waits =
+    let w = waiting frontends id found waits in
+    record { row = found.0; there = w.there; waits = subst (λ o. IsSome o) (sym w.holds) refl; judged = refl }
+
+-- it is open
+pub judged_open : (frontends : List FrontendRows) (id : ConnId) (version : ℕ) → IsJudged frontends id version → IsSome (row_at frontends id)
+judged_open frontends id version judged = subst (λ o. IsSome o) (sym judged.there) refl
 
 -- its tracks are in the order of counters
 row_sorted : (frontends : List FrontendRows) (id : ConnId) (row : Row) → ((own : FrontendRows) → slice_get frontends id.frontend ≡ Some own → IsSorted own) → row_at frontends id ≡ Some row →
@@ -152,6 +166,7 @@ waits_on frontends versions id piece count found sorted is status = by (slice_ge
         let waits : status_on rest piece ≡ Wait = ap (λ r. status_on r piece) it ∙ status in
         rw waits refl
     holds (Offered assignment) same = refl
+    holds (Up assignment) same = refl
 
     spoken_to : Row → Row
     spoken_to = row_by versions (Piece id piece) (reply_of (saids.Wait id count))
@@ -170,20 +185,21 @@ waits_on frontends versions id piece count found sorted is status = by (slice_ge
         let row : find (λ row. row.serial == id.serial) own.rows ≡ Some found.0 = ap (row_in id.serial) (sym there) ∙ w.there in
         rw there (ap (λ rows. slice_set frontends id.frontend (record own { rows = rows })) (change-same id.serial (row_fed piece) spoken_to own.rows found.0 (sorted own there).rise row same))
 
--- The rows and the tables of them once that is said to a connection.
-abbrev state_spoken : RowsValue → OwnedEvent → ConnId → Reply → RowsState
-state_spoken rows event id reply = record (state_of rows) {
+-- The rows, versions and tables once that is said to a connection, which the version of that number judges.
+abbrev state_spoken : RowsValue → OwnedEvent → ConnId → ℕ → Reply → RowsState
+state_spoken rows event id version reply = record (state_of rows) {
   frontends = spoken rows.versions event id reply rows.frontends;
+  versions = with_said version reply.said rows.versions;
   tables = tables_by rows.frontends rows.tables reply;
 }
 
-pub waited_once : (old fed : RowsValue) (id : ConnId) (piece : List ℕ) (count : ℕ) (found : Row × Rest) (reply : Reply) →
+pub waited_once : (old fed : RowsValue) (id : ConnId) (version : ℕ) (piece : List ℕ) (count : ℕ) (found : Row × Rest) (reply : Reply) →
     ((own : FrontendRows) → slice_get old.frontends id.frontend ≡ Some own → IsSorted own) → waiting_row old.frontends id ≡ Ok found → status_on found.1 piece ≡ Wait →
-    fed ≡ record old { frontends = with_conn id (row_fed piece) old.frontends } → reply ≡ reply_of (saids.Wait id count) → state_of fed ≡ state_spoken old (Piece id piece) id reply
-waited_once old fed id piece count found reply sorted waits status fed_is reply_is =
+    fed ≡ record old { frontends = with_conn id (row_fed piece) old.frontends } → reply ≡ reply_of (saids.Wait id count) → state_of fed ≡ state_spoken old (Piece id piece) id version reply
+waited_once old fed id version piece count found reply sorted waits status fed_is reply_is =
     ap state_of fed_is
     ∙ ap (λ fs. record (state_of old) { frontends = fs }) (waits_on old.frontends old.versions id piece count found sorted waits status)
-    ∙ ap (state_spoken old (Piece id piece) id) (sym reply_is)
+    ∙ ap (state_spoken old (Piece id piece) id version) (sym reply_is)
 
 -- A connection whose header is wrong.
 
@@ -195,17 +211,17 @@ same_tracks frontends id found sorted waits =
     let tracks : tracks_at frontends id ≡ found.0.tracks = ap (λ (o : Option Row). option_map_or (λ (row : Row). row.tracks) o []) there in
     ap by_counter (append-nil (tracks_at frontends id)) ∙ ap by_counter tracks ∙ row_sorted frontends id found.0 sorted there ∙ sym tracks
 
-pub refused_once : (old fed after : RowsValue) (event : OwnedEvent) (id : ConnId) (piece : List ℕ) (used : ℕ) (cause : Cause) (found : Row × Rest) (reply : Reply) →
+pub refused_once : (old fed after : RowsValue) (event : OwnedEvent) (id : ConnId) (version : ℕ) (piece : List ℕ) (used : ℕ) (cause : Cause) (found : Row × Rest) (reply : Reply) →
     ((own : FrontendRows) → slice_get old.frontends id.frontend ≡ Some own → IsSorted own) → waiting_row old.frontends id ≡ Ok found →
     fed ≡ record old { frontends = with_conn id (row_fed piece) old.frontends } →
     after ≡ record fed { frontends = without_conn id fed.frontends; tables = without_tracks (tracks_at fed.frontends id) fed.tables } → reply ≡ reply_of (saids.Refuse id used cause) →
-    state_of after ≡ state_spoken old event id reply
-refused_once old fed after event id piece used cause found reply sorted waits fed_is removed reply_is =
+    state_of after ≡ state_spoken old event id version reply
+refused_once old fed after event id version piece used cause found reply sorted waits fed_is removed reply_is =
     ap state_of removed
     ∙ ap (λ (r : RowsValue). record (state_of r) { frontends = without_conn id r.frontends; tables = without_tracks (tracks_at r.frontends id) r.tables }) fed_is
     ∙ ap (λ fs. record (state_of old) { frontends = fs; tables = without_tracks (tracks_at (with_conn id (row_fed piece) old.frontends) id) old.tables }) (changed_gone id (row_fed piece) old.frontends (λ row. refl))
-    ∙ ap (λ ts. record (state_of old) { frontends = without_conn id old.frontends; tables = without_tracks ts old.tables }) (tracks_at-fed id piece old.frontends ∙ sym (same_tracks old.frontends id found sorted waits))
-    ∙ ap (state_spoken old event id) (sym reply_is)
+    ∙ ap (λ ts. record (state_of old) { frontends = without_conn id old.frontends; tables = without_tracks ts old.tables }) (tracks_at-same id (row_fed piece) old.frontends (fed_unseen piece) ∙ sym (same_tracks old.frontends id found sorted waits))
+    ∙ ap (state_spoken old event id version) (sym reply_is)
 
 -- Who judges is one.
 
@@ -218,8 +234,8 @@ judge_same frontends versions id number j k =
 
 -- A decision is an offer or a refusal.
 
-no_wait : (id other : ConnId) (used count : ℕ) (judged : PairValue) (result : Result Server Cause) → saids.Wait other count ≡ said_of id used judged result → ⊥
-no_wait id other used count judged (Ok server) is = let wrong : saids.Wait other count ≡ said_of id used judged (Ok server) = is in cc
+no_wait : (id other : ConnId) (used count : ℕ) (judged : PairValue) (result : Result NumberedServer Cause) → saids.Wait other count ≡ said_of id used judged result → ⊥
+no_wait id other used count judged (Ok given) is = let wrong : saids.Wait other count ≡ said_of id used judged (Ok given) = is in cc
 no_wait id other used count judged (Err cause) is = let wrong : saids.Wait other count ≡ said_of id used judged (Err cause) = is in cc
 
 -- the open connections once a decision is kept
@@ -248,22 +264,23 @@ tables_settled id used (outcomes.Offer offer) slots frontends tables decides the
 tables_settled id used (outcomes.Refuse cause) slots frontends tables decides there =
     ap (λ ts. without_tracks ts (with_tracks (open_tracks frontends) (present slots) tables)) (tracks_with frontends id (present slots) there)
 
-pub settled_once : (old now after : RowsValue) (event : OwnedEvent) (id : ConnId) (used : ℕ) (judged : PairValue) (result : Result Server Cause) (decided : Decision) (reply : Reply) → IsSome (row_at old.frontends id) →
+pub settled_once : (old now after : RowsValue) (event : OwnedEvent) (id : ConnId) (version used : ℕ) (judged : PairValue) (result : Result NumberedServer Cause) (decided : Decision) (reply : Reply) → IsSome (row_at old.frontends id) →
     said_by id used decided.outcome ≡ said_of id used judged result →
     now.frontends ≡ with_conn id (row_with (present decided.tracks)) old.frontends → now.versions ≡ old.versions → now.tables ≡ with_tracks (open_tracks old.frontends) (present decided.tracks) old.tables →
-    after ≡ record now { frontends = settled now.versions id decided.outcome now.frontends; tables = settled_tables id decided.outcome now.frontends now.tables } →
-    reply ≡ reply_by id used decided → state_of after ≡ state_spoken old event id reply
-settled_once old now after event id used judged result decided reply there said fronts versions tables kept reply_is =
+    after ≡ record now { frontends = settled now.versions id decided.outcome now.frontends; versions = settled_versions version decided.outcome now.versions; tables = settled_tables id decided.outcome now.frontends now.tables } →
+    reply ≡ reply_by id used decided → state_of after ≡ state_spoken old event id version reply
+settled_once old now after event id version used judged result decided reply there said fronts versions tables kept reply_is =
     let f : after.frontends ≡ spoken old.versions event id (reply_by id used decided) old.frontends =
     ap (λ (r : RowsValue). r.frontends) kept ∙ ap (λ vs. settled vs id decided.outcome now.frontends) versions ∙ ap (settled old.versions id decided.outcome) fronts
     ∙ frontends_settled old.versions event id used decided.outcome decided.tracks old.frontends decides in
-    let v : after.versions ≡ old.versions = ap (λ (r : RowsValue). r.versions) kept ∙ versions in
+    let v : after.versions ≡ with_said version (said_by id used decided.outcome) old.versions =
+    ap (λ (r : RowsValue). r.versions) kept ∙ ap (settled_versions version decided.outcome) versions ∙ versions_are id used version decided.outcome old.versions in
     let t : after.tables ≡ tables_by old.frontends old.tables (reply_by id used decided) =
     ap (λ (r : RowsValue). r.tables) kept ∙ ap (λ fs. settled_tables id decided.outcome fs now.tables) fronts
     ∙ ap (settled_tables id decided.outcome (with_conn id (row_with (present decided.tracks)) old.frontends)) tables
     ∙ tables_settled id used decided.outcome decided.tracks old.frontends old.tables decides there in
-    let all : state_of after ≡ state_spoken old event id (reply_by id used decided) = cc (f, v, t) in
-    all ∙ ap (state_spoken old event id) (sym reply_is)
+    let all : state_of after ≡ state_spoken old event id version (reply_by id used decided) = cc (f, v, t) in
+    all ∙ ap (state_spoken old event id version) (sym reply_is)
   where
     decides : (other : ConnId) (count : ℕ) → said_by id used decided.outcome ≡ saids.Wait other count → ⊥
     decides other count waits = no_wait id other used count judged result (sym waits ∙ said)
@@ -271,35 +288,35 @@ settled_once old now after event id used judged result decided reply there said 
 -- A header that is whole.
 
 -- what is said once the header is whole ends the connection or gives it a server, and either replaces what the piece left
-spoken_fed : (frontends : List FrontendRows) (versions : List Version) (event : OwnedEvent) (id : ConnId) (piece : List ℕ) (used : ℕ) (judged : PairValue) (result : Result Server Cause) (made : Slots) →
+spoken_fed : (frontends : List FrontendRows) (versions : List Version) (event : OwnedEvent) (id : ConnId) (piece : List ℕ) (used : ℕ) (judged : PairValue) (result : Result NumberedServer Cause) (made : Slots) →
     spoken versions event id (reply_with (said_of id used judged result) made) (with_conn id (row_fed piece) frontends) ≡ spoken versions event id (reply_with (said_of id used judged result) made) frontends
-spoken_fed frontends versions event id piece used judged (Ok server) made =
-    changed_twice id (row_fed piece) (row_by versions event (reply_with (said_of id used judged (Ok server)) made)) frontends (λ row. refl)
+spoken_fed frontends versions event id piece used judged (Ok given) made =
+    changed_twice id (row_fed piece) (row_by versions event (reply_with (said_of id used judged (Ok given)) made)) frontends (λ row. refl)
 spoken_fed frontends versions event id piece used judged (Err cause) made = changed_gone id (row_fed piece) frontends (λ row. refl)
 
-tables_fed : (frontends : List FrontendRows) (tables : List TableState) (id : ConnId) (piece : List ℕ) (used : ℕ) (judged : PairValue) (result : Result Server Cause) (made : Slots) →
+tables_fed : (frontends : List FrontendRows) (tables : List TableState) (id : ConnId) (piece : List ℕ) (used : ℕ) (judged : PairValue) (result : Result NumberedServer Cause) (made : Slots) →
     tables_by (with_conn id (row_fed piece) frontends) tables (reply_with (said_of id used judged result) made) ≡ tables_by frontends tables (reply_with (said_of id used judged result) made)
-tables_fed frontends tables id piece used judged (Ok server) made = ap (λ ts. with_tracks ts (present made) tables) (open_tracks-fed id piece frontends)
+tables_fed frontends tables id piece used judged (Ok given) made = ap (λ ts. with_tracks ts (present made) tables) (open_tracks-same id (row_fed piece) frontends (fed_unseen piece))
 tables_fed frontends tables id piece used judged (Err cause) made =
-    ap (λ ts. without_tracks (by_counter (tracks_at (with_conn id (row_fed piece) frontends) id ++ present made)) (with_tracks ts (present made) tables)) (open_tracks-fed id piece frontends)
-    ∙ ap (λ ts. without_tracks (by_counter (ts ++ present made)) (with_tracks (open_tracks frontends) (present made) tables)) (tracks_at-fed id piece frontends)
+    ap (λ ts. without_tracks (by_counter (tracks_at (with_conn id (row_fed piece) frontends) id ++ present made)) (with_tracks ts (present made) tables)) (open_tracks-same id (row_fed piece) frontends (fed_unseen piece))
+    ∙ ap (λ ts. without_tracks (by_counter (ts ++ present made)) (with_tracks (open_tracks frontends) (present made) tables)) (tracks_at-same id (row_fed piece) frontends (fed_unseen piece))
 
-pub decided_once : (old fed after : RowsValue) (event : OwnedEvent) (id : ConnId) (piece : List ℕ) (p : Plain) (version : Version) (frontend : Frontend) (used : ℕ) (judged : PairValue) (reply : Reply) →
-    reply ≡ decision (candidate_of p id version frontend) used judged no_tracks → fed ≡ record old { frontends = with_conn id (row_fed piece) old.frontends } → state_of after ≡ state_spoken fed event id reply →
-    state_of after ≡ state_spoken old event id reply
-decided_once old fed after event id piece p version frontend used judged reply reply_is fed_is after_is =
+pub decided_once : (old fed after : RowsValue) (event : OwnedEvent) (id : ConnId) (number : ℕ) (piece : List ℕ) (p : Plain) (version : Version) (frontend : Frontend) (used : ℕ) (judged : PairValue) (reply : Reply) →
+    reply ≡ decision (candidate_of p id version frontend) used judged no_tracks → fed ≡ record old { frontends = with_conn id (row_fed piece) old.frontends } → state_of after ≡ state_spoken fed event id number reply →
+    state_of after ≡ state_spoken old event id number reply
+decided_once old fed after event id number piece p version frontend used judged reply reply_is fed_is after_is =
     after_is
-    ∙ ap (λ (r : RowsValue). state_spoken r event id reply) fed_is
-    ∙ ap (λ (r : Reply). state_spoken fed_rows event id r) reply_is
-    ∙ ap (λ fs. record (state_of old) { frontends = fs; tables = tables_by fed_rows.frontends old.tables said }) (spoken_fed old.frontends old.versions event id piece used judged decided.result decided.made)
-    ∙ ap (λ ts. record (state_of old) { frontends = spoken old.versions event id said old.frontends; tables = ts }) (tables_fed old.frontends old.tables id piece used judged decided.result decided.made)
-    ∙ ap (state_spoken old event id) (sym reply_is)
+    ∙ ap (λ (r : RowsValue). state_spoken r event id number reply) fed_is
+    ∙ ap (λ (r : Reply). state_spoken fed_rows event id number r) reply_is
+    ∙ ap (λ fs. record (state_of old) { frontends = fs; versions = with_said number said.said old.versions; tables = tables_by fed_rows.frontends old.tables said }) (spoken_fed old.frontends old.versions event id piece used judged decided.result decided.made)
+    ∙ ap (λ ts. record (state_of old) { frontends = spoken old.versions event id said old.frontends; versions = with_said number said.said old.versions; tables = ts }) (tables_fed old.frontends old.tables id piece used judged decided.result decided.made)
+    ∙ ap (state_spoken old event id number) (sym reply_is)
   where
     fed_rows : RowsValue
     fed_rows = record old { frontends = with_conn id (row_fed piece) old.frontends }
 
     decided : Verdict
-    decided = verdict (view_of (candidate_of p id version frontend) judged.source.addr) version frontend no_tracks
+    decided = verdict (view_of (candidate_of p id version frontend) judged.source.addr) frontend no_tracks
 
     said : Reply
     said = reply_with (said_of id used judged decided.result) decided.made

@@ -5,7 +5,7 @@ use Rattle.pp_any.specs.declared.rest.Rest.{Rest}
 use Rattle.conn_model.specs.declared.event.ConnId.{ConnId}
 use Rattle.conn_model.specs.declared.reply.StepFault.TheVariants.{NoSuch, NotWaiting}
 use Rattle.conn_model.specs.declared.plain.Phase.{Phase}
-use Rattle.conn_model.specs.declared.plain.Phase.TheVariants.{Waiting, Offered}
+use Rattle.conn_model.specs.declared.plain.Phase.TheVariants.{Waiting, Offered, Up}
 use Rattle.conn_model.specs.declared.plain.Row.{Row}
 use Rattle.conn_model.specs.declared.plain.FrontendRows.{FrontendRows}
 use Rattle.conn_model.specs.Answer.{rest_in, row_at, waiting_row}
@@ -15,10 +15,12 @@ use Rattle.conn_rows.specs.Summaries.{is_waiting, summary_of}
 rest_of-waiting : (phase : Phase) → is_waiting phase ≡ true → (rest : Rest) × (rest_in phase ≡ Some rest)
 rest_of-waiting (Waiting rest) is = (rest, refl)
 rest_of-waiting (Offered assignment) is = absurd (let wrong : false ≡ true = is in cc)
+rest_of-waiting (Up assignment) is = absurd (let wrong : false ≡ true = is in cc)
 
 none-waiting : (phase : Phase) → is_waiting phase ≡ false → rest_in phase ≡ None
 none-waiting (Waiting rest) is = absurd (let wrong : true ≡ false = is in cc)
 none-waiting (Offered assignment) is = refl
+none-waiting (Up assignment) is = refl
 
 waits_of : (frontends : List FrontendRows) (id : ConnId) (row : Row) (rest : Rest) → row_at frontends id ≡ Some row → rest_in row.phase ≡ Some rest → waiting_row frontends id ≡ Ok (row, rest)
 waits_of frontends id row rest there holds = rw (there, holds) refl

@@ -1,29 +1,33 @@
 -- What rules see of a connection.
-use Rattle.std.proofs.Common.{◌≡◌, ℕ, suc, ◌+◌, ◌≤◌, Bool, true, false, List, [], ◌∷◌, ◌++◌, length, Option, Some, None, refl, ◌∙◌, sym, ap, arith}
-use Rattle.std.specs.Prelude.{slice_get, slice_set, map, filter, flat_map, option_map, ◌==◌, ◌&&◌, if◌then◌else◌}
+use Rattle.std.proofs.Common.{◌≡◌, ℕ, suc, ◌+◌, ◌≤◌, Bool, true, false, List, [], ◌∷◌, ◌++◌, length, Option, Some, None, refl, ◌∙◌, sym, ap, append-nil, arith}
+use Rattle.std.specs.Prelude.{slice_get, slice_set, filter, flat_map, option_map, ◌==◌, ◌&&◌, if◌then◌else◌}
 use Rattle.std.specs.List.{AllByRecursion}
 use Rattle.std.specs.Option.{option_map_or}
 use Rattle.std.specs.Str.{bytes_eq}
 use Rattle.std.proofs.Math.Path.{fun_ext}
 use Rattle.std.proofs.lemmas.List.{length_push, length-map}
+use Rattle.std.proofs.lemmas.List.Elements.{filter-append}
 use Rattle.addr_core.specs.declared.addr.Addr.{Addr}
 use Rattle.addr_core.specs.PairValue.{PairValue}
+use Rattle.proxy_types.specs.declared.server.ServerIdentity.{ServerIdentity}
+use Rattle.proxy_types.specs.ServerIdentity.{same_server}
 use Rattle.plan_types.specs.declared.plan.Frontend.{Frontend}
 use Rattle.plan_types.specs.declared.track.Track.{Track}
 use Rattle.rule_engine.specs.Meaning.{present}
 use Rattle.conn_model.specs.declared.event.ConnId.{ConnId}
 use Rattle.conn_model.specs.declared.plain.Phase.{Phase}
-use Rattle.conn_model.specs.declared.plain.Phase.TheVariants.{Waiting, Offered}
+use Rattle.conn_model.specs.declared.plain.Phase.TheVariants.{Waiting, Offered, Up}
 use Rattle.conn_model.specs.declared.plain.Row.{Row}
 use Rattle.conn_model.specs.declared.plain.FrontendRows.{FrontendRows}
 use Rattle.conn_model.specs.declared.plain.TableState.{TableState}
 use Rattle.conn_model.specs.declared.plain.Version.{Version}
 use Rattle.conn_model.specs.declared.plain.Plain.{Plain}
-use Rattle.conn_model.specs.Counts.{open_in, open_named, open_if, offered_to, offered_in, is_offered_to, total, change_row}
+use Rattle.conn_model.specs.Counts.{open_in, open_named, open_if, offered_to, offered_in, is_offered_to, is_served_by, served_by, served_in, server_of, total, change_row}
 use Rattle.conn_model.specs.Rules.{RuleView, view_of}
 use Rattle.conn_model.specs.Tables.{open_tracks, tracks_at, tracks_in}
 use Rattle.conn_model.specs.Words.{row_at, row_in}
 use Rattle.conn_model.specs.Answer.{candidate_at, candidate_of, new_row}
+use Rattle.conn_model.proofs.Offers.{served_with}
 use Rattle.conn_rows.specs.Changes.{phase_fed, row_fed, with_conn, with_item, with_row}
 use Rattle.conn_rows.specs.Value.{RowsValue}
 use Rattle.conn_tables.proofs.PlaceLemmas.{get-set}
@@ -56,28 +60,19 @@ one_more : (b : Bool) (n : ℕ) → (if b then n + 1 else 0) ≡ (if b then n el
 one_more true n = refl
 one_more false n = refl
 
-offered-arrival : (name : List ℕ) (rows : List Row) (serial version clock : ℕ) (real : PairValue) →
-    length (filter (λ row. is_offered_to name row.phase) (rows ++ new_row serial version real clock ∷ [])) ≡ length (filter (λ row. is_offered_to name row.phase) rows)
-offered-arrival name [] serial version clock real = refl
-offered-arrival name (row ∷ rows) serial version clock real = by (is_offered_to name row.phase) refl (offered-arrival name rows serial version clock real)
-  where
-    more : List Row
-    more = rows ++ new_row serial version real clock ∷ []
-
-    by : (b : Bool) → is_offered_to name row.phase ≡ b → length (filter (λ row. is_offered_to name row.phase) more) ≡ length (filter (λ row. is_offered_to name row.phase) rows) →
-        length (filter (λ row. is_offered_to name row.phase) (row ∷ more)) ≡ length (filter (λ row. is_offered_to name row.phase) (row ∷ rows))
-    by true is rest = rw is (ap (λ n. suc n) rest)
-    by false is rest = rw is rest
+-- one that waits is counted for no server
+counted-arrival : (test : Row → Bool) (rows : List Row) (row : Row) → test row ≡ false → length (filter test (rows ++ row ∷ [])) ≡ length (filter test rows)
+counted-arrival test rows row none = ap length (filter-append test rows (row ∷ []) ∙ rw none (append-nil (filter test rows)))
 
 -- Views.
 
 -- views are equal by their parts
-view_is : {s s' : Addr} {v v' : Version} {f f' : Frontend} {ts ts' : List TableState} {os os' ms ms' : List Track} {n n' : ℕ} {named named' offered offered' : List ℕ → ℕ} {made : List Track} →
-    s ≡ s' → v ≡ v' → f ≡ f' → ts ≡ ts' → os ≡ os' → ms ≡ ms' → n ≡ n' → named ≡ named' → offered ≡ offered' →
+view_is : {s s' : Addr} {v v' : Version} {f f' : Frontend} {ts ts' : List TableState} {os os' ms ms' : List Track} {n n' : ℕ} {named named' offered offered' : List ℕ → ℕ} {served served' : ServerIdentity → ℕ} {made : List Track} →
+    s ≡ s' → v ≡ v' → f ≡ f' → ts ≡ ts' → os ≡ os' → ms ≡ ms' → n ≡ n' → named ≡ named' → offered ≡ offered' → served ≡ served' →
     ◌≡◌ {A = RuleView}
-    (record { source = s; version = v; frontend = f; tables = ts; tracks = os; own = ms; made = made; connections = n; named = named; offered = offered })
-    (record { source = s'; version = v'; frontend = f'; tables = ts'; tracks = os'; own = ms'; made = made; connections = n'; named = named'; offered = offered' })
-view_is e1 e2 e3 e4 e5 e6 e7 e8 e9 = cc (e1, e2, e3, e4, e5, e6, e7, e8, e9)
+    (record { source = s; version = v; frontend = f; tables = ts; tracks = os; own = ms; made = made; connections = n; named = named; offered = offered; served = served })
+    (record { source = s'; version = v'; frontend = f'; tables = ts'; tracks = os'; own = ms'; made = made; connections = n'; named = named'; offered = offered'; served = served' })
+view_is e1 e2 e3 e4 e5 e6 e7 e8 e9 e10 = cc (e1, e2, e3, e4, e5, e6, e7, e8, e9, e10)
 
 pub record SeesArrival (p : Plain) (own : FrontendRows) (version : Version) (frontend : Frontend) (facts : RuleFacts) (source : Addr) : Type 0 where
   pub rows : facts.rows.now.frontends ≡ p.frontends
@@ -113,9 +108,12 @@ view_at_accept p clock number real own version frontend facts there given sees =
 
     offered : (name : List ℕ) → offered_to (slice_set p.frontends number after) name ≡ offered_to facts.rows.now.frontends name
     offered name =
-        let same = offered-arrival name own.rows (own.serial + 1) version.number clock real in
+        let same = counted-arrival (λ row. is_offered_to name row.phase) own.rows (new_row (own.serial + 1) version.number real clock) refl in
         let all = total-gain (offered_in name) p.frontends number own after 0 there (omega (arith, same)) in
         (omega (arith, all)) ∙ ap (λ fs. offered_to fs name) (sym sees.rows)
+
+    served : served_by (slice_set p.frontends number after) ≡ served_by facts.rows.now.frontends
+    served = served_with p clock number real own version frontend there ∙ ap served_by (sym sees.rows)
 
     tracks : open_tracks (slice_set p.frontends number after) ≡ open_tracks facts.rows.now.frontends
     tracks = flat_map-set tracks_in p.frontends number own after there (tracks-new own.rows (new_row (own.serial + 1) version.number real clock) refl) ∙ ap open_tracks (sym sees.rows)
@@ -130,7 +128,7 @@ view_at_accept p clock number real own version frontend facts there given sees =
     count = ap (λ o. option_map_or (λ f. length f.rows) o 0) (get-set p.frontends number own after there) ∙ longer ∙ sym sees.connections
 
     by : (made : List Track) → view_of (candidate_at p clock number real own version frontend) real.source.addr made ≡ facts_view facts made
-    by made = view_is (sym sees.judged) (sym sees.version_is) (sym sees.frontend_is) (sym sees.tables) tracks nothing count (fun_ext named) (fun_ext offered)
+    by made = view_is (sym sees.judged) (sym sees.version_is) (sym sees.frontend_is) (sym sees.tables) tracks nothing count (fun_ext named) (fun_ext offered) served
 
 -- a connection that is open
 
@@ -155,70 +153,86 @@ view_later state id version frontend facts source same own sees = fun_ext by
         ∙ ap (λ b. open_named facts.rows.now.frontends name + arrival_in b facts.name.now name) (sym sees.arriving)
 
     by : (made : List Track) → view_of (candidate_of state id version frontend) source made ≡ facts_view facts made
-    by made = view_is (sym sees.judged) (sym sees.version_is) (sym sees.frontend_is) same.tables same.tracks (same.tracked ∙ sym own) (same.own ∙ sym sees.connections) (fun_ext named) (fun_ext same.offered)
+    by made = view_is (sym sees.judged) (sym sees.version_is) (sym sees.frontend_is) same.tables same.tracks (same.tracked ∙ sym own) (same.own ∙ sym sees.connections) (fun_ext named) (fun_ext same.offered) (fun_ext same.served)
 
--- A piece changes no count.
+-- A change that rules do not see.
 
-is_offered-fed : (name piece : List ℕ) (phase : Phase) → is_offered_to name (phase_fed piece phase) ≡ is_offered_to name phase
-is_offered-fed name piece (Waiting rest) = refl
-is_offered-fed name piece (Offered assignment) = refl
+pub record IsUnseen (change : Row → Row) : Type 0 where
+  pub serial : (row : Row) → (change row).serial ≡ row.serial
+  pub tracks : (row : Row) → (change row).tracks ≡ row.tracks
+  pub server : (row : Row) → server_of (change row).phase ≡ server_of row.phase
 
-offered-fed : (name piece : List ℕ) (serial : ℕ) (rows : List Row) →
-    length (filter (λ row. is_offered_to name row.phase) (map (λ row. if row.serial == serial then row_fed piece row else row) rows)) ≡ length (filter (λ row. is_offered_to name row.phase) rows)
-offered-fed name piece serial [] = refl
-offered-fed name piece serial (row ∷ rows) = by (is_offered_to name row.phase) refl (offered-fed name piece serial rows)
+counted-same : (test : Row → Bool) (serial : ℕ) (change : Row → Row) (rows : List Row) → ((row : Row) → test (change row) ≡ test row) →
+    length (filter test (change_row serial change rows)) ≡ length (filter test rows)
+counted-same test serial change [] same = refl
+counted-same test serial change (row ∷ rows) same = by (test row) refl (counted-same test serial change rows same)
   where
     now : Row
-    now = if row.serial == serial then row_fed piece row else row
+    now = if row.serial == serial then change row else row
 
-    same : (b : Bool) → is_offered_to name (if b then row_fed piece row else row).phase ≡ is_offered_to name row.phase
-    same true = is_offered-fed name piece row.phase
-    same false = refl
+    alike : (b : Bool) → test (if b then change row else row) ≡ test row
+    alike true = same row
+    alike false = refl
 
-    later : List Row
-    later = map (λ row. if row.serial == serial then row_fed piece row else row) rows
+    by : (b : Bool) → test row ≡ b → length (filter test (change_row serial change rows)) ≡ length (filter test rows) → length (filter test (now ∷ change_row serial change rows)) ≡ length (filter test (row ∷ rows))
+    by true is rest = rw (alike (row.serial == serial), is) (ap (λ n. suc n) rest)
+    by false is rest = rw (alike (row.serial == serial), is) rest
 
-    by : (b : Bool) → is_offered_to name row.phase ≡ b → length (filter (λ row. is_offered_to name row.phase) later) ≡ length (filter (λ row. is_offered_to name row.phase) rows) →
-        length (filter (λ row. is_offered_to name row.phase) (now ∷ later)) ≡ length (filter (λ row. is_offered_to name row.phase) (row ∷ rows))
-    by true is rest = rw (same (row.serial == serial), is) (ap (λ n. suc n) rest)
-    by false is rest = rw (same (row.serial == serial), is) rest
-
--- the tracks of a connection of which a piece came
-fed-tracks : (piece : List ℕ) (serial : ℕ) (rows : List Row) → flat_map (λ (row : Row). row.tracks) (change_row serial (row_fed piece) rows) ≡ flat_map (λ (row : Row). row.tracks) rows
-fed-tracks piece serial [] = refl
-fed-tracks piece serial (row ∷ rows) = by (row.serial == serial) refl (fed-tracks piece serial rows)
+tracks-same : (serial : ℕ) (change : Row → Row) (rows : List Row) → ((row : Row) → (change row).tracks ≡ row.tracks) →
+    flat_map (λ (row : Row). row.tracks) (change_row serial change rows) ≡ flat_map (λ (row : Row). row.tracks) rows
+tracks-same serial change [] same = refl
+tracks-same serial change (row ∷ rows) same =
+    ap (λ ts. ts ++ flat_map (λ (r : Row). r.tracks) (change_row serial change rows)) (alike (row.serial == serial)) ∙ ap (λ ts. row.tracks ++ ts) (tracks-same serial change rows same)
   where
-    by : (b : Bool) → (row.serial == serial) ≡ b → flat_map (λ (row : Row). row.tracks) (change_row serial (row_fed piece) rows) ≡ flat_map (λ (row : Row). row.tracks) rows →
-        flat_map (λ (row : Row). row.tracks) (change_row serial (row_fed piece) (row ∷ rows)) ≡ flat_map (λ (row : Row). row.tracks) (row ∷ rows)
-    by true is rest = rw is (ap (λ ts. row.tracks ++ ts) rest)
-    by false is rest = rw is (ap (λ ts. row.tracks ++ ts) rest)
+    alike : (b : Bool) → (if b then change row else row).tracks ≡ row.tracks
+    alike true = same row
+    alike false = refl
 
-pub open_tracks-fed : (id : ConnId) (piece : List ℕ) (frontends : List FrontendRows) → open_tracks (with_conn id (row_fed piece) frontends) ≡ open_tracks frontends
-open_tracks-fed id piece frontends = by (slice_get frontends id.frontend) refl
+pub open_tracks-same : (id : ConnId) (change : Row → Row) (frontends : List FrontendRows) → IsUnseen change → open_tracks (with_conn id change frontends) ≡ open_tracks frontends
+open_tracks-same id change frontends unseen = by (slice_get frontends id.frontend) refl
   where
-    by : (o : Option FrontendRows) → slice_get frontends id.frontend ≡ o → open_tracks (with_conn id (row_fed piece) frontends) ≡ open_tracks frontends
+    by : (o : Option FrontendRows) → slice_get frontends id.frontend ≡ o → open_tracks (with_conn id change frontends) ≡ open_tracks frontends
     by None none = rw none refl
-    by (Some own) there = rw there (flat_map-set tracks_in frontends id.frontend own (with_row id.serial (row_fed piece) own) there (fed-tracks piece id.serial own.rows))
+    by (Some own) there = rw there (flat_map-set tracks_in frontends id.frontend own (with_row id.serial change own) there (tracks-same id.serial change own.rows unseen.tracks))
 
-pub tracks_at-fed : (id : ConnId) (piece : List ℕ) (frontends : List FrontendRows) → tracks_at (with_conn id (row_fed piece) frontends) id ≡ tracks_at frontends id
-tracks_at-fed id piece frontends = ap (λ o. option_map_or (λ (row : Row). row.tracks) o []) (row_changed id (row_fed piece) frontends (λ row. refl)) ∙ by (row_at frontends id)
+pub tracks_at-same : (id : ConnId) (change : Row → Row) (frontends : List FrontendRows) → IsUnseen change → tracks_at (with_conn id change frontends) id ≡ tracks_at frontends id
+tracks_at-same id change frontends unseen = ap (λ o. option_map_or (λ (row : Row). row.tracks) o []) (row_changed id change frontends unseen.serial) ∙ by (row_at frontends id)
   where
-    by : (o : Option Row) → option_map_or (λ (row : Row). row.tracks) (option_map (row_fed piece) o) [] ≡ option_map_or (λ (row : Row). row.tracks) o []
+    by : (o : Option Row) → option_map_or (λ (row : Row). row.tracks) (option_map change o) [] ≡ option_map_or (λ (row : Row). row.tracks) o []
     by None = refl
-    by (Some row) = refl
+    by (Some row) = unseen.tracks row
 
--- after a piece rules see the same
-pub seen_fed : (id : ConnId) (piece : List ℕ) (state : Plain) (rows : RowsValue) → state.frontends ≡ rows.frontends → state.tables ≡ rows.tables →
-    IsSeen id state (record rows { frontends = with_conn id (row_fed piece) rows.frontends })
-seen_fed id piece state rows same tables = record {
-  own = ap (λ fs. open_in fs id.frontend) same ∙ sym (ap (λ o. option_map_or (λ f. length f.rows) o 0) (own_changed id (row_fed piece) rows.frontends) ∙ by (slice_get rows.frontends id.frontend));
-  named = λ name. ap (λ fs. open_named fs name) same ∙ sym (total-item (open_if name) (with_row id.serial (row_fed piece)) rows.frontends id.frontend (λ own. ap (λ n. if bytes_eq own.name name then n else 0) (length-map own.rows (λ row. if row.serial == id.serial then row_fed piece row else row))));
-  offered = λ name. ap (λ fs. offered_to fs name) same ∙ sym (total-item (offered_in name) (with_row id.serial (row_fed piece)) rows.frontends id.frontend (λ own. offered-fed name piece id.serial own.rows));
-  tracks = ap open_tracks same ∙ sym (open_tracks-fed id piece rows.frontends);
-  tracked = ap (λ fs. tracks_at fs id) same ∙ sym (tracks_at-fed id piece rows.frontends);
+-- rules see the same after it
+seen_changed : (id : ConnId) (change : Row → Row) (state : Plain) (rows : RowsValue) → IsUnseen change → state.frontends ≡ rows.frontends → state.tables ≡ rows.tables →
+    IsSeen id state (record rows { frontends = with_conn id change rows.frontends })
+seen_changed id change state rows unseen same tables = record {
+  own = ap (λ fs. open_in fs id.frontend) same ∙ sym (ap (λ o. option_map_or (λ f. length f.rows) o 0) (own_changed id change rows.frontends) ∙ by (slice_get rows.frontends id.frontend));
+  named = λ name. ap (λ fs. open_named fs name) same ∙ sym (total-item (open_if name) (with_row id.serial change) rows.frontends id.frontend (λ own. ap (λ n. if bytes_eq own.name name then n else 0) (many own.rows)));
+  offered = λ name. ap (λ fs. offered_to fs name) same ∙ sym (total-item (offered_in name) (with_row id.serial change) rows.frontends id.frontend (λ own. counted-same (λ row. is_offered_to name row.phase) id.serial change own.rows
+      (λ row. ap (λ o. option_map_or (λ server. bytes_eq server.backend name) o false) (unseen.server row))));
+  served = λ server. ap (λ fs. served_by fs server) same ∙ sym (total-item (served_in server) (with_row id.serial change) rows.frontends id.frontend (λ own. counted-same (λ row. is_served_by server row.phase) id.serial change own.rows
+      (λ row. ap (λ o. option_map_or (same_server server) o false) (unseen.server row))));
+  tracks = ap open_tracks same ∙ sym (open_tracks-same id change rows.frontends unseen);
+  tracked = ap (λ fs. tracks_at fs id) same ∙ sym (tracks_at-same id change rows.frontends unseen);
   tables = tables;
 }
   where
-    by : (o : Option FrontendRows) → option_map_or (λ f. length f.rows) (option_map (with_row id.serial (row_fed piece)) o) 0 ≡ option_map_or (λ f. length f.rows) o 0
+    many : (list : List Row) → length (change_row id.serial change list) ≡ length list
+    many list = length-map list (λ row. if row.serial == id.serial then change row else row)
+
+    by : (o : Option FrontendRows) → option_map_or (λ f. length f.rows) (option_map (with_row id.serial change) o) 0 ≡ option_map_or (λ f. length f.rows) o 0
     by None = refl
-    by (Some own) = length-map own.rows (λ row. if row.serial == id.serial then row_fed piece row else row)
+    by (Some own) = many own.rows
+
+-- a piece is such a change
+pub fed_unseen : (piece : List ℕ) → IsUnseen (row_fed piece)
+fed_unseen piece = record { serial = λ row. refl; tracks = λ row. refl; server = λ row. by row.phase }
+  where
+    by : (phase : Phase) → server_of (phase_fed piece phase) ≡ server_of phase
+    by (Waiting rest) = refl
+    by (Offered assignment) = refl
+    by (Up assignment) = refl
+
+pub seen_fed : (id : ConnId) (piece : List ℕ) (state : Plain) (rows : RowsValue) → state.frontends ≡ rows.frontends → state.tables ≡ rows.tables →
+    IsSeen id state (record rows { frontends = with_conn id (row_fed piece) rows.frontends })
+seen_fed id piece state rows same tables = seen_changed id (row_fed piece) state rows (fed_unseen piece) same tables

@@ -1,12 +1,16 @@
 -- The state of a core after one event.
-use Rattle.std.proofs.Common.{◌≡◌, ℕ, [], ◌∷◌, List, Bool, true, false, Option, Some, None, Ok, refl, max, sym, ap, subst, ◌∙◌}
-use Rattle.std.specs.Prelude.{slice_get, slice_set, find, filter, not, map, option_map, ◌==◌, ◌++◌}
+use Rattle.std.proofs.Common.{◌≡◌, ℕ, [], ◌∷◌, List, Bool, true, false, Option, Some, None, Ok, refl, max, sym, ap, subst, append-nil, ◌∙◌}
+use Rattle.std.specs.Prelude.{slice_get, slice_set, find, filter, not, map, option_map, ◌==◌, ◌++◌, if◌then◌else◌}
+use Rattle.std.specs.List.{AllByRecursion}
 use Rattle.std.proofs.Math.Path.{fun_ext}
 use Rattle.plan_types.specs.declared.plan.Plan.{Plan}
+use Rattle.plan_types.specs.Sound.{IsSoundPlan}
 use Rattle.conn_model.specs.declared.event.ConnId.{ConnId}
 use Rattle.conn_model.specs.declared.event.OwnedEvent.{OwnedEvent}
+use Rattle.conn_model.specs.declared.event.OwnedEvent.TheVariants.{Connected}
 use Rattle.conn_model.specs.declared.reply.Reply.{Reply}
 use Rattle.conn_model.specs.declared.reply.Said.{Said}
+use Rattle.conn_model.specs.declared.reply.Said.TheVariants.{Up}
 use Rattle.conn_model.specs.declared.plain.Row.{Row}
 use Rattle.conn_model.specs.declared.plain.FrontendRows.{FrontendRows}
 use Rattle.conn_model.specs.declared.plain.TableState.{TableState}
@@ -14,22 +18,24 @@ use Rattle.conn_model.specs.declared.plain.Version.{Version}
 use Rattle.conn_model.specs.declared.plain.Plain.{Plain}
 use Rattle.conn_model.specs.Counts.{change_row}
 use Rattle.conn_model.specs.Answer.{answer_in, reply_of, row_at, row_in}
-use Rattle.conn_model.specs.History.{after, by_counter, entry, id_of, is_last, phase_by, plan_of, tables_by, tracks_at, Entry}
+use Rattle.conn_model.specs.History.{after, by_counter, entry, id_of, is_last, judging_version, newest_number, phase_by, phase_up, plan_of, tables_by, tracks_at, with_said, Entry}
 use Rattle.conn_model.specs.Tables.{without_tracks}
-use Rattle.conn_model.proofs.Parts.{versions-same}
-use Rattle.conn_model.proofs.Trackings.{tables_ended}
+use Rattle.conn_model.proofs.Goes.{well_at}
+use Rattle.conn_model.proofs.Lists.{all-more}
+use Rattle.conn_model.proofs.Trackings.{tables_ended, tables_kept}
 use Rattle.conn_model.proofs.Well.{after-nil, well_after}
-use Rattle.conn_model.proofs.Steps.{after-change, after-end, row_said, IsOfOpen}
-use Rattle.conn_rows.specs.Changes.{without_conn}
+use Rattle.conn_model.proofs.Steps.{after-change, after-end, judging-old, last_no_offer, row_said, versions_kept, IsOfOpen}
+use Rattle.conn_model.proofs.VersionSteps.{plans_stay}
+use Rattle.conn_rows.specs.Changes.{row_up, with_conn, without_conn}
 use Rattle.conn_rows.specs.Stored.{plan_at}
 use Rattle.conn_core.specs.Changes.{row_by, spoken}
-use Rattle.conn_core.specs.Machine.{AreSound, IsCoreState}
+use Rattle.conn_core.specs.Machine.{IsCoreState}
 
 -- an answered event leaves a state that a core can be in
 kept : (q : Plain) → IsCoreState q → (e : Entry) → answer_in q e.moment e.event ≡ Ok e.reply → IsCoreState (after q (e ∷ []))
 kept q known e is = record {
   well = well_after q known.well (e ∷ []) (tt, subst (λ s. answer_in s e.moment e.event ≡ Ok e.reply) (sym (after-nil q known.well)) is);
-  plans = subst AreSound (sym (versions-same q (e ∷ []))) known.plans;
+  plans = plans_stay IsSoundPlan q known.well e known.plans;
 }
 
 -- a state is the one after an entry, and one that a core can be in
@@ -68,7 +74,7 @@ pub after_spoken : (p : Plain) → IsCoreState p → (moment : ℕ) (event : Own
       clock = max p.clock moment;
       listeners = p.listeners;
       frontends = spoken p.versions event id reply p.frontends;
-      versions = p.versions;
+      versions = with_said row.version reply.said p.versions;
       tables = tables_by p.frontends p.tables reply;
     })
 after_spoken p known moment event id reply row open_now old whom is =
@@ -80,26 +86,33 @@ after_spoken p known moment event id reply row open_now old whom is =
     there : slice_get p.frontends id.frontend ≡ Some own
     there = (frontend_of p.frontends id row open_now).1
 
-    state : List FrontendRows → Plain
-    state frontends = record {
+    state : List FrontendRows → List Version → Plain
+    state frontends versions = record {
       clock = max p.clock moment;
       listeners = p.listeners;
       frontends = frontends;
-      versions = p.versions;
+      versions = versions;
       tables = tables_by p.frontends p.tables reply;
     }
+
+    judges : judging_version p.frontends (newest_number p) reply.said ≡ row.version
+    judges = judging-old p.frontends (newest_number p) reply.said id row whom open_now
 
     changes : row_said p event reply ≡ row_by p.versions event reply
     changes = fun_ext (λ (r : Row). ap (λ plan. record r { phase = phase_by plan event reply.said r.phase; tracks = by_counter (r.tracks ++ reply.tracks.items) }) (plan_is p r.version))
 
-    by : (b : Bool) → is_last reply.said ≡ b → state (spoken p.versions event id reply p.frontends) ≡ after p (entry moment event reply ∷ [])
+    by : (b : Bool) → is_last reply.said ≡ b → state (spoken p.versions event id reply p.frontends) (with_said row.version reply.said p.versions) ≡ after p (entry moment event reply ∷ [])
     by true last =
         let left : spoken p.versions event id reply p.frontends ≡ slice_set p.frontends id.frontend (record own { rows = filter (λ row. not (row.serial == id.serial)) own.rows }) = rw (last, there) refl in
-        ap state left ∙ sym (after-end p known.well (entry moment event reply) id own there old whom last)
+        ap (λ fs. state fs (with_said row.version reply.said p.versions)) left
+        ∙ ap (state (slice_set p.frontends id.frontend (record own { rows = filter (λ row. not (row.serial == id.serial)) own.rows }))) (versions_kept row.version reply.said p.versions (last_no_offer reply.said last))
+        ∙ sym (after-end p known.well (entry moment event reply) id own there old whom last)
     by false last =
         let changed : spoken p.versions event id reply p.frontends ≡ slice_set p.frontends id.frontend (record own { rows = change_row id.serial (row_said p event reply) own.rows }) =
         rw (last, there) (ap (λ f. slice_set p.frontends id.frontend (record own { rows = change_row id.serial f own.rows })) (sym changes)) in
-        ap state changed ∙ sym (after-change p known.well (entry moment event reply) id own there old whom last)
+        ap (λ fs. state fs (with_said row.version reply.said p.versions)) changed
+        ∙ ap (λ n. state (slice_set p.frontends id.frontend (record own { rows = change_row id.serial (row_said p event reply) own.rows })) (with_said n reply.said p.versions)) (sym judges)
+        ∙ sym (after-change p known.well (entry moment event reply) id own there old whom last)
 
 -- the state once a connection that is open ended
 pub after_last : (p : Plain) → IsCoreState p → (moment : ℕ) (event : OwnedEvent) (id : ConnId) (said : Said) (row : Row) → row_at p.frontends id ≡ Some row →
@@ -114,11 +127,63 @@ pub after_last : (p : Plain) → IsCoreState p → (moment : ℕ) (event : Owned
 after_last p known moment event id said row open_now old whom last is =
     subst (IsAfter p (entry moment event (reply_of said))) same (after_spoken p known moment event id (reply_of said) row open_now old whom is)
   where
-    state : List FrontendRows → List TableState → Plain
-    state frontends tables = record { clock = max p.clock moment; listeners = p.listeners; frontends = frontends; versions = p.versions; tables = tables }
+    state : List FrontendRows → List Version → List TableState → Plain
+    state frontends versions tables = record { clock = max p.clock moment; listeners = p.listeners; frontends = frontends; versions = versions; tables = tables }
+
+    versions : with_said row.version said p.versions ≡ p.versions
+    versions = versions_kept row.version said p.versions (last_no_offer said last)
 
     gone : spoken p.versions event id (reply_of said) p.frontends ≡ without_conn id p.frontends
     gone = rw last refl
 
-    same : state (spoken p.versions event id (reply_of said) p.frontends) (tables_by p.frontends p.tables (reply_of said)) ≡ state (without_conn id p.frontends) (without_tracks (tracks_at p.frontends id) p.tables)
-    same = ap (λ fs. state fs (tables_by p.frontends p.tables (reply_of said))) gone ∙ ap (state (without_conn id p.frontends)) (tables_ended p known.well id said whom last)
+    same : state (spoken p.versions event id (reply_of said) p.frontends) (with_said row.version said p.versions) (tables_by p.frontends p.tables (reply_of said))
+        ≡ state (without_conn id p.frontends) p.versions (without_tracks (tracks_at p.frontends id) p.tables)
+    same =
+        ap (λ fs. state fs (with_said row.version said p.versions) (tables_by p.frontends p.tables (reply_of said))) gone
+        ∙ ap (λ vs. state (without_conn id p.frontends) vs (tables_by p.frontends p.tables (reply_of said))) versions
+        ∙ ap (state (without_conn id p.frontends) p.versions) (tables_ended p known.well id said whom last)
+
+-- Rows that are changed alike.
+
+rows-alike : (serial : ℕ) (f g : Row → Row) (rows : List Row) → AllByRecursion (λ row. f row ≡ g row) rows → change_row serial f rows ≡ change_row serial g rows
+rows-alike serial f g [] same = refl
+rows-alike serial f g (row ∷ rows) same = cc (one (row.serial == serial), rows-alike serial f g rows same.1)
+  where
+    one : (b : Bool) → (if b then f row else row) ≡ (if b then g row else row)
+    one true = same.0
+    one false = refl
+
+-- the state once the server of a connection that is open took it
+pub after_up : (p : Plain) → IsCoreState p → (moment : ℕ) (id : ConnId) (row : Row) → row_at p.frontends id ≡ Some row → answer_in p moment (Connected id) ≡ Ok (reply_of (Up id)) →
+    IsAfter p (entry moment (Connected id) (reply_of (Up id))) (record {
+      clock = max p.clock moment;
+      listeners = p.listeners;
+      frontends = with_conn id row_up p.frontends;
+      versions = p.versions;
+      tables = p.tables;
+    })
+after_up p known moment id row open_now is =
+    subst (IsAfter p (entry moment (Connected id) (reply_of (Up id)))) same (after_spoken p known moment (Connected id) id (reply_of (Up id)) row open_now tt refl is)
+  where
+    own : FrontendRows
+    own = (frontend_of p.frontends id row open_now).0
+
+    there : slice_get p.frontends id.frontend ≡ Some own
+    there = (frontend_of p.frontends id row open_now).1
+
+    said_up : Row → Row
+    said_up = row_by p.versions (Connected id) (reply_of (Up id))
+
+    each : AllByRecursion (λ r. said_up r ≡ row_up r) own.rows
+    each =
+        all-more (λ r. by_counter r.tracks ≡ r.tracks) (λ r. said_up r ≡ row_up r) own.rows
+        (λ r sorted. ap (λ ts. record r { phase = phase_up r.phase; tracks = ts }) (ap by_counter (append-nil r.tracks) ∙ sorted)) (well_at p known.well id.frontend own there).sorted
+
+    frontends : with_conn id said_up p.frontends ≡ with_conn id row_up p.frontends
+    frontends = rw there (ap (λ rows. slice_set p.frontends id.frontend (record own { rows = rows })) (rows-alike id.serial said_up row_up own.rows each))
+
+    state : List FrontendRows → List TableState → Plain
+    state fs tables = record { clock = max p.clock moment; listeners = p.listeners; frontends = fs; versions = p.versions; tables = tables }
+
+    same : state (with_conn id said_up p.frontends) (tables_by p.frontends p.tables (reply_of (Up id))) ≡ state (with_conn id row_up p.frontends) p.tables
+    same = ap (λ fs. state fs (tables_by p.frontends p.tables (reply_of (Up id)))) frontends ∙ ap (state (with_conn id row_up p.frontends)) (tables_kept p (Up id) refl)

@@ -1,5 +1,5 @@
 -- What a step makes of the open connections.
-use Rattle.std.specs.Prelude.{ℕ, List, [], ◌∷◌, ◌++◌, Some, slice_get, ◌≡◌, ◌+◌, ◌<◌, ◌≤◌, ◌^◌, if◌then◌else◌}
+use Rattle.std.specs.Prelude.{ℕ, List, [], ◌∷◌, ◌++◌, Some, IsSome, map, slice_get, ◌≡◌, ◌+◌, ◌<◌, ◌≤◌, ◌^◌, if◌then◌else◌}
 use Rattle.std.specs.List.{AllByRecursion}
 use Rattle.plan_types.specs.declared.plan.Frontend.{Frontend}
 use Rattle.plan_types.specs.declared.track.Track.{Track}
@@ -11,11 +11,12 @@ use Rattle.conn_model.specs.declared.plain.Row.{Row}
 use Rattle.conn_model.specs.declared.plain.FrontendRows.{FrontendRows}
 use Rattle.conn_model.specs.declared.plain.TableState.{TableState}
 use Rattle.conn_model.specs.declared.plain.Version.{Version}
-use Rattle.conn_model.specs.Answer.{frontend_in, new_row, version_at}
-use Rattle.conn_model.specs.History.{is_last, phase_by}
+use Rattle.conn_model.specs.Answer.{frontend_in, new_row, rest_in, row_at, version_at}
+use Rattle.conn_model.specs.History.{is_last, phase_by, with_offer}
 use Rattle.conn_model.specs.Tables.{by_counter, tracks_at, without_tracks}
 use Rattle.conn_rows.specs.Changes.{row_offered, with_conn, without_conn}
 use Rattle.conn_rows.specs.Stored.{plan_at}
+use Rattle.conn_versions.specs.Versions.{HasServer}
 use Rattle.conn_core.specs.Tracking.{row_with}
 use Rattle.conn_core.specs.declared.entering.Arrival.{Arrival}
 use Rattle.conn_core.specs.declared.outcome.Decision.{Decision}
@@ -68,11 +69,30 @@ pub record Judge (frontends : List FrontendRows) (versions : List Version) (id :
   pub kept : version_at versions number ≡ Some version
   pub found : frontend_in version.plan own.name ≡ Some frontend
 
+-- the connection waits for its header, and the version of that number judges it
+pub record IsJudged (frontends : List FrontendRows) (id : ConnId) (version : ℕ) : Type 0 where
+  pub row : Row
+  pub there : row_at frontends id ≡ Some row
+  pub waits : IsSome (rest_in row.phase)
+  pub judged : row.version ≡ version
+
+-- a server that is offered is one of the version of that number
+abbrev pub CanOffer : List Version → ℕ → Outcome → Type 0
+CanOffer versions version Wait = Unit {0}
+CanOffer versions version (Offer offer) = (there : HasServer versions version offer.seat.line offer.seat.server) × (there.server.to ≡ offer.seat.to)
+CanOffer versions version (Refuse cause) = Unit {0}
+
 -- the open connections once one of them that waited has that outcome
 abbrev pub settled : List Version → ConnId → Outcome → List FrontendRows → List FrontendRows
 settled versions id Wait frontends = frontends
 settled versions id (Offer offer) frontends = with_conn id (row_offered versions offer.seat) frontends
 settled versions id (Refuse cause) frontends = without_conn id frontends
+
+-- the versions, where that one judges it
+abbrev pub settled_versions : ℕ → Outcome → List Version → List Version
+settled_versions version Wait versions = versions
+settled_versions version (Offer offer) versions = map (with_offer version offer.seat.line offer.seat.server) versions
+settled_versions version (Refuse cause) versions = versions
 
 -- and the tables
 abbrev pub settled_tables : ConnId → Outcome → List FrontendRows → List TableState → List TableState

@@ -4,7 +4,8 @@ use Rattle.std.specs.List.{AllByRecursion}
 use Rattle.conn_model.specs.declared.event.ConnId.{ConnId}
 use Rattle.conn_model.specs.declared.plain.FrontendRows.{FrontendRows}
 use Rattle.conn_model.specs.declared.plain.Plain.{Plain}
-use Rattle.conn_model.specs.Counts.{open_in, open_named, offered_to}
+use Rattle.proxy_types.specs.declared.server.ServerIdentity.{ServerIdentity}
+use Rattle.conn_model.specs.Counts.{open_in, open_named, offered_to, served_by}
 use Rattle.conn_model.specs.Tables.{by_counter, open_tracks, tracks_at}
 use Rattle.conn_model.specs.Words.{Rise}
 use Rattle.conn_rows.specs.Value.{RowsValue}
@@ -14,6 +15,7 @@ pub record IsSeen (id : ConnId) (state : Plain) (rows : RowsValue) : Type 0 wher
   pub own : open_in state.frontends id.frontend ≡ open_in rows.frontends id.frontend
   pub named : (name : List ℕ) → open_named state.frontends name ≡ open_named rows.frontends name
   pub offered : (name : List ℕ) → offered_to state.frontends name ≡ offered_to rows.frontends name
+  pub served : (server : ServerIdentity) → served_by state.frontends server ≡ served_by rows.frontends server
   pub tracks : open_tracks state.frontends ≡ open_tracks rows.frontends
   pub tracked : tracks_at state.frontends id ≡ tracks_at rows.frontends id
   pub tables : state.tables ≡ rows.tables

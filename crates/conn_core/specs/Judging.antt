@@ -5,21 +5,22 @@ use Rattle.std.specs.Str.{bytes_eq}
 use Rattle.addr_core.specs.declared.addr.Addr.{Addr}
 use Rattle.addr_core.specs.PairValue.{PairValue}
 use Rattle.proxy_types.specs.declared.table.Stores.{Stores}
+use Rattle.plan_types.specs.declared.plan.Backend.{Backend}
 use Rattle.plan_types.specs.declared.plan.Frontend.{Frontend}
-use Rattle.plan_types.specs.declared.plan.Server.{Server}
 use Rattle.plan_types.specs.declared.track.Track.{Track}
 use Rattle.rule_engine.specs.Meaning.{present}
 use Rattle.rule_engine.specs.Judging.{Slots}
 use Rattle.conn_model.specs.declared.ask.Counts.{Counts}
 use Rattle.conn_model.specs.declared.event.ConnId.{ConnId}
 use Rattle.conn_model.specs.declared.reply.Cause.{Cause}
+use Rattle.conn_model.specs.declared.reply.Cause.TheVariants.{NoServer}
 use Rattle.conn_model.specs.declared.reply.Reply.{Reply}
 use Rattle.conn_model.specs.declared.plain.TableState.{TableState}
-use Rattle.conn_model.specs.declared.plain.Version.{Version}
-use Rattle.conn_model.specs.Answer.{reply_with, said_of, verdict}
-use Rattle.conn_model.specs.Counts.{open_named, offered_to}
+use Rattle.conn_model.specs.Answer.{numbered_server, reply_with, said_of, verdict, NumberedServer}
+use Rattle.conn_model.specs.Counts.{open_named, offered_to, served_by}
 use Rattle.conn_model.specs.Rules.{RuleView, counted, current_of, total_of}
 use Rattle.conn_model.specs.Tables.{open_tracks, table_at}
+use Rattle.conn_model.specs.Words.{or_fault}
 use Rattle.conn_core.specs.Tracking.{ArePossible}
 use Rattle.conn_core.specs.declared.facts.RuleFacts.{RuleFacts}
 use Rattle.conn_core.specs.declared.judging.Verdict.{Verdict}
@@ -42,6 +43,7 @@ facts_view facts made = record {
   connections = facts.connections;
   named = λ name. open_named facts.rows.now.frontends name + arrival_in facts.arriving facts.name.now name;
   offered = offered_to facts.rows.now.frontends;
+  served = served_by facts.rows.now.frontends;
 }
 
 -- how many track an address in a table and how often it was tracked, this step included: both are 0 where it is no key
@@ -56,15 +58,19 @@ tracked_counts v track = option_and_then (λ track. option_map (λ table. (table
 abbrev pub source_counts : RuleView → Option TableState → Counts
 source_counts v table = option_map_or (counts_of v v.source) table (record { cur = 0; cnt = 0 })
 
-abbrev pub result_of : Verdict → Result Server Cause
-result_of (Assigned server) = Ok server.now
+abbrev pub result_of : Verdict → Result NumberedServer Cause
+result_of (Assigned number server) = Ok (record { number = number; server = server.now })
 result_of (Refused cause) = Err cause
+
+-- the server of a backend that has that number, if one was picked
+abbrev pub server_at : Backend → Option ℕ → Result NumberedServer Cause
+server_at backend turn = or_fault (NoServer backend.line) (option_and_then (numbered_server backend) turn)
 
 -- the reply to a connection of that judged pair, of which so many bytes of the piece belong to the header, where the
 -- step tracked those before
-abbrev pub decided : (List Track → RuleView) → Version → Frontend → ConnId → ℕ → PairValue → Slots → Reply
-decided views version frontend id used judged made =
-    let decision = verdict views version frontend made in
+abbrev pub decided : (List Track → RuleView) → Frontend → ConnId → ℕ → PairValue → Slots → Reply
+decided views frontend id used judged made =
+    let decision = verdict views frontend made in
     reply_with (said_of id used judged decision.result) decision.made
 
 -- the step may track those

@@ -1,23 +1,17 @@
 -- The state of a core, and what a step decides before anything changes.
 use Rattle.std.specs.Prelude.{ℕ, List, Some, slice_get, ◌≡◌, ◌+◌, ◌<◌, ◌^◌, Ok}
-use Rattle.std.specs.List.{AllByRecursion}
-use Rattle.plan_types.specs.Sound.{IsSoundPlan}
 use Rattle.plan_types.specs.declared.plan.Plan.{Plan}
 use Rattle.conn_model.specs.declared.plain.FrontendRows.{FrontendRows}
 use Rattle.conn_model.specs.declared.plain.Listener.{Listener}
-use Rattle.conn_model.specs.declared.plain.Version.{Version}
 use Rattle.conn_model.specs.declared.plain.Plain.{Plain}
 use Rattle.conn_model.specs.History.{newest_number, opening, IsWell}
 use Rattle.conn_rows.specs.Value.{RowsValue}
+pub use Rattle.conn_versions.specs.Versions.{AreSound}
 use Rattle.config_core.specs.Meaning.{meaning}
 use Rattle.conn_core.specs.declared.machine.Admission.{Admission}
 
 abbrev pub state_of : ℕ → List Listener → RowsValue → Plain
 state_of clock listeners rows = record { clock = clock; listeners = listeners; frontends = rows.frontends; versions = rows.versions; tables = rows.tables }
-
--- each version has a plan as plans are made
-abbrev pub AreSound : List Version → Type 0
-AreSound versions = AllByRecursion (λ version. IsSoundPlan version.plan) versions
 
 -- a state that a core can be in
 pub record IsCoreState (p : Plain) : Type 0 where

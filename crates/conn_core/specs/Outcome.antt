@@ -7,7 +7,7 @@ use Rattle.conn_model.specs.declared.reply.Cause.{Cause}
 use Rattle.conn_model.specs.declared.reply.Reply.{Reply}
 use Rattle.conn_model.specs.declared.reply.Said.{Said}
 use Rattle.conn_model.specs.declared.reply.Said.TheVariants as saids
-use Rattle.conn_model.specs.Answer.{header_sent, reply_with}
+use Rattle.conn_model.specs.Answer.{header_sent, reply_with, NumberedServer}
 use Rattle.conn_core.specs.declared.outcome.Decision.{Decision}
 use Rattle.conn_core.specs.declared.outcome.Offer.{Offer}
 use Rattle.conn_core.specs.declared.outcome.Outcome.{Outcome}
@@ -22,13 +22,13 @@ said_by id used (Refuse cause) = saids.Refuse id used cause
 abbrev pub reply_by : ConnId → ℕ → Decision → Reply
 reply_by id used decision = reply_with (said_by id used decision.outcome) decision.tracks
 
--- the offer of the first server of a backend
-abbrev pub offer_of : Server → PairValue → Offer
-offer_of server judged = record {
-  seat = record { server = 0; line = server.line; to = server.to; judged = judged };
+-- the offer of a server that has that number in its backend
+abbrev pub offer_of : ℕ → Server → PairValue → Offer
+offer_of number server judged = record {
+  seat = record { server = number; line = server.line; to = server.to; judged = judged };
   send = record { items = header_sent server judged };
 }
 
-abbrev pub outcome_of : PairValue → Result Server Cause → Outcome
-outcome_of judged (Ok server) = GiveServer (offer_of server judged)
+abbrev pub outcome_of : PairValue → Result NumberedServer Cause → Outcome
+outcome_of judged (Ok given) = GiveServer (offer_of given.number given.server judged)
 outcome_of judged (Err cause) = Refuse cause

@@ -7,7 +7,7 @@ ghost use Rattle.conn_model.specs.History.{tables_by};
 ghost use Rattle.conn_model.specs.Tables.{open_tracks, with_tracks};
 ghost use Rattle.conn_rows.specs.Changes.{with_item};
 ghost use Rattle.conn_rows.specs.Value.{state_of};
-ghost use Rattle.conn_core.specs.Changes.{entered, with_newcomer, IsComing};
+ghost use Rattle.conn_core.specs.Changes.{entered, settled_versions, with_newcomer, CanOffer, IsComing};
 ghost use Rattle.conn_core.specs.Outcome.{reply_by};
 ghost use Rattle.conn_core.specs.Tracking.{ArePossible};
 
@@ -39,8 +39,10 @@ pub fn enter(
 ) -> Result<(), AllocError>
     requires coming { (own : FrontendRows) × IsComing rows.old.frontends id own }
     requires can { (source : Addr) × ArePossible (open_tracks rows.old.frontends) rows.old.tables [] source decision.now.tracks }
+    requires offers { CanOffer rows.old.versions arrival.now.version decision.now.outcome }
     ensures ok { OnOk result (state_of rows.new ≡ record (state_of rows.old) {
       frontends = with_item id.frontend (entered rows.old.versions arrival.now decision.now) rows.old.frontends;
+      versions = settled_versions arrival.now.version decision.now.outcome rows.old.versions;
       tables = tables_by rows.old.frontends rows.old.tables (reply_by id 0 decision.now);
     }) }
     ensures err { OnErr result (state_of rows.new ≡ state_of rows.old) }
@@ -49,7 +51,7 @@ pub fn enter(
         Outcome::Wait => insert(rows, id, arrival, &decision.tracks),
         Outcome::Offer(offer) => {
             insert(rows, id, arrival, &decision.tracks)?;
-            rows.offer(id, offer.seat);
+            rows.offer(id, arrival.version, offer.seat);
             Ok(())
         }
         Outcome::Refuse(_) => {

@@ -1,14 +1,14 @@
 //! How a connection is judged.
-ghost use Rattle.std.specs.Prelude.{◌≡◌, ℕ, find, slice_get};
+ghost use Rattle.std.specs.Prelude.{◌≡◌, ℕ, Some, find, slice_get};
 ghost use Rattle.std.specs.Option.{option_copied};
 ghost use Rattle.std.specs.Str.{bytes_eq};
 ghost use Rattle.acl_core.specs.Truth.{applies};
 ghost use Rattle.rule_engine.specs.Meaning.{present};
 ghost use Rattle.conn_model.specs.Rules.{backend_for, rejection, view_of, worth};
-ghost use Rattle.conn_model.specs.Answer.{admission, candidate_of, frontend_in, server_for, server_unless};
+ghost use Rattle.conn_model.specs.Answer.{admission, candidate_of, frontend_in, server_for, server_unless, version_at};
 ghost use Rattle.conn_model.specs.declared.plain.Plain.{Plain};
 ghost use Rattle.conn_model.specs.declared.event.ConnId.{ConnId};
-ghost use Rattle.conn_core.specs.Judging.{decided, facts_view, result_of, AreAllowed};
+ghost use Rattle.conn_core.specs.Judging.{decided, facts_view, result_of, server_at, AreAllowed};
 ghost use Rattle.conn_core.specs.Outcome.{outcome_of, reply_by};
 
 use crate::facts::RuleFacts;
@@ -16,15 +16,15 @@ use crate::outcome::{Decision, Outcome, offer_of};
 use crate::tracking::NO_TRACKS;
 use acl_core::When;
 use addr_core::Pair;
-use conn_model::plain::Version;
 use conn_model::reply::Cause;
-use plan_types::{Choice, Frontend, Plan, Server};
+use plan_types::{Backend, Choice, Frontend, Plan, Server};
 use rule_engine::{Judged, Moment, Tracks, judge, judge_after};
 
 /// A server for a connection, or why it gets none.
 #[derive(Drop)]
 pub enum Verdict<'a> {
-    Assigned(&'a Server),
+    /// The server, with its number in its backend.
+    Assigned(u16, &'a Server),
     Refused(Cause),
 }
 
@@ -90,29 +90,42 @@ fn backend_number(facts: &RuleFacts<'_>, tracks: &Tracks) -> Option<u16>
     }
 }
 
-/// The first server of the backend of a connection.
-fn assign<'a>(version: &'a Version, facts: &RuleFacts<'_>, tracks: &Tracks) -> Verdict<'a>
-    ensures { result_of result ≡ server_for (worth (facts_view facts.now (present tracks.now))) version.now facts.now.frontend.now }
+/// The server that is picked for a connection, of its backend.
+fn assign<'a>(facts: &RuleFacts<'a>, tracks: &Tracks) -> Verdict<'a>
+    requires { version_at facts.now.rows.now.versions facts.now.version.now.number ≡ Some facts.now.version.now }
+    ensures { result_of result ≡ server_for (facts_view facts.now (present tracks.now)) }
 {
     let Some(number) = backend_number(facts, tracks) else {
         return Verdict::Refused(Cause::NoBackend(facts.frontend.line));
     };
-    let Some(backend) = item(version.plan.backends.as_slice(), number) else {
+    let Some(backend) = item(facts.version.plan.backends.as_slice(), number) else {
         return Verdict::Refused(Cause::NoBackend(facts.frontend.line));
     };
-    match backend.servers.as_slice().first() {
-        Some(server) => Verdict::Assigned(server),
+    let turn = facts.rows.pick(facts.version.number, number, &facts.source);
+    picked(backend, turn)
+}
+
+/// The server of that number, if one was picked.
+fn picked(backend: &Backend, turn: Option<u16>) -> Verdict<'_>
+    ensures { result_of result ≡ server_at backend.now turn }
+{
+    let Some(number) = turn else {
+        return Verdict::Refused(Cause::NoServer(backend.line));
+    };
+    match item(backend.servers.as_slice(), number) {
+        Some(server) => Verdict::Assigned(number, server),
         None => Verdict::Refused(Cause::NoServer(backend.line)),
     }
 }
 
 /// A server for a connection after its session rules.
-fn session_verdict<'a>(version: &'a Version, facts: &RuleFacts<'_>, says: &Judged) -> Verdict<'a>
-    ensures { result_of result ≡ server_unless (worth (facts_view facts.now (present says.now.tracks))) version.now facts.now.frontend.now (rejection says.now) }
+fn session_verdict<'a>(facts: &RuleFacts<'a>, says: &Judged) -> Verdict<'a>
+    requires { version_at facts.now.rows.now.versions facts.now.version.now.number ≡ Some facts.now.version.now }
+    ensures { result_of result ≡ server_unless (facts_view facts.now (present says.now.tracks)) (rejection says.now) }
 {
     match rejecting_line(says) {
         Some(line) => Verdict::Refused(Cause::Line(line)),
-        None => assign(version, facts, &says.tracks),
+        None => assign(facts, &says.tracks),
     }
 }
 
@@ -120,35 +133,31 @@ fn outcome(verdict: Verdict<'_>, judged: Pair) -> Outcome
     ensures { result ≡ outcome_of judged (result_of verdict.entry) }
 {
     match verdict {
-        Verdict::Assigned(server) => Outcome::Offer(offer_of(server, judged)),
+        Verdict::Assigned(number, server) => Outcome::Offer(offer_of(number, server, judged)),
         Verdict::Refused(cause) => Outcome::Refuse(cause),
     }
 }
 
 /// What becomes of a connection of that judged pair, where the step made those tracks before: the session rules
 /// first, then the backend and its server.
-pub fn decide(version: &Version, judged: Pair, facts: &RuleFacts<'_>, earlier: Tracks) -> Decision
-    ensures reply { (id : ConnId) (used : ℕ) → reply_by id used result ≡ decided (facts_view facts.now) version.now facts.now.frontend.now id used judged earlier }
+pub fn decide(judged: Pair, facts: &RuleFacts<'_>, earlier: Tracks) -> Decision
+    requires { version_at facts.now.rows.now.versions facts.now.version.now.number ≡ Some facts.now.version.now }
+    ensures reply { (id : ConnId) (used : ℕ) → reply_by id used result ≡ decided (facts_view facts.now) facts.now.frontend.now id used judged earlier }
     ensures can { AreAllowed facts.now earlier → AreAllowed facts.now result.tracks }
 {
     let says = judge_after(facts.frontend.session_rules.as_slice(), facts, earlier);
     Decision {
-        outcome: outcome(session_verdict(version, facts, &says), judged),
+        outcome: outcome(session_verdict(facts, &says), judged),
         tracks: says.tracks,
     }
 }
 
 /// What becomes of a connection at its accept, where so many others of its frontend are open: the limit of the
 /// frontend first, then the connection rules, then it waits where its listener expects a header.
-pub fn admission(
-    version: &Version,
-    accept_proxy: bool,
-    real: Pair,
-    others: u64,
-    facts: &RuleFacts<'_>,
-) -> Decision
-    ensures reply { (state : Plain) (id : ConnId) → view_of (candidate_of state id version.now facts.now.frontend.now) real.source.addr ≡ facts_view facts.now →
-        reply_by id 0 result ≡ admission (candidate_of state id version.now facts.now.frontend.now) accept_proxy real others }
+pub fn admission(accept_proxy: bool, real: Pair, others: u64, facts: &RuleFacts<'_>) -> Decision
+    requires { version_at facts.now.rows.now.versions facts.now.version.now.number ≡ Some facts.now.version.now }
+    ensures reply { (state : Plain) (id : ConnId) → view_of (candidate_of state id facts.now.version.now facts.now.frontend.now) real.source.addr ≡ facts_view facts.now →
+        reply_by id 0 result ≡ admission (candidate_of state id facts.now.version.now facts.now.frontend.now) accept_proxy real others }
     ensures can { AreAllowed facts.now result.tracks }
 {
     if others >= facts.frontend.limit {
@@ -162,7 +171,7 @@ pub fn admission(
         Some(line) => Outcome::Refuse(Cause::Line(line)),
         None => {
             if !accept_proxy {
-                return decide(version, real, facts, says.tracks);
+                return decide(real, facts, says.tracks);
             }
             Outcome::Wait
         }

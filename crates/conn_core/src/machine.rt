@@ -1,18 +1,21 @@
 //! The decision core.
-ghost use Rattle.std.specs.Prelude.{◌≡◌, ◌≢◌, ◌⊎◌, ◌+◌, ◌-◌, ◌^◌, ◌<◌, ◌≤◌, List, [], ◌∷◌, Option, Some, IfSome, IfNone, IfOk, IfErr, OnErr, nat_le, Ok, Err};
+ghost use Rattle.std.specs.Prelude.{◌≡◌, ◌≢◌, ◌⊎◌, ◌+◌, ◌-◌, ◌^◌, ◌<◌, ◌≤◌, List, [], ◌∷◌, Option, Some, IfSome, IfNone, IfOk, IfErr, OnOk, OnErr, nat_le, Ok, Err};
+ghost use Rattle.std.specs.Option.{option_copied};
 ghost use Rattle.plan_types.specs.Sound.{IsSoundPlan};
 ghost use Rattle.pp_any.specs.declared.rest.Rest.{Rest};
 ghost use Rattle.conn_model.specs.declared.event.TheConstants.{HEADER_WAIT};
 ghost use Rattle.conn_model.specs.declared.plain.Row.{Row};
-ghost use Rattle.conn_model.specs.Answer.{answer_in, accept_answer, piece_answer, waiting_row};
+ghost use Rattle.conn_model.specs.declared.reply.Said.{Said};
+ghost use Rattle.conn_model.specs.Answer.{answer_in, accept_answer, piece_answer, reply_of, server_answer, waiting_row};
 ghost use Rattle.conn_rows.specs.Summaries.{summary_of};
-ghost use Rattle.conn_model.specs.Counts.{counts_in};
+ghost use Rattle.conn_model.specs.Counts.{counts_in, newest_backend};
 ghost use Rattle.conn_model.specs.History.{after, answer, counts, owned_event, opening, entry, NeedsNoMemory, IsFault, IsLegal, IsWell, Entry};
 ghost use Rattle.conn_model.specs.declared.event.OwnedEvent.TheVariants as owned;
 ghost use Rattle.conn_model.specs.declared.plain.FrontendRows.{FrontendRows};
 ghost use Rattle.conn_model.specs.declared.plain.Plain.{Plain};
 ghost use Rattle.config_core.specs.Meaning.{meaning};
 ghost use Rattle.conn_model.specs.Tables.{open_tracks};
+ghost use Rattle.conn_core.specs.Changes.{CanOffer};
 ghost use Rattle.conn_core.specs.Outcome.{reply_by};
 ghost use Rattle.conn_core.specs.Tracking.{ArePossible};
 ghost use Rattle.conn_core.specs.Machine.{AreSound, IsOpened, IsNext};
@@ -32,7 +35,7 @@ use conn_model::plain::{Listener, Plain};
 use conn_model::reply::{Cause, Reply, Said, StepFault};
 use conn_rows::{RowSummary, Rows};
 use list_core::{Duplicate, Seq};
-use plan_types::Plan;
+use plan_types::{Backend, Plan};
 use std::alloc::{AllocError, Global};
 use std::marker::Model;
 
@@ -136,6 +139,17 @@ impl Core {
                 let cur = self.rows.open_in(number)?;
                 Some(Counts { cur, cnt: 0 })
             }
+            Ask::Backend(number) => {
+                let backend = self.backend(number)?;
+                let cur = self.rows.offered_to(backend.name.as_slice());
+                Some(Counts { cur, cnt: 0 })
+            }
+            Ask::Server(number, place) => {
+                let backend = self.backend(number)?;
+                let server = item(backend.servers.as_slice(), place)?;
+                let cur = self.rows.served_by(backend, server);
+                Some(Counts { cur, cnt: 0 })
+            }
             Ask::Entry(number, addr) => {
                 let version = self.rows.newest()?;
                 let id = item(version.tables.as_slice(), number)?;
@@ -171,6 +185,14 @@ impl Core {
         rows.end();
     }
 
+    /// The backend of that number in the newest version.
+    fn backend(&self, number: u16) -> Option<&Backend>
+        ensures { option_copied result ≡ newest_backend self.now.versions number }
+    {
+        let version = self.rows.newest()?;
+        item(version.plan.backends.as_slice(), number)
+    }
+
     /// The greatest moment so far, in ms. Of each core it is known that every history can be continued, and that its
     /// plans are sound.
     fn clock(&self) -> u64
@@ -191,6 +213,8 @@ impl Core {
         match *event {
             Event::Accept(listener, real) => self.accept(moment, listener, real),
             Event::Piece(id, piece) => self.piece(moment, id, piece),
+            Event::Connected(id) => self.connected(moment, id),
+            Event::ConnectFailed(id) => self.connect_failed(moment, id),
             Event::Close(id, why) => self.close(moment, id, why),
             Event::Expire(id) => self.expire(moment, id),
         }
@@ -224,6 +248,7 @@ impl Core {
     fn admit(&self, now: u64, listener: u16, real: Pair) -> Result<Admission, StepFault>
         ensures reply { IfOk result (λ a. accept_answer self.now now listener real ≡ Ok (reply_by a.id 0 a.decision)) }
         ensures can { IfOk result (λ a. ArePossible (open_tracks self.now.frontends) self.now.tables [] real.source.addr a.decision.tracks) }
+        ensures offers { IfOk result (λ a. CanOffer self.now.versions a.version a.decision.outcome) }
         ensures fault { IfErr result (λ f. accept_answer self.now now listener real ≡ Err f) }
         ensures next { IfOk result (λ a. (own : FrontendRows) × IsNext self.now a own) }
     {
@@ -252,13 +277,7 @@ impl Core {
             own: NO_TRACKS,
             source: real.source().addr,
         };
-        let decision = admission(
-            version,
-            listener.accept_proxy,
-            real,
-            own.connections,
-            &facts,
-        );
+        let decision = admission(listener.accept_proxy, real, own.connections, &facts);
         Ok(Admission {
             id: ConnId {
                 frontend: listener.frontend,
@@ -300,6 +319,50 @@ impl Core {
             return Err(StepFault::NotWaiting);
         }
         Ok(row)
+    }
+
+    /// Whether the connection of that name waits for its server to take it.
+    fn awaiting(&self, id: ConnId) -> Result<(), StepFault>
+        ensures ok { OnOk result ((said : Said) → server_answer self.now id said ≡ Ok (reply_of said)) }
+        ensures fault { IfErr result (λ f. (said : Said) → server_answer self.now id said ≡ Err f) }
+        ensures no_memory { result ≢ Err StepFault.NoMemory }
+    {
+        let Some(row) = self.rows.row(id) else {
+            return Err(StepFault::NoSuch);
+        };
+        if !row.awaits_server {
+            return Err(StepFault::NotOffered);
+        }
+        Ok(())
+    }
+
+    fn connected(&mut self, moment: u64, id: ConnId) -> Result<Reply, StepFault>
+        ensures reply { IfOk result (λ r. answer_in self.old moment (owned.Connected id) ≡ Ok r) }
+        ensures new { IfOk result (λ r. self.new ≡ after self.old (entry moment (owned.Connected id) r ∷ [])) }
+        ensures fault { IfErr result (λ f. answer_in self.old moment (owned.Connected id) ≡ Err f) }
+        ensures no_memory { result ≢ Err StepFault.NoMemory }
+        ensures err { OnErr result (self.new ≡ self.old) }
+    {
+        self.awaiting(id)?;
+        self.rows.up(id);
+        self.clock = self.clock.max(moment);
+        Ok(plain_reply(Said::Up { id }))
+    }
+
+    fn connect_failed(&mut self, moment: u64, id: ConnId) -> Result<Reply, StepFault>
+        ensures reply { IfOk result (λ r. answer_in self.old moment (owned.ConnectFailed id) ≡ Ok r) }
+        ensures new { IfOk result (λ r. self.new ≡ after self.old (entry moment (owned.ConnectFailed id) r ∷ [])) }
+        ensures fault { IfErr result (λ f. answer_in self.old moment (owned.ConnectFailed id) ≡ Err f) }
+        ensures no_memory { result ≢ Err StepFault.NoMemory }
+        ensures err { OnErr result (self.new ≡ self.old) }
+    {
+        self.awaiting(id)?;
+        self.rows.remove(id);
+        self.clock = self.clock.max(moment);
+        Ok(plain_reply(Said::Closed {
+            id,
+            why: Why::Failed,
+        }))
     }
 
     fn close(&mut self, moment: u64, id: ConnId, why: Why) -> Result<Reply, StepFault>

@@ -78,13 +78,13 @@ fn said(id: ConnId, used: u64, outcome: Outcome) -> Said
     }
 }
 
-/// The offer of the first server of a backend.
-pub fn offer_of(server: &Server, judged: Pair) -> Offer
-    ensures { result ≡ offer_of server.now judged }
+/// The offer of a server that has that number in its backend.
+pub fn offer_of(number: u16, server: &Server, judged: Pair) -> Offer
+    ensures { result ≡ offer_of number server.now judged }
 {
     Offer {
         seat: Seat {
-            server: 0,
+            server: number,
             line: server.line,
             to: server.to,
             judged,

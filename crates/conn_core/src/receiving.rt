@@ -9,12 +9,13 @@ ghost use Rattle.conn_model.specs.declared.plain.FrontendRows.{FrontendRows};
 ghost use Rattle.conn_model.specs.declared.plain.Plain.{Plain};
 ghost use Rattle.conn_model.specs.declared.plain.Row.{Row};
 ghost use Rattle.conn_model.specs.Answer.{candidate_of, decision, judged_pair, piece_answer, row_at, waiting_row};
-ghost use Rattle.conn_model.specs.History.{tables_by};
+ghost use Rattle.conn_model.specs.History.{tables_by, with_said};
 ghost use Rattle.conn_model.specs.Tables.{open_tracks, tracks_at};
 ghost use Rattle.conn_rows.specs.Summaries.{summary_of};
 ghost use Rattle.conn_rows.specs.Value.{state_of};
-ghost use Rattle.conn_core.specs.Changes.{settled, settled_tables, spoken, Judge};
+ghost use Rattle.conn_core.specs.Changes.{settled, settled_tables, settled_versions, spoken, CanOffer, IsJudged, Judge};
 ghost use Rattle.conn_core.specs.Counts.{IsSeen, IsSorted, IsStateOf};
+ghost use Rattle.conn_core.specs.Machine.{AreSound};
 ghost use Rattle.conn_core.specs.Outcome.{reply_by};
 ghost use Rattle.conn_core.specs.Tracking.{ArePossible, AreSorted};
 
@@ -52,6 +53,7 @@ fn decision(rows: &Rows, id: ConnId, version: u64, judged: Pair) -> Option<Decis
     ensures some { IfSome result (λ d. (judge : Judge rows.now.frontends rows.now.versions id version) × ((state : Plain) (used : ℕ) → IsSeen id state rows.now →
         reply_by id used d ≡ decision (candidate_of state id judge.version judge.frontend) used judged no_tracks)) }
     ensures can { IfSome result (λ d. IsSome (row_at rows.now.frontends id) → ArePossible (open_tracks rows.now.frontends) rows.now.tables (tracks_at rows.now.frontends id) judged.source.addr d.tracks) }
+    ensures offers { IfSome result (λ d. AreSound rows.now.versions → CanOffer rows.now.versions version d.outcome) }
     ensures none { IfNone result (Judge rows.now.frontends rows.now.versions id version → ⊥) }
 {
     let Some(own) = rows.frontend(id.frontend) else {
@@ -73,7 +75,7 @@ fn decision(rows: &Rows, id: ConnId, version: u64, judged: Pair) -> Option<Decis
         own: tracks_of(rows, id),
         source: judged.source().addr,
     };
-    Some(judging::decide(version, judged, &facts, NO_TRACKS))
+    Some(judging::decide(judged, &facts, NO_TRACKS))
 }
 
 /// What a connection tracks since earlier steps, by counter.
@@ -98,14 +100,16 @@ fn judged_pair(real: Pair, meaning: Meaning) -> Pair
 
 /// Judges a connection whose header is whole: it is offered a server, or ends.
 fn decide(rows: &mut Rows, id: ConnId, version: u64, judged: Pair, used: u64) -> Reply
-    requires there { IsSome (row_at rows.old.frontends id) }
+    requires there { IsJudged rows.old.frontends id version }
     requires sorted { AreSorted rows.old.frontends id }
     requires judge { Judge rows.old.frontends rows.old.versions id version }
+    requires sound { AreSound rows.old.versions }
     requires room { 3 ≤ rows.old.spare }
     ensures reply { (judge : Judge rows.old.frontends rows.old.versions id version) (state : Plain) → IsSeen id state rows.old →
         result ≡ decision (candidate_of state id judge.version judge.frontend) used judged no_tracks }
     ensures new { (event : OwnedEvent) → state_of rows.new ≡ record (state_of rows.old) {
       frontends = spoken rows.old.versions event id result rows.old.frontends;
+      versions = with_said version result.said rows.old.versions;
       tables = tables_by rows.old.frontends rows.old.tables result;
     } }
 {
@@ -113,21 +117,23 @@ fn decide(rows: &mut Rows, id: ConnId, version: u64, judged: Pair, used: u64) ->
         unreachable!()
     };
     track_all(rows, id, &decision.tracks);
-    settle(rows, id, &decision.outcome);
+    settle(rows, id, version, &decision.outcome);
     reply(id, used, decision)
 }
 
-/// Keeps what becomes of a connection that waited.
-fn settle(rows: &mut Rows, id: ConnId, outcome: &Outcome)
-    requires { IsSome (row_at rows.old.frontends id) }
+/// Keeps what becomes of a connection that waited, and that the version of that number judges.
+fn settle(rows: &mut Rows, id: ConnId, version: u64, outcome: &Outcome)
+    requires there { IsJudged rows.old.frontends id version }
+    requires offers { CanOffer rows.old.versions version outcome.now }
     ensures { rows.new ≡ record rows.old {
       frontends = settled rows.old.versions id outcome.now rows.old.frontends;
+      versions = settled_versions version outcome.now rows.old.versions;
       tables = settled_tables id outcome.now rows.old.frontends rows.old.tables;
     } }
 {
     match outcome {
         Outcome::Wait => {}
-        Outcome::Offer(offer) => rows.offer(id, offer.seat),
+        Outcome::Offer(offer) => rows.offer(id, version, offer.seat),
         Outcome::Refuse(_) => rows.remove(id),
     }
 }
@@ -137,10 +143,12 @@ pub fn receive(rows: &mut Rows, id: ConnId, row: &RowSummary, piece: &[u8]) -> R
     requires waits { (found : Row × Rest) × (waiting_row rows.old.frontends id ≡ Ok found) × (row.now ≡ summary_of found.0) }
     requires judge { Judge rows.old.frontends rows.old.versions id row.now.version }
     requires sorted { (own : FrontendRows) → slice_get rows.old.frontends id.frontend ≡ Some own → IsSorted own }
+    requires sound { AreSound rows.old.versions }
     requires room { 3 ≤ rows.old.spare }
     ensures reply { (p : Plain) → IsStateOf p rows.old → piece_answer p id piece.now ≡ Ok result }
     ensures new { state_of rows.new ≡ record (state_of rows.old) {
       frontends = spoken rows.old.versions (Piece id piece.now) id result rows.old.frontends;
+      versions = with_said row.now.version result.said rows.old.versions;
       tables = tables_by rows.old.frontends rows.old.tables result;
     } }
 {

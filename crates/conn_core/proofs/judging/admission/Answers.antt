@@ -17,9 +17,9 @@ returns-clause-can c = allowed_first c.args.facts.now c.args.facts.now.frontend.
 
 pub returns-then-not-accept_proxy-clause-reply : goal.returns-then-not-accept_proxy-clause-reply
 returns-then-not-accept_proxy-clause-reply c = λ state id same.
-    let candidate = candidate_of state id c.args.version.now c.args.facts.now.frontend.now in
+    let candidate = candidate_of state id c.args.facts.now.version.now c.args.facts.now.frontend.now in
     c.decide.ensures.reply id 0
-    ∙ ap (λ views. decided views c.args.version.now c.args.facts.now.frontend.now id 0 c.args.real c.judge-says.result.tracks) (sym same)
+    ∙ ap (λ views. decided views c.args.facts.now.frontend.now id 0 c.args.real c.judge-says.result.tracks) (sym same)
     ∙ sym (admission_by candidate c.args.accept_proxy c.args.real c.args.others (facts_view c.args.facts.now) c.judge-says.result c.if-others-facts.false same
     (c.judge-says.ensures ∙ ap (judged (scene_of (facts_view c.args.facts.now))) c.as_slice.ensures)
     ∙ ap (entry_reply candidate c.args.accept_proxy c.args.real c.judge-says.result.tracks) (sym c.rejecting_line.ensures ∙ c.in-None.is)
@@ -27,7 +27,7 @@ returns-then-not-accept_proxy-clause-reply c = λ state id same.
 
 pub returns-clause-reply : goal.returns-clause-reply
 returns-clause-reply c = λ state id same.
-    let candidate = candidate_of state id c.args.version.now c.args.facts.now.frontend.now in
+    let candidate = candidate_of state id c.args.facts.now.version.now c.args.facts.now.frontend.now in
     let admitted : admission candidate c.args.accept_proxy c.args.real c.args.others ≡ entry_reply candidate c.args.accept_proxy c.args.real c.judge-says.result.tracks (rejection c.judge-says.result) =
     admission_by candidate c.args.accept_proxy c.args.real c.args.others (facts_view c.args.facts.now) c.judge-says.result c.if-others-facts.false same
     (c.judge-says.ensures ∙ ap (judged (scene_of (facts_view c.args.facts.now))) c.as_slice.ensures) in

@@ -1,27 +1,28 @@
 use Rattle.std.proofs.Common.{◌≡◌, ◌≤◌, ◌∙◌, [], length, Ok, ap, sym, subst, refl}
-use Rattle.std.specs.Prelude.{IsSome}
 use Rattle.pp_any.specs.Status.{Status, Wait, Whole}
 use Rattle.pp_any.specs.NextPiece.{status_on}
 use Rattle.rule_engine.specs.Judging.{no_tracks}
 use Rattle.conn_model.specs.declared.event.OwnedEvent.TheVariants.{Piece}
 use Rattle.conn_model.specs.declared.plain.Plain.{Plain}
 use Rattle.conn_model.specs.declared.reply.Cause.TheVariants.{Header}
-use Rattle.conn_model.specs.Answer.{candidate_of, decision, header_reply, judged_pair, row_at}
+use Rattle.conn_model.specs.Answer.{candidate_of, decision, header_reply, judged_pair}
 use Rattle.conn_rows.specs.declared.row.RowSummary.{RowSummary}
 use Rattle.conn_rows.specs.Value.{RowsValue}
 use Rattle.conn_rows.specs.Changes.{row_fed, status_of}
-use Rattle.conn_core.specs.Changes.{Judge}
+use Rattle.conn_core.specs.Changes.{IsJudged, Judge}
 use Rattle.conn_core.specs.Counts.{IsSeen}
+use Rattle.conn_core.specs.Machine.{AreSound}
 use Rattle.conn_core.specs.Tracking.{AreSorted}
-use Rattle.conn_core.proofs.PieceLemmas.{decided_once, judge_fed, open_waiting, piece_by, refused_once, rest_is, still_open, waited_once}
+use Rattle.conn_core.proofs.PieceLemmas.{decided_once, fed_waits, judge_fed, judged_by, piece_by, refused_once, rest_is, still_judged, waited_once}
 use Rattle.conn_core.proofs.SeenLemmas.{seen_fed}
 use Rattle.conn_core.proofs.TrackedLemmas.{sorted_rows, still_sorted}
 use Rattle.conn_core.proofs.receiving.receive.Goals as goal
 
 pub decide-requires-clause-there : goal.decide-requires-clause-there
 decide-requires-clause-there c =
-    subst (λ (s : RowsValue). IsSome (row_at s.frontends c.args.id)) (sym c.feed.ensures.new)
-    (still_open c.args.id (row_fed c.args.piece.now) c.args.rows.now.frontends (λ row. refl) (open_waiting c.args.rows.now.frontends c.args.id c.requires.waits.0 c.requires.waits.1))
+    subst (λ (s : RowsValue). IsJudged s.frontends c.args.id c.args.row.now.version) (sym c.feed.ensures.new)
+    (still_judged c.args.id (row_fed c.args.piece.now) c.args.rows.now.frontends c.args.row.now.version (λ row. refl) (λ row. refl) (λ row waits. fed_waits c.args.piece.now row.phase waits)
+    (subst (λ (s : RowSummary). IsJudged c.args.rows.now.frontends c.args.id s.version) (sym c.requires.waits.2) (judged_by c.args.rows.now.frontends c.args.id c.requires.waits.0 c.requires.waits.1)))
 
 pub decide-requires-clause-sorted : goal.decide-requires-clause-sorted
 decide-requires-clause-sorted c =
@@ -33,6 +34,9 @@ decide-requires-clause-judge c =
     subst (λ (s : RowsValue). Judge s.frontends s.versions c.args.id c.args.row.now.version) (sym c.feed.ensures.new)
     (judge_fed c.args.rows.now.frontends c.args.rows.now.versions c.args.id c.args.row.now.version c.args.piece.now c.requires.judge)
 
+pub decide-requires-clause-sound : goal.decide-requires-clause-sound
+decide-requires-clause-sound c = subst (λ (s : RowsValue). AreSound s.versions) (sym c.feed.ensures.new) c.requires.sound
+
 pub decide-requires-clause-room : goal.decide-requires-clause-room
 decide-requires-clause-room c = subst (λ (s : RowsValue). 3 ≤ s.spare) (sym c.feed.ensures.new) c.requires.room
 
@@ -40,11 +44,11 @@ pub returns-in-Wait-clause-new : goal.returns-in-Wait-clause-new
 returns-in-Wait-clause-new c =
     let found = c.requires.waits.0 in
     let status : status_on found.1 c.args.piece.now ≡ Wait = sym (c.feed.ensures.status found.1 (rest_is c.args.rows.now.frontends c.args.id found c.requires.waits.1)) ∙ ap status_of c.in-Wait.is in
-    waited_once c.args.rows.now c.feed.new.self c.args.id c.args.piece.now (length c.args.piece.now) found c.plain_reply.result c.requires.sorted c.requires.waits.1 status c.feed.ensures.new c.plain_reply.ensures
+    waited_once c.args.rows.now c.feed.new.self c.args.id c.args.row.now.version c.args.piece.now (length c.args.piece.now) found c.plain_reply.result c.requires.sorted c.requires.waits.1 status c.feed.ensures.new c.plain_reply.ensures
 
 pub returns-in-Bad-clause-new : goal.returns-in-Bad-clause-new
 returns-in-Bad-clause-new c =
-    refused_once c.args.rows.now c.feed.new.self c.remove.new.self (Piece c.args.id c.args.piece.now) c.args.id c.args.piece.now c.in-Bad.used (Header c.in-Bad.fault) c.requires.waits.0 c.plain_reply-in-Bad.result
+    refused_once c.args.rows.now c.feed.new.self c.remove.new.self (Piece c.args.id c.args.piece.now) c.args.id c.args.row.now.version c.args.piece.now c.in-Bad.used (Header c.in-Bad.fault) c.requires.waits.0 c.plain_reply-in-Bad.result
     c.requires.sorted c.requires.waits.1 c.feed.ensures.new c.remove.ensures c.plain_reply-in-Bad.ensures
 
 pub returns-in-Whole-clause-reply : goal.returns-in-Whole-clause-reply
@@ -72,5 +76,5 @@ returns-in-Whole-clause-new c =
     let says = subst (λ (s : RowsValue). (j : Judge s.frontends s.versions c.args.id c.args.row.now.version) (state : Plain) → IsSeen c.args.id state s →
     c.decide.result ≡ decision (candidate_of state c.args.id j.version j.frontend) c.in-Whole.used c.judged_pair-judged.result no_tracks) c.feed.ensures.new c.decide.ensures.reply in
     let reply = says (judge_fed c.args.rows.now.frontends c.args.rows.now.versions c.args.id c.args.row.now.version c.args.piece.now judge) p (seen_fed c.args.id c.args.piece.now p c.args.rows.now refl refl) in
-    decided_once c.args.rows.now c.feed.new.self c.decide.new.rows (Piece c.args.id c.args.piece.now) c.args.id c.args.piece.now p judge.version judge.frontend c.in-Whole.used c.judged_pair-judged.result c.decide.result
+    decided_once c.args.rows.now c.feed.new.self c.decide.new.rows (Piece c.args.id c.args.piece.now) c.args.id c.args.row.now.version c.args.piece.now p judge.version judge.frontend c.in-Whole.used c.judged_pair-judged.result c.decide.result
     reply c.feed.ensures.new (c.decide.ensures.new (Piece c.args.id c.args.piece.now))

@@ -9,12 +9,15 @@ use Rattle.conn_rows.specs.declared.rows.RowsState.{RowsState}
 use Rattle.conn_core.specs.declared.entering.Arrival.{Arrival}
 use Rattle.conn_core.specs.declared.outcome.Decision.{Decision}
 use Rattle.conn_rows.specs.Changes.{with_item}
-use Rattle.conn_core.specs.Changes.{entered}
+use Rattle.conn_core.specs.Changes.{entered, settled_versions, CanOffer}
 use Rattle.conn_core.specs.Machine.{state_of, IsNext}
 use Rattle.conn_core.specs.Outcome.{reply_by}
 use Rattle.conn_core.proofs.AcceptLemmas.{accepted}
 use Rattle.conn_core.proofs.StateLemmas.{IsAfter}
 use Rattle.conn_core.proofs.machine.Core.accept.Goals as goal
+
+pub enter-requires-clause-offers : goal.enter-requires-clause-offers
+enter-requires-clause-offers c = subst (λ p. CanOffer p.versions c.in_ok-id.field-0.version c.in_ok-id.field-0.decision.outcome) (sym c.self.view_is) c.in_ok-id.ensures.offers
 
 state : (c : goal.After-reply) → Plain
 state c = state_of c.self.inside.clock c.self.inside.listeners c.self.inside.rows
@@ -36,7 +39,7 @@ after_is c =
       clock = c.max-now.result;
       listeners = c.self.inside.listeners;
       frontends = with_item c.in_ok-id.field-0.id.frontend (entered c.self.inside.rows.versions arrival decision) c.self.inside.rows.frontends;
-      versions = c.self.inside.rows.versions;
+      versions = settled_versions c.in_ok-id.field-0.version decision.outcome c.self.inside.rows.versions;
       tables = tables_by c.self.inside.rows.frontends c.self.inside.rows.tables (reply c);
     } in
     let enters : state_of c.max-now.result c.self.inside.listeners c.enter.new.rows ≡ left =

@@ -1,4 +1,4 @@
-use Rattle.std.proofs.Common.{◌≡◌, ◌+◌, ◌<◌, ◌^◌, ◌∙◌, Some, Ok, true, length, ap, sym, refl, arith}
+use Rattle.std.proofs.Common.{◌≡◌, ◌+◌, ◌<◌, ◌^◌, ◌∙◌, Some, Ok, true, length, ap, sym, subst, refl, arith}
 use Rattle.std.specs.Prelude.{slice_get}
 use Rattle.rule_engine.specs.Judging.{no_tracks}
 use Rattle.conn_model.specs.declared.event.ConnId.{ConnId}
@@ -7,11 +7,17 @@ use Rattle.conn_model.specs.declared.plain.Plain.{Plain}
 use Rattle.conn_model.specs.Answer.{accept_answer, admission, candidate_at, frontend_in, new_row, with_row}
 use Rattle.conn_model.proofs.Goes.{well_at}
 use Rattle.conn_core.specs.declared.facts.RuleFacts.{RuleFacts}
-use Rattle.conn_core.specs.Machine.{state_of}
+use Rattle.conn_model.proofs.Versions.{newest-at}
+use Rattle.conn_model.specs.Words.{newest}
+use Rattle.conn_core.specs.Machine.{state_of, IsCoreState}
 use Rattle.conn_core.specs.Outcome.{reply_by}
 use Rattle.conn_core.proofs.AcceptLemmas.{Found, answer_is}
+use Rattle.conn_core.proofs.JudgingLemmas.{accept_offers}
 use Rattle.conn_core.proofs.SeenLemmas.{view_at_accept}
 use Rattle.conn_core.proofs.machine.Core.admit.Goals as goal
+
+pub admission-decision-requires : goal.admission-decision-requires
+admission-decision-requires c = newest-at c.self.inside.rows.versions c.in-Some-newest.version.now c.self.invariant.well.rise (sym c.in-Some-newest.ensures.newest)
 
 pub returns-clause-reply : goal.returns-clause-reply
 returns-clause-reply c =
@@ -26,7 +32,7 @@ returns-clause-reply c =
     let found : Found q c.args.listener c.in-Some.listener.now own version frontend = record {
       listens = sym (c.in-Some.ensures ∙ ap (λ xs. slice_get xs c.args.listener) c.as_slice.ensures);
       there = there;
-      newest_is = sym c.in-Some-newest.ensures;
+      newest_is = sym c.in-Some-newest.ensures.newest;
       named = sym (c.in-Some-frontend_named.ensures ∙ ap (λ n. frontend_in version.plan n) sums.name);
     } in
     let facts : RuleFacts = record {
@@ -57,3 +63,8 @@ returns-clause-reply c =
     ap (λ s. accept_answer s c.args.now c.args.listener c.args.real) (sym c.self.view_is)
     ∙ answer_is q c.args.now c.args.listener c.args.real c.in-Some.listener.now own version frontend found fits (reply_by next 0 c.admission-decision.result) reply
     ∙ ap (λ n. Ok (reply_by (record { frontend = number; serial = n }) 0 c.admission-decision.result)) (ap (λ n. n + 1) (sym sums.serial) ∙ sym c.in-Some-next_serial.ensures.next.0)
+
+pub returns-clause-offers : goal.returns-clause-offers
+returns-clause-offers c =
+    accept_offers c.args.self.now (subst IsCoreState c.self.view_is c.self.invariant) c.args.now c.args.listener c.args.real (record { frontend = c.in-Some.listener.now.frontend; serial = c.in-Some-next_serial.serial })
+    c.admission-decision.result c.in-Some-newest.version.now (ap (λ p. newest p.versions) (sym c.self.view_is) ∙ sym c.in-Some-newest.ensures.newest) (returns-clause-reply c)

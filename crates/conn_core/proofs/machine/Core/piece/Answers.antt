@@ -1,15 +1,16 @@
-use Rattle.std.proofs.Common.{◌≡◌, ◌∙◌, [], ◌∷◌, Ok, ap, sym, subst}
+use Rattle.std.proofs.Common.{◌≡◌, ◌∙◌, ℕ, [], ◌∷◌, Ok, ap, sym, subst}
 use Rattle.std.specs.Prelude.{slice_get}
 use Rattle.conn_model.specs.declared.event.OwnedEvent.TheVariants.{Piece}
 use Rattle.conn_model.specs.declared.plain.Plain.{Plain}
 use Rattle.conn_model.specs.Answer.{answer_in, waiting_row}
-use Rattle.conn_model.specs.History.{after, entry, tables_by}
+use Rattle.conn_model.specs.History.{after, entry, tables_by, with_said}
 use Rattle.conn_model.proofs.Goes.{well_at}
 use Rattle.conn_model.proofs.Replies.{answered, waiting}
+use Rattle.conn_rows.specs.declared.row.RowSummary.{RowSummary}
 use Rattle.conn_rows.specs.declared.rows.RowsState.{RowsState}
 use Rattle.conn_rows.specs.Value.{RowsValue}
 use Rattle.conn_core.specs.Changes.{spoken}
-use Rattle.conn_core.specs.Machine.{state_of}
+use Rattle.conn_core.specs.Machine.{state_of, AreSound}
 use Rattle.conn_core.proofs.StateLemmas.{IsAfter, after_spoken}
 use Rattle.conn_core.proofs.machine.Core.piece.Goals as goal
 
@@ -18,6 +19,9 @@ receive-reply-requires-clause-sorted c = λ own there.
     let same : c.reserve.new.self.frontends ≡ c.self.inside.rows.frontends = ap (λ r. r.frontends) c.reserve.ensures.same in
     let well = well_at (state_of c.self.inside.clock c.self.inside.listeners c.self.inside.rows) c.self.invariant.well c.args.id.frontend own (ap (λ fs. slice_get fs c.args.id.frontend) (sym same) ∙ there) in
     record { rise = well.rise; sorted = well.sorted }
+
+pub receive-reply-requires-clause-sound : goal.receive-reply-requires-clause-sound
+receive-reply-requires-clause-sound c = subst (λ (r : RowsValue). AreSound r.versions) (sym c.reserve.ensures.same) c.self.invariant.plans
 
 state : (c : goal.After-self-1) → Plain
 state c = state_of c.self.inside.clock c.self.inside.listeners c.self.inside.rows
@@ -33,18 +37,18 @@ after_is c =
     let is : answer_in (state c) c.args.moment (Piece c.args.id c.args.piece.now) ≡ Ok c.receive-reply.result =
     c.receive-reply.ensures.reply (state c) (record { frontends = ap (λ r. r.frontends) (sym room); versions = ap (λ r. r.versions) (sym room); tables = ap (λ r. r.tables) (sym room) }) in
     let speaks = (answered (state c) c.args.moment (Piece c.args.id c.args.piece.now) c.receive-reply.result is).speaks in
-    let left : RowsValue → Plain = λ before. record {
+    let left : ℕ → RowsValue → Plain = λ version before. record {
       clock = c.max-self-inside.result;
       listeners = c.self.inside.listeners;
       frontends = spoken before.versions (Piece c.args.id c.args.piece.now) c.args.id c.receive-reply.result before.frontends;
-      versions = before.versions;
+      versions = with_said version c.receive-reply.result.said before.versions;
       tables = tables_by before.frontends before.tables c.receive-reply.result;
     } in
-    let leaves : state_of c.max-self-inside.result c.self.inside.listeners c.receive-reply.new.rows ≡ left rows =
+    let leaves : state_of c.max-self-inside.result c.self.inside.listeners c.receive-reply.new.rows ≡ left found.0.version rows =
     ap (λ (s : RowsState). record { clock = c.max-self-inside.result; listeners = c.self.inside.listeners; frontends = s.frontends; versions = s.versions; tables = s.tables }) c.receive-reply.ensures.new
-    ∙ ap left room in
+    ∙ ap (left c.in_ok-row.row.version) room ∙ ap (λ (s : RowSummary). left s.version rows) c.in_ok-row.ensures.ok.2 in
     subst (IsAfter (state c) (entry c.args.moment (Piece c.args.id c.args.piece.now) c.receive-reply.result))
-    (ap (λ n. record (left rows) { clock = n }) (sym c.max-self-inside.ensures) ∙ sym leaves)
+    (ap (λ n. record (left found.0.version rows) { clock = n }) (sym c.max-self-inside.ensures) ∙ sym leaves)
     (after_spoken (state c) c.self.invariant c.args.moment (Piece c.args.id c.args.piece.now) c.args.id c.receive-reply.result found.0 (waiting rows.frontends c.args.id found waits).there tt speaks is)
 
 pub invariant_of-self-2 : goal.invariant_of-self-2

@@ -1,0 +1,32 @@
+use Rattle.std.proofs.Common.{◌≡◌, ◌∙◌, [], ◌∷◌, Ok, ap, refl}
+use Rattle.conn_model.specs.declared.event.OwnedEvent.TheVariants.{ConnectFailed}
+use Rattle.conn_model.specs.declared.event.Why.TheVariants.{Failed}
+use Rattle.conn_model.specs.declared.reply.Said.TheVariants.{Closed}
+use Rattle.conn_model.specs.declared.plain.Plain.{Plain}
+use Rattle.conn_model.specs.Answer.{answer_in, reply_of, server_answer}
+use Rattle.conn_model.specs.History.{after, entry}
+use Rattle.conn_model.proofs.Replies.{server_answered}
+use Rattle.conn_core.specs.Machine.{state_of}
+use Rattle.conn_core.proofs.StateLemmas.{IsAfter, after_last}
+use Rattle.conn_core.proofs.machine.Core.connect_failed.Goals as goal
+
+state : (c : goal.After-plain_reply) → Plain
+state c = state_of c.self.inside.clock c.self.inside.listeners c.self.inside.rows
+
+after_is : (c : goal.After-plain_reply) → IsAfter (state c) (entry c.args.moment (ConnectFailed c.args.id) (reply_of (Closed c.args.id Failed)))
+    (state_of c.max-self-inside.result c.self.inside.listeners c.remove.new.self)
+unfolding state
+after_is c =
+    let is : answer_in (state c) c.args.moment (ConnectFailed c.args.id) ≡ Ok (reply_of (Closed c.args.id Failed)) =
+    ap (λ p. server_answer p c.args.id (Closed c.args.id Failed)) c.self.view_is ∙ c.in_ok-awaiting.ensures.ok (Closed c.args.id Failed) in
+    let got = server_answered (state c) c.args.id (Closed c.args.id Failed) (reply_of (Closed c.args.id Failed)) is in
+    rw (c.remove.ensures, c.max-self-inside.ensures)
+    (after_last (state c) c.self.invariant c.args.moment (ConnectFailed c.args.id) c.args.id (Closed c.args.id Failed) got.row got.row_is tt refl refl is)
+
+pub invariant_of-self : goal.invariant_of-self
+invariant_of-self c = (after_is c).known
+
+pub returns-clause-new : goal.returns-clause-new
+unfolding state
+returns-clause-new c =
+    rw c.plain_reply.ensures ((after_is c).same ∙ ap (λ s. after s (entry c.args.moment (ConnectFailed c.args.id) (reply_of (Closed c.args.id Failed)) ∷ [])) c.self.view_is)
