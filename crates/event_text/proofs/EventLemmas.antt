@@ -15,7 +15,7 @@ use Rattle.addr_core.proofs.AddrLemmas.{endpoint_of_written}
 use Rattle.text_core.proofs.DecimalLemmas.{are_digits_decimal, decimal_of_written}
 use Rattle.conn_model.specs.declared.event.ConnId.{ConnId}
 use Rattle.conn_model.specs.declared.event.OwnedEvent.{OwnedEvent}
-use Rattle.conn_model.specs.declared.event.OwnedEvent.TheVariants.{Accept, Piece, Close, Expire}
+use Rattle.conn_model.specs.declared.event.OwnedEvent.TheVariants.{Accept, Piece, Connected, ConnectFailed, Close, Expire}
 use Rattle.conn_model.specs.declared.event.TheConstants.{PIECE_LIMIT}
 use Rattle.hex.specs.Hex.{encode_lower, encode_with, lower_digits, decode_sized, IsBytes}
 use Rattle.hex.proofs.HexLemmas.{length-encode_with, decode_sized-encode_lower}
@@ -107,6 +107,10 @@ words_lack mark aside moment (Close id why) =
     (_, _, refl, (number_lacks mark moment aside, (word_lacks mark aside (codes "close") refl, (id_lacks mark aside id, (why_lacks mark aside why, tt)))))
 words_lack mark aside moment (Piece id bytes) =
     (_, _, refl, (number_lacks mark moment aside, (word_lacks mark aside (codes "piece") refl, (id_lacks mark aside id, (bytes_lack mark aside bytes, tt)))))
+words_lack mark aside moment (Connected id) =
+    (_, _, refl, (number_lacks mark moment aside, (word_lacks mark aside (codes "connected") refl, (id_lacks mark aside id, tt))))
+words_lack mark aside moment (ConnectFailed id) =
+    (_, _, refl, (number_lacks mark moment aside, (word_lacks mark aside (codes "failed") refl, (id_lacks mark aside id, tt))))
 words_lack mark aside moment (Expire id) =
     (_, _, refl, (number_lacks mark moment aside, (word_lacks mark aside (codes "expire") refl, (id_lacks mark aside id, tt))))
 
@@ -129,6 +133,12 @@ event_of-words moment (Close id why) short given =
 event_of-words moment (Piece id bytes) short given =
     let at : decimal_of (decimal moment) 0xFFFF_FFFF_FFFF_FFFF ≡ Some moment = decimal_of_written (decimal moment) 0xFFFF_FFFF_FFFF_FFFF moment (omega arith) refl in
     rw (at, id_of-written id given.0.0 given.0.1, bytes_of-written bytes given.1 given.2) refl
+event_of-words moment (Connected id) short given =
+    let at : decimal_of (decimal moment) 0xFFFF_FFFF_FFFF_FFFF ≡ Some moment = decimal_of_written (decimal moment) 0xFFFF_FFFF_FFFF_FFFF moment (omega arith) refl in
+    rw (at, id_of-written id given.0 given.1) refl
+event_of-words moment (ConnectFailed id) short given =
+    let at : decimal_of (decimal moment) 0xFFFF_FFFF_FFFF_FFFF ≡ Some moment = decimal_of_written (decimal moment) 0xFFFF_FFFF_FFFF_FFFF moment (omega arith) refl in
+    rw (at, id_of-written id given.0 given.1) refl
 event_of-words moment (Expire id) short given =
     let at : decimal_of (decimal moment) 0xFFFF_FFFF_FFFF_FFFF ≡ Some moment = decimal_of_written (decimal moment) 0xFFFF_FFFF_FFFF_FFFF moment (omega arith) refl in
     rw (at, id_of-written id given.0 given.1) refl
@@ -154,6 +164,10 @@ wanted_of-words moment (Close id why) short given =
     rw (digits_differ (decimal moment) (are_digits_decimal moment).digits) (ap (option_map (λ timed. Wanted.reply timed)) (event_of-words moment (Close id why) short given))
 wanted_of-words moment (Piece id bytes) short given =
     rw (digits_differ (decimal moment) (are_digits_decimal moment).digits) (ap (option_map (λ timed. Wanted.reply timed)) (event_of-words moment (Piece id bytes) short given))
+wanted_of-words moment (Connected id) short given =
+    rw (digits_differ (decimal moment) (are_digits_decimal moment).digits) (ap (option_map (λ timed. Wanted.reply timed)) (event_of-words moment (Connected id) short given))
+wanted_of-words moment (ConnectFailed id) short given =
+    rw (digits_differ (decimal moment) (are_digits_decimal moment).digits) (ap (option_map (λ timed. Wanted.reply timed)) (event_of-words moment (ConnectFailed id) short given))
 wanted_of-words moment (Expire id) short given =
     rw (digits_differ (decimal moment) (are_digits_decimal moment).digits) (ap (option_map (λ timed. Wanted.reply timed)) (event_of-words moment (Expire id) short given))
 

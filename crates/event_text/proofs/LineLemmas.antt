@@ -13,7 +13,7 @@ use Rattle.conn_model.specs.declared.event.OwnedEvent.{OwnedEvent}
 use Rattle.conn_model.specs.declared.reply.Cause.{Cause}
 use Rattle.conn_model.specs.declared.reply.Cause.TheVariants.{Line, Header, Expired, NoBackend, NoServer}
 use Rattle.conn_model.specs.declared.reply.Said.{Said}
-use Rattle.conn_model.specs.declared.reply.Said.TheVariants.{Wait, Offer, Refuse, Closed}
+use Rattle.conn_model.specs.declared.reply.Said.TheVariants.{Wait, Offer, Refuse, Up, Closed}
 use Rattle.conn_model.specs.declared.reply.Reply.{Reply}
 use Rattle.event_text.specs.Script.{bytes_text, event_line, id_text, is_mark, why_text}
 use Rattle.event_text.specs.Replies.{cause_text, header_fault_text, reply_text, said_text, track_text}
@@ -75,6 +75,7 @@ said_lacks (Offer id used line server to judged send) =
 said_lacks (Refuse id used cause) =
     chain_lacks (codes "refuse ") (id_text id ∷ codes " used " ∷ decimal used ∷ codes " " ∷ cause_text cause ∷ [])
     (text_lacks 10 (codes "refuse ") refl) (id_lacks 10 aside id, (text_lacks 10 (codes " used ") refl, (number used, (text_lacks 10 (codes " ") refl, (cause_lacks cause, tt)))))
+said_lacks (Up id) = chain_lacks (codes "up ") (id_text id ∷ []) (text_lacks 10 (codes "up ") refl) (id_lacks 10 aside id, tt)
 said_lacks (Closed id why) =
     chain_lacks (codes "closed ") (id_text id ∷ codes " " ∷ why_text why ∷ [])
     (text_lacks 10 (codes "closed ") refl) (id_lacks 10 aside id, (text_lacks 10 (codes " ") refl, (why_lacks 10 aside why, tt)))

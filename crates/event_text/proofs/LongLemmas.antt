@@ -1,7 +1,7 @@
 -- Lines with a word too many hand in no event.
 use Rattle.std.proofs.Common.{◌≡◌, ℕ, List, ◌∷◌, None, refl}
 use Rattle.std.specs.List.{slice_split}
-use Rattle.event_text.specs.Script.{accept_of, close_of, entry_asked, expire_of, frontend_asked, id_in, is_mark, piece_of, words_of}
+use Rattle.event_text.specs.Script.{accept_of, backend_asked, bare_event_of, close_of, entry_asked, frontend_asked, id_in, is_mark, piece_of, server_asked, words_of}
 use Rattle.text_core.proofs.CutLemmas.{split_first}
 
 pub accept_long : (a b c text : List ℕ) → accept_of (a ∷ b ∷ c ∷ words_of text) ≡ None
@@ -22,5 +22,11 @@ entry_long a b text = let some = split_first (is_mark 0x20) text in rw (some.2) 
 pub piece_long : (a b text : List ℕ) → piece_of (a ∷ b ∷ words_of text) ≡ None
 piece_long a b text = let some = split_first (is_mark 0x20) text in rw (some.2) refl
 
-pub expire_long : (a text : List ℕ) → expire_of (a ∷ words_of text) ≡ None
-expire_long a text = let some = split_first (is_mark 0x20) text in rw (some.2) refl
+pub backend_long : (a text : List ℕ) → backend_asked (a ∷ words_of text) ≡ None
+backend_long a text = let some = split_first (is_mark 0x20) text in rw (some.2) refl
+
+pub server_long : (a b text : List ℕ) → server_asked (a ∷ b ∷ words_of text) ≡ None
+server_long a b text = let some = split_first (is_mark 0x20) text in rw (some.2) refl
+
+pub bare_long : (verb a text : List ℕ) → bare_event_of verb (a ∷ words_of text) ≡ None
+bare_long verb a text = let some = split_first (is_mark 0x20) text in rw (some.2) refl

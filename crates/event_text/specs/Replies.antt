@@ -12,10 +12,10 @@ use Rattle.conn_model.specs.declared.ask.Counts.{Counts}
 use Rattle.conn_model.specs.declared.reply.Cause.{Cause}
 use Rattle.conn_model.specs.declared.reply.Cause.TheVariants.{Line, Header, Expired, NoBackend, NoServer}
 use Rattle.conn_model.specs.declared.reply.Said.{Said}
-use Rattle.conn_model.specs.declared.reply.Said.TheVariants.{Wait, Offer, Refuse, Closed}
+use Rattle.conn_model.specs.declared.reply.Said.TheVariants.{Wait, Offer, Refuse, Up, Closed}
 use Rattle.conn_model.specs.declared.reply.Reply.{Reply}
 use Rattle.conn_model.specs.declared.reply.StepFault.{StepFault}
-use Rattle.conn_model.specs.declared.reply.StepFault.TheVariants.{NoListener, NoSuch, NotWaiting, NotDue, Exhausted, NoMemory}
+use Rattle.conn_model.specs.declared.reply.StepFault.TheVariants.{NoListener, NoSuch, NotWaiting, NotOffered, NotDue, Exhausted, NoMemory}
 use Rattle.event_text.specs.Script.{bytes_text, id_text, why_text}
 
 abbrev pub header_fault_text : HeaderFault → List ℕ
@@ -42,6 +42,7 @@ said_text (Offer id used line server to judged send) =
     codes "offer " ++ id_text id ++ codes " used " ++ decimal used ++ codes " line " ++ decimal line ++ codes " to " ++ endpoint_text to
     ++ codes " src " ++ endpoint_text judged.source ++ codes " dst " ++ endpoint_text judged.destination ++ codes " send " ++ bytes_text send.items
 said_text (Refuse id used cause) = codes "refuse " ++ id_text id ++ codes " used " ++ decimal used ++ codes " " ++ cause_text cause
+said_text (Up id) = codes "up " ++ id_text id
 said_text (Closed id why) = codes "closed " ++ id_text id ++ codes " " ++ why_text why
 
 -- a tracked key: its counter, its table and the address
@@ -62,6 +63,7 @@ abbrev pub fault_name : StepFault → List ℕ
 fault_name NoListener = codes "NoListener"
 fault_name NoSuch = codes "NoSuch"
 fault_name NotWaiting = codes "NotWaiting"
+fault_name NotOffered = codes "NotOffered"
 fault_name NotDue = codes "NotDue"
 fault_name Exhausted = codes "Exhausted"
 fault_name NoMemory = codes "NoMemory"
@@ -70,6 +72,8 @@ fault_name NoMemory = codes "NoMemory"
 abbrev pub count_line : Ask → Option Counts → List ℕ
 count_line ask None = codes "count none\n"
 count_line (asks.Frontend number) (Some counts) = codes "count " ++ decimal counts.cur ++ codes "\n"
+count_line (asks.Backend number) (Some counts) = codes "count " ++ decimal counts.cur ++ codes "\n"
+count_line (asks.Server number server) (Some counts) = codes "count " ++ decimal counts.cur ++ codes "\n"
 count_line (asks.Entry number addr) (Some counts) = codes "count " ++ decimal counts.cur ++ codes " " ++ decimal counts.cnt ++ codes "\n"
 
 -- the line that a refused step is

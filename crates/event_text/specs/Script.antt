@@ -13,7 +13,7 @@ use Rattle.conn_model.specs.declared.ask.Ask.TheVariants as asks
 use Rattle.conn_model.specs.declared.event.ConnId.{ConnId}
 use Rattle.conn_model.specs.declared.event.TheConstants.{PIECE_LIMIT}
 use Rattle.conn_model.specs.declared.event.OwnedEvent.{OwnedEvent}
-use Rattle.conn_model.specs.declared.event.OwnedEvent.TheVariants.{Accept, Piece, Close, Expire}
+use Rattle.conn_model.specs.declared.event.OwnedEvent.TheVariants.{Accept, Piece, Connected, ConnectFailed, Close, Expire}
 use Rattle.conn_model.specs.declared.event.Why.{Why}
 use Rattle.conn_model.specs.declared.event.Why.TheVariants.{Done, Fault, Stopped, Failed}
 use Rattle.event_text.specs.declared.script.EventRequest.{EventRequest}
@@ -42,6 +42,8 @@ abbrev pub event_words : ℕ → OwnedEvent → List (List ℕ)
 event_words moment (Accept listener real) =
     decimal moment ∷ codes "accept" ∷ decimal listener ∷ endpoint_text real.source ∷ endpoint_text real.destination ∷ []
 event_words moment (Piece id bytes) = decimal moment ∷ codes "piece" ∷ id_text id ∷ bytes_text bytes ∷ []
+event_words moment (Connected id) = decimal moment ∷ codes "connected" ∷ id_text id ∷ []
+event_words moment (ConnectFailed id) = decimal moment ∷ codes "failed" ∷ id_text id ∷ []
 event_words moment (Close id why) = decimal moment ∷ codes "close" ∷ id_text id ∷ why_text why ∷ []
 event_words moment (Expire id) = decimal moment ∷ codes "expire" ∷ id_text id ∷ []
 
@@ -123,11 +125,17 @@ piece_of (name ∷ bytes ∷ []) = do
   Some (Piece id piece)
 piece_of words = None
 
-abbrev pub expire_of : List (List ℕ) → Option OwnedEvent
-expire_of (name ∷ []) = do
-  id ← id_of name
-  Some (Expire id)
-expire_of words = None
+-- the event of a verb that takes the name of a connection and no more
+abbrev pub event_on : List ℕ → ConnId → Option OwnedEvent
+event_on verb id =
+    if bytes_eq verb (codes "connected") then Some (Connected id)
+    else if bytes_eq verb (codes "failed") then Some (ConnectFailed id)
+    else if bytes_eq verb (codes "expire") then Some (Expire id)
+    else None
+
+abbrev pub bare_event_of : List ℕ → List (List ℕ) → Option OwnedEvent
+bare_event_of verb (name ∷ []) = id_of name >>= event_on verb
+bare_event_of verb words = None
 
 -- the event of a verb and the words after it
 abbrev pub event_by_verb : List ℕ → List (List ℕ) → Option OwnedEvent
@@ -135,8 +143,7 @@ event_by_verb verb words =
     if bytes_eq verb (codes "accept") then accept_of words
     else if bytes_eq verb (codes "piece") then piece_of words
     else if bytes_eq verb (codes "close") then close_of words
-    else if bytes_eq verb (codes "expire") then expire_of words
-    else None
+    else bare_event_of verb words
 
 abbrev pub at_moment : ℕ → Option OwnedEvent → Option (ℕ × OwnedEvent)
 at_moment moment event = option_map (λ owned. (moment, owned)) event
@@ -150,6 +157,8 @@ event_of words = None
 abbrev pub event_read : List ℕ → EventRequest → OwnedEvent
 event_read buffer (reads.Accept listener real) = Accept listener real
 event_read buffer (reads.Piece id length) = Piece id (take length buffer)
+event_read buffer (reads.Connected id) = Connected id
+event_read buffer (reads.ConnectFailed id) = ConnectFailed id
 event_read buffer (reads.Close id why) = Close id why
 event_read buffer (reads.Expire id) = Expire id
 
@@ -161,6 +170,16 @@ abbrev pub frontend_asked : List (List ℕ) → Option Ask
 frontend_asked (number ∷ []) = option_map (λ n. asks.Frontend n) (decimal_of number 0xFFFF)
 frontend_asked words = None
 
+-- and after `ask backend`: a backend of the newest version by its number
+abbrev pub backend_asked : List (List ℕ) → Option Ask
+backend_asked (number ∷ []) = option_map (λ n. asks.Backend n) (decimal_of number 0xFFFF)
+backend_asked words = None
+
+-- and after `ask server`: such a backend, and a server by its number there
+abbrev pub server_asked : List (List ℕ) → Option Ask
+server_asked (number ∷ server ∷ []) = decimal_of number 0xFFFF >>= λ n. option_map (λ m. asks.Server n m) (decimal_of server 0xFFFF)
+server_asked words = None
+
 -- and after `ask entry`: a table of the newest version by its number, and an address
 abbrev pub entry_asked : List (List ℕ) → Option Ask
 entry_asked (number ∷ addr ∷ []) = decimal_of number 0xFFFF >>= λ n. option_map (λ a. asks.Entry n a) (result_ok (addr_of addr))
@@ -171,6 +190,8 @@ abbrev pub ask_of : List (List ℕ) → Option Ask
 ask_of [] = None
 ask_of (kind ∷ words) =
     if bytes_eq kind (codes "frontend") then frontend_asked words
+    else if bytes_eq kind (codes "backend") then backend_asked words
+    else if bytes_eq kind (codes "server") then server_asked words
     else if bytes_eq kind (codes "entry") then entry_asked words
     else None
 
@@ -199,5 +220,7 @@ abbrev pub IsHandedIn : OwnedEvent → Type 0
 IsHandedIn (Accept listener real) =
     (listener < 2 ^ 16) × IsEndpoint real.source × IsEndpoint real.destination × (same_family real.source.addr real.destination.addr ≡ true)
 IsHandedIn (Piece id bytes) = IsId id × (length bytes ≤ PIECE_LIMIT) × IsBytes bytes
+IsHandedIn (Connected id) = IsId id
+IsHandedIn (ConnectFailed id) = IsId id
 IsHandedIn (Close id why) = IsId id
 IsHandedIn (Expire id) = IsId id

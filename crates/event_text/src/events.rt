@@ -1,10 +1,10 @@
 //! Events as lines.
 ghost use Rattle.std.specs.Prelude.{◌≡◌, ◌/◌, ◌%◌, ◌++◌, ◌∷◌, [], slice_index, codes, OnOk};
 ghost use Rattle.hex.specs.Hex.{encode_lower, lower_digits};
-ghost use Rattle.event_text.specs.Script.{bytes_text, event_line};
+ghost use Rattle.event_text.specs.Script.{bytes_text, event_line, id_text};
 
 use crate::replies::{write_field, write_id, write_place, write_text, write_why};
-use conn_model::event::OwnedEvent;
+use conn_model::event::{ConnId, OwnedEvent};
 use std::alloc::AllocError;
 use text_core::decimal::append_decimal;
 
@@ -37,6 +37,14 @@ fn write_piece(out: &mut Vec<u8>, bytes: &[u8]) -> Result<(), AllocError>
     write_digits(out, bytes)
 }
 
+/// A verb and the name of a connection after it.
+fn write_verb(out: &mut Vec<u8>, verb: &[u8], id: &ConnId) -> Result<(), AllocError>
+    ensures { OnOk result (out.new.items ≡ out.old.items ++ (verb.now ++ id_text id.now)) }
+{
+    write_text(out, verb)?;
+    write_id(out, id)
+}
+
 fn write_words(out: &mut Vec<u8>, moment: u64, event: &OwnedEvent) -> Result<(), AllocError>
     ensures { OnOk result (out.new.items ≡ out.old.items ++ event_line moment event.now) }
 {
@@ -53,16 +61,15 @@ fn write_words(out: &mut Vec<u8>, moment: u64, event: &OwnedEvent) -> Result<(),
             write_text(out, b" ")?;
             write_piece(out, bytes.as_slice())
         }
+        OwnedEvent::Connected(id) => write_verb(out, b" connected ", id),
+        OwnedEvent::ConnectFailed(id) => write_verb(out, b" failed ", id),
         OwnedEvent::Close(id, why) => {
             write_text(out, b" close ")?;
             write_id(out, id)?;
             write_text(out, b" ")?;
             write_why(out, why)
         }
-        OwnedEvent::Expire(id) => {
-            write_text(out, b" expire ")?;
-            write_id(out, id)
-        }
+        OwnedEvent::Expire(id) => write_verb(out, b" expire ", id),
     }
 }
 

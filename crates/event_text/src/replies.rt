@@ -199,6 +199,10 @@ fn write_said(out: &mut Vec<u8>, said: &Said) -> Result<(), AllocError>
             write_text(out, b" ")?;
             write_cause(out, cause)
         }
+        Said::Up { id } => {
+            write_text(out, b"up ")?;
+            write_id(out, id)
+        }
         Said::Closed { id, why } => {
             write_text(out, b"closed ")?;
             write_id(out, id)?;
@@ -253,7 +257,7 @@ pub fn write_counts(out: &mut Vec<u8>, ask: &Ask, counts: Option<Counts>) -> Res
         return write_text(out, b"count none\n");
     };
     match *ask {
-        Ask::Frontend(_) => {
+        Ask::Frontend(_) | Ask::Backend(_) | Ask::Server(_, _) => {
             write_field(out, b"count ", counts.cur)?;
             write_text(out, b"\n")
         }
@@ -272,6 +276,7 @@ fn write_name(out: &mut Vec<u8>, fault: &StepFault) -> Result<(), AllocError>
         StepFault::NoListener => write_text(out, b"NoListener"),
         StepFault::NoSuch => write_text(out, b"NoSuch"),
         StepFault::NotWaiting => write_text(out, b"NotWaiting"),
+        StepFault::NotOffered => write_text(out, b"NotOffered"),
         StepFault::NotDue => write_text(out, b"NotDue"),
         StepFault::Exhausted => write_text(out, b"Exhausted"),
         StepFault::NoMemory => write_text(out, b"NoMemory"),

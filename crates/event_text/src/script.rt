@@ -5,7 +5,7 @@ ghost use Rattle.std.specs.Str.{bytes_eq};
 ghost use Rattle.conn_model.specs.declared.event.OwnedEvent.{OwnedEvent};
 ghost use Rattle.conn_model.specs.declared.event.TheConstants.{PIECE_LIMIT};
 ghost use Rattle.conn_model.specs.History.{owned_event};
-ghost use Rattle.event_text.specs.Script.{accept_of, ask_of, bytes_in, bytes_of, close_of, ends_of, entry_asked, event_line, event_of, event_by_verb, event_read, expire_of, frontend_asked, id_of, is_upper_digit, piece_of, timed_event, wanted, wanted_of, why_of, words_of, Wanted, IsHandedIn};
+ghost use Rattle.event_text.specs.Script.{accept_of, ask_of, backend_asked, bare_event_of, bytes_in, bytes_of, close_of, ends_of, entry_asked, event_line, event_of, event_by_verb, event_on, event_read, frontend_asked, id_of, is_upper_digit, piece_of, server_asked, timed_event, wanted, wanted_of, why_of, words_of, Wanted, IsHandedIn};
 
 use addr_core::{Pair, read_addr, read_endpoint};
 use conn_model::ask::Ask;
@@ -19,6 +19,8 @@ pub enum EventRequest {
     Accept(u16, Pair),
     /// A piece of so many bytes.
     Piece(ConnId, usize),
+    Connected(ConnId),
+    ConnectFailed(ConnId),
     Close(ConnId, Why),
     Expire(ConnId),
 }
@@ -31,6 +33,8 @@ impl EventRequest {
         match *self {
             EventRequest::Accept(listener, real) => Event::Accept(listener, real),
             EventRequest::Piece(id, length) => Event::Piece(id, front(buffer, length)),
+            EventRequest::Connected(id) => Event::Connected(id),
+            EventRequest::ConnectFailed(id) => Event::ConnectFailed(id),
             EventRequest::Close(id, why) => Event::Close(id, why),
             EventRequest::Expire(id) => Event::Expire(id),
         }
@@ -132,14 +136,30 @@ fn read_close(rest: &[u8]) -> Option<EventRequest>
     Some(EventRequest::Close(id, why))
 }
 
-fn read_expire(rest: &[u8]) -> Option<EventRequest>
-    ensures { (buffer : List ℕ) → option_map (event_read buffer) result ≡ expire_of (words_of rest.now) }
+/// The event of a verb that takes the name of a connection and no more.
+fn event_on(verb: &[u8], id: ConnId) -> Option<EventRequest>
+    ensures { (buffer : List ℕ) → option_map (event_read buffer) result ≡ event_on verb.now id }
+{
+    if is(verb, b"connected") {
+        return Some(EventRequest::Connected(id));
+    }
+    if is(verb, b"failed") {
+        return Some(EventRequest::ConnectFailed(id));
+    }
+    if is(verb, b"expire") {
+        return Some(EventRequest::Expire(id));
+    }
+    None
+}
+
+fn read_bare_event(verb: &[u8], rest: &[u8]) -> Option<EventRequest>
+    ensures { (buffer : List ℕ) → option_map (event_read buffer) result ≡ bare_event_of verb.now (words_of rest.now) }
 {
     if let Some((_name, _more)) = cut_word(rest) {
         return None;
     }
     let id = read_id(rest)?;
-    Some(EventRequest::Expire(id))
+    event_on(verb, id)
 }
 
 /// Reads bytes in lower-case hexadecimal into the front of a buffer, if there is room, and says how many
@@ -207,10 +227,7 @@ fn read_event_words(verb: &[u8], rest: &[u8], buffer: &mut [u8]) -> Option<Event
     if is(verb, b"close") {
         return read_close(rest);
     }
-    if is(verb, b"expire") {
-        return read_expire(rest);
-    }
-    None
+    read_bare_event(verb, rest)
 }
 
 fn event_in(line: &[u8], buffer: &mut [u8]) -> Option<(u64, EventRequest)>
@@ -250,6 +267,30 @@ fn read_frontend(rest: &[u8]) -> Option<Ask>
     Some(Ask::Frontend(number as u16))
 }
 
+/// What is asked for after `ask backend`.
+fn read_backend(rest: &[u8]) -> Option<Ask>
+    ensures { result ≡ backend_asked (words_of rest.now) }
+{
+    if let Some((_last, _more)) = cut_word(rest) {
+        return None;
+    }
+    let number = read_decimal(rest, 65535)?;
+    Some(Ask::Backend(number as u16))
+}
+
+/// What is asked for after `ask server`.
+fn read_server(rest: &[u8]) -> Option<Ask>
+    ensures { result ≡ server_asked (words_of rest.now) }
+{
+    let (number, server) = cut_word(rest)?;
+    if let Some((_last, _more)) = cut_word(server) {
+        return None;
+    }
+    let number = read_decimal(number, 65535)?;
+    let server = read_decimal(server, 65535)?;
+    Some(Ask::Server(number as u16, server as u16))
+}
+
 /// What is asked for after `ask entry`.
 fn read_entry(rest: &[u8]) -> Option<Ask>
     ensures { result ≡ entry_asked (words_of rest.now) }
@@ -270,6 +311,12 @@ fn read_ask(rest: &[u8]) -> Option<Ask>
     let (kind, rest) = cut_word(rest)?;
     if is(kind, b"frontend") {
         return read_frontend(rest);
+    }
+    if is(kind, b"backend") {
+        return read_backend(rest);
+    }
+    if is(kind, b"server") {
+        return read_server(rest);
     }
     if is(kind, b"entry") {
         return read_entry(rest);

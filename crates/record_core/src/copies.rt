@@ -16,6 +16,8 @@ pub fn copy_event(alloc: Global, event: &Event) -> Result<OwnedEvent, AllocError
     match *event {
         Event::Accept(listener, real) => Ok(OwnedEvent::Accept(listener, real)),
         Event::Piece(id, bytes) => Ok(OwnedEvent::Piece(id, Seq::duplicate_of(alloc, bytes)?)),
+        Event::Connected(id) => Ok(OwnedEvent::Connected(id)),
+        Event::ConnectFailed(id) => Ok(OwnedEvent::ConnectFailed(id)),
         Event::Close(id, why) => Ok(OwnedEvent::Close(id, why)),
         Event::Expire(id) => Ok(OwnedEvent::Expire(id)),
     }
@@ -54,6 +56,7 @@ fn copy_said(said: &Said) -> Said
             send: copy_bytes(send),
         },
         Said::Refuse { id, used, cause } => Said::Refuse { id, used, cause },
+        Said::Up { id } => Said::Up { id },
         Said::Closed { id, why } => Said::Closed { id, why },
     }
 }
