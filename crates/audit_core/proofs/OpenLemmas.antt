@@ -8,7 +8,7 @@ use Rattle.plan_types.specs.declared.plan.Frontend.{Frontend}
 use Rattle.plan_types.specs.declared.plan.Plan.{Plan}
 use Rattle.conn_model.specs.declared.event.ConnId.{ConnId}
 use Rattle.conn_model.specs.declared.event.OwnedEvent.{OwnedEvent}
-use Rattle.conn_model.specs.declared.event.OwnedEvent.TheVariants.{Accept, Piece, Close, Expire}
+use Rattle.conn_model.specs.declared.event.OwnedEvent.TheVariants.{Accept, Piece, Connected, ConnectFailed, Close, Expire}
 use Rattle.conn_model.specs.declared.plain.FrontendRows.{FrontendRows}
 use Rattle.conn_model.specs.declared.plain.Plain.{Plain}
 use Rattle.conn_model.specs.declared.plain.Row.{Row}
@@ -73,6 +73,8 @@ one_comes (Some id) clock version real said = (id.frontend, λ n. by n (leaves_o
 one_arrives : (clock version : ℕ) (event : OwnedEvent) (said : Said) → (place : ℕ) × ((n : ℕ) → length (arrival n clock version event said) ≤ hits place n)
 one_arrives clock version (Accept listener real) said = one_comes (id_of said) clock version real said
 one_arrives clock version (Piece id bytes) said = (0, λ n. omega arith)
+one_arrives clock version (Connected id) said = (0, λ n. omega arith)
+one_arrives clock version (ConnectFailed id) said = (0, λ n. omega arith)
 one_arrives clock version (Close id why) said = (0, λ n. omega arith)
 one_arrives clock version (Expire id) said = (0, λ n. omega arith)
 

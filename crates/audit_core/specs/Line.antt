@@ -5,7 +5,7 @@ use Rattle.addr_core.specs.Text.{endpoint_text}
 use Rattle.addr_core.specs.declared.addr.Endpoint.{Endpoint}
 use Rattle.conn_model.specs.declared.event.ConnId.{ConnId}
 use Rattle.conn_model.specs.declared.reply.Said.{Said}
-use Rattle.conn_model.specs.declared.reply.Said.TheVariants.{Wait, Offer, Refuse, Closed}
+use Rattle.conn_model.specs.declared.reply.Said.TheVariants.{Wait, Offer, Refuse, Up, Closed}
 use Rattle.event_text.specs.Script.{id_text, why_text}
 use Rattle.event_text.specs.Replies.{cause_text}
 
@@ -23,6 +23,7 @@ abbrev pub audit_text : Endpoint → Option (Endpoint × ℕ) → Said → Optio
 audit_text peer offered (Wait id used) = None
 audit_text peer offered (Offer id used line server to judged send) = None
 audit_text peer offered (Refuse id used cause) = Some (front_text id peer ++ codes "refuse " ++ cause_text cause)
+audit_text peer offered (Up id) = None
 audit_text peer offered (Closed id why) = Some (front_text id peer ++ offer_text offered ++ codes "closed " ++ why_text why)
 
 -- what is written of a line, if there is one

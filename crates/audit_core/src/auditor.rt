@@ -88,7 +88,11 @@ fn read_numbered(number: u64, line: &[u8], piece: &mut [u8]) -> Option<(u64, Eve
 fn peer_of(request: &EventRequest) -> Option<Endpoint> {
     match request {
         EventRequest::Accept(_, real) => Some(real.source()),
-        EventRequest::Piece(..) | EventRequest::Close(..) | EventRequest::Expire(_) => None,
+        EventRequest::Piece(..)
+        | EventRequest::Connected(_)
+        | EventRequest::ConnectFailed(_)
+        | EventRequest::Close(..)
+        | EventRequest::Expire(_) => None,
     }
 }
 

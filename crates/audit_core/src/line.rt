@@ -45,7 +45,7 @@ pub fn write_audit_line(
     ensures text { OnOk result (out.new.items ≡ out.old.items ++ written_line (audit_text real.now offered reply.now.said)) }
 {
     match &reply.said {
-        Said::Wait { .. } | Said::Offer { .. } => Ok(false),
+        Said::Wait { .. } | Said::Offer { .. } | Said::Up { .. } => Ok(false),
         Said::Refuse { id, used: _, cause } => {
             write_front(out, id, real)?;
             out.extend_from_slice(b"refuse ")?;

@@ -11,13 +11,13 @@ use Rattle.plan_types.specs.declared.plan.Frontend.{Frontend}
 use Rattle.plan_types.specs.declared.plan.Plan.{Plan}
 use Rattle.conn_model.specs.declared.event.ConnId.{ConnId}
 use Rattle.conn_model.specs.declared.event.OwnedEvent.{OwnedEvent}
-use Rattle.conn_model.specs.declared.event.OwnedEvent.TheVariants.{Accept, Piece, Close, Expire}
+use Rattle.conn_model.specs.declared.event.OwnedEvent.TheVariants.{Accept, Piece, Connected, ConnectFailed, Close, Expire}
 use Rattle.conn_model.specs.declared.plain.FrontendRows.{FrontendRows}
 use Rattle.conn_model.specs.declared.plain.Plain.{Plain}
 use Rattle.conn_model.specs.declared.plain.Row.{Row}
 use Rattle.conn_model.specs.declared.reply.Reply.{Reply}
 use Rattle.conn_model.specs.declared.reply.Said.{Said}
-use Rattle.conn_model.specs.declared.reply.Said.TheVariants.{Wait, Offer, Refuse, Closed}
+use Rattle.conn_model.specs.declared.reply.Said.TheVariants.{Wait, Offer, Refuse, Up, Closed}
 use Rattle.conn_model.specs.Answer.{answer_in, row_at, row_in}
 use Rattle.conn_model.specs.Counts.{total}
 use Rattle.conn_model.specs.History.{after, arrival, entry, frontend_after, has_ended, id_of, is_last, leaves_open, newest_number, opening, row_after, speaks_to, Entry, IsFrontendWell, IsWell}
@@ -84,6 +84,8 @@ none_comes p number e id whom differs = by e.event
     by : (event : OwnedEvent) → arrival number (max p.clock e.moment) (newest_number p) event e.reply.said ≡ []
     by (Accept listener real) = let other : (id.frontend == number) ≡ false = grind (arith, nat_tests, differs) in rw (whom, other, and_false _) refl
     by (Piece other bytes) = refl
+    by (Connected other) = refl
+    by (ConnectFailed other) = refl
     by (Close other why) = refl
     by (Expire other) = refl
 
@@ -105,6 +107,7 @@ not_last : (said : Said) → leaves_open said ≡ true → is_last said ≡ fals
 not_last (Wait id used) is = refl
 not_last (Offer id used line server to judged send) is = refl
 not_last (Refuse id used cause) is = absurd (false≢true is)
+not_last (Up id) is = refl
 not_last (Closed id why) is = absurd (false≢true is)
 
 accept_here : (p : Plain) (moment listener : ℕ) (real : PairValue) (reply : Reply) (id : ConnId) (own : FrontendRows) → IsFrontendWell p.versions own → id_of reply.said ≡ Some id → id.serial ≡ own.serial + 1 →
@@ -198,6 +201,8 @@ pub open_after_answer : (p : Plain) → IsWell p → (moment : ℕ) (event : Own
     open_connections (after p (entry moment event reply ∷ [])) + connections_ended event reply.said ≡ open_connections p + connections_opened event reply.said
 open_after_answer p well moment (Accept listener real) reply is = new_answer p well moment listener real reply (answered p moment (Accept listener real) reply is)
 open_after_answer p well moment (Piece id bytes) reply is = old_answer p well (entry moment (Piece id bytes) reply) id (λ number. refl) (answered p moment (Piece id bytes) reply is)
+open_after_answer p well moment (Connected id) reply is = old_answer p well (entry moment (Connected id) reply) id (λ number. refl) (answered p moment (Connected id) reply is)
+open_after_answer p well moment (ConnectFailed id) reply is = old_answer p well (entry moment (ConnectFailed id) reply) id (λ number. refl) (answered p moment (ConnectFailed id) reply is)
 open_after_answer p well moment (Close id why) reply is = old_answer p well (entry moment (Close id why) reply) id (λ number. refl) (answered p moment (Close id why) reply is)
 open_after_answer p well moment (Expire id) reply is = old_answer p well (entry moment (Expire id) reply) id (λ number. refl) (answered p moment (Expire id) reply is)
 

@@ -3,7 +3,7 @@ use Rattle.std.specs.Prelude.{ℕ, length, if◌then◌else◌}
 use Rattle.conn_model.specs.Counts.{total}
 use Rattle.conn_model.specs.History.{is_last, leaves_open}
 use Rattle.conn_model.specs.declared.event.OwnedEvent.{OwnedEvent}
-use Rattle.conn_model.specs.declared.event.OwnedEvent.TheVariants.{Accept, Piece, Close, Expire}
+use Rattle.conn_model.specs.declared.event.OwnedEvent.TheVariants.{Accept, Piece, Connected, ConnectFailed, Close, Expire}
 use Rattle.conn_model.specs.declared.plain.Plain.{Plain}
 use Rattle.conn_model.specs.declared.reply.Said.{Said}
 
@@ -14,6 +14,8 @@ open_connections p = total (λ own. length own.rows) p.frontends
 abbrev pub connections_opened : OwnedEvent → Said → ℕ
 connections_opened (Accept listener real) said = if leaves_open said then 1 else 0
 connections_opened (Piece id bytes) said = 0
+connections_opened (Connected id) said = 0
+connections_opened (ConnectFailed id) said = 0
 connections_opened (Close id why) said = 0
 connections_opened (Expire id) said = 0
 
@@ -21,5 +23,7 @@ connections_opened (Expire id) said = 0
 abbrev pub connections_ended : OwnedEvent → Said → ℕ
 connections_ended (Accept listener real) said = 0
 connections_ended (Piece id bytes) said = if is_last said then 1 else 0
+connections_ended (Connected id) said = if is_last said then 1 else 0
+connections_ended (ConnectFailed id) said = if is_last said then 1 else 0
 connections_ended (Close id why) said = if is_last said then 1 else 0
 connections_ended (Expire id) said = if is_last said then 1 else 0

@@ -7,9 +7,6 @@ use plan_core::PlanKind;
 
 const NO_MEMORY: &str = "memory ran out, which says nothing about the file";
 
-/// Of a line that `check` takes.
-pub const NOT_SUPPORTED: &str = "the line is right, but replay does not support it yet";
-
 /// What is wrong on that line, and what would be right there.
 pub fn sentence(fault: &OpenFault) -> &'static str {
     match fault {

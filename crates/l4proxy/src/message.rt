@@ -1,5 +1,5 @@
 //! What is said on standard error of a configuration that is refused.
-use crate::advice::{NOT_SUPPORTED, sentence};
+use crate::advice::sentence;
 use crate::quote::{Quote, find_quote, text_of, words_of};
 use acl_core::AclFault;
 use conf_tree::ConfKind;
@@ -57,7 +57,6 @@ fn reason(alloc: Global, fault: &OpenFault, quoted: &Quote<'_>) -> Result<String
                 let section = section_name(alloc, quoted.section)?;
                 format!(in alloc; "no acl named `{word}` is declared above this line in {section}")
             }
-            ConfKind::Unsupported if quoted.is_right => format!(in alloc; "{NOT_SUPPORTED}"),
             _ => format!(in alloc; "{}", sentence(&OpenFault::Config(*fault))),
         },
         OpenFault::Plan(fault) => match fault.kind {

@@ -25,8 +25,6 @@ pub struct Quote<'a> {
     pub words: Span,
     /// The line that opens its section.
     pub section: Option<&'a str>,
-    /// Whether the reader finds nothing wrong on the line.
-    pub is_right: bool,
 }
 
 /// The line of that number, the first line being 1.
@@ -324,7 +322,6 @@ pub fn find_quote<'a>(
     let words = words_of(alloc, line)?;
     let context = context_of(alloc, text, number)?;
     let word = wrong_word(alloc, text, &context, line, words.as_slice(), fault)?;
-    let is_right = section.is_some() && kind_in(alloc, &context, line)?.is_none();
     let whole = Span {
         from: words.first().map_or(0, |word| word.from),
         to: words.last().map_or(0, |word| word.to),
@@ -334,6 +331,5 @@ pub fn find_quote<'a>(
         word,
         words: whole,
         section,
-        is_right,
     }))
 }

@@ -10,7 +10,6 @@ use Rattle.pp_any.specs.NextPiece.{status_on}
 use Rattle.pp_any.proofs.NextPiece.{goes_on, used_by}
 use Rattle.plan_types.specs.declared.plan.Frontend.{Frontend}
 use Rattle.plan_types.specs.declared.plan.Plan.{Plan}
-use Rattle.plan_types.specs.declared.plan.Server.{Server}
 use Rattle.conn_model.specs.declared.event.ConnId.{ConnId}
 use Rattle.conn_model.specs.declared.event.OwnedEvent.TheVariants.{Accept, Piece}
 use Rattle.conn_model.specs.declared.reply.Cause.{Cause}
@@ -23,27 +22,28 @@ use Rattle.conn_model.specs.declared.plain.Row.{Row}
 use Rattle.conn_model.specs.declared.plain.Version.{Version}
 use Rattle.rule_engine.specs.Judging.{no_tracks, Slots}
 use Rattle.conn_model.specs.Rules.{Candidate, rejection, view_of}
-use Rattle.conn_model.specs.Answer.{admission, answer_in, candidate_at, candidate_of, decision, entry_reply, entry_rules, frontend_in, header_reply, judged_pair, new_row, row_in, said_of, verdict}
-use Rattle.conn_model.specs.History.{after, by_counter, entry, id_of, new_version, opening, tables_by, IsWell}
+use Rattle.conn_model.specs.Answer.{admission, answer_in, candidate_at, candidate_of, decision, entry_reply, entry_rules, frontend_in, header_reply, judged_pair, new_row, row_in, said_of, verdict, NumberedServer}
+use Rattle.conn_model.specs.History.{after, by_counter, entry, id_of, new_version, newest_number, opening, tables_by, with_said, IsWell}
 use Rattle.conn_model.proofs.Replies.{accepted, admission-id, Accepted}
 use Rattle.conn_model.proofs.Steps.{after-accept, rows_left}
 use Rattle.conn_model.proofs.Well.{opening_well}
+use Rattle.conn_tables.proofs.PlaceLemmas.{get-set}
 use Rattle.pipe_core.specs.Waiting.{Holds}
-use Rattle.pipe_core.proofs.StateLemmas.{get-set}
 use Rattle.pipe_core.proofs.PieceLemmas.{reply_said}
 
--- an offer uses at most so many bytes, and nothing is closed
+-- an offer uses at most so many bytes, no server takes the connection, and nothing is closed
 abbrev pub UsesAtMost : ℕ → Said → Type 0
 UsesAtMost most (saids.Wait id used) = Unit {0}
 UsesAtMost most (saids.Offer id used line server to judged send) = used ≤ most
 UsesAtMost most (saids.Refuse id used cause) = Unit {0}
+UsesAtMost most (saids.Up id) = ⊥
 UsesAtMost most (saids.Closed id why) = ⊥
 
 decision_uses : (candidate : Candidate) (used most : ℕ) (judged : PairValue) (made : Slots) → used ≤ most → UsesAtMost most (decision candidate used judged made).said
-decision_uses candidate used most judged made within = by (verdict (view_of candidate judged.source.addr) candidate.version candidate.frontend made).result
+decision_uses candidate used most judged made within = by (verdict (view_of candidate judged.source.addr) candidate.frontend made).result
   where
-    by : (result : Result Server Cause) → UsesAtMost most (said_of candidate.id used judged result)
-    by (Ok server) = within
+    by : (result : Result NumberedServer Cause) → UsesAtMost most (said_of candidate.id used judged result)
+    by (Ok given) = within
     by (Err cause) = tt
 
 entry_uses : (candidate : Candidate) (accept_proxy : Bool) (real : PairValue) (made : Slots) (line : Option ℕ) → UsesAtMost 0 (entry_reply candidate accept_proxy real made line).said
@@ -141,7 +141,7 @@ accepted_waits plan listener real reply id count is said well =
       clock = 0;
       listeners = p.listeners;
       frontends = slice_set p.frontends id.frontend (record got.own { serial = got.own.serial + 1; rows = got.own.rows ++ rows_left p 0 real reply.tracks.items said });
-      versions = p.versions;
+      versions = with_said (newest_number p) said p.versions;
       tables = tables_by p.frontends p.tables reply;
     }
 

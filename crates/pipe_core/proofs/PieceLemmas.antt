@@ -20,9 +20,8 @@ use Rattle.conn_model.specs.declared.reply.Said.TheVariants as saids
 use Rattle.conn_model.specs.declared.reply.StepFault.{StepFault}
 use Rattle.conn_model.specs.declared.plain.Plain.{Plain}
 use Rattle.rule_engine.specs.Judging.{no_tracks}
-use Rattle.plan_types.specs.declared.plan.Server.{Server}
 use Rattle.conn_model.specs.Rules.{Candidate, view_of}
-use Rattle.conn_model.specs.Answer.{answer_in, candidate_of, decision, header_reply, judged_pair, reply_of, reply_with, said_of, verdict, Decision}
+use Rattle.conn_model.specs.Answer.{answer_in, candidate_of, decision, header_reply, judged_pair, reply_of, reply_with, said_of, verdict, Decision, NumberedServer}
 use Rattle.conn_model.specs.History.{after, entry}
 use Rattle.pipe_core.specs.Waiting.{later, with_used, Holds, Waits}
 use Rattle.pipe_core.proofs.StateLemmas.{after_is, holds_on, next_said, piece_said, state_on, view_on}
@@ -90,23 +89,22 @@ status_nothing got rest is =
 abbrev reply_used : ℕ → Reply → Reply
 reply_used more reply = record reply { said = with_used more reply.said }
 
-said_more : (id : ConnId) (used more : ℕ) (judged : PairValue) (result : Result Server Cause) → said_of id (used + more) judged result ≡ with_used more (said_of id used judged result)
-said_more id used more judged (Ok server) = refl
+said_more : (id : ConnId) (used more : ℕ) (judged : PairValue) (result : Result NumberedServer Cause) → said_of id (used + more) judged result ≡ with_used more (said_of id used judged result)
+said_more id used more judged (Ok given) = refl
 said_more id used more judged (Err cause) = refl
 
 -- the reply that a decision makes
 abbrev reply_by : ConnId → ℕ → PairValue → Decision → Reply
 reply_by id used judged decided = reply_with (said_of id used judged decided.result) decided.made
 
-decision_more : (a b : Candidate) (used more : ℕ) (judged : PairValue) → a.id ≡ b.id → a.version ≡ b.version → a.frontend ≡ b.frontend → view_of b judged.source.addr ≡ view_of a judged.source.addr →
+decision_more : (a b : Candidate) (used more : ℕ) (judged : PairValue) → a.id ≡ b.id → a.frontend ≡ b.frontend → view_of b judged.source.addr ≡ view_of a judged.source.addr →
     decision a (used + more) judged no_tracks ≡ reply_used more (decision b used judged no_tracks)
-decision_more a b used more judged id version frontend views =
-    let decided : Decision = verdict (view_of a judged.source.addr) a.version a.frontend no_tracks in
+decision_more a b used more judged id frontend views =
+    let decided : Decision = verdict (view_of a judged.source.addr) a.frontend no_tracks in
     ap (λ s. reply_with s decided.made) (said_more a.id used more judged decided.result)
-    ∙ ap (λ v. reply_used more (reply_by a.id used judged (verdict v a.version a.frontend no_tracks))) (sym views)
-    ∙ ap (λ i. reply_used more (reply_by i used judged (verdict (view_of b judged.source.addr) a.version a.frontend no_tracks))) id
-    ∙ ap (λ v. reply_used more (reply_by b.id used judged (verdict (view_of b judged.source.addr) v a.frontend no_tracks))) version
-    ∙ ap (λ f. reply_used more (reply_by b.id used judged (verdict (view_of b judged.source.addr) b.version f no_tracks))) frontend
+    ∙ ap (λ v. reply_used more (reply_by a.id used judged (verdict v a.frontend no_tracks))) (sym views)
+    ∙ ap (λ i. reply_used more (reply_by i used judged (verdict (view_of b judged.source.addr) a.frontend no_tracks))) id
+    ∙ ap (λ f. reply_used more (reply_by b.id used judged (verdict (view_of b judged.source.addr) f no_tracks))) frontend
 
 -- a piece after one that decided nothing
 pub next_piece : (q : Plain) (id : ConnId) (got : List ℕ) (h : Holds q id got) (piece more : List ℕ) → status_on h.rest piece ≡ statuses.Wait →
@@ -125,7 +123,7 @@ next_piece q id got h piece more waits =
     by statuses.Wait = let e : length (piece ++ more) ≡ length more + length piece = omega (arith, length-append piece more) in ap (λ n. reply_of (saids.Wait id n)) e
     by (statuses.Fault fault count) = refl
     by (statuses.Whole count meaning) =
-        decision_more (candidate_of q id h.version h.frontend) (candidate_of now id h.version h.frontend) count (length piece) (judged_pair h.row.real meaning) refl refl refl
+        decision_more (candidate_of q id h.version h.frontend) (candidate_of now id h.version h.frontend) count (length piece) (judged_pair h.row.real meaning) refl refl
         (view_on q id got h piece (judged_pair h.row.real meaning).source.addr)
 
 later_twice : (m n : ℕ) (r : Result Reply StepFault) → later (m + n) r ≡ later m (later n r)
@@ -136,6 +134,7 @@ later_twice m n (Ok reply) = ap (λ s. Ok (record reply { said = s })) (by reply
     by (saids.Wait id used) = let e : used + (m + n) ≡ used + n + m = omega arith in ap (λ k. saids.Wait id k) e
     by (saids.Offer id used line server to judged send) = let e : used + (m + n) ≡ used + n + m = omega arith in ap (λ k. saids.Offer id k line server to judged send) e
     by (saids.Refuse id used cause) = let e : used + (m + n) ≡ used + n + m = omega arith in ap (λ k. saids.Refuse id k cause) e
+    by (saids.Up id) = refl
     by (saids.Closed id why) = refl
 
 pub later_none : (r : Result Reply StepFault) → later 0 r ≡ r
@@ -146,6 +145,7 @@ later_none (Ok reply) = ap (λ s. Ok (record reply { said = s })) (by reply.said
     by (saids.Wait id used) = let e : used + 0 ≡ used = omega arith in ap (λ k. saids.Wait id k) e
     by (saids.Offer id used line server to judged send) = let e : used + 0 ≡ used = omega arith in ap (λ k. saids.Offer id k line server to judged send) e
     by (saids.Refuse id used cause) = let e : used + 0 ≡ used = omega arith in ap (λ k. saids.Refuse id k cause) e
+    by (saids.Up id) = refl
     by (saids.Closed id why) = refl
 
 -- What is known once a piece was answered.
@@ -157,10 +157,10 @@ reply_said q id got h piece reply is =
     let same : Ok reply ≡ Ok (header_reply (candidate_of q id h.version h.frontend) h.row.real (length piece) (status_on h.rest piece)) = sym is ∙ piece_said q id got h piece in cc
 
 decision_no_wait : (candidate : Candidate) (used : ℕ) (judged : PairValue) (id : ConnId) (count : ℕ) → (decision candidate used judged no_tracks).said ≢ saids.Wait id count
-decision_no_wait candidate used judged id count = by (verdict (view_of candidate judged.source.addr) candidate.version candidate.frontend no_tracks).result
+decision_no_wait candidate used judged id count = by (verdict (view_of candidate judged.source.addr) candidate.frontend no_tracks).result
   where
-    by : (result : Result Server Cause) → said_of candidate.id used judged result ≢ saids.Wait id count
-    by (Ok server) wrong = let e : said_of candidate.id used judged (Ok server) ≡ saids.Wait id count = wrong in cc
+    by : (result : Result NumberedServer Cause) → said_of candidate.id used judged result ≢ saids.Wait id count
+    by (Ok given) wrong = let e : said_of candidate.id used judged (Ok given) ≡ saids.Wait id count = wrong in cc
     by (Err cause) wrong = let e : said_of candidate.id used judged (Err cause) ≡ saids.Wait id count = wrong in cc
 
 -- the answer is to wait exactly where nothing is decided

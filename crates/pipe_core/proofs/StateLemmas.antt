@@ -11,17 +11,19 @@ use Rattle.pp_any.specs.declared.rest.Rest.{Rest}
 use Rattle.pp_any.specs.Status.{Wait}
 use Rattle.pp_any.specs.NextPiece.{rest_on, status_on}
 use Rattle.pp_any.proofs.NextPiece.{goes_on}
+use Rattle.proxy_types.specs.declared.server.ServerIdentity.{ServerIdentity}
+use Rattle.proxy_types.specs.ServerIdentity.{same_server}
 use Rattle.plan_types.specs.declared.track.Track.{Track}
 use Rattle.conn_model.specs.declared.event.ConnId.{ConnId}
 use Rattle.conn_model.specs.declared.event.OwnedEvent.TheVariants.{Piece}
 use Rattle.conn_model.specs.declared.reply.Reply.{Reply}
 use Rattle.conn_model.specs.declared.reply.Said.TheVariants as saids
 use Rattle.conn_model.specs.declared.plain.Phase.{Phase}
-use Rattle.conn_model.specs.declared.plain.Phase.TheVariants.{Waiting, Offered}
+use Rattle.conn_model.specs.declared.plain.Phase.TheVariants.{Waiting, Offered, Up}
 use Rattle.conn_model.specs.declared.plain.Row.{Row}
 use Rattle.conn_model.specs.declared.plain.FrontendRows.{FrontendRows}
 use Rattle.conn_model.specs.declared.plain.Plain.{Plain}
-use Rattle.conn_model.specs.Counts.{change_row, is_offered_to, offered_in, offered_to, open_if, open_in, open_named, total}
+use Rattle.conn_model.specs.Counts.{change_row, offered_in, offered_to, open_if, open_in, open_named, served_by, served_in, server_of, total}
 use Rattle.conn_model.specs.Rules.{RuleView, view_of}
 use Rattle.conn_model.specs.Answer.{answer_in, candidate_of, header_reply, reply_of, rest_in, row_in, waiting_row}
 use Rattle.conn_model.specs.History.{after, by_counter, entry, phase_on, tracks_at, IsFrontendWell, IsWell}
@@ -29,6 +31,8 @@ use Rattle.conn_model.specs.Tables.{open_tracks, tracks_in}
 use Rattle.conn_model.proofs.Lists.{all-at, all-more}
 use Rattle.conn_model.proofs.Steps.{after-change, row_said}
 use Rattle.conn_model.proofs.Well.{after-nil, well_after}
+use Rattle.conn_tables.proofs.PlaceLemmas.{get-set}
+use Rattle.conn_rows.proofs.Totals.{total-set}
 use Rattle.pipe_core.specs.Waiting.{Holds}
 
 -- the answer to a piece of a connection that waits
@@ -40,17 +44,8 @@ piece_said q id got h piece =
 
 -- Lists.
 
-pub get-set : {X : Type 0} (xs : List X) (n : ℕ) (x y : X) → slice_get xs n ≡ Some x → slice_get (slice_set xs n y) n ≡ Some y
-get-set [] n x y there = absurd (cc)
-get-set (z ∷ xs) zero x y there = refl
-get-set (z ∷ xs) (suc n) x y there = get-set xs n x y there
-
 total-same : {X : Type 0} (f : X → ℕ) (xs : List X) (n : ℕ) (x y : X) → slice_get xs n ≡ Some x → f y ≡ f x → total f (slice_set xs n y) ≡ total f xs
-total-same f [] n x y there is = absurd (cc)
-total-same f (z ∷ xs) zero x y there is =
-    let same : f z ≡ f x = let it : z ≡ x = cc in ap f it in
-    omega (arith, is, same)
-total-same f (z ∷ xs) (suc n) x y there is = let rest = total-same f xs n x y there is in omega (arith, rest)
+total-same f xs n x y there is = let all = total-set f xs n x y there in omega (arith, all, is)
 
 -- The row after the piece.
 
@@ -84,30 +79,34 @@ find-on serial piece (x ∷ rows) row found = by (x.serial == serial) refl (find
 rest-on : (piece : List ℕ) (phase : Phase) (rest : Rest) → rest_in phase ≡ Some rest → rest_in (phase_on piece phase) ≡ Some (rest_on rest piece)
 rest-on piece (Waiting held) rest is = let it : held ≡ rest = let e : Some held ≡ Some rest = is in cc in ap (λ r. Some (rest_on r piece)) it
 rest-on piece (Offered assignment) rest is = absurd (let wrong : None ≡ Some rest = is in cc)
+rest-on piece (Up assignment) rest is = absurd (let wrong : None ≡ Some rest = is in cc)
 
 -- Counts after the piece.
 
-offered-on : (name piece : List ℕ) (phase : Phase) → is_offered_to name (phase_on piece phase) ≡ is_offered_to name phase
-offered-on name piece (Waiting rest) = refl
-offered-on name piece (Offered assignment) = refl
+server-on : (piece : List ℕ) (phase : Phase) → server_of (phase_on piece phase) ≡ server_of phase
+server-on piece (Waiting rest) = refl
+server-on piece (Offered assignment) = refl
+server-on piece (Up assignment) = refl
 
-offered_in-on : (name piece : List ℕ) (serial : ℕ) (rows : List Row) →
-    length (filter (λ row. is_offered_to name row.phase) (change_row serial (row_on piece) rows)) ≡ length (filter (λ row. is_offered_to name row.phase) rows)
-offered_in-on name piece serial [] = refl
-offered_in-on name piece serial (row ∷ rows) = by (is_offered_to name row.phase) refl (offered_in-on name piece serial rows)
+-- the rows whose server, or whose lack of one, passes
+abbrev passing : (Option ServerIdentity → Bool) → List Row → ℕ
+passing test rows = length (filter (λ row. test (server_of row.phase)) rows)
+
+passing-on : (test : Option ServerIdentity → Bool) (piece : List ℕ) (serial : ℕ) (rows : List Row) → passing test (change_row serial (row_on piece) rows) ≡ passing test rows
+passing-on test piece serial [] = refl
+passing-on test piece serial (row ∷ rows) = by (test (server_of row.phase)) refl (passing-on test piece serial rows)
   where
     now : Row
     now = if row.serial == serial then row_on piece row else row
 
-    same : (b : Bool) → is_offered_to name (if b then row_on piece row else row).phase ≡ is_offered_to name row.phase
-    same true = offered-on name piece row.phase
+    same : (b : Bool) → test (server_of (if b then row_on piece row else row).phase) ≡ test (server_of row.phase)
+    same true = ap test (server-on piece row.phase)
     same false = refl
 
     later : List Row
     later = change_row serial (row_on piece) rows
 
-    by : (b : Bool) → is_offered_to name row.phase ≡ b → length (filter (λ row. is_offered_to name row.phase) later) ≡ length (filter (λ row. is_offered_to name row.phase) rows) →
-        length (filter (λ row. is_offered_to name row.phase) (now ∷ later)) ≡ length (filter (λ row. is_offered_to name row.phase) (row ∷ rows))
+    by : (b : Bool) → test (server_of row.phase) ≡ b → passing test later ≡ passing test rows → passing test (now ∷ later) ≡ passing test (row ∷ rows)
     by true is rest = rw (same (row.serial == serial), is) (ap (λ n. suc n) rest)
     by false is rest = rw (same (row.serial == serial), is) rest
 
@@ -155,7 +154,10 @@ view_on q id got h piece source = fun_ext by
     named name = total-same (open_if name) q.frontends id.frontend own next there (ap (λ n. if bytes_eq own.name name then n else 0) longer)
 
     offered : (name : List ℕ) → offered_to (slice_set q.frontends id.frontend next) name ≡ offered_to q.frontends name
-    offered name = total-same (offered_in name) q.frontends id.frontend own next there (offered_in-on name piece id.serial own.rows)
+    offered name = total-same (offered_in name) q.frontends id.frontend own next there (passing-on (λ server. option_map_or (λ s. bytes_eq s.backend name) server false) piece id.serial own.rows)
+
+    served : (server : ServerIdentity) → served_by (slice_set q.frontends id.frontend next) server ≡ served_by q.frontends server
+    served server = total-same (served_in server) q.frontends id.frontend own next there (passing-on (λ other. option_map_or (same_server server) other false) piece id.serial own.rows)
 
     tracks : open_tracks (slice_set q.frontends id.frontend next) ≡ open_tracks q.frontends
     tracks = open_tracks-same q.frontends id.frontend own next there (tracks-on piece id.serial own.rows)
@@ -169,8 +171,8 @@ view_on q id got h piece source = fun_ext by
         ∙ ap (λ (o : Option Row). option_map_or (λ (row : Row). row.tracks) o []) (find-on id.serial piece own.rows h.row row)
         ∙ ap (λ (o : Option Row). option_map_or (λ (row : Row). row.tracks) o []) (sym h.row_is)
 
-    seen : List Track → List Track → ℕ → (List ℕ → ℕ) → (List ℕ → ℕ) → List Track → RuleView
-    seen all own count named offered made = record {
+    seen : List Track → List Track → ℕ → (List ℕ → ℕ) → (List ℕ → ℕ) → (ServerIdentity → ℕ) → List Track → RuleView
+    seen all own count named offered served made = record {
       source = source;
       version = h.version;
       frontend = h.frontend;
@@ -181,17 +183,19 @@ view_on q id got h piece source = fun_ext by
       connections = count;
       named = named;
       offered = offered;
+      served = served;
     }
 
     by : (made : List Track) → view_of (candidate_of (state_on q id piece own) id h.version h.frontend) source made ≡ view_of (candidate_of q id h.version h.frontend) source made
     by made =
         let now : List FrontendRows = slice_set q.frontends id.frontend next in
         let before : List FrontendRows = q.frontends in
-        ap (λ ts. seen ts (tracks_at now id) (open_in now id.frontend) (open_named now) (offered_to now) made) tracks
-        ∙ ap (λ ts. seen (open_tracks before) ts (open_in now id.frontend) (open_named now) (offered_to now) made) tracked
-        ∙ ap (λ n. seen (open_tracks before) (tracks_at before id) n (open_named now) (offered_to now) made) open_now
-        ∙ ap (λ f. seen (open_tracks before) (tracks_at before id) (open_in before id.frontend) f (offered_to now) made) (fun_ext named)
-        ∙ ap (λ f. seen (open_tracks before) (tracks_at before id) (open_in before id.frontend) (open_named before) f made) (fun_ext offered)
+        ap (λ ts. seen ts (tracks_at now id) (open_in now id.frontend) (open_named now) (offered_to now) (served_by now) made) tracks
+        ∙ ap (λ ts. seen (open_tracks before) ts (open_in now id.frontend) (open_named now) (offered_to now) (served_by now) made) tracked
+        ∙ ap (λ n. seen (open_tracks before) (tracks_at before id) n (open_named now) (offered_to now) (served_by now) made) open_now
+        ∙ ap (λ f. seen (open_tracks before) (tracks_at before id) (open_in before id.frontend) f (offered_to now) (served_by now) made) (fun_ext named)
+        ∙ ap (λ f. seen (open_tracks before) (tracks_at before id) (open_in before id.frontend) (open_named before) f (served_by now) made) (fun_ext offered)
+        ∙ ap (λ f. seen (open_tracks before) (tracks_at before id) (open_in before id.frontend) (open_named before) (offered_to before) f made) (fun_ext served)
 
 -- The state after the piece.
 

@@ -10,7 +10,7 @@ use Rattle.conn_model.specs.declared.event.OwnedEvent.TheVariants.{Accept, Piece
 use Rattle.conn_model.specs.declared.plain.Plain.{Plain}
 use Rattle.conn_model.specs.declared.reply.Reply.{Reply}
 use Rattle.conn_model.specs.declared.reply.Said.{Said}
-use Rattle.conn_model.specs.declared.reply.Said.TheVariants.{Wait, Offer, Refuse, Closed}
+use Rattle.conn_model.specs.declared.reply.Said.TheVariants.{Wait, Offer, Refuse, Up, Closed}
 use Rattle.conn_model.specs.declared.reply.StepFault.{StepFault}
 use Rattle.conn_model.specs.Answer.{answer_in}
 use Rattle.conn_model.specs.History.{answer, entry, opening}
@@ -42,6 +42,7 @@ abbrev pub said_on : Plain → ℕ → PairValue → List ℕ → Reply → Said
 said_on p listener real bytes reply (Wait id used) = answer p (entry 0 (Accept listener real) reply ∷ []) 0 (Piece id bytes)
 said_on p listener real bytes reply (Offer id used line server to judged send) = Ok reply
 said_on p listener real bytes reply (Refuse id used cause) = Ok reply
+said_on p listener real bytes reply (Up id) = Ok reply
 said_on p listener real bytes reply (Closed id why) = Ok reply
 
 -- what is said to the first connection of a listener, which begins with these bytes
@@ -55,6 +56,7 @@ abbrev pub passed_on : List ℕ → Said → List ℕ
 passed_on bytes (Offer id used line server to judged send) = send.items ++ drop used bytes
 passed_on bytes (Wait id used) = []
 passed_on bytes (Refuse id used cause) = []
+passed_on bytes (Up id) = []
 passed_on bytes (Closed id why) = []
 
 -- how a connection of these bytes ends
@@ -62,6 +64,7 @@ abbrev pub end_of : List ℕ → Said → Option PipeEnd
 end_of bytes (Offer id used line server to judged send) = Some (Offered (length (send.items ++ drop used bytes)))
 end_of bytes (Refuse id used cause) = Some (Refused cause)
 end_of bytes (Wait id used) = Some Unfinished
+end_of bytes (Up id) = None
 end_of bytes (Closed id why) = None
 
 abbrev pub output_of : List ℕ → Result Reply StepFault → List ℕ

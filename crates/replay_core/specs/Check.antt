@@ -1,7 +1,7 @@
 -- What `check` writes of a configuration.
 use Rattle.std.specs.Prelude.{ℕ, List, ◌++◌, codes, Option, Some, None, Result, Ok, Err}
 use Rattle.plan_types.specs.declared.plan.Plan.{Plan}
-use Rattle.config_core.specs.Meaning.{compiled}
+use Rattle.config_core.specs.Meaning.{meaning}
 use Rattle.config_core.specs.Names.{open_text}
 use Rattle.config_core.specs.declared.fault.OpenFault.{OpenFault}
 
@@ -20,4 +20,4 @@ verdict_line (Err fault) = refused_line fault
 
 -- one line: that the text has a plan, or its fault
 abbrev pub check_output : List ℕ → List ℕ
-check_output config = verdict_line (compiled config)
+check_output config = verdict_line (meaning config)

@@ -1,46 +1,27 @@
 //! Whether a configuration is right.
 ghost use Rattle.std.specs.Prelude.{◌≡◌, ◌≢◌, ◌++◌, ℕ, List, Some, Err, IfOk, IfErr, OnOk, OnErr};
-ghost use Rattle.config_core.specs.Meaning.{compiled, opened};
-ghost use Rattle.plan_core.specs.Compiled.{plan_of};
+ghost use Rattle.config_core.specs.Meaning.{meaning};
 ghost use Rattle.replay_core.specs.Check.{check_output, fault_in, refused_line};
 ghost use Rattle.replay_core.specs.Replay.{IsFront};
 ghost use Rattle.replay_core.specs.Progress.{GaveUp};
 
 use crate::fault::PrintFault;
-use conf_tree::{ConfKind, Tree, read_config};
-use conn_core::OpenFault;
+use config_core::{OpenFault, read_plan};
 use device_core::{Failed, Output, write_all};
-use plan_core::{PlanKind, compile};
 use std::alloc::Global;
-
-/// The fault of a configuration whose lines are right, if it has one.
-fn fault_of_plan(alloc: Global, tree: &Tree<'_>) -> Result<Option<OpenFault>, PrintFault>
-    ensures found { IfOk result (λ found. found ≡ fault_in (opened (plan_of tree.now))) }
-    ensures no_memory { IfErr result (λ f. f ≡ PrintFault.NoMemory) }
-{
-    match compile(alloc, tree) {
-        Ok(_plan) => Ok(None),
-        Err(fault) => {
-            if matches!(fault.kind, PlanKind::NoMemory) {
-                return Err(PrintFault::NoMemory);
-            }
-            Ok(Some(OpenFault::Plan(fault)))
-        }
-    }
-}
 
 /// The fault of a configuration, if it has one, on the first faulty line.
 fn fault_of(alloc: Global, config: &str) -> Result<Option<OpenFault>, PrintFault>
-    ensures found { IfOk result (λ found. found ≡ fault_in (compiled config.now)) }
+    ensures found { IfOk result (λ found. found ≡ fault_in (meaning config.now)) }
     ensures no_memory { IfErr result (λ f. f ≡ PrintFault.NoMemory) }
 {
-    match read_config(alloc, config) {
-        Ok(tree) => fault_of_plan(alloc, &tree),
+    match read_plan(alloc, config) {
+        Ok(_plan) => Ok(None),
         Err(fault) => {
-            if matches!(fault.kind, ConfKind::NoMemory) {
+            if matches!(fault, OpenFault::NoMemory) {
                 return Err(PrintFault::NoMemory);
             }
-            Ok(Some(OpenFault::Config(fault)))
+            Ok(Some(fault))
         }
     }
 }
@@ -78,8 +59,8 @@ fn write_fault<O: Output>(
     write_line(line.as_str().as_bytes(), writer)
 }
 
-/// Writes one line: `ok` where a configuration is right, else its fault, which it also answers. Whether it is right
-/// is a matter of its lines and its plan alone: it may be right and ask for what `replay` does not serve yet.
+/// Writes one line: `ok` where a configuration is right, else its fault, which it also answers. It is right exactly
+/// where a replay opens it, as far as memory goes.
 pub fn run_check<O: Output>(
     alloc: Global,
     config: &str,
@@ -87,7 +68,7 @@ pub fn run_check<O: Output>(
 ) -> Result<Option<OpenFault>, PrintFault>
     // What was written is the line of the text, by the definition of its plan.
     ensures ok { OnOk result ((sent : List ℕ) → O.held writer.old ≡ Some sent → O.held writer.new ≡ Some (sent ++ check_output config.now)) }
-    ensures found { IfOk result (λ found. found ≡ fault_in (compiled config.now)) }
+    ensures found { IfOk result (λ found. found ≡ fault_in (meaning config.now)) }
     ensures failures { OnOk result (O.failures writer.new ≡ O.failures writer.old) }
 
     // Without memory nothing was written.

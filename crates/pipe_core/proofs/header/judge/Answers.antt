@@ -25,6 +25,3 @@ want_of_memory-requires g c =
     let opens = c.requires.opening in
     let listens = c.requires.listens in
     accept_lacks_memory c.args.core.now opens.0 opens.1 listens.0 c.args.listener c.args.real c.in-Err.fault listens.1 c.in-Err.ensures.plain_fault
-
-pub unreachable-requires : goal.unreachable-requires
-unreachable-requires g c = rw c.in-Closed.is at (accept_uses c.args.core.now c.args.listener c.args.real c.in-Ok.reply c.in-Ok.ensures.plain_reply)
