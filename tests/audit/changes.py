@@ -26,17 +26,24 @@ server s 10.0.0.20:80
 """
 RECORD = b"""1 0 accept 0 192.0.2.5:4000 127.0.0.1:9000
 = offer 0.1 used 0 line 9 to 10.0.0.20:80 src 192.0.2.5:4000 dst 127.0.0.1:9000 send - sc0=1.0/192.0.2.5
-2 1 accept 0 198.51.100.9:4001 127.0.0.1:9000
+2 1 connected 0.1
+= up 0.1
+3 1 accept 0 198.51.100.9:4001 127.0.0.1:9000
 = refuse 0.2 used 0 line 4
-3 2 accept 0 192.0.2.5:4001 127.0.0.1:9000
+4 2 accept 0 192.0.2.5:4001 127.0.0.1:9000
 = refuse 0.3 used 0 line 6 sc0=1.0/192.0.2.5
-4 3 close 0.1 done
+5 3 close 0.1 done
 = closed 0.1 done
+6 4 accept 0 192.0.2.5:4002 127.0.0.1:9000
+= offer 0.4 used 0 line 9 to 10.0.0.20:80 src 192.0.2.5:4002 dst 127.0.0.1:9000 send - sc0=1.0/192.0.2.5
+7 4 failed 0.4
+= closed 0.4 failed
 """
 AUDIT = b"""conn 0.2 real 198.51.100.9:4001 refuse line 4
 conn 0.3 real 192.0.2.5:4001 refuse line 6
 conn 0.1 real 192.0.2.5:4000 src 192.0.2.5:4000 line 9 closed done
-checked 4 open 0
+conn 0.4 real 192.0.2.5:4002 src 192.0.2.5:4002 line 9 closed failed
+checked 7 open 0
 """
 DECIMAL = re.compile(rb'0|[1-9][0-9]*')
 FAR = ipaddress.ip_network('198.51.100.0/24')
@@ -78,7 +85,7 @@ def event(line, expected):
         right = listener is not None and peer and local and peer[0].version == local[0].version
         return (verb, listener, peer, local) if right else None
     found = name(rest[0])
-    if verb == b'expire' and len(rest) == 1 and found:
+    if verb in (b'connected', b'failed', b'expire') and len(rest) == 1 and found:
         return verb, found
     if verb == b'piece' and len(rest) == 2 and found and re.fullmatch(rb'-|([0-9a-f]{2})+', rest[1]):
         return verb, found
@@ -97,7 +104,7 @@ class Balancer:
     """What the configuration answers to an event: a reply, or None for a fault; and the lines of what ended."""
 
     def __init__(self):
-        self.serial, self.open, self.lines = 0, {}, []
+        self.serial, self.open, self.taken, self.lines = 0, {}, set(), []
 
     def accept(self, listener, peer, local):
         if listener != 0:
@@ -121,11 +128,19 @@ class Balancer:
         self.lines.append(end + b'closed ' + why)
         return b'closed %d.%d ' % found + why
 
+    def connected(self, found):
+        if found not in self.open or found in self.taken:
+            return None
+        self.taken.add(found)
+        return b'up %d.%d' % found
+
+    def failed(self, found):
+        return None if found in self.taken else self.close(found, b'failed')
+
     def answer(self, verb, *words):
         """No connection of this configuration waits for a header, so no piece and no expiry is answered."""
-        if verb == b'accept':
-            return self.accept(*words)
-        return self.close(*words) if verb == b'close' else None
+        answers = {b'accept': self.accept, b'connected': self.connected, b'failed': self.failed, b'close': self.close}
+        return answers[verb](*words) if verb in answers else None
 
 
 def audit(text):

@@ -61,6 +61,7 @@ fn summary(said: &Said) -> (&'static str, u64) {
             ..
         } => ("refuse", u64::from(*line)),
         Said::Refuse { .. } => ("refuse", 0),
+        Said::Up { id } => ("up", id.serial),
         Said::Closed { id, .. } => ("closed", id.serial),
     }
 }
@@ -155,6 +156,43 @@ fn pieces_in_a_journal(rt: HostRuntime) -> Result<(), Fail> {
     assert!(rt; has_bytes(&book, 1, front));
     assert!(rt; has_bytes(&book, 2, rest));
     assert_eq!(rt; record(&book, 2), Some((3, 2, "offer", 46)));
+    book.end();
+    Ok(())
+}
+
+#[test]
+fn servers_in_a_journal(rt: HostRuntime) -> Result<(), Fail> {
+    let pair = pair_from(0xc000_0205)?;
+    let Some(mut book) = open(rt.alloc(), RULE) else {
+        assert!(rt; false, "the configuration opens");
+        return Ok(());
+    };
+    assert_eq!(rt;
+        step(&mut book, 0, &Event::Accept(0, pair)),
+        Ok((1, "offer", 0))
+    );
+    assert_eq!(rt;
+        step(&mut book, 1, &Event::Connected(id_of(1))),
+        Ok((2, "up", 1))
+    );
+    assert_eq!(rt;
+        step(&mut book, 2, &Event::Connected(id_of(1))),
+        Err(StepFault::NotOffered)
+    );
+    assert_eq!(rt;
+        step(&mut book, 3, &Event::Accept(0, pair)),
+        Ok((3, "offer", 0))
+    );
+    assert_eq!(rt;
+        step(&mut book, 4, &Event::ConnectFailed(id_of(2))),
+        Ok((4, "closed", 2))
+    );
+    assert_eq!(rt; record(&book, 1), Some((2, 1, "up", 1)));
+    assert_eq!(rt; record(&book, 3), Some((4, 4, "closed", 2)));
+    assert_eq!(rt;
+        book.counts(&Ask::Backend(0)),
+        Some(Counts { cur: 1, cnt: 0 })
+    );
     book.end();
     Ok(())
 }

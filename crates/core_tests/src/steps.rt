@@ -2,7 +2,7 @@
 use addr_core::{Addr, Endpoint, Pair};
 use conn_core::Core;
 use conn_model::event::{ConnId, Event, Why};
-use conn_model::reply::Said;
+use conn_model::reply::{Said, StepFault};
 use std::test::Fail;
 
 /// The addresses of a connection from a port of 192.0.2.5 to 127.0.0.1:9000.
@@ -31,9 +31,31 @@ pub fn offer(core: &mut Core, moment: u64, pair: Pair) -> Option<u64> {
 
 /// Whether the connection with a serial is closed.
 pub fn close(core: &mut Core, moment: u64, serial: u64) -> bool {
-    let id = ConnId {
+    core.step(moment, &Event::Close(id_of(serial), Why::Failed))
+        .is_ok()
+}
+
+/// The connection of the first frontend with a serial.
+pub fn id_of(serial: u64) -> ConnId {
+    ConnId {
         frontend: 0,
         serial,
-    };
-    core.step(moment, &Event::Close(id, Why::Failed)).is_ok()
+    }
+}
+
+/// What a server's answer does to a connection, as a word.
+pub fn server_answer(
+    core: &mut Core,
+    moment: u64,
+    event: &Event,
+) -> Result<&'static str, StepFault> {
+    let reply = core.step(moment, event)?;
+    Ok(match &reply.said {
+        Said::Up { .. } => "up",
+        Said::Closed {
+            why: Why::Failed,
+            ..
+        } => "failed",
+        _ => "another reply",
+    })
 }

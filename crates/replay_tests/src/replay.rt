@@ -14,6 +14,13 @@ const SCRIPT: &[u8] =
 const ANSWERS: &[u8] =
     b"offer 0.1 used 0 line 6 to 10.0.0.20:80 src 192.0.2.5:4000 dst 127.0.0.1:9000 send -\nrefuse 0.2 used 0 line 3\nclosed 0.1 done\n";
 
+/// Servers take connections and are out of reach, and it is asked what they have.
+const SERVER_SCRIPT: &[u8] =
+    b"0 accept 0 192.0.2.5:4000 127.0.0.1:9000\n1 connected 0.1\n2 connected 0.1\n3 accept 0 192.0.2.5:4001 127.0.0.1:9000\nask backend 0\nask server 0 0\n4 failed 0.2\nask server 0 0\nask server 0 1\nask backend 1\n5 failed 0.2\n";
+
+const SERVER_ANSWERS: &[u8] =
+    b"offer 0.1 used 0 line 6 to 10.0.0.20:80 src 192.0.2.5:4000 dst 127.0.0.1:9000 send -\nup 0.1\nfault NotOffered\noffer 0.2 used 0 line 6 to 10.0.0.20:80 src 192.0.2.5:4001 dst 127.0.0.1:9000 send -\ncount 2\ncount 2\nclosed 0.2 failed\ncount 1\ncount none\ncount none\nfault NoSuch\n";
+
 /// What a replay over memory comes to: how many lines it answered, if it came to its end, and what it wrote.
 #[derive(Drop)]
 struct Outcome {
@@ -49,6 +56,15 @@ fn bytes_come_in_pieces(rt: HostRuntime) -> Result<(), Fail> {
         assert_eq!(rt; outcome.lines, Some(3));
         assert_eq!(rt; outcome.written.as_slice(), ANSWERS);
     }
+    Ok(())
+}
+
+#[test]
+fn servers_in_a_script(rt: HostRuntime) -> Result<(), Fail> {
+    let (reads, writes) = (Schedule::plain(rt.alloc()), Schedule::plain(rt.alloc()));
+    let outcome = replay(rt.alloc(), SERVER_SCRIPT, reads, writes)?;
+    assert_eq!(rt; outcome.lines, Some(11));
+    assert_eq!(rt; outcome.written.as_slice(), SERVER_ANSWERS);
     Ok(())
 }
 
