@@ -1,6 +1,6 @@
 -- What holds of each item of a list, and lists changed by number.
 use Rattle.std.specs.Prelude.{ℕ, zero, suc, Bool, true, false, List, [], length, map, filter, find, slice_get, Some, refl, ◌+◌, ◌≤◌, ◌<◌, ◌≡◌, ◌⊎◌, ◌&&◌, ◌||◌, ◌∷◌, ◌++◌}
-use Rattle.std.specs.List.{list_any, AllByRecursion}
+use Rattle.std.specs.List.{AllByRecursion}
 use Rattle.std.proofs.Common.{sym, ap, ◌∙◌, subst, arith, inl, inr}
 use Rattle.std.proofs.lemmas.Bool.{false≢true}
 use Rattle.conn_model.specs.Words.{map_from, Rise}
@@ -99,34 +99,6 @@ all-from_zero P f xs each = all-from P f 0 xs (λ i x there. let place : i ≡ 0
 pub all-both : {X : Type 0} (P Q : X → Type 0) (xs : List X) → AllByRecursion P xs → AllByRecursion Q xs → AllByRecursion (λ x. P x × Q x) xs
 all-both P Q [] one two = tt
 all-both P Q (x ∷ xs) one two = ((one.0, two.0), all-both P Q xs one.1 two.1)
-
--- where each item that passes has it after a change
-pub all-unfiltered : {X Y : Type 0} (P : Y → Type 0) (f : X → Y) (test : X → Bool) (xs : List X) → AllByRecursion P (map f (filter test xs)) → AllByRecursion (λ x. test x ≡ true → P (f x)) xs
-all-unfiltered P f test [] all = tt
-all-unfiltered {X} {Y} P f test (x ∷ xs) all = by (test x) refl (all-unfiltered P f test xs)
-  where
-    by : (b : Bool) → test x ≡ b → (AllByRecursion P (map f (filter test xs)) → AllByRecursion (λ y. test y ≡ true → P (f y)) xs) → AllByRecursion (λ y. test y ≡ true → P (f y)) (x ∷ xs)
-    by true e rest = let both : AllByRecursion P (map f (x ∷ filter test xs)) = rw e at all in ((λ is. both.0), rest both.1)
-    by false e rest = let later : AllByRecursion P (map f (filter test xs)) = rw e at all in ((λ is. absurd (false≢true (sym e ∙ is))), rest later)
-
--- a filter that all pass
-pub filter-all : {X : Type 0} (test : X → Bool) (xs : List X) → AllByRecursion (λ x. test x ≡ true) xs → filter test xs ≡ xs
-filter-all test [] all = refl
-filter-all test (x ∷ xs) all = rw all.0 (ap (λ ys. x ∷ ys) (filter-all test xs all.1))
-
--- what passes the test is in the list
-pub all-pass : {X : Type 0} (test : X → Bool) (xs : List X) → AllByRecursion (λ x. test x ≡ true) (filter test xs)
-all-pass test [] = tt
-all-pass {X} test (x ∷ xs) = by (test x) refl (all-pass test xs)
-  where
-    by : (b : Bool) → test x ≡ b → AllByRecursion (λ y. test y ≡ true) (filter test xs) → AllByRecursion (λ y. test y ≡ true) (filter test (x ∷ xs))
-    by true e rest = rw e (e, rest)
-    by false e rest = rw e rest
-
-pub any-at : {X : Type 0} (test : X → Bool) (xs : List X) (n : ℕ) (x : X) → slice_get xs n ≡ Some x → test x ≡ true → list_any test xs ≡ true
-any-at test [] n x there is = cc
-any-at test (y ∷ ys) zero x there is = let same : y ≡ x = cc in or_left (test y) (list_any test ys) (ap test same ∙ is)
-any-at test (y ∷ ys) (suc n) x there is = or_right (test y) (list_any test ys) (any-at test ys n x there is)
 
 -- Lists that rise.
 
