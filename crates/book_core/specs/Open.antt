@@ -3,7 +3,7 @@ use Rattle.std.specs.Prelude.{ℕ, length, if◌then◌else◌}
 use Rattle.conn_model.specs.Counts.{total}
 use Rattle.conn_model.specs.History.{is_last, leaves_open}
 use Rattle.conn_model.specs.declared.event.OwnedEvent.{OwnedEvent}
-use Rattle.conn_model.specs.declared.event.OwnedEvent.TheVariants.{Accept, Piece, Connected, ConnectFailed, Close, Expire, Reload}
+use Rattle.conn_model.specs.declared.event.OwnedEvent.TheVariants.{Accept, Piece, Connected, ConnectFailed, Close, Expire}
 use Rattle.conn_model.specs.declared.plain.Plain.{Plain}
 use Rattle.conn_model.specs.declared.reply.Said.{Said}
 
@@ -18,9 +18,8 @@ connections_opened (Connected id) said = 0
 connections_opened (ConnectFailed id) said = 0
 connections_opened (Close id why) said = 0
 connections_opened (Expire id) said = 0
-connections_opened (Reload text) said = 0
 
--- another event of a connection ends it where the reply is a last one
+-- another event ends its connection where the reply is a last one
 abbrev pub connections_ended : OwnedEvent → Said → ℕ
 connections_ended (Accept listener real) said = 0
 connections_ended (Piece id bytes) said = if is_last said then 1 else 0
@@ -28,4 +27,3 @@ connections_ended (Connected id) said = if is_last said then 1 else 0
 connections_ended (ConnectFailed id) said = if is_last said then 1 else 0
 connections_ended (Close id why) said = if is_last said then 1 else 0
 connections_ended (Expire id) said = if is_last said then 1 else 0
-connections_ended (Reload text) said = 0

@@ -108,14 +108,14 @@ impl Core {
         ensures reply { IfOk result (λ r. (p : Plain) (h : List Entry) → IsWell p → IsLegal p h → self.old ≡ after p h →
             (answer p h moment (owned_event event.now) ≡ Ok r) × (self.new ≡ after p (entry moment (owned_event event.now) r ∷ h))) }
 
-        // A fault is the answer, or there was no memory for a reply, or to read a new configuration.
-        ensures fault { IfErr result (λ f. (p : Plain) (h : List Entry) → self.old ≡ after p h → IsFault (owned_event event.now) (answer p h moment (owned_event event.now)) f) }
+        // A fault is the answer, or there was no memory for a reply.
+        ensures fault { IfErr result (λ f. (p : Plain) (h : List Entry) → self.old ≡ after p h → IsFault (answer p h moment (owned_event event.now)) f) }
         ensures err { OnErr result (self.new ≡ self.old) }
 
         // The same of the state alone.
         ensures plain_reply { IfOk result (λ r. answer_in self.old moment (owned_event event.now) ≡ Ok r) }
         ensures plain_new { IfOk result (λ r. self.new ≡ after self.old (entry moment (owned_event event.now) r ∷ [])) }
-        ensures plain_fault { IfErr result (λ f. IsFault (owned_event event.now) (answer_in self.old moment (owned_event event.now)) f) }
+        ensures plain_fault { IfErr result (λ f. IsFault (answer_in self.old moment (owned_event event.now)) f) }
         ensures no_memory { NeedsNoMemory event.now → result ≢ Err StepFault.NoMemory }
 
         // Every history can be continued from there.
@@ -206,7 +206,7 @@ impl Core {
     fn work(&mut self, moment: u64, event: &Event<'_>) -> Result<Reply, StepFault>
         ensures reply { IfOk result (λ r. answer_in self.old moment (owned_event event.now) ≡ Ok r) }
         ensures new { IfOk result (λ r. self.new ≡ after self.old (entry moment (owned_event event.now) r ∷ [])) }
-        ensures fault { IfErr result (λ f. IsFault (owned_event event.now) (answer_in self.old moment (owned_event event.now)) f) }
+        ensures fault { IfErr result (λ f. IsFault (answer_in self.old moment (owned_event event.now)) f) }
         ensures err { OnErr result (self.new ≡ self.old) }
         ensures no_memory { NeedsNoMemory event.now → result ≢ Err StepFault.NoMemory }
     {
@@ -217,14 +217,13 @@ impl Core {
             Event::ConnectFailed(id) => self.connect_failed(moment, id),
             Event::Close(id, why) => self.close(moment, id, why),
             Event::Expire(id) => self.expire(moment, id),
-            Event::Reload(text) => self.reload(moment, text),
         }
     }
 
     fn accept(&mut self, moment: u64, listener: u16, real: Pair) -> Result<Reply, StepFault>
         ensures reply { IfOk result (λ r. answer_in self.old moment (owned.Accept listener real) ≡ Ok r) }
         ensures new { IfOk result (λ r. self.new ≡ after self.old (entry moment (owned.Accept listener real) r ∷ [])) }
-        ensures fault { IfErr result (λ f. IsFault (owned.Accept listener real) (answer_in self.old moment (owned.Accept listener real)) f) }
+        ensures fault { IfErr result (λ f. IsFault (answer_in self.old moment (owned.Accept listener real)) f) }
         ensures err { OnErr result (self.new ≡ self.old) }
     {
         let now = self.clock.max(moment);
@@ -265,7 +264,7 @@ impl Core {
         let Some(frontend) = frontend_named(&version.plan, own.name) else {
             return Err(StepFault::NoListener);
         };
-        let Some(serial) = next_number(own.serial) else {
+        let Some(serial) = next_serial(own.serial) else {
             return Err(StepFault::Exhausted);
         };
         let facts = RuleFacts {
@@ -292,7 +291,7 @@ impl Core {
     fn piece(&mut self, moment: u64, id: ConnId, piece: &[u8]) -> Result<Reply, StepFault>
         ensures reply { IfOk result (λ r. piece_answer self.old id piece.now ≡ Ok r) }
         ensures new { IfOk result (λ r. self.new ≡ after self.old (entry moment (owned.Piece id piece.now) r ∷ [])) }
-        ensures fault { IfErr result (λ f. IsFault (owned.Piece id piece.now) (piece_answer self.old id piece.now) f) }
+        ensures fault { IfErr result (λ f. IsFault (piece_answer self.old id piece.now) f) }
         ensures err { OnErr result (self.new ≡ self.old) }
     {
         let row = self.waiting_row(id)?;
@@ -303,9 +302,6 @@ impl Core {
             return Err(StepFault::NoMemory);
         };
         let reply = receive(&mut self.rows, id, &row, piece);
-        if is_refusal(&reply.said) {
-            self.rows.forget();
-        }
         self.clock = self.clock.max(moment);
         Ok(reply)
     }
@@ -362,7 +358,6 @@ impl Core {
     {
         self.awaiting(id)?;
         self.rows.remove(id);
-        self.rows.forget();
         self.clock = self.clock.max(moment);
         Ok(plain_reply(Said::Closed {
             id,
@@ -381,7 +376,6 @@ impl Core {
             return Err(StepFault::NoSuch);
         };
         self.rows.remove(id);
-        self.rows.forget();
         self.clock = self.clock.max(moment);
         Ok(plain_reply(Said::Closed { id, why }))
     }
@@ -399,7 +393,6 @@ impl Core {
             return Err(StepFault::NotDue);
         }
         self.rows.remove(id);
-        self.rows.forget();
         self.clock = now;
         Ok(plain_reply(Said::Refuse {
             id,
@@ -407,52 +400,10 @@ impl Core {
             cause: Cause::Expired,
         }))
     }
-
-    /// Brings a configuration into force, if it has no fault and binds the same addresses.
-    fn reload(&mut self, moment: u64, text: &str) -> Result<Reply, StepFault>
-        ensures reply { IfOk result (λ r. answer_in self.old moment (owned.Reload text.now) ≡ Ok r) }
-        ensures new { IfOk result (λ r. self.new ≡ after self.old (entry moment (owned.Reload text.now) r ∷ [])) }
-        ensures fault { IfErr result (λ f. IsFault (owned.Reload text.now) (answer_in self.old moment (owned.Reload text.now)) f) }
-        ensures err { OnErr result (self.new ≡ self.old) }
-    {
-        let plan = match read_plan(self.alloc, text) {
-            Ok(plan) => plan,
-            Err(OpenFault::NoMemory) => return Err(StepFault::NoMemory),
-            Err(fault) => return Err(StepFault::BadConfig(fault)),
-        };
-        let version = self.next_version(&plan)?;
-        let Ok(()) = self.rows.reload(self.alloc, version, plan) else {
-            return Err(StepFault::NoMemory);
-        };
-        self.rows.forget();
-        self.clock = self.clock.max(moment);
-        Ok(plain_reply(Said::Reloaded { version }))
-    }
-
-    /// The number that a plan gets if it follows the newest version.
-    fn next_version(&self, plan: &Plan) -> Result<u64, StepFault>
-        ensures ok { IfOk result (λ n. reload_answer self.now (Ok plan.now) ≡ Ok (reply_of (Reloaded n))) }
-        ensures fault { IfErr result (λ f. reload_answer self.now (Ok plan.now) ≡ Err f) }
-        ensures next { IfOk result (λ n. IsNextVersion self.now n) }
-    {
-        let Some(newest) = self.rows.newest() else {
-            return Err(StepFault::BindChanged);
-        };
-        if !same_binds(&newest.plan, plan) {
-            return Err(StepFault::BindChanged);
-        }
-        match next_number(newest.number) {
-            Some(number) => Ok(number),
-            None => Err(StepFault::Exhausted),
-        }
-    }
 }
 
-/// Whether a connection is refused.
-fn is_refusal(said: &Said) -> bool
-
-/// The number after that one, if there is one: of a connection or a version.
-fn next_number(last: u64) -> Option<u64>
+/// The serial after that one, if there is one.
+fn next_serial(last: u64) -> Option<u64>
     ensures next { IfSome result (λ serial. (serial ≡ last + 1) × (last + 1 < 2 ^ 64)) }
     ensures none { IfNone result (last ≡ 0xFFFF_FFFF_FFFF_FFFF) }
 {

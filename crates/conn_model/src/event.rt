@@ -41,8 +41,6 @@ pub enum Event<'a> {
     Close(ConnId, Why),
     /// A connection may have waited for its header for too long.
     Expire(ConnId),
-    /// A new configuration is to come into force: its text.
-    Reload(&'a str),
 }
 
 /// An event with memory of its own, as a history keeps it.
@@ -54,5 +52,4 @@ pub enum OwnedEvent {
     ConnectFailed(ConnId),
     Close(ConnId, Why),
     Expire(ConnId),
-    Reload(Seq<u8>),
 }

@@ -1,6 +1,5 @@
 pub mod Changes
 pub mod Counts
-pub mod Needed
 pub mod Stored
 pub mod Summaries
 pub mod Value

@@ -3,7 +3,7 @@
 #![tactic(auto)]
 
 pub use slot_core::Slot;
-pub use versions::{Versions, has_line};
+pub use versions::Versions;
 
 mod loads;
 mod opening;

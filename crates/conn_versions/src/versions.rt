@@ -1,5 +1,5 @@
 //! Versions that are kept.
-ghost use Rattle.std.specs.Prelude.{◌≡◌, ◌+◌, ◌-◌, ◌<◌, ◌^◌, ◌==◌, ℕ, not, List, [], ◌∷◌, map, filter, length, position, slice_get, slice_set, option_map, None, Some, IfOk, OnOk, OnErr};
+ghost use Rattle.std.specs.Prelude.{◌≡◌, ◌+◌, ◌-◌, ◌<◌, ◌^◌, ℕ, List, [], ◌∷◌, map, length, position, slice_get, slice_set, option_map, None, Some, IfOk};
 ghost use Rattle.std.specs.List.{AllByRecursion};
 ghost use Rattle.slot_core.specs.declared.slots.Count.{Count};
 ghost use Rattle.slot_core.specs.Counts.{identity_at, open_at, slots_at, IdentitiesDiffer};
@@ -8,8 +8,7 @@ ghost use Rattle.plan_types.specs.Sound.{IsSoundBackend, IsSoundPlan};
 ghost use Rattle.plan_types.specs.declared.plan.Backend as backends;
 ghost use Rattle.conn_model.specs.declared.plain.Version as versions;
 ghost use Rattle.conn_model.specs.Answer.{version_at};
-ghost use Rattle.conn_model.specs.History.{new_version, with_offer, with_version};
-ghost use Rattle.proxy_types.specs.declared.server.ServerIdentity.{ServerIdentity};
+ghost use Rattle.conn_model.specs.History.{new_version, with_offer};
 ghost use Rattle.conn_model.specs.Servers.{cursor_at, identity_in, pick_in, with_cursor};
 ghost use Rattle.conn_versions.specs.Kept.{AreCounted, AreTied};
 ghost use Rattle.conn_versions.specs.Slots.{OnlyAdds};
@@ -76,28 +75,6 @@ impl Versions {
         })
     }
 
-    /// Adds the version of that number, of that plan: it is in force from now on. A table that is written the same as one of
-    /// the version before it keeps its incarnation; nothing of its backends was used, and the open connections of a server
-    /// count on.
-    pub fn push(&mut self, number: u64, plan: Plan) -> Result<(), AllocError>
-        requires sound { IsSoundPlan plan }
-        requires next { AllByRecursion (λ version. version.number < number) self.old.versions }
-        ensures ok { OnOk result (self.new.versions ≡ with_version self.old.versions (Some (number, plan))) }
-        ensures err { OnErr result (self.new.versions ≡ self.old.versions) }
-        ensures open { (place : ℕ) → open_at place self.new.counts ≡ open_at place self.old.counts }
-        ensures identities { (place : ℕ) (identity : ServerIdentity) → identity_at place self.old.counts ≡ Some identity → identity_at place self.new.counts ≡ Some identity }
-    {
-        match self.never {}
-    }
-
-    /// Forgets the version of that number. It takes no memory.
-    pub fn forget(&mut self, number: u64)
-        ensures versions { self.new.versions ≡ filter (λ version. not (version.number == number)) self.old.versions }
-        ensures counts { self.new.counts ≡ self.old.counts }
-    {
-        match self.never {}
-    }
-
     /// By number, the newest last.
     pub fn as_slice(&self) -> &[Version]
         ensures versions { result.now ≡ self.now.versions }
@@ -110,9 +87,7 @@ impl Versions {
     /// The number of the server that is picked for a source (HAProxy manual, `balance`), of the backend of that number
     /// in the version of that number. None where no server that may be used has room, or where there is no such backend.
     pub fn pick(&self, version: u64, backend: u16, source: &Addr) -> Option<u16>
-        ensures no_version { version_at self.now.versions version ≡ None → result ≡ None }
-        ensures no_backend { (kept : versions.Version) → version_at self.now.versions version ≡ Some kept → slice_get kept.plan.backends backend ≡ None → result ≡ None }
-        ensures picked { (kept : versions.Version) (found : backends.Backend) → version_at self.now.versions version ≡ Some kept → slice_get kept.plan.backends backend ≡ Some found →
+        ensures { (kept : versions.Version) (found : backends.Backend) → version_at self.now.versions version ≡ Some kept → slice_get kept.plan.backends backend ≡ Some found →
             result ≡ option_map (λ turn. turn.server) (pick_in (open_to self.now.counts) found (cursor_at kept.cursors backend) source.now) }
     {
         let place = place_of(self.versions.as_slice(), version)?;
@@ -213,8 +188,7 @@ fn place_of(versions: &[Version], number: u64) -> Option<usize>
     versions.iter().position(|version| version.number == number)
 }
 
-/// Whether a backend has a server of that line.
-pub fn has_line(backend: &Backend, line: u32) -> bool
+fn has_line(backend: &Backend, line: u32) -> bool
     ensures { result ≡ has_line line backend.now }
 {
     backend

@@ -27,4 +27,4 @@ returns-in-Refuse-clause-decides c = λ first got waits.
 pub want_of_memory-requires : goal.want_of_memory-requires
 want_of_memory-requires c =
     let holds = c.requires.waits in
-    lacks_memory (Piece c.args.id c.args.piece.now) _ _ c.in-Err.fault (piece_said c.args.core.now c.args.id holds.0 holds.1 c.args.piece.now) c.in-Err.ensures.plain_fault
+    lacks_memory _ _ c.in-Err.fault (piece_said c.args.core.now c.args.id holds.0 holds.1 c.args.piece.now) c.in-Err.ensures.plain_fault

@@ -1,2 +1,0 @@
-pub mod Offered
-pub mod Refused
