@@ -14,12 +14,12 @@ use Rattle.plan_types.specs.declared.plan.Plan.{Plan}
 use Rattle.plan_types.specs.declared.track.Track.{Track}
 use Rattle.conn_model.specs.declared.event.ConnId.{ConnId}
 use Rattle.conn_model.specs.declared.event.OwnedEvent.{OwnedEvent}
-use Rattle.conn_model.specs.declared.event.OwnedEvent.TheVariants.{Accept, Piece, Connected, ConnectFailed, Close, Expire}
+use Rattle.conn_model.specs.declared.event.OwnedEvent.TheVariants.{Accept, Piece, Connected, ConnectFailed, Close, Expire, Reload}
 use Rattle.conn_model.specs.declared.event.Why.TheVariants.{Failed}
 use Rattle.conn_model.specs.declared.reply.Reply.{Reply}
 use Rattle.conn_model.specs.declared.reply.Said.{Said}
 use Rattle.conn_model.specs.declared.reply.Said.TheVariants as saids
-use Rattle.conn_model.specs.declared.reply.Said.TheVariants.{Wait, Offer, Refuse, Closed}
+use Rattle.conn_model.specs.declared.reply.Said.TheVariants.{Wait, Offer, Refuse, Closed, Reloaded}
 use Rattle.conn_model.specs.declared.reply.StepFault.TheVariants.{NoSuch}
 use Rattle.conn_model.specs.declared.plain.Phase.{Phase}
 use Rattle.conn_model.specs.declared.plain.Phase.TheVariants.{Waiting, Offered, Up}
@@ -31,13 +31,13 @@ use Rattle.conn_model.specs.Words.{or_fault, row_at, row_in, Rise}
 use Rattle.conn_model.specs.Counts.{change_row, is_served_by, served_by, served_in, total}
 use Rattle.conn_model.specs.Answer.{answer_in, reply_of, rest_in, version_at}
 use Rattle.conn_model.specs.History.{after, by_counter, entry, id_of, identity_of, is_last, judging_version, newest_number, opening, phase_by, phase_on, phase_up, plan_of, served_less, served_more, version_for, Entry, IsLegal, IsWell}
-use Rattle.conn_model.proofs.Replies.{answered, bind-ok, expired, received, server_answered, IsNew, IsOld, Received}
+use Rattle.conn_model.proofs.Replies.{answered, bind-ok, expired, followed, received, server_answered, Followed, IsNew, IsOld, Received}
 use Rattle.conn_model.proofs.Goes.{well_at, whole_in_parts}
 use Rattle.conn_model.proofs.Well.{opening_well, well_after}
 use Rattle.conn_model.proofs.Trackings.{row_unused}
 use Rattle.conn_model.proofs.Versions.{is_offer}
 use Rattle.conn_model.proofs.VersionSteps.{judging-new, judging-old}
-use Rattle.conn_model.proofs.Steps.{after-accept, after-change, after-end, row_said, rows_left, IsOfOpen}
+use Rattle.conn_model.proofs.Steps.{after-accept, after-change, after-end, after-reload, row_said, rows_left, IsOfOpen}
 
 -- Sums.
 
@@ -172,6 +172,7 @@ left-counts q server clock real tracks (Offer id used line n to judged send) jud
 left-counts q server clock real tracks (Refuse id used cause) judges none = rw none refl
 left-counts q server clock real tracks (saids.Up id) judges none = refl
 left-counts q server clock real tracks (Closed id why) judges none = rw none refl
+left-counts q server clock real tracks (Reloaded version) judges none = refl
 
 accept_counts : (q : Plain) → IsWell q → (moment listener : ℕ) (real : PairValue) (reply : Reply) → IsNew q reply.said → (server : ServerIdentity) →
     served_by (after q (entry moment (Accept listener real) reply ∷ [])).frontends server + served_less q reply.said server ≡ served_by q.frontends server + served_more q reply.said server
@@ -233,6 +234,7 @@ offered_waits q moment (Close id' why) reply id row server old answer whom there
     let same : reply_of (Closed id' why) ≡ reply = let it : Ok (reply_of (Closed id' why)) ≡ Ok reply = one.2 in cc in
     absurd (no_offer (Closed id' why) reply same refl is)
 offered_waits q moment (Expire id') reply id row server old answer whom there is = absurd (no_offer _ reply (expired q (max q.clock moment) id' reply answer).reply_is refl is)
+offered_waits q moment (Reload text) reply id row server old answer whom there is = absurd old
 
 on-served : (server : ServerIdentity) (piece : List ℕ) (phase : Phase) → is_served_by server (phase_on piece phase) ≡ is_served_by server phase
 on-served server piece (Waiting rest) = refl
@@ -261,6 +263,7 @@ phase_counts q event (Offer id used line n to judged send) row server judges las
 phase_counts q event (Refuse id used cause) row server judges last waits = absurd (false≢true (sym last))
 phase_counts q event (saids.Up id) row server judges last waits = plus_zero _ _ (up-served server row.phase)
 phase_counts q event (Closed id why) row server judges last waits = absurd (false≢true (sym last))
+phase_counts q event (Reloaded version) row server judges last waits = plus_zero _ _ refl
 
 last_more : (q : Plain) (said : Said) (server : ServerIdentity) → is_last said ≡ true → served_more q said server ≡ 0
 last_more q (Wait id used) server last = refl
@@ -268,6 +271,7 @@ last_more q (Offer id used line n to judged send) server last = absurd (false≢
 last_more q (Refuse id used cause) server last = refl
 last_more q (saids.Up id) server last = refl
 last_more q (Closed id why) server last = refl
+last_more q (Reloaded version) server last = refl
 
 open_counts : (q : Plain) → IsWell q → (moment : ℕ) (event : OwnedEvent) (reply : Reply) (id : ConnId) → IsOfOpen event → answer_in q moment event ≡ Ok reply → IsOld q id reply.said → (server : ServerIdentity) →
     served_by (after q (entry moment event reply ∷ [])).frontends server + served_less q reply.said server ≡ served_by q.frontends server + served_more q reply.said server
@@ -320,6 +324,12 @@ step_counts q well moment (Connected id) reply answer server = open_counts q wel
 step_counts q well moment (ConnectFailed id) reply answer server = open_counts q well moment (ConnectFailed id) reply id tt answer (answered q moment (ConnectFailed id) reply answer) server
 step_counts q well moment (Close id why) reply answer server = open_counts q well moment (Close id why) reply id tt answer (answered q moment (Close id why) reply answer) server
 step_counts q well moment (Expire id) reply answer server = open_counts q well moment (Expire id) reply id tt answer (answered q moment (Expire id) reply answer) server
+step_counts q well moment (Reload text) reply answer server =
+    let got : Followed q text reply = followed q text reply answer in
+    let number : ℕ = got.version.number + 1 in
+    let frontends : (after q (entry moment (Reload text) (reply_of (Reloaded number)) ∷ [])).frontends ≡ q.frontends = ap (λ s. s.frontends) (after-reload q well moment number text got.plan got.meant) in
+    subst (λ r. served_by (after q (entry moment (Reload text) r ∷ [])).frontends server + served_less q r.said server ≡ served_by q.frontends server + served_more q r.said server) got.reply_is
+    (ap (λ fs. served_by fs server + 0) frontends)
 
 pub history_counts : (plan : Plan) (last : ℕ) (h : List Entry) (e : Entry) → IsLegal (opening plan last) (e ∷ h) → (server : ServerIdentity) →
     served_by (after (opening plan last) (e ∷ h)).frontends server + served_less (after (opening plan last) h) e.reply.said server

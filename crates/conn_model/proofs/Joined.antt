@@ -16,12 +16,12 @@ use Rattle.pp_any.specs.NextPiece.{status_on, rest_on}
 use Rattle.pp_any.proofs.NextPiece.{goes_on}
 use Rattle.conn_model.specs.declared.event.ConnId.{ConnId}
 use Rattle.conn_model.specs.declared.event.OwnedEvent.{OwnedEvent}
-use Rattle.conn_model.specs.declared.event.OwnedEvent.TheVariants.{Accept, Piece, Connected, ConnectFailed, Close, Expire}
+use Rattle.conn_model.specs.declared.event.OwnedEvent.TheVariants.{Accept, Piece, Connected, ConnectFailed, Close, Expire, Reload}
 use Rattle.conn_model.specs.declared.reply.Cause.{Cause}
 use Rattle.conn_model.specs.declared.reply.Said.{Said}
 use Rattle.conn_model.specs.declared.event.Why.TheVariants.{Failed}
 use Rattle.conn_model.specs.declared.reply.Said.TheVariants as saids
-use Rattle.conn_model.specs.declared.reply.Said.TheVariants.{Wait, Offer, Refuse, Closed}
+use Rattle.conn_model.specs.declared.reply.Said.TheVariants.{Wait, Offer, Refuse, Closed, Reloaded}
 use Rattle.conn_model.specs.declared.reply.Reply.{Reply}
 use Rattle.conn_model.specs.declared.reply.StepFault.TheVariants.{NoSuch}
 use Rattle.conn_model.specs.declared.plain.Phase.{Phase}
@@ -37,7 +37,7 @@ use Rattle.conn_model.specs.History.{newest_number, speaks_to, plan_of, phase_by
 use Rattle.conn_model.proofs.Lists.{all-append, all-more, all-each, all-filter_if, all-map, all-found, all-at, all-both}
 use Rattle.conn_model.proofs.Replies.{bind-ok, Says, Received, received, expired, answered, server_answered}
 use Rattle.conn_model.proofs.Parts.{is_spoken_to, either_false}
-use Rattle.conn_model.proofs.Serials.{FrontendFacts, facts_of, next_here, speaks_that, not_yet, arrival-all}
+use Rattle.conn_model.proofs.Serials.{FrontendFacts, facts_of, next_here, reload-silent, speaks_that, not_yet, arrival-all}
 use Rattle.conn_model.proofs.Goes.{well_at, whole_in_parts}
 use Rattle.conn_model.proofs.Well.{after-nil, opening_well, well_after}
 
@@ -93,6 +93,7 @@ piece-unspoken q (Connected id) said number serial says other = refl
 piece-unspoken q (ConnectFailed id) said number serial says other = refl
 piece-unspoken q (Close id why) said number serial says other = refl
 piece-unspoken q (Expire id) said number serial says other = refl
+piece-unspoken q (Reload text) said number serial says other = refl
 
 joined-unspoken : (p : Plain) (h : List Entry) (number serial : ℕ) → IsLegal p h → is_spoken_to number h serial ≡ false → joined (conn number serial) h ≡ []
 joined-unspoken p [] number serial legal none = refl
@@ -180,6 +181,8 @@ spoken_row q h moment (Close id why) reply number own row plan there answer know
 spoken_row q h moment (Expire id) reply number own row plan there answer known spoken open' =
     let got = expired q (max q.clock moment) id reply answer in
     absurd (false≢true (sym (ap (λ r. is_last r.said) got.reply_is ∙ open')))
+spoken_row q h moment (Reload text) reply number own row plan there answer known spoken open' =
+    absurd (reload-silent q text reply.said number row.serial (answered q moment (Reload text) reply answer) spoken)
 
 left_open : (last : Bool) → not ((last && true) || false) ≡ true → last ≡ false
 left_open true live = absurd (false≢true live)
@@ -209,6 +212,7 @@ new-held plan listener real (Offer id used line server to judged send) true = tt
 new-held plan listener real (Refuse id used cause) true = (refl, refl)
 new-held plan listener real (saids.Up id) true = (refl, refl)
 new-held plan listener real (Closed id why) true = (refl, refl)
+new-held plan listener real (Reloaded version) true = (refl, refl)
 new-held plan listener real said false = (refl, refl)
 
 new_rows : (p : Plain) → IsWell p → (h : List Entry) (moment : ℕ) (event : OwnedEvent) (reply : Reply) (number : ℕ) (own : FrontendRows) → slice_get p.frontends number ≡ Some own → IsLegal p h →
@@ -228,6 +232,7 @@ new_rows p well h moment (Connected id) reply number own there legal answer vers
 new_rows p well h moment (ConnectFailed id) reply number own there legal answer version clock = tt
 new_rows p well h moment (Close id why) reply number own there legal answer version clock = tt
 new_rows p well h moment (Expire id) reply number own there legal answer version clock = tt
+new_rows p well h moment (Reload text) reply number own there legal answer version clock = tt
 
 -- Along a history.
 

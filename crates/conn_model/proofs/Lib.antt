@@ -3,6 +3,7 @@ pub mod Versions
 pub mod Replies
 pub mod Parts
 pub mod Serials
+pub mod Kept
 pub mod Goes
 pub mod Nothing
 pub mod Trackings
@@ -14,6 +15,7 @@ pub mod Sources
 pub mod TableSteps
 pub mod TrackSteps
 pub mod Well
+pub mod Reloads
 pub mod Steps
 pub mod Joined
 pub mod Cursors

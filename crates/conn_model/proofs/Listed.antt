@@ -23,6 +23,13 @@ use Rattle.conn_model.proofs.OneTable.{same_id-is, same_id-refl, table_by, table
 abbrev pub IsIn : {X : Type 0} → List X → X → Type 0
 IsIn {X} xs x = (test : X → Bool) → test x ≡ true → list_any test xs ≡ true
 
+pub all-in : {X : Type 0} (xs : List X) → AllByRecursion (IsIn xs) xs
+all-in [] = tt
+all-in (x ∷ xs) = (
+  (λ test is. or_left (test x) (list_any test xs) is),
+  all-more (IsIn xs) (IsIn (x ∷ xs)) xs (λ y found test is. or_right (test x) (list_any test xs) (found test is)) (all-in xs),
+)
+
 pub in-left : {X : Type 0} (xs ys : List X) (x : X) → IsIn xs x → IsIn (xs ++ ys) x
 in-left xs ys x found test is = list_any-append test xs ys ∙ or_left (list_any test xs) (list_any test ys) (found test is)
 

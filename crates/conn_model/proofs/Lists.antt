@@ -1,8 +1,11 @@
 -- What holds of each item of a list, and lists changed by number.
-use Rattle.std.specs.Prelude.{ℕ, zero, suc, Bool, true, false, List, [], length, map, filter, find, slice_get, Some, refl, ◌+◌, ◌≤◌, ◌<◌, ◌≡◌, ◌⊎◌, ◌&&◌, ◌||◌, ◌∷◌, ◌++◌}
-use Rattle.std.specs.List.{AllByRecursion}
-use Rattle.std.proofs.Common.{sym, ap, ◌∙◌, subst, arith, inl, inr}
+use Rattle.std.specs.Prelude.{ℕ, zero, suc, Bool, true, false, List, [], length, map, filter, find, slice_get, nat_lt, Some, None, refl, ◌+◌, ◌≤◌, ◌<◌, ◌≡◌, ◌⊎◌, ◌&&◌, ◌||◌, ◌∷◌, ◌++◌}
+use Rattle.std.specs.List.{list_any, position, position_or_len, AllByRecursion}
+use Rattle.std.proofs.Common.{cond, sym, ap, ◌∙◌, subst, arith, inl, inr}
 use Rattle.std.proofs.lemmas.Bool.{false≢true}
+use Rattle.std.proofs.lemmas.Bool.Decides.{nat_tests}
+use Rattle.std.proofs.lemmas.List.Folds.{find_at}
+use Rattle.std.proofs.lemmas.Option.{slice_get_past}
 use Rattle.conn_model.specs.Words.{map_from, Rise}
 
 pub or_true : (a b : Bool) → (a || b) ≡ true → (a ≡ true) ⊎ (b ≡ true)
@@ -100,6 +103,34 @@ pub all-both : {X : Type 0} (P Q : X → Type 0) (xs : List X) → AllByRecursio
 all-both P Q [] one two = tt
 all-both P Q (x ∷ xs) one two = ((one.0, two.0), all-both P Q xs one.1 two.1)
 
+-- where each item that passes has it after a change
+pub all-unfiltered : {X Y : Type 0} (P : Y → Type 0) (f : X → Y) (test : X → Bool) (xs : List X) → AllByRecursion P (map f (filter test xs)) → AllByRecursion (λ x. test x ≡ true → P (f x)) xs
+all-unfiltered P f test [] all = tt
+all-unfiltered {X} {Y} P f test (x ∷ xs) all = by (test x) refl (all-unfiltered P f test xs)
+  where
+    by : (b : Bool) → test x ≡ b → (AllByRecursion P (map f (filter test xs)) → AllByRecursion (λ y. test y ≡ true → P (f y)) xs) → AllByRecursion (λ y. test y ≡ true → P (f y)) (x ∷ xs)
+    by true e rest = let both : AllByRecursion P (map f (x ∷ filter test xs)) = rw e at all in ((λ is. both.0), rest both.1)
+    by false e rest = let later : AllByRecursion P (map f (filter test xs)) = rw e at all in ((λ is. absurd (false≢true (sym e ∙ is))), rest later)
+
+-- a filter that all pass
+pub filter-all : {X : Type 0} (test : X → Bool) (xs : List X) → AllByRecursion (λ x. test x ≡ true) xs → filter test xs ≡ xs
+filter-all test [] all = refl
+filter-all test (x ∷ xs) all = rw all.0 (ap (λ ys. x ∷ ys) (filter-all test xs all.1))
+
+-- what passes the test is in the list
+pub all-pass : {X : Type 0} (test : X → Bool) (xs : List X) → AllByRecursion (λ x. test x ≡ true) (filter test xs)
+all-pass test [] = tt
+all-pass {X} test (x ∷ xs) = by (test x) refl (all-pass test xs)
+  where
+    by : (b : Bool) → test x ≡ b → AllByRecursion (λ y. test y ≡ true) (filter test xs) → AllByRecursion (λ y. test y ≡ true) (filter test (x ∷ xs))
+    by true e rest = rw e (e, rest)
+    by false e rest = rw e rest
+
+pub any-at : {X : Type 0} (test : X → Bool) (xs : List X) (n : ℕ) (x : X) → slice_get xs n ≡ Some x → test x ≡ true → list_any test xs ≡ true
+any-at test [] n x there is = cc
+any-at test (y ∷ ys) zero x there is = let same : y ≡ x = cc in or_left (test y) (list_any test ys) (ap test same ∙ is)
+any-at test (y ∷ ys) (suc n) x there is = or_right (test y) (list_any test ys) (any-at test ys n x there is)
+
 -- Lists that rise.
 
 pub rise-filter : {X : Type 0} (number : X → ℕ) (test : X → Bool) (xs : List X) → Rise number xs → Rise number (filter test xs)
@@ -125,3 +156,29 @@ rise-append number m (x ∷ xs) ys one two low high = (
   all-append (λ y. number x < number y) xs ys one.0 (all-more (λ y. m < number y) (λ y. number x < number y) ys (λ y above. let below : number x ≤ m = low.0 in omega (arith, above, below)) high),
   rise-append number m xs ys one.1 two low.1 high,
 )
+
+-- An item found by its place.
+
+pub place_is : {X : Type 0} (p : X → Bool) (xs : List X) (n : ℕ) → position p xs ≡ Some n → n ≡ position_or_len p xs
+place_is p xs n is = sym (by (nat_lt (position_or_len p xs) (length xs)) refl is)
+  where
+    by : (b : Bool) → nat_lt (position_or_len p xs) (length xs) ≡ b → cond b (Some (position_or_len p xs)) None ≡ Some n → position_or_len p xs ≡ n
+    by true less is = cc
+    by false less is = absurd (cc)
+
+pub found_there : {X : Type 0} (p : X → Bool) (xs : List X) (n : ℕ) → position p xs ≡ Some n → find p xs ≡ slice_get xs n
+found_there p xs n is = find_at p xs ∙ ap (λ i. slice_get xs i) (sym (place_is p xs n is))
+
+pub nowhere : {X : Type 0} (p : X → Bool) (xs : List X) → position p xs ≡ None → find p xs ≡ None
+nowhere p xs is = find_at p xs ∙ slice_get_past xs (position_or_len p xs) (by (nat_lt (position_or_len p xs) (length xs)) refl is)
+  where
+    by : (b : Bool) → nat_lt (position_or_len p xs) (length xs) ≡ b → cond b (Some (position_or_len p xs)) None ≡ None → length xs ≤ position_or_len p xs
+    by true less is = absurd (cc)
+    by false less is = grind (arith, nat_tests)
+
+pub position_within : {X : Type 0} (p : X → Bool) (xs : List X) (n : ℕ) → position p xs ≡ Some n → n < length xs
+position_within p xs n is = by (nat_lt (position_or_len p xs) (length xs)) refl is
+  where
+    by : (b : Bool) → nat_lt (position_or_len p xs) (length xs) ≡ b → cond b (Some (position_or_len p xs)) None ≡ Some n → n < length xs
+    by true less is = let same : position_or_len p xs ≡ n = cc in grind (arith, nat_tests)
+    by false less is = absurd (cc)

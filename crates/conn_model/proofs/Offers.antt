@@ -26,14 +26,14 @@ use Rattle.rule_engine.specs.Meaning.{present}
 use Rattle.rule_engine.specs.Judging.{judged_after, no_tracks, Slots}
 use Rattle.conn_model.specs.declared.event.ConnId.{ConnId}
 use Rattle.conn_model.specs.declared.event.OwnedEvent.{OwnedEvent}
-use Rattle.conn_model.specs.declared.event.OwnedEvent.TheVariants.{Accept, Piece, Connected, ConnectFailed, Close, Expire}
+use Rattle.conn_model.specs.declared.event.OwnedEvent.TheVariants.{Accept, Piece, Connected, ConnectFailed, Close, Expire, Reload}
 use Rattle.conn_model.specs.declared.event.Why.TheVariants.{Failed}
 use Rattle.conn_model.specs.declared.reply.Cause.{Cause}
 use Rattle.conn_model.specs.declared.reply.Cause.TheVariants.{Line, NoBackend, NoServer}
 use Rattle.conn_model.specs.declared.reply.Reply.{Reply}
 use Rattle.conn_model.specs.declared.reply.Said.{Said}
 use Rattle.conn_model.specs.declared.reply.Said.TheVariants as saids
-use Rattle.conn_model.specs.declared.reply.Said.TheVariants.{Offer, Closed}
+use Rattle.conn_model.specs.declared.reply.Said.TheVariants.{Offer, Closed, Reloaded}
 use Rattle.conn_model.specs.declared.reply.StepFault.TheVariants.{NoSuch}
 use Rattle.conn_model.specs.declared.plain.Assignment.{Assignment}
 use Rattle.conn_model.specs.declared.plain.Phase.{Phase}
@@ -51,7 +51,7 @@ use Rattle.conn_model.specs.History.{after, answer, identity_at, identity_of, id
 use Rattle.conn_model.proofs.Lists.{or_true}
 use Rattle.conn_model.proofs.Versions.{is_offer, newest-at}
 use Rattle.conn_model.proofs.VersionSteps.{judging-new, judging-old}
-use Rattle.conn_model.proofs.Replies.{accepted, answered, bind-ok, expired, or_fault-ok, received, server_answered, Accepted, IsNew, IsOld, Received, ServerAnswered}
+use Rattle.conn_model.proofs.Replies.{accepted, answered, bind-ok, expired, followed, or_fault-ok, received, server_answered, Accepted, IsNew, IsOld, Received, ServerAnswered}
 use Rattle.conn_model.proofs.Goes.{well_at}
 use Rattle.conn_model.proofs.Sources.{any-at}
 use Rattle.conn_model.proofs.Well.{history_well}
@@ -149,6 +149,7 @@ OffersWell served plan (Offer id used line server to judged send) = MayOffer ser
 OffersWell served plan (saids.Refuse id used cause) = Unit {0}
 OffersWell served plan (saids.Up id) = Unit {0}
 OffersWell served plan (Closed id why) = Unit {0}
+OffersWell served plan (Reloaded version) = Unit {0}
 
 said-offers : (v : RuleView) (id : ConnId) (used : ℕ) (judged : PairValue) (line : Option ℕ) (result : Result NumberedServer Cause) → server_unless v line ≡ result →
     OffersWell v.served v.version.plan (said_of id used judged result)
@@ -244,6 +245,7 @@ offer_room q well moment (Close id why) reply answer is =
     let same : reply_of (Closed id why) ≡ reply = let it : Ok (reply_of (Closed id why)) ≡ Ok reply = one.2 in cc in
     not_offered q (Closed id why) reply same refl is
 offer_room q well moment (Expire id) reply answer is = not_offered q _ reply (expired q (max q.clock moment) id reply answer).reply_is refl is
+offer_room q well moment (Reload text) reply answer is = not_offered q _ reply (followed q text reply answer).reply_is refl is
 
 -- after a legal history
 pub offered_with_room : (plan : Plan) (last : ℕ) (h : List Entry) → IsLegal (opening plan last) h → (moment : ℕ) (event : OwnedEvent) (reply : Reply) →

@@ -1,22 +1,23 @@
 -- A history in two parts.
-use Rattle.std.specs.Prelude.{ℕ, suc, Bool, true, false, not, max, List, [], map, filter, slice_get, Some, None, refl, ◌+◌, ◌≡◌, ◌≢◌, ◌==◌, ◌&&◌, ◌||◌, ◌∷◌, ◌++◌, if◌then◌else◌, option_to_list}
+use Rattle.std.specs.Prelude.{ℕ, suc, Bool, true, false, not, max, List, [], map, filter, slice_get, Some, refl, ◌+◌, ◌≡◌, ◌≢◌, ◌==◌, ◌&&◌, ◌||◌, ◌∷◌, ◌++◌, if◌then◌else◌}
 use Rattle.std.specs.List.{list_any, AllByRecursion}
 use Rattle.std.specs.Option.{option_map_or}
 use Rattle.std.proofs.Common.{sym, ap, ◌∙◌, arith, append_assoc, append-nil}
 use Rattle.std.proofs.lemmas.List.{map-append}
 use Rattle.std.proofs.lemmas.List.Elements.{filter-append}
+use Rattle.std.proofs.lemmas.Bool.{eq-eqb}
 use Rattle.std.proofs.lemmas.Bool.Decides.{nat_tests}
+use Rattle.conn_model.proofs.Lists.{or_left}
 use Rattle.plan_types.specs.declared.track.Track.{Track}
-use Rattle.conn_model.specs.declared.event.OwnedEvent.{OwnedEvent}
-use Rattle.conn_model.specs.declared.event.OwnedEvent.TheVariants.{Accept, Piece, Connected, ConnectFailed, Close, Expire}
 use Rattle.conn_model.specs.declared.reply.Said.{Said}
 use Rattle.conn_model.specs.declared.plain.Phase.{Phase}
 use Rattle.conn_model.specs.declared.plain.Row.{Row}
 use Rattle.conn_model.specs.declared.plain.FrontendRows.{FrontendRows}
+use Rattle.conn_model.specs.declared.plain.Version.{Version}
 use Rattle.conn_model.specs.declared.plain.Plain.{Plain}
 use Rattle.conn_model.specs.Words.{map_from}
-use Rattle.conn_model.specs.History.{now_of, speaks_to, version_of, in_force, newest_number, plans, plan_of, phase_after, tracks_of, by_counter, is_last, arrival, arrivals, has_ended, accepts, row_after, frontend_after, frontends_after, judging_version, with_said, versions_after, tables_after, after, Entry}
-use Rattle.conn_model.proofs.Versions.{last_number, last_number-map, last_number-with, plan_pair, plan_pairs-map, plan_pairs-with, version_said, version_said-cursors, with_said-each}
+use Rattle.conn_model.specs.History.{now_of, speaks_to, version_of, in_force, newest_number, plan_of, has_version, is_needed, with_version, phase_after, tracks_of, by_counter, is_last, arrival, arrivals, has_ended, accepts, row_after, frontend_after, frontends_after, judging_version, with_said, versions_after, tables_after, after, Entry}
+use Rattle.conn_model.proofs.Versions.{last_number, last_number-filter, last_number-map, last_number-with, version_said, version_said-cursors, with_said-each}
 
 -- What goes on one entry after the other.
 
@@ -24,19 +25,10 @@ pub now_of-append : (s : ℕ) (g h : List Entry) → now_of (now_of s h) g ≡ n
 now_of-append s [] h = refl
 now_of-append s (e ∷ g) h = ap (λ m. max m e.moment) (now_of-append s g h)
 
--- no event brings a version into force
-pub brings_none : (event : OwnedEvent) → version_of event ≡ None
-brings_none (Accept listener real) = refl
-brings_none (Piece id bytes) = refl
-brings_none (Connected id) = refl
-brings_none (ConnectFailed id) = refl
-brings_none (Close id why) = refl
-brings_none (Expire id) = refl
-
 -- the version in force
 pub in_force-append : (s : ℕ) (g h : List Entry) → in_force (in_force s h) g ≡ in_force s (g ++ h)
 in_force-append s [] h = refl
-in_force-append s (e ∷ g) h = ap (λ n. option_map_or (λ brought. brought.0) (version_of e.event) n) (in_force-append s g h)
+in_force-append s (e ∷ g) h = ap (λ n. option_map_or (λ brought. brought.0) (version_of e) n) (in_force-append s g h)
 
 -- what an entry says moves cursors alone
 said-numbers : (p : Plain) (h : List Entry) (said : Said) → last_number (with_said (judging_version (frontends_after p h) (in_force (newest_number p) h) said) said (versions_after p h)) ≡ last_number (versions_after p h)
@@ -44,44 +36,34 @@ said-numbers p h said =
     let number : ℕ = judging_version (frontends_after p h) (in_force (newest_number p) h) said in
     ap last_number (with_said-each number said (versions_after p h)) ∙ last_number-map (version_said number said) (version_said-cursors number said) (versions_after p h)
 
-said-pairs : (p : Plain) (h : List Entry) (said : Said) → map plan_pair (with_said (judging_version (frontends_after p h) (in_force (newest_number p) h) said) said (versions_after p h)) ≡ map plan_pair (versions_after p h)
-said-pairs p h said =
-    let number : ℕ = judging_version (frontends_after p h) (in_force (newest_number p) h) said in
-    ap (λ vs. map plan_pair vs) (with_said-each number said (versions_after p h)) ∙ plan_pairs-map (version_said number said) (version_said-cursors number said) (versions_after p h)
-
 -- the newest version is the one in force
 pub newest_after : (p : Plain) (h : List Entry) → newest_number (after p h) ≡ in_force (newest_number p) h
 newest_after p [] = refl
 newest_after p (e ∷ h) =
     let number : ℕ = judging_version (frontends_after p h) (in_force (newest_number p) h) e.reply.said in
-    last_number-with (with_said number e.reply.said (versions_after p h)) (version_of e.event)
-    ∙ ap (λ n. option_map_or (λ brought. brought.0) (version_of e.event) n) (said-numbers p h e.reply.said ∙ newest_after p h)
+    let versions : List Version = with_version (with_said number e.reply.said (versions_after p h)) (version_of e) in
+    let force : ℕ = in_force (newest_number p) (e ∷ h) in
+    let last : last_number versions ≡ force =
+    last_number-with (with_said number e.reply.said (versions_after p h)) (version_of e)
+    ∙ ap (λ n. option_map_or (λ brought. brought.0) (version_of e) n) (said-numbers p h e.reply.said ∙ newest_after p h) in
+    last_number-filter (λ version. is_needed (frontends_after p (e ∷ h)) force version.number) versions
+    (λ w there.
+    let same : w.number ≡ force = sym (ap (λ o. option_map_or (λ version. version.number) o 0) there) ∙ last in
+    or_left (w.number == force) (list_any (has_version w.number) (frontends_after p (e ∷ h))) (eq-eqb w.number force same)) ∙ last
 
 pub force-append : (p : Plain) (g h : List Entry) → in_force (newest_number (after p h)) g ≡ in_force (newest_number p) (g ++ h)
 force-append p g h = ap (λ n. in_force n g) (newest_after p h) ∙ in_force-append (newest_number p) g h
 
--- the plans of the versions
-plans_after : (p : Plain) (h : List Entry) → plans (after p h) [] ≡ plans p h
-plans_after p [] = refl
-plans_after p (e ∷ h) =
-    let number : ℕ = judging_version (frontends_after p h) (in_force (newest_number p) h) e.reply.said in
-    plan_pairs-with (with_said number e.reply.said (versions_after p h)) (version_of e.event)
-    ∙ ap (λ pairs. pairs ++ option_to_list (version_of e.event)) (said-pairs p h e.reply.said ∙ plans_after p h)
-
-plans-append : (p : Plain) (g h : List Entry) → plans (after p h) g ≡ plans p (g ++ h)
-plans-append p [] h = plans_after p h
-plans-append p (e ∷ g) h = ap (λ pairs. pairs ++ option_to_list (version_of e.event)) (plans-append p g h)
-
--- so a row's replies are read by the same plans from either state
-reads_alike : (p : Plain) (h g : List Entry) (number : ℕ) → plan_of (after p h) g number ≡ plan_of p (g ++ h) number
-reads_alike p h g number = rw (plans-append p g h) refl
+-- the replies to a row are read by the same plan from either state
+abbrev pub ReadsAlike : Plain → List Entry → ℕ → Type 0
+ReadsAlike p h number = (g : List Entry) → plan_of (after p h) g number ≡ plan_of p (g ++ h) number
 
 -- One row.
 
-phase_after-append : (p : Plain) (number serial version : ℕ) (start : Phase) (g h : List Entry) →
+phase_after-append : (p : Plain) (number serial version : ℕ) (start : Phase) (g h : List Entry) → ReadsAlike p h version →
     phase_after (after p h) number serial version (phase_after p number serial version start h) g ≡ phase_after p number serial version start (g ++ h)
-phase_after-append p number serial version start [] h = refl
-phase_after-append p number serial version start (e ∷ g) h = cc (phase_after-append p number serial version start g h, reads_alike p h g version)
+phase_after-append p number serial version start [] h reads = refl
+phase_after-append p number serial version start (e ∷ g) h reads = cc (phase_after-append p number serial version start g h reads, reads g)
 
 tracks_of-append : (number serial : ℕ) (g h : List Entry) → tracks_of number serial (g ++ h) ≡ tracks_of number serial h ++ tracks_of number serial g
 tracks_of-append number serial [] h = sym (append-nil (tracks_of number serial h))
@@ -137,10 +119,10 @@ by_counter-append a b =
 pub by_counter-twice : (a : List Track) → by_counter (by_counter a) ≡ by_counter a
 by_counter-twice a = ap by_counter (sym (append-nil (by_counter a))) ∙ by_counter-append a [] ∙ ap by_counter (append-nil a)
 
-pub row_after-append : (p : Plain) (number : ℕ) (g h : List Entry) (row : Row) → row_after (after p h) number g (row_after p number h row) ≡ row_after p number (g ++ h) row
-row_after-append p number g h row =
+pub row_after-append : (p : Plain) (number : ℕ) (g h : List Entry) (row : Row) → ReadsAlike p h row.version → row_after (after p h) number g (row_after p number h row) ≡ row_after p number (g ++ h) row
+row_after-append p number g h row reads =
     let phase : phase_after (after p h) number row.serial row.version (phase_after p number row.serial row.version row.phase h) g ≡ phase_after p number row.serial row.version row.phase (g ++ h) =
-    phase_after-append p number row.serial row.version row.phase g h in
+    phase_after-append p number row.serial row.version row.phase g h reads in
     let tracks : by_counter (by_counter (row.tracks ++ tracks_of number row.serial h) ++ tracks_of number row.serial g) ≡ by_counter (row.tracks ++ tracks_of number row.serial (g ++ h)) =
     by_counter-append (row.tracks ++ tracks_of number row.serial h) (tracks_of number row.serial g)
     ∙ ap by_counter (append_assoc row.tracks (tracks_of number row.serial h) (tracks_of number row.serial g)
@@ -239,9 +221,9 @@ not_or : (a b : Bool) → not (a || b) ≡ (not a && not b)
 not_or true b = refl
 not_or false b = refl
 
-fresh_row : (p : Plain) (number : ℕ) (g h : List Entry) (row : Row) → is_spoken_to number h row.serial ≡ false →
+fresh_row : (p : Plain) (number : ℕ) (g h : List Entry) (row : Row) → is_spoken_to number h row.serial ≡ false → ReadsAlike p h row.version →
     row_after (after p h) number g row ≡ row_after p number (g ++ h) row
-fresh_row p number g h row free =
+fresh_row p number g h row free reads =
     let q : Plain = after p h in
     let phase : phase_after p number row.serial row.version row.phase h ≡ row.phase = phase_after-unspoken p number row.serial row.version row.phase h free in
     let none : tracks_of number row.serial h ≡ [] = tracks_of-unspoken number row.serial h free in
@@ -250,15 +232,15 @@ fresh_row p number g h row free =
     by_counter-append (row.tracks ++ tracks_of number row.serial h) later
     ∙ ap (λ ts. by_counter ((row.tracks ++ ts) ++ later)) none ∙ ap (λ ts. by_counter (ts ++ later)) (append-nil row.tracks) in
     let same : row_after q number g (row_after p number h row) ≡ row_after q number g row = cc (phase, tracks) in
-    sym same ∙ row_after-append p number g h row
+    sym same ∙ row_after-append p number g h row reads
 
-fresh_rows : (p : Plain) (number : ℕ) (g h : List Entry) (rows : List Row) → AllByRecursion (λ row. is_spoken_to number h row.serial ≡ false) rows →
+fresh_rows : (p : Plain) (number : ℕ) (g h : List Entry) (rows : List Row) → AllByRecursion (λ row. (is_spoken_to number h row.serial ≡ false) × ReadsAlike p h row.version) rows →
     AllByRecursion (λ row. (not (has_ended number g row.serial) ≡ not (has_ended number (g ++ h) row.serial)) × (row_after (after p h) number g row ≡ row_after p number (g ++ h) row)) rows
 fresh_rows p number g h [] fresh = tt
 fresh_rows p number g h (row ∷ rows) fresh = (
   (
-    rw (has_ended-append number row.serial g h, has_ended-unspoken number row.serial h fresh.0) (ap not (or_false (has_ended number g row.serial))),
-    fresh_row p number g h row fresh.0,
+    rw (has_ended-append number row.serial g h, has_ended-unspoken number row.serial h fresh.0.0) (ap not (or_false (has_ended number g row.serial))),
+    fresh_row p number g h row fresh.0.0 fresh.0.1,
   ),
   fresh_rows p number g h rows fresh.1,
 )
@@ -267,19 +249,21 @@ fresh_rows p number g h (row ∷ rows) fresh = (
     or_false true = refl
     or_false false = refl
 
-kept_rows : (p : Plain) (number : ℕ) (g h : List Entry) (rows : List Row) →
+kept_rows : (p : Plain) (number : ℕ) (g h : List Entry) (rows : List Row) → AllByRecursion (λ row. not (has_ended number h row.serial) ≡ true → ReadsAlike p h row.version) rows →
     AllByRecursion (λ row. not (has_ended number h row.serial) ≡ true → row_after (after p h) number g (row_after p number h row) ≡ row_after p number (g ++ h) row) rows
-kept_rows p number g h [] = tt
-kept_rows p number g h (row ∷ rows) = ((λ live. row_after-append p number g h row), kept_rows p number g h rows)
+kept_rows p number g h [] kept = tt
+kept_rows p number g h (row ∷ rows) kept = ((λ live. row_after-append p number g h row (kept.0 live)), kept_rows p number g h rows kept.1)
 
--- A frontend, where no reply before speaks to what is opened after.
+-- A frontend.
 
-abbrev pub IsFresh : Plain → ℕ → List Entry → List Entry → Type 0
-IsFresh p number g h = AllByRecursion (λ row. is_spoken_to number h row.serial ≡ false) (arrivals (after p h) number g)
+-- the plans of its open rows are kept, and no reply before speaks to what is opened after
+pub record GoesOn (p : Plain) (number : ℕ) (own : FrontendRows) (g h : List Entry) : Type 0 where
+  pub kept : AllByRecursion (λ row. not (has_ended number h row.serial) ≡ true → ReadsAlike p h row.version) (own.rows ++ arrivals p number h)
+  pub fresh : AllByRecursion (λ row. (is_spoken_to number h row.serial ≡ false) × ReadsAlike p h row.version) (arrivals (after p h) number g)
 
-frontend_in_parts : (p : Plain) (number : ℕ) (own : FrontendRows) (g h : List Entry) → IsFresh p number g h →
+frontend_in_parts : (p : Plain) (number : ℕ) (own : FrontendRows) (g h : List Entry) → GoesOn p number own g h →
     frontend_after (after p h) g number (frontend_after p h number own) ≡ frontend_after p (g ++ h) number own
-frontend_in_parts p number own g h fresh =
+frontend_in_parts p number own g h goes =
     let q : Plain = after p h in
     let serial : (own.serial + accepts number h) + accepts number g ≡ own.serial + accepts number (g ++ h) =
     rw (accepts-append number g h) (omega arith) in
@@ -293,9 +277,9 @@ frontend_in_parts p number own g h fresh =
     let new' : List Row = arrivals q number g in
     let first : map f' (filter live_g (map f (filter live_h old))) ≡ map f'' (filter live old) =
     old_rows f f' f'' live_h live_g live old (λ row. refl) (λ row. ap not (has_ended-append number row.serial g h) ∙ not_or (has_ended number g row.serial) (has_ended number h row.serial))
-    (kept_rows p number g h old) in
+    (kept_rows p number g h old goes.kept) in
     let second : map f' (filter live_g new') ≡ map f'' (filter live new') =
-    new_rows f' f'' live_g live new' (fresh_rows p number g h new' fresh) in
+    new_rows f' f'' live_g live new' (fresh_rows p number g h new' goes.fresh) in
     let parted : map f' (filter live_g (map f (filter live_h old) ++ new')) ≡ map f' (filter live_g (map f (filter live_h old))) ++ map f' (filter live_g new') =
     ap (map f') (filter-append live_g (map f (filter live_h old)) new') ∙ map-append f' (filter live_g (map f (filter live_h old))) (filter live_g new') in
     let joined : map f'' (filter live (old ++ new')) ≡ map f'' (filter live old) ++ map f'' (filter live new') =
@@ -318,19 +302,19 @@ map_from-twice f g k n (x ∷ xs) same =
     map_from-twice f g k (n + 1) xs (λ i y there. let shift : n + suc i ≡ (n + 1) + i = omega arith in rw shift at (same (suc i) y there)) in
     cc (here, rest)
 
--- each frontend is fresh
-abbrev pub AreFresh : Plain → List Entry → List Entry → Type 0
-AreFresh p g h = (number : ℕ) (own : FrontendRows) → slice_get p.frontends number ≡ Some own → IsFresh p number g h
+-- each frontend goes on
+abbrev pub AllGoOn : Plain → List Entry → List Entry → Type 0
+AllGoOn p g h = (number : ℕ) (own : FrontendRows) → slice_get p.frontends number ≡ Some own → GoesOn p number own g h
 
-pub frontends_in_parts : (p : Plain) (g h : List Entry) → AreFresh p g h → frontends_after (after p h) g ≡ frontends_after p (g ++ h)
-frontends_in_parts p g h fresh =
+pub frontends_in_parts : (p : Plain) (g h : List Entry) → AllGoOn p g h → frontends_after (after p h) g ≡ frontends_after p (g ++ h)
+frontends_in_parts p g h goes =
     map_from-twice (frontend_after p h) (frontend_after (after p h) g) (frontend_after p (g ++ h)) 0 p.frontends
-    (λ i own there. rw (zero_plus i) (frontend_in_parts p i own g h (fresh i own there)))
+    (λ i own there. rw (zero_plus i) (frontend_in_parts p i own g h (goes i own there)))
   where
     zero_plus : (n : ℕ) → 0 + n ≡ n
     zero_plus n = omega arith
 
 -- a history in two parts, where its versions and its tables are those of the whole
-pub history_parts : (p : Plain) (g h : List Entry) → AreFresh p g h → versions_after (after p h) g ≡ versions_after p (g ++ h) → tables_after (after p h) g ≡ tables_after p (g ++ h) →
+pub history_parts : (p : Plain) (g h : List Entry) → AllGoOn p g h → versions_after (after p h) g ≡ versions_after p (g ++ h) → tables_after (after p h) g ≡ tables_after p (g ++ h) →
     after (after p h) g ≡ after p (g ++ h)
-history_parts p g h fresh versions tables = cc (now_of-append p.clock g h, frontends_in_parts p g h fresh, versions, tables)
+history_parts p g h goes versions tables = cc (now_of-append p.clock g h, frontends_in_parts p g h goes, versions, tables)

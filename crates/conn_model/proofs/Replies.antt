@@ -4,9 +4,13 @@ use Rattle.std.proofs.Common.{sym, ap, ◌∙◌}
 use Rattle.list_core.specs.Each.{◌>>=◌}
 use Rattle.addr_core.specs.PairValue.{PairValue}
 use Rattle.plan_types.specs.declared.plan.Frontend.{Frontend}
+use Rattle.plan_types.specs.declared.plan.Plan.{Plan}
+use Rattle.plan_core.specs.Binds.{same_binds}
+use Rattle.config_core.specs.Meaning.{meaning}
+use Rattle.config_core.specs.declared.fault.OpenFault.{OpenFault}
 use Rattle.conn_model.specs.declared.event.ConnId.{ConnId}
 use Rattle.conn_model.specs.declared.event.OwnedEvent.{OwnedEvent}
-use Rattle.conn_model.specs.declared.event.OwnedEvent.TheVariants.{Accept, Piece, Connected, ConnectFailed, Close, Expire}
+use Rattle.conn_model.specs.declared.event.OwnedEvent.TheVariants.{Accept, Piece, Connected, ConnectFailed, Close, Expire, Reload}
 use Rattle.conn_model.specs.declared.reply.Cause.{Cause}
 use Rattle.conn_model.specs.declared.reply.Cause.TheVariants.{Expired}
 use Rattle.conn_model.specs.declared.event.Why.TheVariants.{Failed}
@@ -17,9 +21,9 @@ use Rattle.pp_any.specs.Status.{Status}
 use Rattle.pp_any.specs.NextPiece.{status_on}
 use Rattle.conn_model.specs.declared.reply.Said.{Said}
 use Rattle.conn_model.specs.declared.reply.Said.TheVariants as saids
-use Rattle.conn_model.specs.declared.reply.Said.TheVariants.{Refuse, Closed}
+use Rattle.conn_model.specs.declared.reply.Said.TheVariants.{Refuse, Closed, Reloaded}
 use Rattle.conn_model.specs.declared.reply.Reply.{Reply}
-use Rattle.conn_model.specs.declared.reply.StepFault.TheVariants.{NoListener, NoSuch, NotWaiting, NotOffered, NotDue, Exhausted}
+use Rattle.conn_model.specs.declared.reply.StepFault.TheVariants.{NoListener, NoSuch, NotWaiting, NotOffered, NotDue, BadConfig, BindChanged, Exhausted}
 use Rattle.conn_model.specs.declared.plain.Row.{Row}
 use Rattle.conn_model.specs.declared.plain.FrontendRows.{FrontendRows}
 use Rattle.conn_model.specs.declared.plain.Listener.{Listener}
@@ -28,7 +32,7 @@ use Rattle.conn_model.specs.declared.plain.Plain.{Plain}
 use Rattle.conn_model.specs.Words.{newest, or_fault}
 use Rattle.rule_engine.specs.Judging.{no_tracks, Slots}
 use Rattle.conn_model.specs.Rules.{Candidate, rejection, view_of}
-use Rattle.conn_model.specs.Answer.{awaits_server, row_at, server_answer, version_at, NumberedServer, frontend_in, reply_of, verdict, said_of, decision, candidate_at, candidate_of, judged_pair, rest_in, waiting_row, entry_reply, entry_rules, admission, header_reply, accept_answer, piece_answer, close_answer, expire_answer, answer_in}
+use Rattle.conn_model.specs.Answer.{awaits_server, row_at, server_answer, version_at, NumberedServer, frontend_in, reply_of, verdict, said_of, decision, candidate_at, candidate_of, judged_pair, rest_in, waiting_row, entry_reply, entry_rules, admission, header_reply, accept_answer, piece_answer, close_answer, expire_answer, next_answer, reload_answer, answer_in}
 use Rattle.conn_model.specs.History.{id_of}
 
 -- Answers in steps.
@@ -88,6 +92,15 @@ pub record IsOld (q : Plain) (id : ConnId) (said : Said) : Type 0 where
   pub row : Row
   pub there : row_at q.frontends id ≡ Some row
 
+-- it gives the next number to the plan that the text means
+pub record IsReload (q : Plain) (text : List ℕ) (said : Said) : Type 0 where
+  pub plan : Plan
+  pub version : Version
+  pub meant : meaning text ≡ Ok plan
+  pub newest_is : newest q.versions ≡ Some version
+  pub binds : same_binds version.plan plan ≡ true
+  pub says : said ≡ Reloaded (version.number + 1)
+
 abbrev pub Says : Plain → OwnedEvent → Said → Type 0
 Says q (Accept listener real) said = IsNew q said
 Says q (Piece id bytes) said = IsOld q id said
@@ -95,6 +108,7 @@ Says q (Connected id) said = IsOld q id said
 Says q (ConnectFailed id) said = IsOld q id said
 Says q (Close id why) said = IsOld q id said
 Says q (Expire id) said = IsOld q id said
+Says q (Reload text) said = IsReload q text said
 
 -- what the answer to an accept looked up, and the reply that it gave
 pub record Accepted (q : Plain) (clock listener : ℕ) (real : PairValue) (reply : Reply) : Type 0 where
@@ -252,6 +266,44 @@ expired q clock id reply is =
 old_expired : (q : Plain) (clock : ℕ) (id : ConnId) (reply : Reply) → HasExpired q clock id reply → IsOld q id reply.said
 old_expired q clock id reply got = record { speaks = ap (λ r. id_of r.said) (sym got.reply_is); row = got.row; there = got.row_is }
 
+-- what the answer to a reload looked up, and the reply that it gave
+pub record Followed (q : Plain) (text : List ℕ) (reply : Reply) : Type 0 where
+  pub plan : Plan
+  pub version : Version
+  pub meant : meaning text ≡ Ok plan
+  pub newest_is : newest q.versions ≡ Some version
+  pub binds : same_binds version.plan plan ≡ true
+  pub fits : nat_lt version.number 0xFFFF_FFFF_FFFF_FFFF ≡ true
+  pub reply_is : reply_of (Reloaded (version.number + 1)) ≡ reply
+
+both_chosen : {A F : Type 0} (a b : Bool) (x y : A) (one two : F) → (if a then if b then Ok x else Err one else Err two) ≡ Ok y → (a ≡ true) × (b ≡ true) × (x ≡ y)
+both_chosen true true x y one two is = (refl, refl, cc)
+both_chosen true false x y one two is = absurd (let wrong : Err one ≡ Ok y = is in cc)
+both_chosen false b x y one two is = absurd (let wrong : Err two ≡ Ok y = is in cc)
+
+followed_by : (q : Plain) (text : List ℕ) (reply : Reply) (read : Result Plan OpenFault) → meaning text ≡ read → reload_answer q read ≡ Ok reply → Followed q text reply
+followed_by q text reply (Err fault) meant is = absurd (let wrong : Err (BadConfig fault) ≡ Ok reply = is in cc)
+followed_by q text reply (Ok plan) meant is =
+    let one = bind-ok (or_fault BindChanged (newest q.versions)) (next_answer plan) reply is in
+    let version : Version = one.0 in
+    let last = both_chosen (same_binds version.plan plan) (nat_lt version.number 0xFFFF_FFFF_FFFF_FFFF) (reply_of (Reloaded (version.number + 1))) reply Exhausted BindChanged one.2 in
+    record {
+      plan = plan;
+      version = version;
+      meant = meant;
+      newest_is = or_fault-ok BindChanged (newest q.versions) version one.1;
+      binds = last.0;
+      fits = last.1;
+      reply_is = last.2;
+    }
+
+pub followed : (q : Plain) (text : List ℕ) (reply : Reply) → reload_answer q (meaning text) ≡ Ok reply → Followed q text reply
+followed q text reply is = followed_by q text reply (meaning text) refl is
+
+reloaded : (q : Plain) (text : List ℕ) (reply : Reply) → Followed q text reply → IsReload q text reply.said
+reloaded q text reply got =
+    record { plan = got.plan; version = got.version; meant = got.meant; newest_is = got.newest_is; binds = got.binds; says = ap (λ r. r.said) (sym got.reply_is) }
+
 -- what is known of an answer
 pub answered : (q : Plain) (moment : ℕ) (event : OwnedEvent) (reply : Reply) → answer_in q moment event ≡ Ok reply → Says q event reply.said
 answered q moment (Accept listener real) reply is = new_at q (max q.clock moment) listener real reply (accepted q (max q.clock moment) listener real reply is)
@@ -260,3 +312,4 @@ answered q moment (Connected id) reply is = old_server q id (saids.Up id) reply 
 answered q moment (ConnectFailed id) reply is = old_server q id (Closed id Failed) reply refl (server_answered q id (Closed id Failed) reply is)
 answered q moment (Close id why) reply is = closed q id (Closed id why) reply refl is
 answered q moment (Expire id) reply is = old_expired q (max q.clock moment) id reply (expired q (max q.clock moment) id reply is)
+answered q moment (Reload text) reply is = reloaded q text reply (followed q text reply is)

@@ -18,7 +18,7 @@ use Rattle.rule_engine.specs.Judging.{Slots, no_tracks}
 use Rattle.rule_engine.proofs.SlotLemmas.{judged-slots, none_made, AreSlots, Makes}
 use Rattle.conn_model.specs.declared.event.ConnId.{ConnId}
 use Rattle.conn_model.specs.declared.event.OwnedEvent.{OwnedEvent}
-use Rattle.conn_model.specs.declared.event.OwnedEvent.TheVariants.{Accept, Piece, Connected, ConnectFailed, Close, Expire}
+use Rattle.conn_model.specs.declared.event.OwnedEvent.TheVariants.{Accept, Piece, Connected, ConnectFailed, Close, Expire, Reload}
 use Rattle.conn_model.specs.declared.reply.Said.{Said}
 use Rattle.conn_model.specs.declared.event.Why.TheVariants.{Failed}
 use Rattle.conn_model.specs.declared.reply.Said.TheVariants as saids
@@ -34,9 +34,9 @@ use Rattle.conn_model.specs.Tables.{open_tracks, same_id, table_at, tracks_in}
 use Rattle.conn_model.specs.Rules.{key_in_table, rejection, scene_of, view_of, Candidate, RuleView}
 use Rattle.conn_model.specs.Answer.{admission, answer_in, candidate_at, candidate_of, close_answer, decision, entry_reply, entry_rules, header_reply, judged_pair, new_row, reply_of, row_at}
 use Rattle.conn_model.specs.History.{newest_number, tables_of, IsWell}
-use Rattle.conn_model.proofs.Lists.{or_left, or_right}
+pub use Rattle.conn_model.proofs.Lists.{any-at}
 use Rattle.conn_model.proofs.Versions.{newest-at}
-use Rattle.conn_model.proofs.Replies.{accepted, bind-ok, expired, received, server_answered, Accepted, Received}
+use Rattle.conn_model.proofs.Replies.{accepted, bind-ok, expired, followed, received, server_answered, Accepted, Received}
 use Rattle.conn_model.proofs.OneTable.{key_for, same_id-refl, table_found}
 
 -- the track is of a key of the source that could be listed, in one of those tables
@@ -47,11 +47,6 @@ pub record IsOfSource (tracks : List Track) (tables : List TableState) (ids : Li
   pub among : list_any (same_id track.table) ids ≡ true
 
 -- Rules.
-
-pub any-at : {X : Type 0} (test : X → Bool) (xs : List X) (n : ℕ) (x : X) → slice_get xs n ≡ Some x → test x ≡ true → list_any test xs ≡ true
-any-at test [] n x there is = cc
-any-at test (y ∷ ys) zero x there is = let same : y ≡ x = cc in or_left (test y) (list_any test ys) (ap test same ∙ is)
-any-at test (y ∷ ys) (suc n) x there is = or_right (test y) (list_any test ys) (any-at test ys n x there is)
 
 abbrev OfSource : Candidate → Addr → ℕ → Track → Type 0
 OfSource candidate source counter track = IsOfSource (open_tracks candidate.state.frontends) candidate.state.tables candidate.version.tables source track
@@ -151,6 +146,7 @@ judging q (Connected id) = option_map_or (λ row. row.version) (row_at q.fronten
 judging q (ConnectFailed id) = option_map_or (λ row. row.version) (row_at q.frontends id) 0
 judging q (Close id why) = option_map_or (λ row. row.version) (row_at q.frontends id) 0
 judging q (Expire id) = option_map_or (λ row. row.version) (row_at q.frontends id) 0
+judging q (Reload text) = newest_number q
 
 -- all that a reply tracks is of one source
 abbrev pub HasSource : Plain → ℕ → Reply → Type 0
@@ -196,3 +192,4 @@ has_source q well moment (Connected id) reply is = no_source q (judging q (Conne
 has_source q well moment (ConnectFailed id) reply is = no_source q (judging q (ConnectFailed id)) (Closed id Failed) reply (server_answered q id (Closed id Failed) reply is).reply_is
 has_source q well moment (Close id why) reply is = closed_source q id (judging q (Close id why)) (Closed id why) reply is
 has_source q well moment (Expire id) reply is = let got = expired q (max q.clock moment) id reply is in no_source q (judging q (Expire id)) _ reply got.reply_is
+has_source q well moment (Reload text) reply is = no_source q (judging q (Reload text)) _ reply (followed q text reply is).reply_is

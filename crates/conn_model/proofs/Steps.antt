@@ -1,8 +1,9 @@
 -- The state after one event.
-use Rattle.std.specs.Prelude.{ℕ, zero, suc, Bool, true, false, not, max, List, [], map, filter, find, slice_get, slice_set, is_some, Some, None, refl, ◌+◌, ◌≤◌, ◌≡◌, ◌≢◌, ◌==◌, ◌&&◌, ◌∷◌, ◌++◌, if◌then◌else◌}
-use Rattle.std.specs.List.{AllByRecursion}
-use Rattle.std.specs.Option.{option_map_or}
-use Rattle.std.proofs.Common.{sym, ap, ◌∙◌, arith, append-nil, get_or}
+use Rattle.std.specs.Prelude.{ℕ, zero, suc, Bool, true, false, not, max, List, [], map, filter, find, slice_get, slice_set, is_some, Option, Some, None, option_map, Ok, refl, ◌+◌, ◌≤◌, ◌≡◌, ◌≢◌, ◌==◌, ◌&&◌, ◌∷◌, ◌++◌, if◌then◌else◌}
+use Rattle.std.specs.List.{list_any, AllByRecursion}
+use Rattle.std.specs.Option.{option_and_then, option_map_or}
+use Rattle.std.proofs.Common.{sym, ap, ◌∙◌, arith, inl, inr, append-nil, get_or}
+use Rattle.std.proofs.lemmas.List.Folds.{list_any-append}
 use Rattle.std.proofs.lemmas.Bool.{eq-eqb, eqb-true}
 use Rattle.std.proofs.lemmas.Bool.Decides.{nat_tests}
 use Rattle.std.proofs.lemmas.List.{map-append}
@@ -11,13 +12,14 @@ use Rattle.addr_core.specs.PairValue.{PairValue}
 use Rattle.arrayvec.specs.ArrayVec.{ArrayVec}
 use Rattle.plan_types.specs.declared.plan.Plan.{Plan}
 use Rattle.plan_types.specs.declared.track.Track.{Track}
+use Rattle.config_core.specs.Meaning.{meaning}
 use Rattle.conn_model.specs.declared.event.ConnId.{ConnId}
 use Rattle.conn_model.specs.declared.event.OwnedEvent.{OwnedEvent}
-use Rattle.conn_model.specs.declared.event.OwnedEvent.TheVariants.{Accept, Piece, Connected, ConnectFailed, Close, Expire}
+use Rattle.conn_model.specs.declared.event.OwnedEvent.TheVariants.{Accept, Piece, Connected, ConnectFailed, Close, Expire, Reload}
 use Rattle.conn_model.specs.declared.reply.Reply.{Reply}
 use Rattle.conn_model.specs.declared.reply.Said.{Said}
 use Rattle.conn_model.specs.declared.reply.Said.TheVariants as saids
-use Rattle.conn_model.specs.declared.reply.Said.TheVariants.{Wait, Offer, Refuse, Closed}
+use Rattle.conn_model.specs.declared.reply.Said.TheVariants.{Wait, Offer, Refuse, Closed, Reloaded}
 use Rattle.conn_model.specs.declared.plain.Phase.TheVariants.{Offered}
 use Rattle.conn_model.specs.declared.plain.Row.{Row}
 use Rattle.conn_model.specs.declared.plain.FrontendRows.{FrontendRows}
@@ -26,14 +28,16 @@ use Rattle.conn_model.specs.declared.plain.Version.{Version}
 use Rattle.conn_model.specs.declared.plain.Plain.{Plain}
 use Rattle.conn_model.specs.Words.{map_from, newest}
 use Rattle.conn_model.specs.Counts.{change_row}
-use Rattle.conn_model.specs.Answer.{row_in, version_at, new_row}
-use Rattle.conn_model.specs.History.{id_of, speaks_to, newest_number, plan_of, identity_of, by_counter, phase_by, is_last, is_accept_at, arrival, has_ended, row_after, frontend_after, frontends_after, judging_version, tables_by, versions_after, with_said, after, entry, Entry, IsFrontendWell, IsWell}
-use Rattle.conn_model.proofs.Lists.{all-more, all-at, all-both}
+use Rattle.conn_model.specs.Answer.{reply_of, row_in, version_at, new_row}
+use Rattle.conn_model.specs.Tables.{is_listed_by, new_tables, written_tables}
+use Rattle.conn_model.specs.History.{id_of, speaks_to, has_version, in_force, is_needed, needed_versions, newest_number, next_version, number_said, plan_in, plan_of, plan_with, tables_after, tables_with, version_of, with_version, identity_of, by_counter, phase_by, is_last, is_accept_at, arrival, has_ended, row_after, frontend_after, frontends_after, judging_version, tables_by, versions_after, with_said, after, entry, Entry, IsFrontendWell, IsWell}
+use Rattle.conn_model.proofs.Lists.{all-more, all-at, all-both, or_left, or_right, or_true}
 use Rattle.conn_model.proofs.Nothing.{after-nil}
 pub use Rattle.conn_model.proofs.Versions.{is_offer, last_no_offer, versions_kept}
 use Rattle.conn_model.proofs.Versions.{newest-at}
 pub use Rattle.conn_model.proofs.VersionSteps.{judging-old}
-use Rattle.conn_model.proofs.VersionSteps.{judging-new, versions_step}
+use Rattle.conn_model.proofs.VersionSteps.{judging-new, versions_quiet, versions_said, versions_step}
+use Rattle.conn_model.proofs.TableSteps.{tables_quiet, tables_said, tables_step-by}
 
 -- Lists of which one item changes.
 
@@ -126,6 +130,38 @@ state_is : (p : Plain) (clock : ℕ) (frontends fs : List FrontendRows) (version
 state_is p clock frontends fs versions vs tables ts one two three =
     ap (λ x. state_with p clock x versions tables) three ∙ ap (λ x. state_with p clock fs x tables) two ∙ ap (λ x. state_with p clock fs vs x) one
 
+-- Versions that are needed on.
+
+any-set : {X : Type 0} (test : X → Bool) (xs : List X) (n : ℕ) (x new' : X) → slice_get xs n ≡ Some x → (test x ≡ true → test new' ≡ true) → list_any test xs ≡ true → list_any test (slice_set xs n new') ≡ true
+any-set test [] n x new' there on is = is
+any-set test (y ∷ xs) zero x new' there on is = elim (or_true (test y) (list_any test xs) is) [
+  | inl here ↦ or_left (test new') (list_any test xs) (on (let same : x ≡ y = cc in ap test same ∙ here))
+  | inr later ↦ or_right (test new') (list_any test xs) later
+]
+any-set test (y ∷ xs) (suc n) x new' there on is = elim (or_true (test y) (list_any test xs) is) [
+  | inl here ↦ or_left (test y) (list_any test (slice_set xs n new')) here
+  | inr later ↦ or_right (test y) (list_any test (slice_set xs n new')) (any-set test xs n x new' there on later)
+]
+
+-- where a frontend has connections of the same versions, and maybe of more
+needed-set : (frontends : List FrontendRows) (force number n : ℕ) (own own' : FrontendRows) → slice_get frontends number ≡ Some own → (has_version n own ≡ true → has_version n own' ≡ true) →
+    is_needed frontends force n ≡ true → is_needed (slice_set frontends number own') force n ≡ true
+needed-set frontends force number n own own' there on is = elim (or_true (n == force) (list_any (has_version n) frontends) is) [
+  | inl here ↦ or_left (n == force) (list_any (has_version n) (slice_set frontends number own')) here
+  | inr some ↦ or_right (n == force) (list_any (has_version n) (slice_set frontends number own')) (any-set (has_version n) frontends number own own' there on some)
+]
+
+-- an event with no plan brings no version
+brings_none : (e : Entry) → plan_with e.event ≡ None → version_of e ≡ None
+brings_none e none = ap (λ o. brought (number_said e.reply.said) o) none ∙ by (number_said e.reply.said)
+  where
+    brought : Option ℕ → Option Plan → Option (ℕ × Plan)
+    brought number plan = option_and_then {U = ℕ × Plan} (λ n. option_map (λ plan. (n, plan)) plan) number
+
+    by : (number : Option ℕ) → brought number None ≡ None
+    by None = refl
+    by (Some number) = refl
+
 -- An accept.
 
 -- what an accept leaves of the new connection, where this is said to it and it tracks those
@@ -143,6 +179,7 @@ rows_left p clock real tracks (Wait id used) = record (new_row id.serial (newest
 rows_left p clock real tracks (Refuse id used cause) = []
 rows_left p clock real tracks (saids.Up id) = []
 rows_left p clock real tracks (Closed id why) = []
+rows_left p clock real tracks (Reloaded version) = []
 
 same_number : (n : ℕ) → (n == n) ≡ true
 same_number n = eq-eqb n n refl
@@ -163,6 +200,7 @@ new_rows_left p moment listener real (Wait id' used) tracks id whom =
 new_rows_left p moment listener real (Refuse id' used cause) tracks id whom = refl
 new_rows_left p moment listener real (saids.Up id') tracks id whom = refl
 new_rows_left p moment listener real (Closed id' why) tracks id whom = refl
+new_rows_left p moment listener real (Reloaded version) tracks id whom = refl
 
 accept-here : (p : Plain) (moment listener : ℕ) (real : PairValue) (reply : Reply) (id : ConnId) (own : FrontendRows) → IsFrontendWell p.versions own → id_of reply.said ≡ Some id → id.serial ≡ own.serial + 1 →
     frontend_after p (entry moment (Accept listener real) reply ∷ []) id.frontend own
@@ -204,14 +242,21 @@ pub after-accept : (p : Plain) → IsWell p → (moment listener : ℕ) (real : 
 after-accept p well moment listener real reply id own there whom next =
     let zero_plus : 0 + id.frontend ≡ id.frontend = omega arith in
     let fine : IsFrontendWell p.versions own = all-at (IsFrontendWell p.versions) p.frontends id.frontend own well.frontends there in
-    let tables : tables_by (frontends_after p []) p.tables reply ≡ tables_by p.frontends p.tables reply = ap (λ fs. tables_by fs p.tables reply) (frontends_same p well) in
-    let versions : versions_after p (entry moment (Accept listener real) reply ∷ []) ≡ with_said (newest_number p) reply.said p.versions =
-    versions_step p well (entry moment (Accept listener real) reply)
-    ∙ ap (λ n. with_said n reply.said p.versions) (judging-new p.frontends (newest_number p) reply.said id own whom there fine.given next) in
-    state_is p (max p.clock moment) _ _ _ _ _ _ tables versions
-    (map_from-one (IsFrontendWell p.versions) (frontend_after p (entry moment (Accept listener real) reply ∷ [])) 0 id.frontend p.frontends own _ well.frontends there
+    let e : Entry = entry moment (Accept listener real) reply in
+    let left : List Row = rows_left p (max p.clock moment) real reply.tracks.items reply.said in
+    let own' : FrontendRows = record own { serial = own.serial + 1; rows = own.rows ++ left } in
+    let frontends : frontends_after p (e ∷ []) ≡ slice_set p.frontends id.frontend own' =
+    map_from-one (IsFrontendWell p.versions) (frontend_after p (e ∷ [])) 0 id.frontend p.frontends own own' well.frontends there
     (rw zero_plus (accept-here p moment listener real reply id own fine whom next))
-    (λ g y known differs. accept-elsewhere p moment listener real reply id g y known whom (λ e. differs (omega arith))))
+    (λ g y known differs. accept-elsewhere p moment listener real reply id g y known whom (λ e. differs (omega arith))) in
+    let on : (n : ℕ) → is_needed p.frontends (newest_number p) n ≡ true → is_needed (frontends_after p (e ∷ [])) (newest_number p) n ≡ true = λ n is.
+    ap (λ fs. is_needed fs (newest_number p) n) frontends
+    ∙ needed-set p.frontends (newest_number p) id.frontend n own own' there (λ has. list_any-append (λ row. row.version == n) own.rows left ∙ or_left (has_version n own) (list_any (λ row. row.version == n) left) has) is in
+    let none : version_of e ≡ None = brings_none e refl in
+    let said : versions_after p (e ∷ []) ≡ with_said (judging_version p.frontends (newest_number p) reply.said) reply.said p.versions = versions_said p well e none on in
+    let versions : versions_after p (e ∷ []) ≡ with_said (newest_number p) reply.said p.versions =
+    said ∙ ap (λ n. with_said n reply.said p.versions) (judging-new p.frontends (newest_number p) reply.said id own whom there fine.given next) in
+    state_is p (max p.clock moment) _ _ _ _ _ _ (tables_said p well e none said) versions frontends
 
 -- An event of a connection that is open.
 
@@ -223,6 +268,7 @@ IsOfOpen (Connected id) = Unit {0}
 IsOfOpen (ConnectFailed id) = Unit {0}
 IsOfOpen (Close id why) = Unit {0}
 IsOfOpen (Expire id) = Unit {0}
+IsOfOpen (Reload text) = ⊥
 
 no_arrival : (number clock version : ℕ) (event : OwnedEvent) (said : Said) → IsOfOpen event → (arrival number clock version event said ≡ []) × (is_accept_at number event said ≡ false)
 no_arrival number clock version (Accept listener real) said old = absurd old
@@ -231,6 +277,7 @@ no_arrival number clock version (Connected id) said old = (refl, refl)
 no_arrival number clock version (ConnectFailed id) said old = (refl, refl)
 no_arrival number clock version (Close id why) said old = (refl, refl)
 no_arrival number clock version (Expire id) said old = (refl, refl)
+no_arrival number clock version (Reload text) said old = (refl, refl)
 
 -- the frontend of which the rows become these
 old-here : (p : Plain) (e : Entry) (number : ℕ) (own : FrontendRows) (rows : List Row) → IsOfOpen e.event →
@@ -250,23 +297,25 @@ old-elsewhere p e id number own well old whom differs =
     let none = no_arrival number (max p.clock e.moment) (newest_number p) e.event e.reply.said old in
     frontend-elsewhere p number e own well (λ serial. other_conn number serial e.reply.said id whom differs) none.1 none.0
 
--- the state after an event that leaves these rows of the connection's frontend
-after-old : (p : Plain) → IsWell p → (e : Entry) (id : ConnId) (own : FrontendRows) (rows : List Row) → slice_get p.frontends id.frontend ≡ Some own → IsOfOpen e.event → id_of e.reply.said ≡ Some id →
+-- the event comes with no plan
+no_plan : (event : OwnedEvent) → IsOfOpen event → plan_with event ≡ None
+no_plan (Accept listener real) old = refl
+no_plan (Piece id bytes) old = refl
+no_plan (Connected id) old = refl
+no_plan (ConnectFailed id) old = refl
+no_plan (Close id why) old = refl
+no_plan (Expire id) old = refl
+no_plan (Reload text) old = absurd old
+
+-- the frontends after an event that leaves these rows of the connection's frontend
+frontends-old : (p : Plain) → IsWell p → (e : Entry) (id : ConnId) (own : FrontendRows) (rows : List Row) → slice_get p.frontends id.frontend ≡ Some own → IsOfOpen e.event → id_of e.reply.said ≡ Some id →
     map (row_after p id.frontend (e ∷ [])) (filter (λ row. not (has_ended id.frontend (e ∷ []) row.serial)) own.rows) ≡ rows →
-    after p (e ∷ []) ≡ record {
-      clock = max p.clock e.moment;
-      listeners = p.listeners;
-      frontends = slice_set p.frontends id.frontend (record own { rows = rows });
-      versions = with_said (judging_version p.frontends (newest_number p) e.reply.said) e.reply.said p.versions;
-      tables = tables_by p.frontends p.tables e.reply;
-    }
-after-old p well e id own rows there old whom is =
+    frontends_after p (e ∷ []) ≡ slice_set p.frontends id.frontend (record own { rows = rows })
+frontends-old p well e id own rows there old whom is =
     let zero_plus : 0 + id.frontend ≡ id.frontend = omega arith in
-    let changed : tables_by (frontends_after p []) p.tables e.reply ≡ tables_by p.frontends p.tables e.reply = ap (λ fs. tables_by fs p.tables e.reply) (frontends_same p well) in
-    state_is p (max p.clock e.moment) _ _ _ _ _ _ changed (versions_step p well e)
-    (map_from-one (IsFrontendWell p.versions) (frontend_after p (e ∷ [])) 0 id.frontend p.frontends own _ well.frontends there
+    map_from-one (IsFrontendWell p.versions) (frontend_after p (e ∷ [])) 0 id.frontend p.frontends own _ well.frontends there
     (rw zero_plus (old-here p e id.frontend own rows old is))
-    (λ g y known differs. old-elsewhere p e id g y known old whom (λ x. differs (omega arith))))
+    (λ g y known differs. old-elsewhere p e id g y known old whom (λ x. differs (omega arith)))
 
 -- a reply that ends the connection
 ended-rows : (p : Plain) (e : Entry) (id : ConnId) (own : FrontendRows) → IsFrontendWell p.versions own → id_of e.reply.said ≡ Some id → is_last e.reply.said ≡ true →
@@ -281,20 +330,30 @@ ended-rows p e id own well whom last =
     speaks : (row : Row) → not (row.serial == id.serial) ≡ true → speaks_to id.frontend row.serial e.reply.said ≡ false
     speaks row left = rw whom (let on : (id.frontend == id.frontend) ≡ true = same_number id.frontend in grind (arith, nat_tests, on, left))
 
--- the versions are as they were
+-- a version goes with the last connection that is of it, where it is not in force, and a table with the last version
+-- that lists it
 pub after-end : (p : Plain) → IsWell p → (e : Entry) (id : ConnId) (own : FrontendRows) → slice_get p.frontends id.frontend ≡ Some own → IsOfOpen e.event → id_of e.reply.said ≡ Some id → is_last e.reply.said ≡ true →
     after p (e ∷ []) ≡ record {
       clock = max p.clock e.moment;
       listeners = p.listeners;
       frontends = slice_set p.frontends id.frontend (record own { rows = filter (λ row. not (row.serial == id.serial)) own.rows });
-      versions = p.versions;
-      tables = tables_by p.frontends p.tables e.reply;
+      versions = needed_versions (slice_set p.frontends id.frontend (record own { rows = filter (λ row. not (row.serial == id.serial)) own.rows })) (newest_number p) p.versions;
+      tables = filter
+          (is_listed_by (needed_versions (slice_set p.frontends id.frontend (record own { rows = filter (λ row. not (row.serial == id.serial)) own.rows })) (newest_number p) p.versions))
+          (tables_by p.frontends p.tables e.reply);
     }
 after-end p well e id own there old whom last =
     let fine : IsFrontendWell p.versions own = all-at (IsFrontendWell p.versions) p.frontends id.frontend own well.frontends there in
-    let versions : with_said (judging_version p.frontends (newest_number p) e.reply.said) e.reply.said p.versions ≡ p.versions =
+    let left : List FrontendRows = slice_set p.frontends id.frontend (record own { rows = filter (λ row. not (row.serial == id.serial)) own.rows }) in
+    let frontends : frontends_after p (e ∷ []) ≡ left = frontends-old p well e id own _ there old whom (ended-rows p e id own fine whom last) in
+    let none : version_of e ≡ None = brings_none e (no_plan e.event old) in
+    let kept : with_said (judging_version p.frontends (newest_number p) e.reply.said) e.reply.said p.versions ≡ p.versions =
     versions_kept (judging_version p.frontends (newest_number p) e.reply.said) e.reply.said p.versions (last_no_offer e.reply.said last) in
-    after-old p well e id own _ there old whom (ended-rows p e id own fine whom last) ∙ state_is p (max p.clock e.moment) _ _ _ _ _ _ refl versions refl
+    let versions : versions_after p (e ∷ []) ≡ needed_versions left (newest_number p) p.versions =
+    versions_quiet p well e none ∙ ap (λ vs. needed_versions (frontends_after p (e ∷ [])) (newest_number p) vs) kept ∙ ap (λ fs. needed_versions fs (newest_number p) p.versions) frontends in
+    let tables : tables_after p (e ∷ []) ≡ filter (is_listed_by (needed_versions left (newest_number p) p.versions)) (tables_by p.frontends p.tables e.reply) =
+    tables_quiet p well e none ∙ ap (λ vs. filter (is_listed_by vs) (tables_by p.frontends p.tables e.reply)) versions in
+    state_is p (max p.clock e.moment) _ _ _ _ _ _ tables versions frontends
 
 -- a connection once that is said to it, and it tracks those too
 abbrev pub row_said : Plain → OwnedEvent → Reply → Row → Row
@@ -322,6 +381,15 @@ changed-rows p e id (row ∷ rows) sorted whom last =
         let speaks : speaks_to id.frontend row.serial e.reply.said ≡ false = rw (whom, other, and_false _) refl in
         rw is (row-unspoken p id.frontend e row speaks sorted.0)
 
+changed-versions : (p : Plain) (event : OwnedEvent) (reply : Reply) (serial n : ℕ) (rows : List Row) →
+    list_any (λ row. row.version == n) (change_row serial (row_said p event reply) rows) ≡ list_any (λ row. row.version == n) rows
+changed-versions p event reply serial n [] = refl
+changed-versions p event reply serial n (row ∷ rows) = cc (here (row.serial == serial) refl, changed-versions p event reply serial n rows)
+  where
+    here : (b : Bool) → (row.serial == serial) ≡ b → ((if row.serial == serial then row_said p event reply row else row).version == n) ≡ (row.version == n)
+    here true is = rw is refl
+    here false is = rw is refl
+
 -- where a server is offered, a cursor of the version that judges the connection moves
 pub after-change : (p : Plain) → IsWell p → (e : Entry) (id : ConnId) (own : FrontendRows) → slice_get p.frontends id.frontend ≡ Some own → IsOfOpen e.event → id_of e.reply.said ≡ Some id → is_last e.reply.said ≡ false →
     after p (e ∷ []) ≡ record {
@@ -332,7 +400,46 @@ pub after-change : (p : Plain) → IsWell p → (e : Entry) (id : ConnId) (own :
       tables = tables_by p.frontends p.tables e.reply;
     }
 after-change p well e id own there old whom last =
-    after-old p well e id own _ there old whom (changed-rows p e id own.rows (all-at (IsFrontendWell p.versions) p.frontends id.frontend own well.frontends there).sorted whom last)
+    let rows : List Row = change_row id.serial (row_said p e.event e.reply) own.rows in
+    let own' : FrontendRows = record own { rows = rows } in
+    let frontends : frontends_after p (e ∷ []) ≡ slice_set p.frontends id.frontend own' =
+    frontends-old p well e id own rows there old whom (changed-rows p e id own.rows (all-at (IsFrontendWell p.versions) p.frontends id.frontend own well.frontends there).sorted whom last) in
+    let on : (n : ℕ) → is_needed p.frontends (newest_number p) n ≡ true → is_needed (frontends_after p (e ∷ [])) (newest_number p) n ≡ true = λ n is.
+    ap (λ fs. is_needed fs (newest_number p) n) frontends
+    ∙ needed-set p.frontends (newest_number p) id.frontend n own own' there (λ has. changed-versions p e.event e.reply id.serial n own.rows ∙ has) is in
+    let none : version_of e ≡ None = brings_none e (no_plan e.event old) in
+    let versions : versions_after p (e ∷ []) ≡ with_said (judging_version p.frontends (newest_number p) e.reply.said) e.reply.said p.versions = versions_said p well e none on in
+    state_is p (max p.clock e.moment) _ _ _ _ _ _ (tables_said p well e none versions) versions frontends
+
+-- A reload.
+
+-- the state once a plan is in force under that number: the version before is forgotten where no connection is of it
+abbrev pub with_reload : Plain → ℕ → ℕ → Plan → Plain
+with_reload p clock number plan = record {
+  clock = clock;
+  listeners = p.listeners;
+  frontends = p.frontends;
+  versions = needed_versions p.frontends number (p.versions ++ next_version number (written_tables (newest p.versions)) plan ∷ []);
+  tables = filter (is_listed_by (needed_versions p.frontends number (p.versions ++ next_version number (written_tables (newest p.versions)) plan ∷ [])))
+      (p.tables ++ new_tables number (written_tables (newest p.versions)) plan.tables);
+}
+
+pub after-reload : (p : Plain) → IsWell p → (moment number : ℕ) (text : List ℕ) (plan : Plan) → meaning text ≡ Ok plan →
+    after p (entry moment (Reload text) (reply_of (Reloaded number)) ∷ []) ≡ with_reload p (max p.clock moment) number plan
+after-reload p well moment number text plan meant =
+    let e : Entry = entry moment (Reload text) (reply_of (Reloaded number)) in
+    let brings : version_of e ≡ Some (number, plan) = ap (λ r. option_map (λ plan. (number, plan)) (plan_in r)) meant in
+    let force : in_force (newest_number p) (e ∷ []) ≡ number = ap (λ o. option_map_or (λ brought. brought.0) o (newest_number p)) brings in
+    let frontends : frontends_after p (e ∷ []) ≡ p.frontends =
+    map_from-none (IsFrontendWell p.versions) (frontend_after p (e ∷ [])) 0 p.frontends well.frontends (λ g own fine le. frontend-elsewhere p g e own fine (λ serial. refl) refl refl) in
+    let next : List Version = p.versions ++ next_version number (written_tables (newest p.versions)) plan ∷ [] in
+    let versions : versions_after p (e ∷ []) ≡ needed_versions p.frontends number next =
+    versions_step p well e ∙ ap (λ b. needed_versions (frontends_after p (e ∷ [])) (in_force (newest_number p) (e ∷ [])) (with_version p.versions b)) brings
+    ∙ ap (λ n. needed_versions (frontends_after p (e ∷ [])) n next) force ∙ ap (λ fs. needed_versions fs number next) frontends in
+    let tables : tables_after p (e ∷ []) ≡ filter (is_listed_by (needed_versions p.frontends number next)) (p.tables ++ new_tables number (written_tables (newest p.versions)) plan.tables) =
+    tables_step-by p well e ∙ ap (λ b. filter (is_listed_by (versions_after p (e ∷ []))) (p.tables ++ tables_with (newest p.versions) b)) brings
+    ∙ ap (λ vs. filter (is_listed_by vs) (p.tables ++ new_tables number (written_tables (newest p.versions)) plan.tables)) versions in
+    state_is p (max p.clock moment) _ _ _ _ _ _ tables versions frontends
 
 -- where a connection is open, its frontend is there
 pub frontend_there : (frontends : List FrontendRows) (number serial : ℕ) (own : FrontendRows) → is_some (row_in serial (slice_get frontends number)) ≡ true → own ≡ get_or frontends number own → slice_get frontends number ≡ Some own

@@ -1,5 +1,5 @@
 -- One step keeps what open connections track listed.
-use Rattle.std.specs.Prelude.{ℕ, Bool, true, false, not, List, [], map, filter, find, slice_get, flat_map, Option, Some, None, Ok, refl, ◌+◌, ◌≤◌, ◌<◌, ◌≡◌, ◌==◌, ◌||◌, ◌∷◌, ◌++◌, if◌then◌else◌}
+use Rattle.std.specs.Prelude.{ℕ, Bool, true, false, not, List, [], map, filter, find, slice_get, flat_map, Option, Some, None, IsSome, Ok, refl, ◌+◌, ◌≤◌, ◌<◌, ◌≡◌, ◌==◌, ◌||◌, ◌∷◌, ◌++◌, if◌then◌else◌}
 use Rattle.std.specs.List.{list_any, AllByRecursion}
 use Rattle.std.specs.Option.{option_map_or}
 use Rattle.std.proofs.Common.{sym, ap, ◌∙◌, subst, arith}
@@ -9,7 +9,7 @@ use Rattle.stick_core.specs.PlainEntries.{is_in}
 use Rattle.plan_types.specs.declared.track.TableId.{TableId}
 use Rattle.plan_types.specs.declared.track.Track.{Track}
 use Rattle.conn_model.specs.declared.event.OwnedEvent.{OwnedEvent}
-use Rattle.conn_model.specs.declared.event.OwnedEvent.TheVariants.{Accept, Piece, Connected, ConnectFailed, Close, Expire}
+use Rattle.conn_model.specs.declared.event.OwnedEvent.TheVariants.{Accept, Piece, Connected, ConnectFailed, Close, Expire, Reload}
 use Rattle.conn_model.specs.declared.event.ConnId.{ConnId}
 use Rattle.conn_model.specs.declared.reply.Reply.{Reply}
 use Rattle.conn_model.specs.declared.reply.Said.{Said}
@@ -17,29 +17,23 @@ use Rattle.conn_model.specs.declared.plain.Row.{Row}
 use Rattle.conn_model.specs.declared.plain.FrontendRows.{FrontendRows}
 use Rattle.conn_model.specs.declared.plain.TableState.{TableState}
 use Rattle.conn_model.specs.declared.plain.Plain.{Plain}
-use Rattle.conn_model.specs.Answer.{answer_in, row_at, row_in}
+use Rattle.conn_model.specs.Answer.{answer_in, row_at, row_in, version_at}
 use Rattle.conn_model.specs.Words.{Rise}
 use Rattle.conn_model.specs.Tables.{by_counter, is_listed, open_tracks, same_id, table_at, tracks_in, IsTrackListed}
-use Rattle.conn_model.specs.History.{after, arrival, frontend_after, has_ended, newest_number, now_of, row_after, speaks_to, tables_of, AreTracksListed, Entry, IsFrontendWell, IsLegal, IsWell}
-use Rattle.conn_model.proofs.Lists.{all-append, all-at, all-both, all-each, all-filter, all-found, all-from_zero, all-map, all-more, or_left, or_right}
-use Rattle.conn_model.proofs.VersionSteps.{tables_of_step}
+use Rattle.conn_model.specs.History.{after, arrival, frontend_after, has_ended, newest_number, now_of, row_after, speaks_to, tables_after, tables_of, versions_after, AreTracksListed, Entry, IsFrontendWell, IsLegal, IsWell}
+use Rattle.conn_model.proofs.Lists.{all-append, all-at, all-both, all-each, all-filter, all-found, all-from_zero, all-map, all-more}
+use Rattle.conn_model.proofs.VersionSteps.{rows_known, rows_needed, tables_of_step}
+use Rattle.conn_model.proofs.Kept.{needed_after}
 use Rattle.conn_model.proofs.Replies.{answered, IsNew, IsOld, Says}
-use Rattle.conn_model.proofs.Serials.{arrival-all, speaks_that}
+use Rattle.conn_model.proofs.Serials.{arrival-all, reload-silent, speaks_that}
 use Rattle.conn_model.proofs.Goes.{well_at}
 use Rattle.conn_model.proofs.Nothing.{after-nil}
 use Rattle.conn_model.proofs.OneTable.{same_id-refl, table_at-map, table_by, table_by-entries, table_found}
-use Rattle.conn_model.proofs.Listed.{table_by-new, table_by-stays, IsIn}
+use Rattle.conn_model.proofs.Listed.{all-in, table_by-new, table_by-stays, IsIn}
 use Rattle.conn_model.proofs.Sources.{any-at, has_source, judging, HasSource, IsOfSource}
-use Rattle.conn_model.proofs.TableSteps.{tables_after_step}
+use Rattle.conn_model.proofs.TableSteps.{listed_in, listed_there, table_kept}
 
 -- Tracks of open connections.
-
-all-in : {X : Type 0} (xs : List X) → AllByRecursion (IsIn xs) xs
-all-in [] = tt
-all-in (x ∷ xs) = (
-  (λ test is. or_left (test x) (list_any test xs) is),
-  all-more (IsIn xs) (IsIn (x ∷ xs)) xs (λ y found test is. or_right (test x) (list_any test xs) (found test is)) (all-in xs),
-)
 
 any-flat : {X Y : Type 0} (test : Y → Bool) (f : X → List Y) (xs : List X) → list_any test (flat_map f xs) ≡ list_any (λ x. list_any test (f x)) xs
 any-flat test f [] = refl
@@ -152,6 +146,8 @@ rows_judged q number own (Connected id) said there well says = old_judged q numb
 rows_judged q number own (ConnectFailed id) said there well says = old_judged q number own id said _ there well says refl
 rows_judged q number own (Close id why) said there well says = old_judged q number own id said _ there well says refl
 rows_judged q number own (Expire id) said there well says = old_judged q number own id said _ there well says refl
+rows_judged q number own (Reload text) said there well says =
+    all-each (λ row. speaks_to number row.serial said ≡ true → row.version ≡ newest_number q) own.rows (λ row spoken. absurd (reload-silent q text said number row.serial says spoken))
 
 -- what an accept opens is of the newest version, and tracked nothing before
 abbrev IsArrival : Plain → OwnedEvent → Row → Type 0
@@ -165,6 +161,7 @@ arrivals_judged q number clock (Connected id) said says = tt
 arrivals_judged q number clock (ConnectFailed id) said says = tt
 arrivals_judged q number clock (Close id why) said says = tt
 arrivals_judged q number clock (Expire id) said says = tt
+arrivals_judged q number clock (Reload text) said says = tt
 
 -- One step.
 
@@ -225,14 +222,32 @@ rows_listed q well e number own there says source =
         (λ track both. (in-open q.frontends number own row track there found both.0, both.1))
         (all-both (IsIn row.tracks) (IsTrackListed (tables_of q.versions row.version) q.tables) row.tracks (all-in row.tracks) all)
 
+-- what was listed stays so, in a version and in a table that are kept
+track_kept : (q : Plain) → IsWell q → (e : Entry) (number : ℕ) → IsSome (version_at q.versions number) → needed_after q (e ∷ []) number ≡ true → (track : Track) →
+    IsTrackListed (tables_of q.versions number) (map (table_by q.frontends e.reply) q.tables) track → IsTrackListed (tables_of (versions_after q (e ∷ [])) number) (tables_after q (e ∷ [])) track
+track_kept q well e number is needed track known =
+    let among : list_any (same_id track.table) (tables_of (versions_after q (e ∷ [])) number) ≡ true = ap (list_any (same_id track.table)) (tables_of_step q well e number is needed) ∙ known.table in
+    let found : table_at (tables_after q (e ∷ [])) track.table ≡ table_at (map (table_by q.frontends e.reply) q.tables) track.table =
+    table_kept q well e track.table (listed_in (versions_after q (e ∷ [])) number track.table among) (listed_there (map (table_by q.frontends e.reply) q.tables) track known.key) in
+    record { table = among; key = ap (λ o. option_map_or (λ table. is_in track.key table.entries) o false) found ∙ known.key }
+
 pub tracks_step : (q : Plain) → IsWell q → (e : Entry) → IsLegal q (e ∷ []) → AreTracksListed (after q (e ∷ []))
 tracks_step q well e legal =
     let is : answer_in q e.moment e.event ≡ Ok e.reply = subst (λ s. answer_in s e.moment e.event ≡ Ok e.reply) (after-nil q well) legal.1 in
-    subst (λ (ids : ℕ → List TableId). AllByRecursion (λ own. AllByRecursion (λ row. AllByRecursion (IsTrackListed (ids row.version) (after q (e ∷ [])).tables) row.tracks) own.rows) (after q (e ∷ [])).frontends)
-    (sym (tables_of_step q well e))
-    (subst (λ ts. AllByRecursion (λ own. AllByRecursion (λ row. AllByRecursion (IsTrackListed (tables_of q.versions row.version) ts) row.tracks) own.rows) (after q (e ∷ [])).frontends) (sym (tables_after_step q well e))
-    (all-from_zero (λ own. AllByRecursion (λ row. AllByRecursion (IsTrackListed (tables_of q.versions row.version) (map (table_by q.frontends e.reply) q.tables)) row.tracks) own.rows) (frontend_after q (e ∷ [])) q.frontends
-    (λ number own there. rows_listed q well e number own there (answered q e.moment e.event e.reply is) (has_source q well e.moment e.event e.reply is))))
+    let R : Row → Type 0 = λ row. AllByRecursion (IsTrackListed (tables_of q.versions row.version) (map (table_by q.frontends e.reply) q.tables)) row.tracks in
+    let S : Row → Type 0 = λ row. AllByRecursion (IsTrackListed (tables_of (versions_after q (e ∷ [])) row.version) (tables_after q (e ∷ []))) row.tracks in
+    let K : Row → Type 0 = λ row. IsSome (version_at q.versions row.version) in
+    let N : Row → Type 0 = λ row. needed_after q (e ∷ []) row.version ≡ true in
+    all-from_zero (λ own. AllByRecursion S own.rows) (frontend_after q (e ∷ [])) q.frontends
+    (λ number own there.
+    let rows : List Row = (frontend_after q (e ∷ []) number own).rows in
+    all-more (λ row. (R row × K row) × N row) S rows
+    (λ row all.
+    all-more (IsTrackListed (tables_of q.versions row.version) (map (table_by q.frontends e.reply) q.tables)) (IsTrackListed (tables_of (versions_after q (e ∷ [])) row.version) (tables_after q (e ∷ []))) row.tracks
+    (track_kept q well e row.version all.0.1 all.1) all.0.0)
+    (all-both (λ row. R row × K row) N rows
+    (all-both R K rows (rows_listed q well e number own there (answered q e.moment e.event e.reply is) (has_source q well e.moment e.event e.reply is)) (rows_known q well e legal number own there))
+    (rows_needed q e number own there)))
 
 -- the tracks of an open connection
 pub row_tracks : (p : Plain) → AreTracksListed p → (id : ConnId) (row : Row) → row_at p.frontends id ≡ Some row → AllByRecursion (IsTrackListed (tables_of p.versions row.version) p.tables) row.tracks

@@ -1,9 +1,9 @@
 -- The newest version, and versions of which the cursors move.
-use Rattle.std.specs.Prelude.{ℕ, zero, suc, Bool, true, false, List, [], length, map, position, slice_get, slice_set, Option, Some, None, option_map, option_to_list, refl, ◌<◌, ◌≡◌, ◌==◌, ◌∷◌, ◌++◌}
+use Rattle.std.specs.Prelude.{ℕ, zero, suc, Bool, true, false, List, [], length, map, filter, position, slice_get, slice_set, Option, Some, None, IsSome, option_map, option_to_list, refl, ◌≤◌, ◌<◌, ◌≡◌, ◌==◌, ◌∷◌, ◌++◌}
 use Rattle.std.specs.List.{AllByRecursion}
 use Rattle.std.specs.Option.{option_map_or}
 use Rattle.std.proofs.Common.{sym, ap, ◌∙◌, arith, append-nil}
-use Rattle.std.proofs.lemmas.Bool.{eq-eqb, false≢true}
+use Rattle.std.proofs.lemmas.Bool.{eq-eqb, eqb-true, false≢true}
 use Rattle.std.proofs.lemmas.Bool.Decides.{nat_tests}
 use Rattle.std.proofs.lemmas.List.{map-append, map-id}
 use Rattle.proxy_types.specs.declared.balance.Place.{Place}
@@ -13,11 +13,12 @@ use Rattle.plan_types.specs.Lines.{has_line}
 use Rattle.conn_model.specs.declared.plain.Version.{Version}
 use Rattle.conn_model.specs.declared.reply.Said.{Said}
 use Rattle.conn_model.specs.declared.reply.Said.TheVariants as saids
-use Rattle.conn_model.specs.declared.reply.Said.TheVariants.{Wait, Offer, Refuse, Closed}
+use Rattle.conn_model.specs.declared.reply.Said.TheVariants.{Wait, Offer, Refuse, Closed, Reloaded}
 use Rattle.conn_model.specs.Words.{newest, Rise}
 use Rattle.conn_model.specs.Answer.{version_at}
 use Rattle.conn_model.specs.Servers.{cursors_after, with_cursor}
-use Rattle.conn_model.specs.History.{is_last, new_version, tables_of, with_offer, with_said, with_version}
+use Rattle.conn_model.specs.History.{is_last, next_version, tables_of, with_offer, with_said, with_version}
+use Rattle.conn_model.specs.Tables.{written_tables}
 
 -- The newest version is the one of its number.
 pub newest-at : (versions : List Version) (v : Version) → Rise (λ version. version.number) versions → newest versions ≡ Some v → version_at versions v.number ≡ Some v
@@ -98,6 +99,7 @@ version_said number (Offer id used line server to judged send) version = with_of
 version_said number (Refuse id used cause) version = version
 version_said number (saids.Up id) version = version
 version_said number (Closed id why) version = version
+version_said number (Reloaded next) version = version
 
 pub with_said-each : (number : ℕ) (said : Said) (versions : List Version) → with_said number said versions ≡ map (version_said number said) versions
 with_said-each number (Wait id used) versions = sym (map-id versions)
@@ -105,6 +107,7 @@ with_said-each number (Offer id used line server to judged send) versions = refl
 with_said-each number (Refuse id used cause) versions = sym (map-id versions)
 with_said-each number (saids.Up id) versions = sym (map-id versions)
 with_said-each number (Closed id why) versions = sym (map-id versions)
+with_said-each number (Reloaded next) versions = sym (map-id versions)
 
 with_offer-cursors : (number line server : ℕ) → CursorsChange (with_offer number line server)
 with_offer-cursors number line server version = by (version.number == number) refl
@@ -119,6 +122,7 @@ version_said-cursors number (Offer id used line server to judged send) version =
 version_said-cursors number (Refuse id used cause) version = refl
 version_said-cursors number (saids.Up id) version = refl
 version_said-cursors number (Closed id why) version = refl
+version_said-cursors number (Reloaded next) version = refl
 
 -- the reply offers a server
 abbrev pub is_offer : Said → Bool
@@ -127,6 +131,7 @@ is_offer (Offer id used line server to judged send) = true
 is_offer (Refuse id used cause) = false
 is_offer (saids.Up id) = false
 is_offer (Closed id why) = false
+is_offer (Reloaded next) = false
 
 -- the versions are as they were after another reply
 pub versions_kept : (number : ℕ) (said : Said) (versions : List Version) → is_offer said ≡ false → with_said number said versions ≡ versions
@@ -135,6 +140,7 @@ versions_kept number (Offer id used line server to judged send) versions other =
 versions_kept number (Refuse id used cause) versions other = refl
 versions_kept number (saids.Up id) versions other = refl
 versions_kept number (Closed id why) versions other = refl
+versions_kept number (Reloaded next) versions other = refl
 
 -- and so after a last one
 pub last_no_offer : (said : Said) → is_last said ≡ true → is_offer said ≡ false
@@ -143,6 +149,7 @@ last_no_offer (Offer id used line server to judged send) last = absurd (false≢
 last_no_offer (Refuse id used cause) last = refl
 last_no_offer (saids.Up id) last = absurd (false≢true last)
 last_no_offer (Closed id why) last = refl
+last_no_offer (Reloaded next) last = refl
 
 -- There are as many cursors as before.
 
@@ -175,18 +182,87 @@ version_said-length number (Offer id used line server to judged send) version = 
 version_said-length number (Refuse id used cause) version = refl
 version_said-length number (saids.Up id) version = refl
 version_said-length number (Closed id why) version = refl
+version_said-length number (Reloaded next) version = refl
 
 -- A version that comes.
 
-newest-end : (versions : List Version) (version : Version) → newest (versions ++ version ∷ []) ≡ Some version
+pub newest-end : (versions : List Version) (version : Version) → newest (versions ++ version ∷ []) ≡ Some version
 newest-end [] version = refl
 newest-end (v ∷ []) version = refl
 newest-end (v ∷ w ∷ versions) version = newest-end (w ∷ versions) version
 
 pub last_number-with : (versions : List Version) (brought : Option (ℕ × Plan)) → last_number (with_version versions brought) ≡ option_map_or (λ b. b.0) brought (last_number versions)
 last_number-with versions None = refl
-last_number-with versions (Some (number, plan)) = ap (λ o. option_map_or (λ version. version.number) o 0) (newest-end versions (new_version number plan))
+last_number-with versions (Some (number, plan)) = ap (λ o. option_map_or (λ version. version.number) o 0) (newest-end versions (next_version number (written_tables (newest versions)) plan))
 
 pub plan_pairs-with : (versions : List Version) (brought : Option (ℕ × Plan)) → map plan_pair (with_version versions brought) ≡ map plan_pair versions ++ option_to_list brought
 plan_pairs-with versions None = sym (append-nil (map plan_pair versions))
-plan_pairs-with versions (Some (number, plan)) = map-append plan_pair versions (new_version number plan ∷ [])
+plan_pairs-with versions (Some (number, plan)) = map-append plan_pair versions (next_version number (written_tables (newest versions)) plan ∷ [])
+
+-- Versions that are forgotten.
+
+newest-cons : (version w : Version) (versions : List Version) → newest versions ≡ Some w → newest (version ∷ versions) ≡ Some w
+newest-cons version w [] there = absurd (let wrong : None ≡ Some w = there in cc)
+newest-cons version w (v ∷ versions) there = there
+
+pub newest-some : (version : Version) (versions : List Version) → (w : Version) × (newest (version ∷ versions) ≡ Some w)
+newest-some version [] = (version, refl)
+newest-some version (v ∷ versions) = newest-some v versions
+
+-- where the newest stays
+pub newest-filter : (test : Version → Bool) (versions : List Version) (w : Version) → newest versions ≡ Some w → test w ≡ true → newest (filter test versions) ≡ Some w
+newest-filter test [] w there passes = absurd (let wrong : None ≡ Some w = there in cc)
+newest-filter test (v ∷ []) w there passes =
+    let same : v ≡ w = let it : Some v ≡ Some w = there in cc in
+    let here : test v ≡ true = ap test same ∙ passes in
+    rw here there
+newest-filter test (v ∷ u ∷ versions) w there passes = by (test v) refl (newest-filter test (u ∷ versions) w there passes)
+  where
+    by : (b : Bool) → test v ≡ b → newest (filter test (u ∷ versions)) ≡ Some w → newest (filter test (v ∷ u ∷ versions)) ≡ Some w
+    by true e rest = let this : filter test (v ∷ u ∷ versions) ≡ v ∷ filter test (u ∷ versions) = rw e refl in ap newest this ∙ newest-cons v w (filter test (u ∷ versions)) rest
+    by false e rest = let this : filter test (v ∷ u ∷ versions) ≡ filter test (u ∷ versions) = rw e refl in ap newest this ∙ rest
+
+pub last_number-filter : (test : Version → Bool) (versions : List Version) → ((w : Version) → newest versions ≡ Some w → test w ≡ true) → last_number (filter test versions) ≡ last_number versions
+last_number-filter test [] stays = refl
+last_number-filter test (v ∷ versions) stays =
+    let w = newest-some v versions in
+    ap (λ o. option_map_or (λ version. version.number) o 0) (newest-filter test (v ∷ versions) w.0 w.1 (stays w.0 w.1) ∙ sym w.1)
+
+-- by a test of numbers
+pub version_at-filter : (test : ℕ → Bool) (versions : List Version) (number : ℕ) → test number ≡ true → version_at (filter (λ version. test version.number) versions) number ≡ version_at versions number
+version_at-filter test [] number passes = refl
+version_at-filter test (v ∷ versions) number passes = by (test v.number) (v.number == number) refl refl (version_at-filter test versions number passes)
+  where
+    by : (a b : Bool) → test v.number ≡ a → (v.number == number) ≡ b → version_at (filter (λ version. test version.number) versions) number ≡ version_at versions number →
+        version_at (filter (λ version. test version.number) (v ∷ versions)) number ≡ version_at (v ∷ versions) number
+    by true true ea eb rest = rw (ea, eb) refl
+    by true false ea eb rest = rw (ea, eb) rest
+    by false true ea eb rest = absurd (false≢true (sym ea ∙ ap test (eqb-true v.number number eb) ∙ passes))
+    by false false ea eb rest = rw (ea, eb) rest
+
+-- a version that is there already
+pub version_at-append : (versions more : List Version) (number : ℕ) → IsSome (version_at versions number) → version_at (versions ++ more) number ≡ version_at versions number
+version_at-append [] more number is = absurd (false≢true is)
+version_at-append (v ∷ versions) more number is = by (v.number == number) refl (version_at-append versions more number)
+  where
+    by : (b : Bool) → (v.number == number) ≡ b → (IsSome (version_at versions number) → version_at (versions ++ more) number ≡ version_at versions number) →
+        version_at (v ∷ (versions ++ more)) number ≡ version_at (v ∷ versions) number
+    by true e rest = rw e refl
+    by false e rest = rw e (rest (rw e at is))
+
+pub version_at-with : (versions : List Version) (brought : Option (ℕ × Plan)) (number : ℕ) → IsSome (version_at versions number) → version_at (with_version versions brought) number ≡ version_at versions number
+version_at-with versions None number is = refl
+version_at-with versions (Some (next, plan)) number is = version_at-append versions (next_version next (written_tables (newest versions)) plan ∷ []) number is
+
+-- No version has a number above the newest.
+pub numbers-below : (versions : List Version) (v : Version) → Rise (λ version. version.number) versions → newest versions ≡ Some v → AllByRecursion (λ version. version.number ≤ v.number) versions
+numbers-below [] v rise there = tt
+numbers-below (w ∷ []) v rise there =
+    let same : w ≡ v = let it : Some w ≡ Some v = there in cc in
+    let number : w.number ≡ v.number = ap (λ u. u.number) same in
+    (omega (arith, number), tt)
+numbers-below (w ∷ x ∷ versions) v rise there =
+    let rest : AllByRecursion (λ version. version.number ≤ v.number) (x ∷ versions) = numbers-below (x ∷ versions) v rise.1 there in
+    let up : w.number < x.number = rise.0.0 in
+    let le : x.number ≤ v.number = rest.0 in
+    (omega (arith, up, le), rest)

@@ -1,9 +1,7 @@
 -- A legal history keeps what is known of a state, and an opening state has it.
-use Rattle.std.specs.Prelude.{ℕ, Bool, not, max, List, [], map, filter, slice_get, Option, Some, None, IsSome, IfOk, IfErr, Result, Ok, Err, refl, ◌≡◌, ◌∷◌, ◌++◌}
+use Rattle.std.specs.Prelude.{ℕ, Bool, not, List, [], map, filter, slice_get, Some, None, IfOk, IfErr, Result, Ok, Err, refl, ◌≡◌, ◌∷◌, ◌++◌}
 use Rattle.std.specs.List.{AllByRecursion, enumerate_from}
-use Rattle.std.specs.Option.{option_map_or}
 use Rattle.std.proofs.Common.{sym, ap, ◌∙◌, subst}
-use Rattle.std.proofs.lemmas.Bool.{false≢true}
 use Rattle.std.proofs.lemmas.List.{length-map}
 use Rattle.std.proofs.lemmas.List.FromFn.{length-enumerate_from}
 use Rattle.plan_types.specs.declared.plan.Frontend.{Frontend}
@@ -13,35 +11,18 @@ use Rattle.conn_model.specs.declared.reply.Reply.{Reply}
 use Rattle.conn_model.specs.declared.reply.StepFault.{StepFault}
 use Rattle.conn_model.specs.declared.plain.Row.{Row}
 use Rattle.conn_model.specs.declared.plain.FrontendRows.{FrontendRows}
-use Rattle.conn_model.specs.declared.plain.Version.{Version}
 use Rattle.conn_model.specs.declared.plain.Plain.{Plain}
-use Rattle.conn_model.specs.Words.{newest}
-use Rattle.conn_model.specs.Answer.{version_at, answer_in}
+use Rattle.conn_model.specs.Answer.{answer_in}
 use Rattle.conn_model.specs.Tables.{new_id, IsTrackListed}
-use Rattle.conn_model.specs.History.{newest_number, tracks_of, by_counter, arrivals, has_ended, row_after, frontend_after, tables_of, versions_after, after, answer, entry, Entry, IsFault, IsLegal, IsFrontendWell, IsWell, opening}
-use Rattle.conn_model.proofs.Lists.{all-append, all-each, all-filter, all-map, all-more, all-from_zero, rise-filter, rise-map}
+use Rattle.conn_model.specs.History.{tracks_of, by_counter, arrivals, has_ended, row_after, frontend_after, tables_of, versions_after, after, answer, entry, Entry, IsFault, IsLegal, IsFrontendWell, IsWell, opening}
+use Rattle.conn_model.proofs.Lists.{all-each, all-map, all-from_zero, rise-filter, rise-map}
 use Rattle.conn_model.proofs.Parts.{by_counter-twice}
-use Rattle.conn_model.proofs.VersionSteps.{newest_stays, numbers_rise, version_stays, versions_well}
-use Rattle.conn_model.proofs.Replies.{answered}
-use Rattle.conn_model.proofs.Serials.{FrontendFacts, facts_of, rows_given, arrival-all}
+use Rattle.conn_model.proofs.VersionSteps.{newest_stays, numbers_rise, rows_kept, versions_needed, versions_well}
+use Rattle.conn_model.proofs.Serials.{FrontendFacts, facts_of, rows_given}
 use Rattle.conn_model.proofs.Goes.{legal_rest, well_at, whole_in_parts}
 pub use Rattle.conn_model.proofs.Nothing.{after-nil}
-use Rattle.conn_model.proofs.Versions.{newest-at}
 use Rattle.conn_model.proofs.TableSteps.{new_tables_well, tables_step}
 use Rattle.conn_model.proofs.TrackSteps.{tracks_step}
-
-force-found : (p : Plain) → IsWell p → IsSome (version_at p.versions (newest_number p))
-force-found p well = by (newest p.versions) refl well.last
-  where
-    by : (o : Option Version) → newest p.versions ≡ o → IsSome o → IsSome (version_at p.versions (newest_number p))
-    by None e is = absurd (false≢true is)
-    by (Some v) e is = rw (ap (λ o. option_map_or (λ version. version.number) o 0) e, newest-at p.versions v well.rise e) refl
-
--- the version of each row that is opened is kept
-arrivals_kept : (q : Plain) → IsWell q → (number : ℕ) (e : Entry) → IsLegal q (e ∷ []) → AllByRecursion (λ row. IsSome (version_at (versions_after q (e ∷ [])) row.version)) (arrivals q number (e ∷ []))
-arrivals_kept q well number e legal =
-    arrival-all (λ row. IsSome (version_at (versions_after q (e ∷ [])) row.version)) (after q []) number (max q.clock e.moment) (newest_number q) e.event e.reply.said
-    (answered (after q []) e.moment e.event e.reply legal.1) (λ new real here accepting. version_stays q well e (newest_number q) (force-found q well))
 
 frontend_step : (q : Plain) → IsWell q → (e : Entry) → IsLegal q (e ∷ []) → (number : ℕ) (own : FrontendRows) → slice_get q.frontends number ≡ Some own →
     IsFrontendWell (versions_after q (e ∷ [])) (frontend_after q (e ∷ []) number own)
@@ -51,23 +32,21 @@ frontend_step q well e legal number own there =
     let facts : FrontendFacts q h number own = facts_of q h number own there fine legal in
     let live : Row → Bool = λ row. not (has_ended number h row.serial) in
     let rows : List Row = own.rows ++ arrivals q number h in
-    let P : Row → Type 0 = λ row. IsSome (version_at (versions_after q h) row.version) in
     record {
       sorted = all-map (λ row. by_counter row.tracks ≡ row.tracks) (row_after q number h) (filter live rows)
           (all-each (λ row. by_counter (row_after q number h row).tracks ≡ (row_after q number h row).tracks) (filter live rows) (λ row. by_counter-twice (row.tracks ++ tracks_of number row.serial h)));
       rise = rise-map (λ row. row.serial) (row_after q number h) (λ row. refl) (filter live rows) (rise-filter (λ row. row.serial) live rows facts.rise);
       given = rows_given q h number own facts;
-      kept = all-map P (row_after q number h) (filter live rows)
-          (all-filter P live rows
-          (all-append P own.rows (arrivals q number h) (all-more (λ row. IsSome (version_at q.versions row.version)) P own.rows (λ row is. version_stays q well e row.version is) fine.kept) (arrivals_kept q well number e legal)));
+      kept = rows_kept q well e legal number own there;
     }
 
 -- one step keeps what is known
 well_step : (q : Plain) → IsWell q → (e : Entry) → IsLegal q (e ∷ []) → IsWell (after q (e ∷ []))
 well_step q well e legal = record {
   frontends = all-from_zero (IsFrontendWell (versions_after q (e ∷ []))) (frontend_after q (e ∷ [])) q.frontends (λ i own there. frontend_step q well e legal i own there);
-  rise = numbers_rise q well e;
+  rise = numbers_rise q well e legal;
   last = newest_stays q well e;
+  needed = versions_needed q e;
   versions = versions_well q well e;
   tables = tables_step q well e legal;
   tracks = tracks_step q well e legal;
@@ -85,6 +64,7 @@ opening_well plan last = record {
   frontends = by plan.frontends;
   rise = (tt, tt);
   last = refl;
+  needed = (refl, tt);
   versions = (record { tables = length-map (enumerate_from 0 plan.tables) (new_id 1) ∙ length-enumerate_from 0 plan.tables; cursors = length-map plan.backends (λ backend. None) }, tt);
   tables = new_tables_well plan last;
   tracks = nothing plan.frontends;
@@ -114,7 +94,7 @@ reply_after q new' (Ok r) moment event reply now = λ p h well legal stands.
     let answer_is : answer p h moment event ≡ Ok r = subst (λ s. answer_in s moment event ≡ Ok r) stands reply in
     (answer_is, now ∙ ap (λ s. after s (entry moment event r ∷ [])) stands ∙ whole_in_parts p well (entry moment event r ∷ []) h (legal, answer_is))
 
-pub fault_after : (q : Plain) (result : Result Reply StepFault) (moment : ℕ) (event : OwnedEvent) → IfErr result (λ f. IsFault (answer_in q moment event) f) →
-    IfErr result (λ f. (p : Plain) (h : List Entry) → q ≡ after p h → IsFault (answer p h moment event) f)
+pub fault_after : (q : Plain) (result : Result Reply StepFault) (moment : ℕ) (event : OwnedEvent) → IfErr result (λ f. IsFault event (answer_in q moment event) f) →
+    IfErr result (λ f. (p : Plain) (h : List Entry) → q ≡ after p h → IsFault event (answer p h moment event) f)
 fault_after q (Ok r) moment event fault = tt
-fault_after q (Err f) moment event fault = λ p h stands. subst (λ s. IsFault (answer_in s moment event) f) stands fault
+fault_after q (Err f) moment event fault = λ p h stands. subst (λ s. IsFault event (answer_in s moment event) f) stands fault

@@ -20,19 +20,22 @@ use Rattle.plan_types.specs.declared.plan.Server.{Server}
 use Rattle.plan_types.specs.declared.plan.Backend.{Backend}
 use Rattle.plan_types.specs.declared.plan.Frontend.{Frontend}
 use Rattle.plan_types.specs.declared.plan.Plan.{Plan}
+use Rattle.plan_core.specs.Binds.{same_binds}
+use Rattle.config_core.specs.Meaning.{meaning}
+use Rattle.config_core.specs.declared.fault.OpenFault.{OpenFault}
 use Rattle.conn_model.specs.declared.event.ConnId.{ConnId}
 use Rattle.conn_model.specs.declared.event.OwnedEvent.{OwnedEvent}
-use Rattle.conn_model.specs.declared.event.OwnedEvent.TheVariants.{Accept, Piece, Connected, ConnectFailed, Close, Expire}
+use Rattle.conn_model.specs.declared.event.OwnedEvent.TheVariants.{Accept, Piece, Connected, ConnectFailed, Close, Expire, Reload}
 use Rattle.conn_model.specs.declared.event.Why.TheVariants.{Failed}
 use Rattle.conn_model.specs.declared.event.TheConstants.{HEADER_WAIT}
 use Rattle.conn_model.specs.declared.reply.Cause.{Cause}
 use Rattle.conn_model.specs.declared.reply.Cause.TheVariants.{Line, Header, Expired, NoBackend, NoServer}
 use Rattle.conn_model.specs.declared.reply.Said.{Said}
 use Rattle.conn_model.specs.declared.reply.Said.TheVariants as saids
-use Rattle.conn_model.specs.declared.reply.Said.TheVariants.{Wait, Offer, Refuse, Closed}
+use Rattle.conn_model.specs.declared.reply.Said.TheVariants.{Wait, Offer, Refuse, Closed, Reloaded}
 use Rattle.conn_model.specs.declared.reply.Reply.{Reply}
 use Rattle.conn_model.specs.declared.reply.StepFault.{StepFault}
-use Rattle.conn_model.specs.declared.reply.StepFault.TheVariants.{NoListener, NoSuch, NotWaiting, NotOffered, NotDue, Exhausted}
+use Rattle.conn_model.specs.declared.reply.StepFault.TheVariants.{NoListener, NoSuch, NotWaiting, NotOffered, NotDue, BadConfig, BindChanged, Exhausted}
 use Rattle.conn_model.specs.declared.plain.Phase.{Phase}
 use Rattle.conn_model.specs.declared.plain.Phase.TheVariants.{Waiting, Offered, Up}
 use Rattle.conn_model.specs.declared.plain.Row.{Row}
@@ -220,6 +223,20 @@ expire_answer p clock id = do
   waiting ← waiting_row p.frontends id
   if nat_le (waiting.0.accepted + HEADER_WAIT) clock then Ok (reply_of (Refuse id 0 Expired)) else Err NotDue
 
+-- A reload.
+
+-- a plan follows the version in force where it binds the same
+abbrev pub next_answer : Plan → Version → Result Reply StepFault
+next_answer plan version =
+    if same_binds version.plan plan
+    then if nat_lt version.number 0xFFFF_FFFF_FFFF_FFFF then Ok (reply_of (Reloaded (version.number + 1))) else Err Exhausted
+    else Err BindChanged
+
+-- a text is refused where it means no plan
+abbrev pub reload_answer : Plain → Result Plan OpenFault → Result Reply StepFault
+reload_answer p (Err fault) = Err (BadConfig fault)
+reload_answer p (Ok plan) = or_fault BindChanged (newest p.versions) >>= next_answer plan
+
 -- the reply to an event, or why it has none
 abbrev pub answer_in : Plain → ℕ → OwnedEvent → Result Reply StepFault
 answer_in p moment (Accept listener real) = accept_answer p (max p.clock moment) listener real
@@ -228,3 +245,4 @@ answer_in p moment (Connected id) = server_answer p id (saids.Up id)
 answer_in p moment (ConnectFailed id) = server_answer p id (Closed id Failed)
 answer_in p moment (Close id why) = close_answer p id (Closed id why)
 answer_in p moment (Expire id) = expire_answer p (max p.clock moment) id
+answer_in p moment (Reload text) = reload_answer p (meaning text)

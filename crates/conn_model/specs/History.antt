@@ -1,5 +1,5 @@
 -- What happened, and what is left of it.
-use Rattle.std.specs.Prelude.{ℕ, Bool, true, false, not, max, List, [], map, filter, find, slice_get, length, Option, Some, None, option_map, option_and_then, option_to_list, IsSome, Result, Ok, Err, flat_map, ◌⊎◌, ◌+◌, ◌≤◌, ◌≡◌, ◌==◌, ◌&&◌, ◌∷◌, ◌++◌, if◌then◌else◌}
+use Rattle.std.specs.Prelude.{ℕ, Bool, true, false, not, max, List, [], map, filter, find, slice_get, length, Option, Some, None, option_map, option_and_then, option_to_list, IsSome, Result, Ok, Err, flat_map, ◌⊎◌, ◌+◌, ◌≤◌, ◌≡◌, ◌==◌, ◌&&◌, ◌||◌, ◌∷◌, ◌++◌, if◌then◌else◌}
 use Rattle.std.specs.List.{list_any, AllByRecursion, enumerate_from}
 use Rattle.std.specs.Option.{option_map_or}
 use Rattle.addr_core.specs.declared.addr.Endpoint.{Endpoint}
@@ -12,15 +12,18 @@ use Rattle.plan_types.specs.declared.plan.Backend.{Backend}
 use Rattle.plan_types.specs.declared.plan.Plan.{Plan}
 use Rattle.plan_types.specs.declared.track.TableId.{TableId}
 use Rattle.plan_types.specs.declared.track.Track.{Track}
+use Rattle.plan_types.specs.declared.plan.Table.{Table}
 use Rattle.plan_types.specs.Lines.{has_line}
+use Rattle.config_core.specs.Meaning.{meaning}
+use Rattle.config_core.specs.declared.fault.OpenFault.{OpenFault}
 use Rattle.conn_model.specs.declared.event.ConnId.{ConnId}
 use Rattle.conn_model.specs.declared.event.Event.{Event}
 use Rattle.conn_model.specs.declared.event.Event.TheVariants as events
 use Rattle.conn_model.specs.declared.event.OwnedEvent.{OwnedEvent}
-use Rattle.conn_model.specs.declared.event.OwnedEvent.TheVariants.{Accept, Piece, Connected, ConnectFailed, Close, Expire}
+use Rattle.conn_model.specs.declared.event.OwnedEvent.TheVariants.{Accept, Piece, Connected, ConnectFailed, Close, Expire, Reload}
 use Rattle.conn_model.specs.declared.reply.Said.{Said}
 use Rattle.conn_model.specs.declared.reply.Said.TheVariants as saids
-use Rattle.conn_model.specs.declared.reply.Said.TheVariants.{Wait, Offer, Refuse, Closed}
+use Rattle.conn_model.specs.declared.reply.Said.TheVariants.{Wait, Offer, Refuse, Closed, Reloaded}
 use Rattle.conn_model.specs.declared.reply.Reply.{Reply}
 use Rattle.conn_model.specs.declared.reply.StepFault.{StepFault}
 use Rattle.conn_model.specs.declared.reply.StepFault.TheVariants.{NoMemory}
@@ -38,7 +41,7 @@ use Rattle.conn_model.specs.Words.{is_conn, newest, map_from, Rise}
 use Rattle.conn_model.specs.Counts.{counts_in, is_served_by}
 use Rattle.conn_model.specs.Answer.{answer_in, new_row, row_at, version_at}
 use Rattle.conn_model.specs.Servers.{cursors_after}
-use Rattle.conn_model.specs.Tables.{new_id, new_table, open_tracks, table_at, with_tracks, without_tracks, IncarnationsDiffer, IsTableWell, IsTrackListed}
+use Rattle.conn_model.specs.Tables.{is_listed_by, new_id, new_table, new_tables, next_id, open_tracks, table_at, with_tracks, without_tracks, written_tables, IncarnationsDiffer, IsTableWell, IsTrackListed}
 pub use Rattle.conn_model.specs.Tables.{by_counter, tracks_at}
 
 -- an answered event, with the moment that was handed in
@@ -65,6 +68,7 @@ id_of (Offer id used line server to judged send) = Some id
 id_of (Refuse id used cause) = Some id
 id_of (saids.Up id) = Some id
 id_of (Closed id why) = Some id
+id_of (Reloaded version) = None
 
 -- the reply speaks to the connection of that frontend and serial
 abbrev pub speaks_to : ℕ → ℕ → Said → Bool
@@ -72,19 +76,38 @@ speaks_to number serial said = option_map_or (is_conn number serial) (id_of said
 
 -- Versions of the configuration, by their numbers.
 
--- the version that an event brings into force, with its plan
-abbrev pub version_of : OwnedEvent → Option (ℕ × Plan)
-version_of (Accept listener real) = None
-version_of (Piece id bytes) = None
-version_of (Connected id) = None
-version_of (ConnectFailed id) = None
-version_of (Close id why) = None
-version_of (Expire id) = None
+-- the number that a reply gives to a configuration
+abbrev pub number_said : Said → Option ℕ
+number_said (Wait id used) = None
+number_said (Offer id used line server to judged send) = None
+number_said (Refuse id used cause) = None
+number_said (saids.Up id) = None
+number_said (Closed id why) = None
+number_said (Reloaded version) = Some version
+
+-- the plan that a text means, if it means one
+abbrev pub plan_in : Result Plan OpenFault → Option Plan
+plan_in (Ok plan) = Some plan
+plan_in (Err fault) = None
+
+-- the plan that comes with an event
+abbrev pub plan_with : OwnedEvent → Option Plan
+plan_with (Accept listener real) = None
+plan_with (Piece id bytes) = None
+plan_with (Connected id) = None
+plan_with (ConnectFailed id) = None
+plan_with (Close id why) = None
+plan_with (Expire id) = None
+plan_with (Reload text) = plan_in (meaning text)
+
+-- the version that an entry brings into force: its number, with its plan
+abbrev pub version_of : Entry → Option (ℕ × Plan)
+version_of e = option_and_then (λ number. option_map (λ plan. (number, plan)) (plan_with e.event)) (number_said e.reply.said)
 
 -- the number of the version in force: of the last that was brought, else of the newest at the start
 abbrev pub in_force : ℕ → List Entry → ℕ
 in_force start [] = start
-in_force start (e ∷ h) = option_map_or (λ brought. brought.0) (version_of e.event) (in_force start h)
+in_force start (e ∷ h) = option_map_or (λ brought. brought.0) (version_of e) (in_force start h)
 
 abbrev pub newest_number : Plain → ℕ
 newest_number p = option_map_or (λ version. version.number) (newest p.versions) 0
@@ -92,7 +115,7 @@ newest_number p = option_map_or (λ version. version.number) (newest p.versions)
 -- the plans by the numbers of their versions: those at the start, and those that were brought
 abbrev pub plans : Plain → List Entry → List (ℕ × Plan)
 plans p [] = map (λ version. (version.number, version.plan)) p.versions
-plans p (e ∷ h) = plans p h ++ option_to_list (version_of e.event)
+plans p (e ∷ h) = plans p h ++ option_to_list (version_of e)
 
 abbrev pub plan_of : Plain → List Entry → ℕ → Option Plan
 plan_of p h number = option_map (λ pair. pair.1) (find (λ pair. pair.0 == number) (plans p h))
@@ -117,6 +140,7 @@ piece_of (Connected id) = []
 piece_of (ConnectFailed id) = []
 piece_of (Close id why) = []
 piece_of (Expire id) = []
+piece_of (Reload text) = []
 
 -- a connection that waits, and waits on once a piece came
 abbrev pub phase_on : List ℕ → Phase → Phase
@@ -137,6 +161,7 @@ phase_by plan event (Offer id used line server to judged send) phase = Offered (
 phase_by plan event (Refuse id used cause) phase = phase
 phase_by plan event (saids.Up id) phase = phase_up phase
 phase_by plan event (Closed id why) phase = phase
+phase_by plan event (Reloaded version) phase = phase
 
 abbrev pub phase_after : Plain → ℕ → ℕ → ℕ → Phase → List Entry → Phase
 phase_after p number serial version start [] = start
@@ -159,6 +184,7 @@ is_last (Offer id used line server to judged send) = false
 is_last (Refuse id used cause) = true
 is_last (saids.Up id) = false
 is_last (Closed id why) = true
+is_last (Reloaded version) = false
 
 -- the reply to an accept leaves the connection open
 abbrev pub leaves_open : Said → Bool
@@ -167,6 +193,7 @@ leaves_open (Offer id used line server to judged send) = true
 leaves_open (Refuse id used cause) = false
 leaves_open (saids.Up id) = false
 leaves_open (Closed id why) = false
+leaves_open (Reloaded version) = false
 
 abbrev pub arrival_of : ℕ → ℕ → ℕ → PairValue → Said → Option ConnId → List Row
 arrival_of number clock version real said None = []
@@ -180,6 +207,7 @@ arrival number clock version (Connected id) said = []
 arrival number clock version (ConnectFailed id) said = []
 arrival number clock version (Close id why) said = []
 arrival number clock version (Expire id) said = []
+arrival number clock version (Reload text) said = []
 
 -- all that were opened in a frontend, the oldest first, each as it was at its accept
 abbrev pub arrivals : Plain → ℕ → List Entry → List Row
@@ -197,6 +225,7 @@ is_accept_at number (Connected id) said = false
 is_accept_at number (ConnectFailed id) said = false
 is_accept_at number (Close id why) said = false
 is_accept_at number (Expire id) said = false
+is_accept_at number (Reload text) said = false
 
 -- the accepts of the frontend that were answered
 abbrev pub accepts : ℕ → List Entry → ℕ
@@ -229,9 +258,13 @@ new_version number plan = record {
   cursors = map (λ backend. None) plan.backends;
 }
 
+-- one that follows another: a table that is written the same as one of those before keeps its incarnation
+abbrev pub next_version : ℕ → List (Table × TableId) → Plan → Version
+next_version number before plan = record (new_version number plan) { tables = map (next_id number before) (enumerate_from 0 plan.tables) }
+
 abbrev pub with_version : List Version → Option (ℕ × Plan) → List Version
 with_version versions None = versions
-with_version versions (Some (number, plan)) = versions ++ new_version number plan ∷ []
+with_version versions (Some (number, plan)) = versions ++ next_version number (written_tables (newest versions)) plan ∷ []
 
 -- the number of the version that judges the connection of a reply: that of its row, or the one in force where the
 -- connection comes with the reply
@@ -254,17 +287,32 @@ with_said number (Offer id used line server to judged send) versions = map (with
 with_said number (Refuse id used cause) versions = versions
 with_said number (saids.Up id) versions = versions
 with_said number (Closed id why) versions = versions
+with_said number (Reloaded version) versions = versions
 
 -- the versions after an entry, where those were the rows, the number in force and the versions before it
 abbrev pub versions_by : List FrontendRows → ℕ → List Version → Entry → List Version
 versions_by frontends force versions e =
     let number = judging_version frontends force e.reply.said in
-    with_version (with_said number e.reply.said versions) (version_of e.event)
+    with_version (with_said number e.reply.said versions) (version_of e)
 
--- the versions, one entry after the other
+-- some connection of the frontend is of the version of that number
+abbrev pub has_version : ℕ → FrontendRows → Bool
+has_version number own = list_any (λ row. row.version == number) own.rows
+
+-- the version of that number is in force, or an open connection is of it
+abbrev pub is_needed : List FrontendRows → ℕ → ℕ → Bool
+is_needed frontends force number = (number == force) || list_any (has_version number) frontends
+
+-- the versions, without those that are forgotten
+abbrev pub needed_versions : List FrontendRows → ℕ → List Version → List Version
+needed_versions frontends force versions = filter (λ version. is_needed frontends force version.number) versions
+
+-- the versions, one entry after the other: each is forgotten once it is not needed
 abbrev pub versions_after : Plain → List Entry → List Version
 versions_after p [] = p.versions
-versions_after p (e ∷ h) = versions_by (frontends_after p h) (in_force (newest_number p) h) (versions_after p h) e
+versions_after p (e ∷ h) =
+    needed_versions (frontends_after p (e ∷ h)) (in_force (newest_number p) (e ∷ h))
+    (versions_by (frontends_after p h) (in_force (newest_number p) h) (versions_after p h) e)
 
 -- what is no longer tracked after a reply: where it is a last one, all that its connection tracked, in the order of
 -- counters
@@ -276,10 +324,16 @@ ended_by frontends reply =
 abbrev pub tables_by : List FrontendRows → List TableState → Reply → List TableState
 tables_by frontends tables reply = without_tracks (ended_by frontends reply) (with_tracks (open_tracks frontends) reply.tracks.items tables)
 
--- the tables, one entry after the other
+-- the tables that begin with a version that is brought, where that was the newest before
+abbrev pub tables_with : Option Version → Option (ℕ × Plan) → List TableState
+tables_with version None = []
+tables_with version (Some (number, plan)) = new_tables number (written_tables version) plan.tables
+
+-- the tables, one entry after the other: each goes with the last version that lists it
 abbrev pub tables_after : Plain → List Entry → List TableState
 tables_after p [] = p.tables
-tables_after p (e ∷ h) = tables_by (frontends_after p h) (tables_after p h) e.reply
+tables_after p (e ∷ h) =
+    filter (is_listed_by (versions_after p (e ∷ h))) (tables_by (frontends_after p h) (tables_after p h) e.reply ++ tables_with (newest (versions_after p h)) (version_of e))
 
 -- the plain state after the history
 abbrev pub after : Plain → List Entry → Plain
@@ -308,6 +362,7 @@ served_more p (Offer id used line n to judged send) server =
 served_more p (Refuse id used cause) server = 0
 served_more p (saids.Up id) server = 0
 served_more p (Closed id why) server = 0
+served_more p (Reloaded version) server = 0
 
 -- and how many fewer: a connection that ends counts no longer
 abbrev pub served_less : Plain → Said → ServerIdentity → ℕ
@@ -315,9 +370,18 @@ served_less p said server =
     let row = option_and_then (row_at p.frontends) (id_of said) in
     if is_last said && option_map_or (λ row. is_served_by server row.phase) row false then 1 else 0
 
--- a step may end in that fault: it is the answer, or there was no memory for a reply
-abbrev pub IsFault : Result Reply StepFault → StepFault → Type 0
-IsFault answer fault = (answer ≡ Err fault) ⊎ ((fault ≡ NoMemory) × ((reply : Reply) × (answer ≡ Ok reply)))
+abbrev pub is_reload : OwnedEvent → Bool
+is_reload (Accept listener real) = false
+is_reload (Piece id bytes) = false
+is_reload (Connected id) = false
+is_reload (ConnectFailed id) = false
+is_reload (Close id why) = false
+is_reload (Expire id) = false
+is_reload (Reload text) = true
+
+-- a step may end in that fault: it is the answer, or there was no memory for a reply, or to read a new configuration
+abbrev pub IsFault : OwnedEvent → Result Reply StepFault → StepFault → Type 0
+IsFault event answer fault = (answer ≡ Err fault) ⊎ ((fault ≡ NoMemory) × ((is_reload event ≡ true) ⊎ ((reply : Reply) × (answer ≡ Ok reply))))
 
 -- the bytes of an event, if it is a piece of that connection
 abbrev pub piece_for : ConnId → OwnedEvent → List ℕ
@@ -327,6 +391,7 @@ piece_for id (Connected other) = []
 piece_for id (ConnectFailed other) = []
 piece_for id (Close other why) = []
 piece_for id (Expire other) = []
+piece_for id (Reload text) = []
 
 -- all the bytes that came of a connection, joined
 abbrev pub joined : ConnId → List Entry → List ℕ
@@ -354,11 +419,12 @@ pub record IsVersionWell (version : Version) : Type 0 where
 abbrev pub tables_of : List Version → ℕ → List TableId
 tables_of versions number = option_map_or (λ version. version.tables) (version_at versions number) []
 
--- no two tables are of one incarnation, each incarnation that a kept version lists has its table, and none began after
--- the newest version; the entries of each have different keys, and are no more than its size
+-- no two tables are of one incarnation, each incarnation that a kept version lists has its table, each table is listed
+-- by a kept version, and none began after the newest version; the entries of each have different keys, and are no more than its size
 pub record AreTablesWell (p : Plain) : Type 0 where
   pub differ : IncarnationsDiffer p.tables
   pub there : AllByRecursion (λ version. AllByRecursion (λ id. IsSome (table_at p.tables id)) version.tables) p.versions
+  pub listed : AllByRecursion (λ table. is_listed_by p.versions table ≡ true) p.tables
   pub began : AllByRecursion (λ table. table.id.version ≤ newest_number p) p.tables
   pub each : AllByRecursion IsTableWell p.tables
 
@@ -366,12 +432,13 @@ pub record AreTablesWell (p : Plain) : Type 0 where
 abbrev pub AreTracksListed : Plain → Type 0
 AreTracksListed p = AllByRecursion (λ own. AllByRecursion (λ row. AllByRecursion (IsTrackListed (tables_of p.versions row.version) p.tables) row.tracks) own.rows) p.frontends
 
--- a state that an opening or a legal history can leave: besides, the numbers of the versions rise, and
--- there is a newest
+-- a state that an opening or a legal history can leave: besides, the numbers of the versions rise, there is a newest,
+-- and each is needed
 pub record IsWell (p : Plain) : Type 0 where
   pub frontends : AllByRecursion (IsFrontendWell p.versions) p.frontends
   pub rise : Rise (λ version. version.number) p.versions
   pub last : IsSome (newest p.versions)
+  pub needed : AllByRecursion (λ version. is_needed p.frontends (newest_number p) version.number ≡ true) p.versions
   pub versions : AllByRecursion IsVersionWell p.versions
   pub tables : AreTablesWell p
   pub tracks : AreTracksListed p
@@ -399,6 +466,7 @@ owned_event (events.Connected id) = Connected id
 owned_event (events.ConnectFailed id) = ConnectFailed id
 owned_event (events.Close id why) = Close id why
 owned_event (events.Expire id) = Expire id
+owned_event (events.Reload text) = Reload text.now
 
 -- the event is of a connection that is open, and asks for no memory
 abbrev pub NeedsNoMemory : Event → Type 0
@@ -408,3 +476,4 @@ NeedsNoMemory (events.Connected id) = Unit {0}
 NeedsNoMemory (events.ConnectFailed id) = Unit {0}
 NeedsNoMemory (events.Close id why) = Unit {0}
 NeedsNoMemory (events.Expire id) = Unit {0}
+NeedsNoMemory (events.Reload text) = ⊥

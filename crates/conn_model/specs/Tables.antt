@@ -1,17 +1,25 @@
 -- Tables: how the entries of each change as connections track keys, and end.
-use Rattle.std.specs.Prelude.{ℕ, Bool, true, false, List, [], ◌∷◌, ◌++◌, map, filter, find, flat_map, length, Option, ◌≤◌, ◌≡◌, ◌==◌, ◌&&◌, if◌then◌else◌}
-use Rattle.std.specs.List.{list_any, AllByRecursion}
+use Rattle.std.specs.Prelude.{ℕ, Bool, true, false, List, [], ◌∷◌, ◌++◌, map, filter, find, flat_map, length, zip, Option, Some, None, is_none, option_map, ◌≤◌, ◌≡◌, ◌==◌, ◌&&◌, if◌then◌else◌}
+use Rattle.std.specs.List.{list_any, enumerate_from, AllByRecursion}
 use Rattle.std.specs.Option.{option_map_or}
+use Rattle.std.specs.Str.{bytes_eq}
 use Rattle.addr_core.specs.declared.addr.Addr.{Addr}
+use Rattle.proxy_types.specs.declared.table.KeyType.{KeyType}
+use Rattle.proxy_types.specs.declared.table.KeyType.TheVariants.{Ip, Ipv6}
+use Rattle.proxy_types.specs.declared.table.Stores.{Stores}
 use Rattle.stick_core.specs.Key.{same_key}
 use Rattle.stick_core.specs.PlainEntries.{with_tracking, touched, count_at, is_in, trackers_at, KeysDiffer}
+use Rattle.plan_types.specs.declared.plan.Section.{Section}
 use Rattle.plan_types.specs.declared.plan.Table.{Table}
+use Rattle.plan_types.specs.Tables.{is_frontend_section}
+use Rattle.plan_core.specs.Binds.{same_flag}
 use Rattle.plan_types.specs.declared.track.TableId.{TableId}
 use Rattle.plan_types.specs.declared.track.Track.{Track}
 use Rattle.conn_model.specs.declared.ask.Counts.{Counts}
 use Rattle.conn_model.specs.declared.event.ConnId.{ConnId}
 use Rattle.conn_model.specs.declared.plain.FrontendRows.{FrontendRows}
 use Rattle.conn_model.specs.declared.plain.TableState.{TableState}
+use Rattle.conn_model.specs.declared.plain.Version.{Version}
 use Rattle.conn_model.specs.Words.{row_at}
 
 -- the same incarnation of a table
@@ -92,6 +100,48 @@ new_id version (position, table) = record { version = version; position = positi
 
 abbrev pub new_table : ℕ → ℕ × Table → TableState
 new_table version (position, table) = record { id = record { version = version; position = position }; table = table; entries = [] }
+
+-- Tables of a version that follows another.
+
+abbrev pub same_section : Section → Section → Bool
+same_section a b = same_flag (is_frontend_section a) (is_frontend_section b)
+
+abbrev pub same_kind : KeyType → KeyType → Bool
+same_kind Ip Ip = true
+same_kind Ip Ipv6 = false
+same_kind Ipv6 Ip = false
+same_kind Ipv6 Ipv6 = true
+
+abbrev pub same_stores : Stores → Stores → Bool
+same_stores a b = same_flag a.cur b.cur && same_flag a.cnt b.cnt
+
+-- two tables that are written the same: the kind and the name of the section, the type, the size and the stored kinds
+abbrev pub same_table : Table → Table → Bool
+same_table a b = same_section a.section b.section && bytes_eq a.name b.name && same_kind a.kind b.kind && (a.size == b.size) && same_stores a.stores b.stores
+
+-- the tables of a version, each with its incarnation
+abbrev pub written_tables : Option Version → List (Table × TableId)
+written_tables None = []
+written_tables (Some version) = zip version.plan.tables version.tables
+
+-- the incarnation of the table before that is written the same
+abbrev pub same_before : List (Table × TableId) → Table → Option TableId
+same_before before table = option_map (λ pair. pair.1) (find (λ pair. same_table pair.0 table) before)
+
+-- a table keeps that incarnation; where there is none, it begins with the version
+abbrev pub next_id : ℕ → List (Table × TableId) → ℕ × Table → TableId
+next_id version before (position, table) = option_map_or (λ id. id) (same_before before table) (record { version = version; position = position })
+
+abbrev pub is_new : List (Table × TableId) → ℕ × Table → Bool
+is_new before (position, table) = is_none (same_before before table)
+
+-- the tables that begin with a version, where those were the tables before
+abbrev pub new_tables : ℕ → List (Table × TableId) → List Table → List TableState
+new_tables version before tables = map (new_table version) (filter (is_new before) (enumerate_from 0 tables))
+
+-- some version lists the table
+abbrev pub is_listed_by : List Version → TableState → Bool
+is_listed_by versions table = list_any (λ version. list_any (same_id table.id) version.tables) versions
 
 -- What holds of tables.
 

@@ -41,6 +41,8 @@ pub enum Event<'a> {
     Close(ConnId, Why),
     /// A connection may have waited for its header for too long.
     Expire(ConnId),
+    /// A new configuration is to come into force: its text.
+    Reload(&'a str),
 }
 
 /// An event with memory of its own, as a history keeps it.
@@ -52,4 +54,5 @@ pub enum OwnedEvent {
     ConnectFailed(ConnId),
     Close(ConnId, Why),
     Expire(ConnId),
+    Reload(Seq<u8>),
 }

@@ -11,6 +11,8 @@ ghost use Rattle.addr_core.specs.declared.addr.Endpoint.{Endpoint};
 ghost use Rattle.addr_core.specs.PairValue.{PairValue};
 ghost use Rattle.arrayvec.specs.ArrayVec.{ArrayVec};
 ghost use Rattle.proxy_types.specs.declared.server.ServerIdentity.{ServerIdentity};
+ghost use Rattle.plan_core.specs.Binds.{same_binds, SameBinds};
+ghost use Rattle.config_core.specs.Meaning.{meaning};
 ghost use Rattle.plan_types.specs.Lines.{LinesDiffer};
 ghost use Rattle.plan_types.specs.Sound.{IsSoundPlan};
 ghost use Rattle.plan_types.specs.declared.plan.Backend.{Backend};
@@ -19,22 +21,25 @@ ghost use Rattle.proxy_types.specs.declared.balance.Place.{Place};
 ghost use Rattle.balance_core.specs.Cycles.{turn_at, IsRound};
 ghost use Rattle.balance_core.specs.Picks.{used_now};
 ghost use Rattle.addr_core.specs.declared.addr.Addr.{Addr};
-ghost use Rattle.conn_model.specs.Answer.{reply_of, row_at};
+ghost use Rattle.conn_model.specs.Words.{newest};
+ghost use Rattle.conn_model.specs.Answer.{reply_of, row_at, version_at};
 ghost use Rattle.conn_model.specs.Counts.{served_by};
 ghost use Rattle.conn_model.specs.Servers.{cursor_after, cursor_at, cursors_after, identity_in, pick_in, weight_of, MayOffer};
-ghost use Rattle.conn_model.specs.History.{after, answer, counts, identity_of, joined, opening, served_less, served_more, tables_of, version_for, IsLegal, IsWell, Entry};
-ghost use Rattle.conn_model.specs.Tables.{is_listed, same_id, table_at, IncarnationsDiffer};
+ghost use Rattle.conn_model.specs.History.{after, answer, counts, entry, identity_of, is_needed, joined, newest_number, opening, served_less, served_more, tables_of, version_for, IsLegal, IsWell, Entry};
+ghost use Rattle.conn_model.specs.Tables.{is_listed, is_listed_by, same_id, table_at, IncarnationsDiffer};
 ghost use Rattle.conn_model.specs.declared.event.ConnId.{ConnId};
-ghost use Rattle.conn_model.specs.declared.event.OwnedEvent.TheVariants.{Connected, ConnectFailed};
+ghost use Rattle.conn_model.specs.declared.event.OwnedEvent.TheVariants.{Connected, ConnectFailed, Reload};
 ghost use Rattle.conn_model.specs.declared.event.Why.TheVariants.{Failed};
 ghost use Rattle.conn_model.specs.declared.reply.Reply.{Reply};
 ghost use Rattle.conn_model.specs.declared.reply.Said.TheVariants as saids;
-ghost use Rattle.conn_model.specs.declared.reply.Said.TheVariants.{Offer, Closed};
+ghost use Rattle.conn_model.specs.declared.reply.Said.TheVariants.{Offer, Closed, Reloaded};
 ghost use Rattle.conn_model.specs.declared.plain.Assignment.{Assignment};
 ghost use Rattle.conn_model.specs.declared.plain.Phase.TheVariants.{Waiting, Offered};
 ghost use Rattle.conn_model.specs.declared.plain.Row.{Row};
 ghost use Rattle.conn_model.specs.declared.plain.Plain.{Plain};
 ghost use Rattle.conn_model.specs.declared.plain.Version.{Version};
+ghost use Rattle.conn_model.specs.declared.plain.TableState.{TableState};
+ghost use Rattle.plan_types.specs.declared.track.TableId.{TableId};
 ghost use Rattle.plan_types.specs.declared.plan.Plan as plans;
 ghost use Rattle.conn_model.specs.declared.event.OwnedEvent.{OwnedEvent};
 ghost use Rattle.conn_model.specs.declared.ask.Ask.{Ask};
@@ -141,4 +146,41 @@ pub fn servers_are_counted()
     ensures { (plan : plans.Plan) (last : ℕ) (h : List Entry) (e : Entry) → IsLegal (opening plan last) (e ∷ h) → (server : ServerIdentity) →
         served_by (after (opening plan last) (e ∷ h)).frontends server + served_less (after (opening plan last) h) e.reply.said server ≡
         served_by (after (opening plan last) h).frontends server + served_more (after (opening plan last) h) e.reply.said server }
+{}
+
+/// A reload is answered where its text means a plan that binds what the version in force binds; it then gets the next
+/// number.
+pub fn reloads_follow()
+    ensures { (p : Plain) (h : List Entry) (moment : ℕ) (text : List ℕ) (reply : Reply) → answer p h moment (Reload text) ≡ Ok reply →
+        (plan : plans.Plan) × (version : Version) × (meaning text ≡ Ok plan) × (newest (after p h).versions ≡ Some version) × (same_binds version.plan plan ≡ true) ×
+        (reply ≡ reply_of (Reloaded (version.number + 1))) }
+{}
+
+/// Each version binds what the opening bound, so that the numbers of frontends and listeners hold for good.
+pub fn binds_stay()
+    ensures { (plan : plans.Plan) (last : ℕ) (h : List Entry) → IsLegal (opening plan last) h →
+        AllByRecursion (λ version. SameBinds plan version.plan) (after (opening plan last) h).versions }
+{}
+
+/// A version is kept while it is in force or an open connection is of it, and a table while a version that is kept lists
+/// it; neither is kept for longer.
+pub fn kept_while_needed()
+    ensures versions { (plan : plans.Plan) (last : ℕ) (h : List Entry) → IsLegal (opening plan last) h →
+        AllByRecursion (λ version. is_needed (after (opening plan last) h).frontends (newest_number (after (opening plan last) h)) version.number ≡ true) (after (opening plan last) h).versions }
+    ensures rows { (plan : plans.Plan) (last : ℕ) (h : List Entry) → IsLegal (opening plan last) h → (id : ConnId) (row : Row) →
+        row_at (after (opening plan last) h).frontends id ≡ Some row → IsSome (version_at (after (opening plan last) h).versions row.version) }
+    ensures tables { (plan : plans.Plan) (last : ℕ) (h : List Entry) → IsLegal (opening plan last) h →
+        AllByRecursion (λ table. is_listed_by (after (opening plan last) h).versions table ≡ true) (after (opening plan last) h).tables }
+{}
+
+/// While a version is kept no event changes its plan, nor the incarnations of its tables.
+pub fn versions_stay_as_written()
+    ensures { (p : Plain) → IsWell p → (e : Entry) (h : List Entry) → IsLegal p (e ∷ h) → (number : ℕ) (v w : Version) →
+        version_at (after p h).versions number ≡ Some v → version_at (after p (e ∷ h)).versions number ≡ Some w → (w.plan ≡ v.plan) × (w.tables ≡ v.tables) }
+{}
+
+/// A table that is kept over a reload has the entries that it had.
+pub fn tables_stay_over_reloads()
+    ensures { (p : Plain) → IsWell p → (h : List Entry) (moment : ℕ) (text : List ℕ) (reply : Reply) → IsLegal p (entry moment (Reload text) reply ∷ h) →
+        (id : TableId) (v w : TableState) → table_at (after p h).tables id ≡ Some v → table_at (after p (entry moment (Reload text) reply ∷ h)).tables id ≡ Some w → w ≡ v }
 {}

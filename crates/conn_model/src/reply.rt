@@ -2,6 +2,7 @@
 use crate::event::{ConnId, Why};
 use addr_core::{Endpoint, Pair};
 use arrayvec::ArrayVec;
+use config_core::OpenFault;
 use plan_types::Track;
 use pp_any::HeaderFault;
 
@@ -20,7 +21,7 @@ pub enum Cause {
     NoServer(u32),
 }
 
-/// What is said to a connection.
+/// What is said to a connection, or of a new configuration.
 #[derive(Debug, Drop)]
 pub enum Said {
     /// It has to wait for its PROXY header, or for the rest of it.
@@ -59,6 +60,10 @@ pub enum Said {
         id: ConnId,
         why: Why,
     },
+    /// The new configuration is in force, as the version of that number.
+    Reloaded {
+        version: u64,
+    },
 }
 
 /// An answer to an event.
@@ -82,7 +87,11 @@ pub enum StepFault {
     NotOffered,
     /// The connection may wait longer for its header.
     NotDue,
-    /// The serial 2^64 - 1 was given out.
+    /// The new configuration is refused.
+    BadConfig(OpenFault),
+    /// It binds other addresses than the configuration in force, or binds them otherwise.
+    BindChanged,
+    /// The serial, or the version, 2^64 - 1 was given out.
     Exhausted,
     NoMemory,
 }
