@@ -1,0 +1,311 @@
+-- When a connection is offered a server.
+use Rattle.std.specs.Prelude.{ℕ, Bool, true, false, List, length, max, slice_get, Option, Some, None, Result, Ok, Err, refl, nat_le, nat_lt, ◌+◌, ◌-◌, ◌^◌, ◌<◌, ◌++◌, ◌≡◌, ◌↔◌, if◌then◌else◌}
+use Rattle.std.proofs.Common.{sym, ap, ◌∙◌, arith}
+use Rattle.std.proofs.lemmas.Bool.{false≢true}
+use Rattle.std.proofs.lemmas.Bool.Decides.{nat_tests}
+use Rattle.addr_core.specs.PairValue.{PairValue}
+use Rattle.pp_v1.specs.declared.meaning.Meaning.{Meaning}
+use Rattle.pp_any.specs.declared.rest.Rest.{Rest}
+use Rattle.pp_any.specs.Header.{shifted}
+use Rattle.pp_any.specs.NextPiece.{status_on}
+use Rattle.pp_any.specs.Status as statuses
+use Rattle.pp_any.specs.Status.{Status, status}
+use Rattle.proxy_types.specs.declared.balance.Place.{Place}
+use Rattle.rule_engine.specs.Judging.{no_tracks, Slots}
+use Rattle.rule_engine.specs.declared.judging.Judged.{Judged}
+use Rattle.plan_types.specs.declared.plan.Backend.{Backend}
+use Rattle.plan_types.specs.declared.plan.Plan.{Plan}
+use Rattle.conn_model.specs.declared.event.ConnId.{ConnId}
+use Rattle.conn_model.specs.declared.event.OwnedEvent.{OwnedEvent}
+use Rattle.conn_model.specs.declared.event.OwnedEvent.TheVariants.{Accept, Piece, Connected, ConnectFailed, Close, Expire, Reload}
+use Rattle.conn_model.specs.declared.event.Why.TheVariants.{Failed}
+use Rattle.conn_model.specs.declared.reply.Cause.{Cause}
+use Rattle.conn_model.specs.declared.reply.Cause.TheVariants.{Line, NoBackend, NoServer}
+use Rattle.conn_model.specs.declared.reply.Reply.{Reply}
+use Rattle.conn_model.specs.declared.reply.Said.{Said}
+use Rattle.conn_model.specs.declared.reply.Said.TheVariants as saids
+use Rattle.conn_model.specs.declared.reply.StepFault.TheVariants.{NoSuch}
+use Rattle.conn_model.specs.declared.plain.Phase.{Phase}
+use Rattle.conn_model.specs.declared.plain.Phase.TheVariants.{Waiting, Offered, Up}
+use Rattle.conn_model.specs.declared.plain.Plain.{Plain}
+use Rattle.conn_model.specs.Words.{or_fault, row_at}
+use Rattle.conn_model.specs.Servers.{cursor_at, pick_in}
+use Rattle.conn_model.specs.Rules.{backend_for, rejection, worth, Candidate, RuleView}
+use Rattle.conn_model.specs.Answer.{admission, answer_in, decision, entry_reply, entry_rules, header_reply, judged_pair, numbered_server, reply_of, reply_with, rest_in, said_of, server_for, server_unless, NumberedServer}
+use Rattle.conn_model.specs.History.{after, answer, joined, opening, Entry, IsLegal}
+use Rattle.conn_model.proofs.Joined.{decides_joined}
+use Rattle.conn_model.proofs.Replies.{bind-ok, expired, followed, or_fault-ok, server_answered}
+use Rattle.conn_laws.specs.Deciding.{choice_view, is_offer, may_offer, newcomer, session_rules, waiting, Arrival, HasServer, IsAdmitted, IsGiven, IsLetWait, IsOfferedAtAccept, IsOfferedAtPiece, Says, Waiter}
+
+-- A server that is picked.
+
+pub server_given : (view : RuleView) (given : NumberedServer) → server_for view ≡ Ok given → HasServer view given
+server_given view given is =
+    let one = bind-ok (or_fault (NoBackend view.frontend.line) (backend_for (worth view) view.frontend)) _ given is in
+    let number : ℕ = one.0 in
+    let two = bind-ok (or_fault (NoBackend view.frontend.line) (slice_get view.version.plan.backends number)) _ given one.2 in
+    let backend : Backend = two.0 in
+    let three = bind-ok (or_fault (NoServer backend.line) (pick_in view.served backend (cursor_at view.version.cursors number) view.source)) _ given two.2 in
+    let place : Place = three.0 in
+    record {
+      number = number;
+      backend = backend;
+      place = place;
+      chosen = or_fault-ok (NoBackend view.frontend.line) (backend_for (worth view) view.frontend) number one.1;
+      backend_is = or_fault-ok (NoBackend view.frontend.line) (slice_get view.version.plan.backends number) backend two.1;
+      picked = or_fault-ok (NoServer backend.line) (pick_in view.served backend (cursor_at view.version.cursors number) view.source) place three.1;
+      server_is = or_fault-ok (NoServer backend.line) (numbered_server backend place.server) given three.2;
+    }
+
+server_found : (view : RuleView) (given : NumberedServer) → HasServer view given → server_for view ≡ Ok given
+server_found view given has = rw (has.chosen, has.backend_is, has.picked, has.server_is) refl
+
+-- A decision.
+
+refuses_none : (said : Said) (id : ConnId) (used : ℕ) (cause : Cause) → is_offer said ≡ true → saids.Refuse id used cause ≡ said → ⊥
+refuses_none said id used cause offers is = false≢true (ap is_offer is ∙ offers)
+
+waits_none : (said : Said) (id : ConnId) (used : ℕ) → is_offer said ≡ true → saids.Wait id used ≡ said → ⊥
+waits_none said id used offers is = false≢true (ap is_offer is ∙ offers)
+
+pub record IsDecided (candidate : Candidate) (used : ℕ) (judged : PairValue) (made : Slots) (said : Said) : Type 0 where
+  pub given : NumberedServer
+  pub is_given : IsGiven candidate judged made given
+  pub said_is : said ≡ said_of candidate.id used judged (Ok given)
+
+pub decided : (candidate : Candidate) (used : ℕ) (judged : PairValue) (made : Slots) (said : Said) → is_offer said ≡ true → (decision candidate used judged made).said ≡ said → IsDecided candidate used judged made said
+decided candidate used judged made said offers is = by (rejection says) refl
+  where
+    says : Judged
+    says = session_rules candidate judged made
+
+    view : RuleView
+    view = choice_view candidate judged made
+
+    chosen : rejection says ≡ None → (r : Result NumberedServer Cause) → server_for view ≡ r → IsDecided candidate used judged made said
+    chosen none (Ok given) found = record {
+      given = given;
+      is_given = record { rules = none; server = server_given view given found };
+      said_is = sym is ∙ ap (λ o. said_of candidate.id used judged (server_unless view o)) none ∙ ap (said_of candidate.id used judged) found;
+    }
+    chosen none (Err cause) found =
+        absurd (refuses_none said candidate.id used cause offers (sym (ap (λ o. said_of candidate.id used judged (server_unless view o)) none ∙ ap (said_of candidate.id used judged) found) ∙ is))
+
+    by : (o : Option ℕ) → rejection says ≡ o → IsDecided candidate used judged made said
+    by None none = chosen none (server_for view) refl
+    by (Some line) some = absurd (refuses_none said candidate.id used (Line line) offers (sym (ap (λ o. said_of candidate.id used judged (server_unless view o)) some) ∙ is))
+
+-- the slots that a decision leaves
+decision_is : (candidate : Candidate) (used : ℕ) (judged : PairValue) (made : Slots) (given : NumberedServer) → IsGiven candidate judged made given →
+    decision candidate used judged made ≡ reply_with (said_of candidate.id used judged (Ok given)) (session_rules candidate judged made).tracks
+decision_is candidate used judged made given is =
+    let found : server_unless (choice_view candidate judged made) (rejection (session_rules candidate judged made)) ≡ Ok given =
+    ap (server_unless (choice_view candidate judged made)) is.rules ∙ server_found (choice_view candidate judged made) given is.server in
+    ap (λ r. reply_with (said_of candidate.id used judged r) (session_rules candidate judged made).tracks) found
+
+-- At an accept.
+
+accept_is : (q : Plain) (moment listener : ℕ) (real : PairValue) (arrival : Arrival q listener) → arrival.own.serial < 2 ^ 64 - 1 →
+    answer_in q moment (Accept listener real) ≡ Ok (admission (newcomer q moment real listener arrival) arrival.at.accept_proxy real (length arrival.own.rows))
+accept_is q moment listener real arrival less =
+    let fits : nat_lt arrival.own.serial 0xFFFF_FFFF_FFFF_FFFF ≡ true = grind (arith, nat_tests, less) in
+    rw (arrival.listens, arrival.there, arrival.in_force, arrival.found, fits) refl
+
+within_limit : (limit others : ℕ) → nat_le limit others ≡ false → others < limit
+within_limit limit others e = grind (arith, nat_tests)
+
+below_limit : (limit others : ℕ) → others < limit → nat_le limit others ≡ false
+below_limit limit others less = grind (arith, nat_tests)
+
+pub record IsLetIn (candidate : Candidate) (accept_proxy : Bool) (real : PairValue) (others : ℕ) (said : Said) : Type 0 where
+  pub no_header : accept_proxy ≡ false
+  pub admitted : IsAdmitted candidate real others
+  pub is_decided : IsDecided candidate 0 real (entry_rules candidate real).tracks said
+
+let_in : (candidate : Candidate) (accept_proxy : Bool) (real : PairValue) (others : ℕ) (said : Said) → is_offer said ≡ true → (admission candidate accept_proxy real others).said ≡ said → IsLetIn candidate accept_proxy real others said
+let_in candidate accept_proxy real others said offers is = by (nat_le candidate.frontend.limit others) refl
+  where
+    says : Judged
+    says = entry_rules candidate real
+
+    expects : nat_le candidate.frontend.limit others ≡ false → rejection says ≡ None → (b : Bool) → accept_proxy ≡ b → (entry_reply candidate accept_proxy real says.tracks None).said ≡ said → IsLetIn candidate accept_proxy real others said
+    expects within none true proxied now = absurd (waits_none said candidate.id 0 offers (sym (ap (λ b. (entry_reply candidate b real says.tracks None).said) proxied) ∙ now))
+    expects within none false proxied now = record {
+      no_header = proxied;
+      admitted = record { limit = within_limit candidate.frontend.limit others within; rules = none };
+      is_decided = decided candidate 0 real says.tracks said offers (sym (ap (λ b. (entry_reply candidate b real says.tracks None).said) proxied) ∙ now);
+    }
+
+    ruled : nat_le candidate.frontend.limit others ≡ false → (o : Option ℕ) → rejection says ≡ o → (entry_reply candidate accept_proxy real says.tracks (rejection says)).said ≡ said → IsLetIn candidate accept_proxy real others said
+    ruled within None none now = expects within none accept_proxy refl (sym (ap (λ o. (entry_reply candidate accept_proxy real says.tracks o).said) none) ∙ now)
+    ruled within (Some line) some now = absurd (refuses_none said candidate.id 0 (Line line) offers (sym (ap (λ o. (entry_reply candidate accept_proxy real says.tracks o).said) some) ∙ now))
+
+    limited : Bool → Reply
+    limited b = if b then reply_of (saids.Refuse candidate.id 0 (Line candidate.frontend.limit_line)) else entry_reply candidate accept_proxy real says.tracks (rejection says)
+
+    by : (b : Bool) → nat_le candidate.frontend.limit others ≡ b → IsLetIn candidate accept_proxy real others said
+    by true over = absurd (refuses_none said candidate.id 0 (Line candidate.frontend.limit_line) offers (sym (ap (λ b. (limited b).said) over) ∙ is))
+    by false within = ruled within (rejection says) refl (sym (ap (λ b. (limited b).said) within) ∙ is)
+
+said_by_accept : (q : Plain) (moment listener : ℕ) (real : PairValue) (arrival : Arrival q listener) → arrival.own.serial < 2 ^ 64 - 1 → (said : Said) → is_offer said ≡ true →
+    Says (answer_in q moment (Accept listener real)) said → IsOfferedAtAccept q moment real listener arrival said
+said_by_accept q moment listener real arrival less said offers says =
+    let same : Ok (admission (newcomer q moment real listener arrival) arrival.at.accept_proxy real (length arrival.own.rows)) ≡ Ok (reply_with said says.0) = sym (accept_is q moment listener real arrival less) ∙ says.1 in
+    let reply_is : admission (newcomer q moment real listener arrival) arrival.at.accept_proxy real (length arrival.own.rows) ≡ reply_with said says.0 = cc in
+    let got = let_in (newcomer q moment real listener arrival) arrival.at.accept_proxy real (length arrival.own.rows) said offers (ap (λ r. r.said) reply_is) in
+    record { given = got.is_decided.given; no_header = got.no_header; admitted = got.admitted; is_given = got.is_decided.is_given; said_is = got.is_decided.said_is }
+
+accept_says : (q : Plain) (moment listener : ℕ) (real : PairValue) (arrival : Arrival q listener) → arrival.own.serial < 2 ^ 64 - 1 → (said : Said) →
+    IsOfferedAtAccept q moment real listener arrival said → Says (answer_in q moment (Accept listener real)) said
+accept_says q moment listener real arrival less said offered =
+    let candidate : Candidate = newcomer q moment real listener arrival in
+    let within : nat_le candidate.frontend.limit (length arrival.own.rows) ≡ false = below_limit candidate.frontend.limit (length arrival.own.rows) offered.admitted.limit in
+    let admitted : admission candidate arrival.at.accept_proxy real (length arrival.own.rows) ≡ decision candidate 0 real (entry_rules candidate real).tracks = rw (within, offered.admitted.rules, offered.no_header) refl in (
+      (session_rules candidate real (entry_rules candidate real).tracks).tracks,
+      accept_is q moment listener real arrival less
+          ∙ ap Ok (admitted ∙ decision_is candidate 0 real (entry_rules candidate real).tracks offered.given offered.is_given)
+          ∙ ap (λ s. Ok (reply_with s (session_rules candidate real (entry_rules candidate real).tracks).tracks)) (sym offered.said_is),
+    )
+
+pub at_accept : (p : Plain) (h : List Entry) (moment listener : ℕ) (real : PairValue) (arrival : Arrival (after p h) listener) → arrival.own.serial < 2 ^ 64 - 1 → (said : Said) → is_offer said ≡ true →
+    Says (answer p h moment (Accept listener real)) said ↔ IsOfferedAtAccept (after p h) moment real listener arrival said
+at_accept p h moment listener real arrival less said offers =
+    (said_by_accept (after p h) moment listener real arrival less said offers, accept_says (after p h) moment listener real arrival less said)
+
+-- It waits.
+
+abbrev is_wait : Said → Bool
+is_wait (saids.Wait id used) = true
+is_wait (saids.Offer id used line server to judged send) = false
+is_wait (saids.Refuse id used cause) = false
+is_wait (saids.Up id) = false
+is_wait (saids.Closed id why) = false
+is_wait (saids.Reloaded version) = false
+
+decides_no_wait : (id : ConnId) (used : ℕ) (judged : PairValue) (given : Result NumberedServer Cause) → is_wait (said_of id used judged given) ≡ false
+decides_no_wait id used judged (Ok given) = refl
+decides_no_wait id used judged (Err cause) = refl
+
+let_wait : (candidate : Candidate) (accept_proxy : Bool) (real : PairValue) (others : ℕ) → is_wait (admission candidate accept_proxy real others).said ≡ true → (accept_proxy ≡ true) × IsAdmitted candidate real others
+let_wait candidate accept_proxy real others waits = by (nat_le candidate.frontend.limit others) refl
+  where
+    says : Judged
+    says = entry_rules candidate real
+
+    expects : nat_le candidate.frontend.limit others ≡ false → rejection says ≡ None → (b : Bool) → accept_proxy ≡ b → is_wait (entry_reply candidate accept_proxy real says.tracks None).said ≡ true → (accept_proxy ≡ true) × IsAdmitted candidate real others
+    expects within none true proxied now = (proxied, record { limit = within_limit candidate.frontend.limit others within; rules = none })
+    expects within none false proxied now =
+        let judged_now : is_wait (decision candidate 0 real says.tracks).said ≡ true = sym (ap (λ b. is_wait (entry_reply candidate b real says.tracks None).said) proxied) ∙ now in
+        absurd (false≢true (sym (decides_no_wait candidate.id 0 real (server_unless (choice_view candidate real says.tracks) (rejection (session_rules candidate real says.tracks)))) ∙ judged_now))
+
+    ruled : nat_le candidate.frontend.limit others ≡ false → (o : Option ℕ) → rejection says ≡ o → is_wait (entry_reply candidate accept_proxy real says.tracks (rejection says)).said ≡ true → (accept_proxy ≡ true) × IsAdmitted candidate real others
+    ruled within None none now = expects within none accept_proxy refl (sym (ap (λ o. is_wait (entry_reply candidate accept_proxy real says.tracks o).said) none) ∙ now)
+    ruled within (Some line) some now = absurd (false≢true (sym (ap (λ o. is_wait (entry_reply candidate accept_proxy real says.tracks o).said) some) ∙ now))
+
+    limited : Bool → Reply
+    limited b = if b then reply_of (saids.Refuse candidate.id 0 (Line candidate.frontend.limit_line)) else entry_reply candidate accept_proxy real says.tracks (rejection says)
+
+    by : (b : Bool) → nat_le candidate.frontend.limit others ≡ b → (accept_proxy ≡ true) × IsAdmitted candidate real others
+    by true over = absurd (false≢true (sym (ap (λ b. is_wait (limited b).said) over) ∙ waits))
+    by false within = ruled within (rejection says) refl (sym (ap (λ b. is_wait (limited b).said) within) ∙ waits)
+
+waits_by_accept : (q : Plain) (moment listener : ℕ) (real : PairValue) (arrival : Arrival q listener) → arrival.own.serial < 2 ^ 64 - 1 →
+    Says (answer_in q moment (Accept listener real)) (saids.Wait (newcomer q moment real listener arrival).id 0) → IsLetWait q moment real listener arrival
+waits_by_accept q moment listener real arrival less says =
+    let said : Said = saids.Wait (newcomer q moment real listener arrival).id 0 in
+    let same : Ok (admission (newcomer q moment real listener arrival) arrival.at.accept_proxy real (length arrival.own.rows)) ≡ Ok (reply_with said says.0) = sym (accept_is q moment listener real arrival less) ∙ says.1 in
+    let reply_is : admission (newcomer q moment real listener arrival) arrival.at.accept_proxy real (length arrival.own.rows) ≡ reply_with said says.0 = cc in
+    let got = let_wait (newcomer q moment real listener arrival) arrival.at.accept_proxy real (length arrival.own.rows) (ap (λ r. is_wait r.said) reply_is) in
+    record { expects = got.0; admitted = got.1 }
+
+accept_waits : (q : Plain) (moment listener : ℕ) (real : PairValue) (arrival : Arrival q listener) → arrival.own.serial < 2 ^ 64 - 1 →
+    IsLetWait q moment real listener arrival → Says (answer_in q moment (Accept listener real)) (saids.Wait (newcomer q moment real listener arrival).id 0)
+accept_waits q moment listener real arrival less lets =
+    let candidate : Candidate = newcomer q moment real listener arrival in
+    let within : nat_le candidate.frontend.limit (length arrival.own.rows) ≡ false = below_limit candidate.frontend.limit (length arrival.own.rows) lets.admitted.limit in
+    let admitted : admission candidate arrival.at.accept_proxy real (length arrival.own.rows) ≡ reply_with (saids.Wait candidate.id 0) (entry_rules candidate real).tracks = rw (within, lets.admitted.rules, lets.expects) refl in
+    ((entry_rules candidate real).tracks, accept_is q moment listener real arrival less ∙ ap Ok admitted)
+
+pub waits : (p : Plain) (h : List Entry) (moment listener : ℕ) (real : PairValue) (arrival : Arrival (after p h) listener) → arrival.own.serial < 2 ^ 64 - 1 →
+    Says (answer p h moment (Accept listener real)) (saids.Wait (newcomer (after p h) moment real listener arrival).id 0) ↔ IsLetWait (after p h) moment real listener arrival
+waits p h moment listener real arrival less = (waits_by_accept (after p h) moment listener real arrival less, accept_waits (after p h) moment listener real arrival less)
+
+-- At a piece.
+
+piece_is : (q : Plain) (moment : ℕ) (id : ConnId) (piece : List ℕ) (waiter : Waiter q id) →
+    answer_in q moment (Piece id piece) ≡ Ok (header_reply (waiting q id waiter) waiter.row.real (length piece) (status_on waiter.rest piece))
+piece_is q moment id piece waiter = rw (waiter.row_is, waiter.waits, waiter.there, waiter.of_accept, waiter.found) refl
+
+pub phase_waits : (phase : Phase) (rest : Rest) → rest_in phase ≡ Some rest → phase ≡ Waiting rest
+phase_waits (Waiting held) rest is = let same : held ≡ rest = cc in ap Waiting same
+phase_waits (Offered assignment) rest is = absurd (let wrong : None ≡ Some rest = is in cc)
+phase_waits (Up assignment) rest is = absurd (let wrong : None ≡ Some rest = is in cc)
+
+said_by_piece : (q : Plain) (id : ConnId) (waiter : Waiter q id) (bytes piece : List ℕ) (before : ℕ) (said : Said) → is_offer said ≡ true → (state : Status) → status bytes ≡ shifted before state →
+    (header_reply (waiting q id waiter) waiter.row.real (length piece) state).said ≡ said → IsOfferedAtPiece q id waiter bytes before said
+said_by_piece q id waiter bytes piece before said offers statuses.Wait state_is is = absurd (waits_none said id (length piece) offers is)
+said_by_piece q id waiter bytes piece before said offers (statuses.Fault fault count) state_is is = absurd (false≢true (ap is_offer is ∙ offers))
+said_by_piece q id waiter bytes piece before said offers (statuses.Whole count meaning) state_is is =
+    let got = decided (waiting q id waiter) count (judged_pair waiter.row.real meaning) no_tracks said offers is in
+    record { meaning = meaning; used = count; given = got.given; header = state_is; is_given = got.is_given; said_is = got.said_is }
+
+-- the status of the piece by that of all bytes
+whole_on : (before used : ℕ) (meaning : Meaning) (state : Status) → shifted before state ≡ statuses.Whole (used + before) meaning → state ≡ statuses.Whole used meaning
+whole_on before used meaning (statuses.Whole count found) is =
+    let counts : count + before ≡ used + before = cc in
+    let same : count ≡ used = omega (arith, counts) in
+    let meant : found ≡ meaning = cc in
+    ap (λ n. statuses.Whole n found) same ∙ ap (statuses.Whole used) meant
+whole_on before used meaning (statuses.Fault fault count) is = absurd (let wrong : statuses.Fault fault (count + before) ≡ statuses.Whole (used + before) meaning = is in cc)
+whole_on before used meaning statuses.Wait is = absurd (let wrong : statuses.Wait ≡ statuses.Whole (used + before) meaning = is in cc)
+
+piece_says : (q : Plain) (moment : ℕ) (id : ConnId) (piece bytes : List ℕ) (before : ℕ) (waiter : Waiter q id) (said : Said) → status bytes ≡ shifted before (status_on waiter.rest piece) →
+    IsOfferedAtPiece q id waiter bytes before said → Says (answer_in q moment (Piece id piece)) said
+piece_says q moment id piece bytes before waiter said state_is offered =
+    let candidate : Candidate = waiting q id waiter in
+    let judged : PairValue = judged_pair waiter.row.real offered.meaning in
+    let whole : status_on waiter.rest piece ≡ statuses.Whole offered.used offered.meaning = whole_on before offered.used offered.meaning (status_on waiter.rest piece) (sym state_is ∙ offered.header) in (
+      (session_rules candidate judged no_tracks).tracks,
+      piece_is q moment id piece waiter
+          ∙ ap (λ s. Ok (header_reply candidate waiter.row.real (length piece) s)) whole
+          ∙ ap Ok (decision_is candidate offered.used judged no_tracks offered.given offered.is_given)
+          ∙ ap (λ s. Ok (reply_with s (session_rules candidate judged no_tracks).tracks)) (sym offered.said_is),
+    )
+
+-- what came before, and the piece, decide what the piece decides on what is held
+pub piece_status : (plan : Plan) (last : ℕ) (h : List Entry) → IsLegal (opening plan last) h → (id : ConnId) (piece : List ℕ) (waiter : Waiter (after (opening plan last) h) id) →
+    status (joined id h ++ piece) ≡ shifted (length (joined id h)) (status_on waiter.rest piece)
+piece_status plan last h legal id piece waiter = decides_joined plan last h legal id waiter.row waiter.rest waiter.row_is (phase_waits waiter.row.phase waiter.rest waiter.waits) piece
+
+pub at_piece : (plan : Plan) (last : ℕ) (h : List Entry) → IsLegal (opening plan last) h → (moment : ℕ) (id : ConnId) (piece : List ℕ) (waiter : Waiter (after (opening plan last) h) id) (said : Said) → is_offer said ≡ true →
+    Says (answer (opening plan last) h moment (Piece id piece)) said ↔ IsOfferedAtPiece (after (opening plan last) h) id waiter (joined id h ++ piece) (length (joined id h)) said
+at_piece plan last h legal moment id piece waiter said offers = (there, back)
+  where
+    q : Plain
+    q = after (opening plan last) h
+
+    there : Says (answer_in (after (opening plan last) h) moment (Piece id piece)) said → IsOfferedAtPiece (after (opening plan last) h) id waiter (joined id h ++ piece) (length (joined id h)) said
+    there says =
+        let same : Ok (header_reply (waiting (after (opening plan last) h) id waiter) waiter.row.real (length piece) (status_on waiter.rest piece)) ≡ Ok (reply_with said says.0) =
+        sym (piece_is (after (opening plan last) h) moment id piece waiter) ∙ says.1 in
+        let reply_is : header_reply (waiting (after (opening plan last) h) id waiter) waiter.row.real (length piece) (status_on waiter.rest piece) ≡ reply_with said says.0 = cc in
+        said_by_piece (after (opening plan last) h) id waiter (joined id h ++ piece) piece (length (joined id h)) said offers (status_on waiter.rest piece) (piece_status plan last h legal id piece waiter) (ap (λ r. r.said) reply_is)
+
+    back : IsOfferedAtPiece (after (opening plan last) h) id waiter (joined id h ++ piece) (length (joined id h)) said → Says (answer_in (after (opening plan last) h) moment (Piece id piece)) said
+    back = piece_says (after (opening plan last) h) moment id piece (joined id h ++ piece) (length (joined id h)) waiter said (piece_status plan last h legal id piece waiter)
+
+-- Nothing else offers.
+
+offers_not : (reply : Reply) (said : Said) → reply_of said ≡ reply → is_offer said ≡ false → is_offer reply.said ≡ true → false ≡ true
+offers_not reply said is none offers = sym none ∙ ap (λ (r : Reply). is_offer r.said) is ∙ offers
+
+pub nothing_else : (q : Plain) (moment : ℕ) (event : OwnedEvent) (reply : Reply) → answer_in q moment event ≡ Ok reply → is_offer reply.said ≡ true → may_offer event ≡ true
+nothing_else q moment (Accept listener real) reply is offers = refl
+nothing_else q moment (Piece id bytes) reply is offers = refl
+nothing_else q moment (Connected id) reply is offers = offers_not reply (saids.Up id) (server_answered q id (saids.Up id) reply is).reply_is refl offers
+nothing_else q moment (ConnectFailed id) reply is offers = offers_not reply (saids.Closed id Failed) (server_answered q id (saids.Closed id Failed) reply is).reply_is refl offers
+nothing_else q moment (Close id why) reply is offers =
+    let one = bind-ok (or_fault NoSuch (row_at q.frontends id)) _ reply is in
+    offers_not reply (saids.Closed id why) (let it : Ok (reply_of (saids.Closed id why)) ≡ Ok reply = one.2 in cc) refl offers
+nothing_else q moment (Expire id) reply is offers = let got = expired q (max q.clock moment) id reply is in offers_not reply _ got.reply_is refl offers
+nothing_else q moment (Reload text) reply is offers = let got = followed q text reply is in offers_not reply _ got.reply_is refl offers

@@ -1,0 +1,230 @@
+-- Why a connection is offered a server, or refused.
+use Rattle.std.specs.Prelude.{ℕ, Bool, true, false, List, length, max, slice_get, Some, None, option_and_then, Result, Ok, ◌+◌, ◌++◌, ◌≤◌, ◌<◌, ◌≡◌, ◌⊎◌}
+use Rattle.addr_core.specs.PairValue.{PairValue}
+use Rattle.pp_v1.specs.declared.meaning.Meaning.{Meaning}
+use Rattle.pp_any.specs.declared.rest.Rest.{Rest}
+use Rattle.pp_any.specs.Status.{status, Whole, Fault}
+use Rattle.proxy_types.specs.declared.balance.Place.{Place}
+use Rattle.rule_engine.specs.Meaning.{present, SceneMeaning}
+use Rattle.rule_engine.specs.Judging.{deciding_rule, judged_after, no_tracks, Slots}
+use Rattle.rule_engine.specs.declared.judging.Judged.{Judged}
+use Rattle.plan_types.specs.declared.plan.Action.TheVariants.{Reject}
+use Rattle.plan_types.specs.declared.plan.Backend.{Backend}
+use Rattle.plan_types.specs.declared.plan.Frontend.{Frontend}
+use Rattle.plan_types.specs.declared.plan.Rule.{Rule}
+use Rattle.conn_model.specs.declared.event.ConnId.{ConnId}
+use Rattle.conn_model.specs.declared.event.OwnedEvent.{OwnedEvent}
+use Rattle.conn_model.specs.declared.event.OwnedEvent.TheVariants.{Accept, Piece, Connected, ConnectFailed, Close, Expire, Reload}
+use Rattle.conn_model.specs.declared.event.TheConstants.{HEADER_WAIT}
+use Rattle.conn_model.specs.declared.reply.Cause.{Cause}
+use Rattle.conn_model.specs.declared.reply.Cause.TheVariants.{Line, Header, Expired, NoBackend, NoServer}
+use Rattle.conn_model.specs.declared.reply.Reply.{Reply}
+use Rattle.conn_model.specs.declared.reply.Said.{Said}
+use Rattle.conn_model.specs.declared.reply.Said.TheVariants as saids
+use Rattle.conn_model.specs.declared.reply.StepFault.{StepFault}
+use Rattle.conn_model.specs.declared.plain.FrontendRows.{FrontendRows}
+use Rattle.conn_model.specs.declared.plain.Listener.{Listener}
+use Rattle.conn_model.specs.declared.plain.Plain.{Plain}
+use Rattle.conn_model.specs.declared.plain.Row.{Row}
+use Rattle.conn_model.specs.declared.plain.Version.{Version}
+use Rattle.conn_model.specs.Words.{newest, row_at}
+use Rattle.conn_model.specs.Servers.{cursor_at, pick_in}
+use Rattle.conn_model.specs.Rules.{backend_for, rejection, scene_of, view_of, worth, Candidate, RuleView}
+use Rattle.conn_model.specs.Answer.{candidate_at, candidate_of, entry_rules, frontend_in, judged_pair, numbered_server, reply_with, rest_in, said_of, version_at, NumberedServer}
+
+-- What judges a connection.
+
+-- a connection that comes to a listener: the version in force judges it
+pub record Arrival (p : Plain) (listener : ℕ) : Type 0 where
+  pub at : Listener
+  pub own : FrontendRows
+  pub version : Version
+  pub frontend : Frontend
+  pub listens : slice_get p.listeners listener ≡ Some at
+  pub there : slice_get p.frontends at.frontend ≡ Some own
+  pub in_force : newest p.versions ≡ Some version
+  pub found : frontend_in version.plan own.name ≡ Some frontend
+
+-- it is one of the open connections when it is judged
+abbrev pub newcomer : (p : Plain) (moment : ℕ) (real : PairValue) (listener : ℕ) → Arrival p listener → Candidate
+newcomer p moment real listener arrival = candidate_at p (max p.clock moment) arrival.at.frontend real arrival.own arrival.version arrival.frontend
+
+-- a connection that waits for its header: the version of its accept judges it
+pub record Waiter (p : Plain) (id : ConnId) : Type 0 where
+  pub row : Row
+  pub rest : Rest
+  pub own : FrontendRows
+  pub version : Version
+  pub frontend : Frontend
+  pub row_is : row_at p.frontends id ≡ Some row
+  pub waits : rest_in row.phase ≡ Some rest
+  pub there : slice_get p.frontends id.frontend ≡ Some own
+  pub of_accept : version_at p.versions row.version ≡ Some version
+  pub found : frontend_in version.plan own.name ≡ Some frontend
+
+abbrev pub waiting : (p : Plain) (id : ConnId) → Waiter p id → Candidate
+waiting p id waiter = candidate_of p id waiter.version waiter.frontend
+
+-- The rules.
+
+-- its frontend may have one connection more than so many others, and no connection rule rejects its real source
+pub record IsAdmitted (candidate : Candidate) (real : PairValue) (others : ℕ) : Type 0 where
+  pub limit : others < candidate.frontend.limit
+  pub rules : rejection (entry_rules candidate real) ≡ None
+
+-- what the session rules say of the judged source, where the step tracked those before
+abbrev pub session_rules : Candidate → PairValue → Slots → Judged
+session_rules candidate judged made = judged_after (scene_of (view_of candidate judged.source.addr)) made candidate.frontend.session_rules
+
+-- what the choice of a server sees: what they tracked is tracked
+abbrev pub choice_view : Candidate → PairValue → Slots → RuleView
+choice_view candidate judged made = view_of candidate judged.source.addr (present (session_rules candidate judged made).tracks)
+
+-- the backend that the lines choose has that server for it, by the counts of the open connections
+pub record HasServer (view : RuleView) (given : NumberedServer) : Type 0 where
+  pub number : ℕ
+  pub backend : Backend
+  pub place : Place
+  pub chosen : backend_for (worth view) view.frontend ≡ Some number
+  pub backend_is : slice_get view.version.plan.backends number ≡ Some backend
+  pub picked : pick_in view.served backend (cursor_at view.version.cursors number) view.source ≡ Some place
+  pub server_is : numbered_server backend place.server ≡ Some given
+
+-- no session rule rejects its judged source, and its backend has that server for it
+pub record IsGiven (candidate : Candidate) (judged : PairValue) (made : Slots) (given : NumberedServer) : Type 0 where
+  pub rules : rejection (session_rules candidate judged made) ≡ None
+  pub server : HasServer (choice_view candidate judged made) given
+
+-- Offers.
+
+-- the answer says that
+abbrev pub Says : Result Reply StepFault → Said → Type 0
+Says answer said = (made : Slots) × (answer ≡ Ok (reply_with said made))
+
+-- A connection is offered a server at its accept: its listener expects no header. What is sent first states the judged
+-- pair, which is the real one.
+pub record IsOfferedAtAccept (p : Plain) (moment : ℕ) (real : PairValue) (listener : ℕ) (arrival : Arrival p listener) (said : Said) : Type 0 where
+  pub given : NumberedServer
+  pub no_header : arrival.at.accept_proxy ≡ false
+  pub admitted : IsAdmitted (newcomer p moment real listener arrival) real (length arrival.own.rows)
+  pub is_given : IsGiven (newcomer p moment real listener arrival) real (entry_rules (newcomer p moment real listener arrival) real).tracks given
+  pub said_is : said ≡ said_of (newcomer p moment real listener arrival).id 0 real (Ok given)
+
+-- It is let in to wait for its header: its listener expects one.
+pub record IsLetWait (p : Plain) (moment : ℕ) (real : PairValue) (listener : ℕ) (arrival : Arrival p listener) : Type 0 where
+  pub expects : arrival.at.accept_proxy ≡ true
+  pub admitted : IsAdmitted (newcomer p moment real listener arrival) real (length arrival.own.rows)
+
+-- At a piece, where so many of the bytes came before: they are a header, and maybe more bytes follow it. What is sent
+-- first states the judged pair, which is the one that the header declares.
+pub record IsOfferedAtPiece (p : Plain) (id : ConnId) (waiter : Waiter p id) (bytes : List ℕ) (before : ℕ) (said : Said) : Type 0 where
+  pub meaning : Meaning
+  pub used : ℕ
+  pub given : NumberedServer
+  pub header : status bytes ≡ Whole (used + before) meaning
+  pub is_given : IsGiven (waiting p id waiter) (judged_pair waiter.row.real meaning) no_tracks given
+  pub said_is : said ≡ said_of id used (judged_pair waiter.row.real meaning) (Ok given)
+
+abbrev pub is_offer : Said → Bool
+is_offer (saids.Wait id used) = false
+is_offer (saids.Offer id used line server to judged send) = true
+is_offer (saids.Refuse id used cause) = false
+is_offer (saids.Up id) = false
+is_offer (saids.Closed id why) = false
+is_offer (saids.Reloaded version) = false
+
+-- the event is an accept, or a piece of a header
+abbrev pub may_offer : OwnedEvent → Bool
+may_offer (Accept listener real) = true
+may_offer (Piece id bytes) = true
+may_offer (Connected id) = false
+may_offer (ConnectFailed id) = false
+may_offer (Close id why) = false
+may_offer (Expire id) = false
+may_offer (Reload text) = false
+
+-- Refusals.
+
+-- the rule of that line is the first that decides, and rejects
+pub record IsRejected (scene : SceneMeaning) (made : Slots) (rules : List Rule) (line : ℕ) : Type 0 where
+  pub place : ℕ
+  pub rule : Rule
+  pub decides : deciding_rule scene made rules ≡ Some (place, rule)
+  pub rejects : rule.action ≡ Reject
+  pub line_is : rule.line ≡ line
+
+-- the lines choose no backend
+pub record LacksBackend (view : RuleView) (line : ℕ) : Type 0 where
+  pub none : option_and_then (slice_get view.version.plan.backends) (backend_for (worth view) view.frontend) ≡ None
+  pub line_is : view.frontend.line ≡ line
+
+-- the backend that they choose has no server for it
+pub record LacksServer (view : RuleView) (line : ℕ) : Type 0 where
+  pub number : ℕ
+  pub backend : Backend
+  pub chosen : backend_for (worth view) view.frontend ≡ Some number
+  pub backend_is : slice_get view.version.plan.backends number ≡ Some backend
+  pub none : option_and_then (λ place. numbered_server backend place.server) (pick_in view.served backend (cursor_at view.version.cursors number) view.source) ≡ None
+  pub line_is : backend.line ≡ line
+
+-- it is judged by that pair, and gets no server for that cause
+abbrev pub IsWithheld : Candidate → PairValue → Slots → Cause → Type 0
+IsWithheld candidate judged made (Line line) = IsRejected (scene_of (view_of candidate judged.source.addr)) made candidate.frontend.session_rules line
+IsWithheld candidate judged made (Header fault) = ⊥
+IsWithheld candidate judged made Expired = ⊥
+IsWithheld candidate judged made (NoBackend line) = (rejection (session_rules candidate judged made) ≡ None) × LacksBackend (choice_view candidate judged made) line
+IsWithheld candidate judged made (NoServer line) = (rejection (session_rules candidate judged made) ≡ None) × LacksServer (choice_view candidate judged made) line
+
+-- at its accept the limit of its frontend is reached, or a connection rule rejects it; or it is admitted, its listener
+-- expects no header, and it gets no server
+pub record IsOverLimit (candidate : Candidate) (others : ℕ) (cause : Cause) : Type 0 where
+  pub limit : candidate.frontend.limit ≤ others
+  pub cause_is : cause ≡ Line candidate.frontend.limit_line
+
+pub record IsTurnedAway (candidate : Candidate) (real : PairValue) (others : ℕ) (cause : Cause) : Type 0 where
+  pub limit : others < candidate.frontend.limit
+  pub line : ℕ
+  pub cause_is : cause ≡ Line line
+  pub rejected : IsRejected (scene_of (view_of candidate real.source.addr)) no_tracks candidate.frontend.connection_rules line
+
+pub record IsWithheldAtAccept (candidate : Candidate) (accept_proxy : Bool) (real : PairValue) (others : ℕ) (cause : Cause) : Type 0 where
+  pub no_header : accept_proxy ≡ false
+  pub admitted : IsAdmitted candidate real others
+  pub withheld : IsWithheld candidate real (entry_rules candidate real).tracks cause
+
+abbrev pub IsRefusedAtAccept : Candidate → Bool → PairValue → ℕ → Cause → Type 0
+IsRefusedAtAccept candidate accept_proxy real others cause =
+    IsOverLimit candidate others cause ⊎ (IsTurnedAway candidate real others cause ⊎ IsWithheldAtAccept candidate accept_proxy real others cause)
+
+-- at a piece, where so many bytes came before: with it, the bytes have that fault; or they are a header, and it gets no
+-- server
+abbrev pub IsRefusedAtPiece : (p : Plain) (id : ConnId) → Waiter p id → List ℕ → ℕ → Cause → Type 0
+IsRefusedAtPiece p id waiter bytes count (Header fault) = status bytes ≡ Fault fault count
+IsRefusedAtPiece p id waiter bytes count (Line line) =
+    (meaning : Meaning) × (status bytes ≡ Whole count meaning) × IsWithheld (waiting p id waiter) (judged_pair waiter.row.real meaning) no_tracks (Line line)
+IsRefusedAtPiece p id waiter bytes count Expired = ⊥
+IsRefusedAtPiece p id waiter bytes count (NoBackend line) =
+    (meaning : Meaning) × (status bytes ≡ Whole count meaning) × IsWithheld (waiting p id waiter) (judged_pair waiter.row.real meaning) no_tracks (NoBackend line)
+IsRefusedAtPiece p id waiter bytes count (NoServer line) =
+    (meaning : Meaning) × (status bytes ≡ Whole count meaning) × IsWithheld (waiting p id waiter) (judged_pair waiter.row.real meaning) no_tracks (NoServer line)
+
+-- no whole header came in time
+pub record IsLate (p : Plain) (moment : ℕ) (id : ConnId) (cause : Cause) : Type 0 where
+  pub waiter_row : Row
+  pub row_is : row_at p.frontends id ≡ Some waiter_row
+  pub rest : Rest
+  pub waits : rest_in waiter_row.phase ≡ Some rest
+  pub late : waiter_row.accepted + HEADER_WAIT ≤ max p.clock moment
+  pub cause_is : cause ≡ Expired
+
+-- the cause of a refusal at an event, where those bytes of the header came before, and so many bytes of the piece belong
+-- to it
+abbrev pub IsCause : Plain → (ConnId → List ℕ) → ℕ → OwnedEvent → ℕ → Cause → Type 0
+IsCause p before moment (Accept listener real) used cause =
+    (used ≡ 0) × ((arrival : Arrival p listener) × IsRefusedAtAccept (newcomer p moment real listener arrival) arrival.at.accept_proxy real (length arrival.own.rows) cause)
+IsCause p before moment (Piece id bytes) used cause = (waiter : Waiter p id) × IsRefusedAtPiece p id waiter (before id ++ bytes) (used + length (before id)) cause
+IsCause p before moment (Connected id) used cause = ⊥
+IsCause p before moment (ConnectFailed id) used cause = ⊥
+IsCause p before moment (Close id why) used cause = ⊥
+IsCause p before moment (Expire id) used cause = (used ≡ 0) × IsLate p moment id cause
+IsCause p before moment (Reload text) used cause = ⊥
