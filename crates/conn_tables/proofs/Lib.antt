@@ -1,3 +1,5 @@
 pub mod PlaceLemmas
 pub mod CounterLemmas
 pub mod TableLemmas
+pub mod BegunTables
+pub mod Forgotten

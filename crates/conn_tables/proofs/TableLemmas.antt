@@ -23,15 +23,15 @@ use Rattle.conn_tables.specs.declared.tables.StoredTable.{StoredTable}
 use Rattle.conn_tables.specs.Tables.{AreCounted, AreGrown, AreTables, IsGrown, IsStored, TablesDiffer, cur_in, is_table, key_at, plain_table, table_key}
 use Rattle.conn_tables.specs.declared.tracking.Tracking.{Tracking}
 use Rattle.conn_tables.specs.Tracks.{counter_on}
-use Rattle.conn_model.proofs.Lists.{all-at, all-found}
-use Rattle.conn_tables.proofs.PlaceLemmas.{all_set, found_there, place_is, position_within}
+use Rattle.conn_model.proofs.Lists.{all-at, all-found, found_there, place_is, position_within}
+use Rattle.conn_tables.proofs.PlaceLemmas.{all_set}
 
 -- Incarnations.
 
 same_of : (m n : ℕ) → (m == n) ≡ true → m ≡ n
 same_of m n is = grind (arith, nat_tests)
 
-itself : (n : ℕ) → (n == n) ≡ true
+pub itself : (n : ℕ) → (n == n) ≡ true
 itself n = grind (arith, nat_tests)
 
 pub same_id-is : (a b : TableId) → same_id a b ≡ true → a ≡ b
@@ -55,7 +55,7 @@ differ_sym a b differ = by (same_id b a) refl
     by true is = absurd (let one = same_id-is b a is in let wrong : same_id a a ≡ false = rw one at differ in let right = same_id-refl a in cc (wrong, right))
     by false is = refl
 
-and_false : (a b : Bool) → b ≡ false → (a && b) ≡ false
+pub and_false : (a b : Bool) → b ≡ false → (a && b) ≡ false
 and_false true b is = is
 and_false false b is = refl
 
@@ -232,7 +232,7 @@ new_differ version n (t ∷ tables) (s ∷ stored) is =
 pub new_tables : (version : ℕ) (tables : List Table) (stored : List StoredTable) → map plain_table stored ≡ map (new_table version) (enumerate_from 0 tables) → AllByRecursion (IsStored 0) stored → AreTables 0 stored
 new_tables version tables stored is each = record { differ = new_differ version 0 tables stored is; each = each }
 
-no_entry : (key : Addr) (entries : List Entry) → plain entries ≡ [] → cur_of key entries ≡ 0
+pub no_entry : (key : Addr) (entries : List Entry) → plain entries ≡ [] → cur_of key entries ≡ 0
 no_entry key [] none = refl
 no_entry key (e ∷ entries) none = absurd (cc)
 

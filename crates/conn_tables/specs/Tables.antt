@@ -1,14 +1,16 @@
 -- The tables that are kept.
-use Rattle.std.specs.Prelude.{ℕ, Bool, false, List, [], ◌∷◌, find, Option, option_and_then, ◌≡◌, ◌≤◌}
-use Rattle.std.specs.List.{AllByRecursion}
+use Rattle.std.specs.Prelude.{ℕ, Bool, false, List, [], ◌∷◌, find, map, Option, option_and_then, ◌≡◌, ◌==◌, ◌≤◌, ◌<◌}
+use Rattle.std.specs.List.{list_any, enumerate_from, AllByRecursion}
 use Rattle.std.specs.Option.{option_map_or}
 use Rattle.addr_core.specs.declared.addr.Addr.{Addr}
 use Rattle.stick_core.specs.Entries.{cur_of}
 use Rattle.stick_core.specs.PlainEntries.{plain, tracked_key}
+use Rattle.plan_types.specs.declared.plan.Table.{Table}
 use Rattle.plan_types.specs.declared.track.TableId.{TableId}
 use Rattle.plan_types.specs.declared.track.Track.{Track}
 use Rattle.conn_model.specs.declared.plain.TableState.{TableState}
-use Rattle.conn_model.specs.Tables.{same_id, table_at, trackers}
+use Rattle.conn_model.specs.declared.plain.Version.{Version}
+use Rattle.conn_model.specs.Tables.{next_id, same_id, table_at, trackers}
 use Rattle.conn_tables.specs.declared.tables.StoredTable.{StoredTable}
 
 -- what contracts see of the tables
@@ -55,6 +57,29 @@ table_key tracks addr table = tracked_key (trackers tracks table.id) table.table
 -- of the table of that incarnation, if there is one
 abbrev pub key_at : List Track → List TableState → TableId → Addr → Option Addr
 key_at tracks tables id addr = option_and_then (table_key tracks addr) (table_at tables id)
+
+-- Versions.
+
+-- the version lists the table of that incarnation
+abbrev pub is_id_listed : TableId → Version → Bool
+is_id_listed id version = list_any (same_id id) version.tables
+
+-- some version does
+abbrev pub is_listed_in : List Version → TableId → Bool
+is_listed_in versions id = list_any (is_id_listed id) versions
+
+-- the incarnations of the tables of the version of that number, which follows one that has those tables: all of them began
+-- earlier
+pub record AreNextIds (version : ℕ) (before : List (Table × TableId)) (tables : List Table) (ids : List TableId) : Type 0 where
+  pub next : ids ≡ map (next_id version before) (enumerate_from 0 tables)
+  pub earlier : AllByRecursion (λ pair. pair.1.version < version) before
+
+-- the table begins with the version of that number
+abbrev pub is_begun : ℕ → Table × TableId → Bool
+is_begun version (table, id) = id.version == version
+
+abbrev pub begun_table : Table × TableId → TableState
+begun_table (table, id) = record { id = id; table = table; entries = [] }
 
 -- Memory.
 

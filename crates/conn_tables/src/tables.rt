@@ -1,5 +1,5 @@
 //! The tables that are kept.
-ghost use Rattle.std.specs.Prelude.{◌≡◌, ◌+◌, ◌-◌, ◌≤◌, ◌<◌, ◌^◌, ℕ, List, [], Some, map, length, find, option_map, IfOk, OnOk};
+ghost use Rattle.std.specs.Prelude.{◌≡◌, ◌+◌, ◌-◌, ◌≤◌, ◌<◌, ◌^◌, ◌++◌, ℕ, false, List, [], Some, map, filter, zip, length, find, option_map, IfOk, OnOk, OnErr};
 ghost use Rattle.std.specs.Option.{option_copied};
 ghost use Rattle.std.specs.List.{AllByRecursion, enumerate_from, position};
 ghost use Rattle.addr_core.specs.declared.addr.Addr.{Addr};
@@ -8,14 +8,15 @@ ghost use Rattle.stick_core.specs.Entries.{cur_of};
 ghost use Rattle.stick_core.specs.PlainEntries.{AreTrackers, plain, trackings_of, with_tracking};
 ghost use Rattle.plan_types.specs.declared.track.TableId.{TableId};
 ghost use Rattle.plan_types.specs.declared.track.Track.{Track};
-ghost use Rattle.conn_model.specs.Tables.{entry_counts, new_table, table_at, trackers, with_track, without_tracks};
-ghost use Rattle.conn_tables.specs.Tables.{AreCounted, AreGrown, IsGrown, IsStored, cur_in, is_table, key_at, plain_table, table_key};
+ghost use Rattle.plan_types.specs.declared.plan.Table as plans;
+ghost use Rattle.conn_model.specs.Tables.{entry_counts, is_listed_by, new_table, new_tables, table_at, trackers, with_track, without_tracks};
+ghost use Rattle.conn_tables.specs.Tables.{AreCounted, AreGrown, AreNextIds, IsGrown, IsStored, begun_table, cur_in, is_begun, is_id_listed, is_listed_in, is_table, key_at, plain_table, table_key};
 ghost use Rattle.conn_tables.specs.Tracks.{counter_on, plain_tracks, track_on, tracks_on};
 
 use crate::tracking::{Tracking, Trackings};
 use addr_core::Addr;
 use conn_model::ask::Counts;
-use conn_model::plain::TableState;
+use conn_model::plain::{TableState, Version};
 use list_core::{Duplicate, Seq};
 use plan_types::{Table, TableId};
 use std::alloc::{AllocError, Global};
@@ -45,6 +46,21 @@ impl StoredTable {
             table: table.duplicate(alloc)?,
             entries: stick_core::Table::new(alloc, table.kind, table.size, table.stores),
         })
+    }
+
+    /// A table without entries, with memory for so many trackings.
+    fn with_room(
+        alloc: Global,
+        id: TableId,
+        table: &Table,
+        spare: usize,
+    ) -> Result<StoredTable, AllocError>
+        ensures plain { IfOk result (λ stored. plain_table stored ≡ begun_table (table.now, id)) }
+        ensures stored { IfOk result (λ stored. IsStored spare stored) }
+    {
+        let mut stored = StoredTable::new(alloc, id, table)?;
+        stored.reserve(spare)?;
+        Ok(stored)
     }
 
     /// How many track an address, and how often it was tracked.
@@ -144,6 +160,38 @@ impl Tables {
             tables: stored,
             spare: 0,
         })
+    }
+
+    /// Adds the tables that begin with a version: those of its tables of which the incarnation, at the same place of
+    /// `ids`, is of that version. They have no entries.
+    pub fn begin(
+        &mut self,
+        alloc: Global,
+        version: u64,
+        tables: &[Table],
+        ids: &[TableId],
+    ) -> Result<(), AllocError>
+        requires few { length tables.now ≤ most_tables }
+        requires next { (before : List (plans.Table × TableId)) × AreNextIds version before tables.now ids.now }
+        requires earlier { AllByRecursion (λ stored. stored.id.version < version) self.old.tables }
+        ensures ok { OnOk result ((before : List (plans.Table × TableId)) → AreNextIds version before tables.now ids.now →
+            map plain_table self.new.tables ≡ map plain_table self.old.tables ++ new_tables version before tables.now) }
+        ensures err { OnErr result (self.new ≡ self.old) }
+        ensures counts { (id : TableId) (key : Addr) → cur_in id key self.new.tables ≡ cur_in id key self.old.tables }
+        ensures spare { self.new.spare ≡ self.old.spare }
+    {
+        let mut begun = begin_all(alloc, version, tables, ids, self.spare as usize)?;
+        self.tables.append(&mut begun)
+    }
+
+    /// Forgets the tables that none of the versions lists. Nobody tracks a key of them. It takes no memory.
+    pub fn forget(&mut self, versions: &[Version])
+        requires { (id : TableId) → is_listed_in versions.now id ≡ false → (key : Addr) → cur_in id key self.old.tables ≡ 0 }
+        ensures plain { map plain_table self.new.tables ≡ filter (is_listed_by versions.now) (map plain_table self.old.tables) }
+        ensures counts { (id : TableId) (key : Addr) → cur_in id key self.new.tables ≡ cur_in id key self.old.tables }
+        ensures spare { self.new.spare ≡ self.old.spare }
+    {
+        keep_listed(&mut self.tables, versions);
     }
 
     /// Equal tables, as plain data.
@@ -246,6 +294,49 @@ impl Tables {
             None => unreachable!(),
         }
     }
+}
+
+/// The tables that begin with a version, each with memory for so many trackings.
+fn begin_all(
+    alloc: Global,
+    version: u64,
+    tables: &[Table],
+    ids: &[TableId],
+    spare: usize,
+) -> Result<Vec<StoredTable>, AllocError>
+    requires { length tables.now ≤ length ids.now }
+    ensures plain { IfOk result (λ begun. map plain_table begun.items ≡ map begun_table (filter (is_begun version) (zip tables.now ids.now))) }
+    ensures each { IfOk result (λ begun. AllByRecursion (IsStored spare) begun.items) }
+{
+    let mut begun = Vec::new(alloc);
+    for (place, table) in tables.iter().enumerate() {
+        let id = ids[place];
+        if id.version == version {
+            begun.push(StoredTable::with_room(alloc, id, table, spare)?)?;
+        }
+    }
+    Ok(begun)
+}
+
+/// Keeps the tables that one of the versions lists.
+fn keep_listed(tables: &mut Vec<StoredTable>, versions: &[Version])
+    ensures { tables.new.items ≡ filter (λ stored. is_listed_in versions.now stored.id) tables.old.items }
+{
+    tables.retain(|stored| is_listed(versions, stored.id));
+}
+
+/// Whether one of the versions lists the table of that incarnation.
+fn is_listed(versions: &[Version], id: TableId) -> bool
+    ensures { result ≡ is_listed_in versions.now id }
+{
+    versions.iter().any(|version| lists(version, id))
+}
+
+/// Whether the version lists it.
+fn lists(version: &Version, id: TableId) -> bool
+    ensures { result ≡ is_id_listed id version.now }
+{
+    version.tables.as_slice().iter().any(|other| id == *other)
 }
 
 /// Makes room in each table for so many trackings more.

@@ -3,8 +3,7 @@ use Rattle.std.specs.Prelude.{find}
 use Rattle.std.specs.List.{position}
 use Rattle.conn_tables.specs.declared.tables.StoredTable.{StoredTable}
 use Rattle.conn_tables.specs.Tables.{IsStored, cur_in, is_table}
-use Rattle.conn_model.proofs.Lists.{all-at}
-use Rattle.conn_tables.proofs.PlaceLemmas.{nowhere}
+use Rattle.conn_model.proofs.Lists.{all-at, nowhere}
 use Rattle.conn_tables.proofs.TableLemmas.{Found, counts_left, cur_found, cur_nowhere, found_table, on_itself, plain_left, still_tables}
 use Rattle.conn_tables.proofs.tables.Tables.release_one.Goals as goal
 

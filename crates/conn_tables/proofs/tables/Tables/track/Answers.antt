@@ -3,7 +3,7 @@ use Rattle.std.specs.Prelude.{find}
 use Rattle.std.specs.List.{position}
 use Rattle.conn_tables.specs.declared.tables.StoredTable.{StoredTable}
 use Rattle.conn_tables.specs.Tables.{AreCounted, StoredTables, cur_in, is_table, key_at, plain_table}
-use Rattle.conn_tables.proofs.PlaceLemmas.{nowhere}
+use Rattle.conn_model.proofs.Lists.{nowhere}
 use Rattle.conn_tables.proofs.TableLemmas.{Found, counts_more, cur_found, found_table, key_nowhere, key_there, plain_more, trackers_of, tracking_tables}
 use Rattle.conn_tables.proofs.tables.Tables.track.Goals as goal
 
