@@ -11,14 +11,14 @@ use Rattle.plan_types.specs.Sound.{IsSoundBackend, IsSoundPlan}
 use Rattle.conn_model.specs.declared.plain.Version.{Version}
 use Rattle.conn_model.specs.Answer.{version_at}
 use Rattle.conn_model.specs.Servers.{cursor_at, identity_in}
-use Rattle.conn_model.proofs.Lists.{all-at}
+use Rattle.conn_model.proofs.Lists.{all-at, found_there, position_within}
 use Rattle.conn_versions.specs.declared.picks.BackendPicks.{BackendPicks}
 use Rattle.conn_versions.specs.declared.versions.VersionPicks.{VersionPicks}
 use Rattle.conn_versions.specs.Versions.{has_number, HasServer}
 use Rattle.conn_versions.specs.Slots.{AreSlots, IsServed}
 use Rattle.conn_versions.specs.Picks.{IsTied}
 use Rattle.conn_versions.specs.Kept.{AreKept, IsKept}
-use Rattle.conn_versions.proofs.Places.{found_there, one_item, position_within}
+use Rattle.conn_versions.proofs.Places.{one_item}
 use Rattle.balance_core.proofs.OrderLemmas.{find-passes}
 use Rattle.std.proofs.lemmas.Bool.{eqb-true}
 

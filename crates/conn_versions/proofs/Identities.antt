@@ -19,10 +19,10 @@ use Rattle.balance_core.proofs.OrderLemmas.{find-passes}
 use Rattle.plan_types.specs.declared.plan.Backend.{Backend}
 use Rattle.plan_types.specs.declared.plan.Server.{Server}
 use Rattle.conn_model.specs.Servers.{identity_in}
-use Rattle.conn_model.proofs.Lists.{all-at, and_true}
+use Rattle.conn_model.proofs.Lists.{all-at, and_true, found_there, position_within}
 use Rattle.conn_versions.specs.Versions.{open_to}
 use Rattle.conn_versions.specs.Slots.{AreAtPlaces, AreSlots, OnlyAdds}
-use Rattle.conn_versions.proofs.Places.{found_there, one_item, position_within, push-cases, within}
+use Rattle.conn_versions.proofs.Places.{one_item, push-cases, within}
 
 -- Servers that pass for one are one.
 

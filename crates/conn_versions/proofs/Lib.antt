@@ -3,3 +3,5 @@ pub mod Identities
 pub mod ServerLoads
 pub mod Moves
 pub mod Founds
+pub mod Written
+pub mod Changes

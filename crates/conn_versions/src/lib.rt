@@ -3,7 +3,7 @@
 #![tactic(auto)]
 
 pub use slot_core::Slot;
-pub use versions::Versions;
+pub use versions::{Versions, has_line};
 
 mod loads;
 mod opening;

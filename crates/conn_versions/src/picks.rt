@@ -47,7 +47,7 @@ fn identity_of(
 fn slots_of(alloc: Global, backend: &Backend, slots: &mut Slots) -> Result<Seq<SlotIx>, AllocError>
     requires { IdentitiesDiffer slots.old }
     ensures each { IfOk result (λ places. AreSlots slots.new backend.now places) }
-    ensures adds { IfOk result (λ places. OnlyAdds slots.old slots.new) }
+    ensures adds { OnlyAdds slots.old slots.new }
 {
     let mut places = Seq::new(alloc);
     for server in backend.servers.as_slice() {
@@ -87,7 +87,7 @@ pub fn picks_of(
     requires few { length backend.now.servers ≤ 64 }
     requires apart { IdentitiesDiffer slots.old }
     ensures slots { IfOk result (λ own. AreSlots slots.new backend.now own.slots) }
-    ensures adds { IfOk result (λ own. OnlyAdds slots.old slots.new) }
+    ensures adds { OnlyAdds slots.old slots.new }
     ensures tied { IfOk result (IsTied backend.now None) }
 {
     let cycle = cycle_of(alloc, backend.servers.as_slice())?;

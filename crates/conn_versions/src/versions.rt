@@ -1,6 +1,7 @@
 //! Versions that are kept.
-ghost use Rattle.std.specs.Prelude.{◌≡◌, ◌+◌, ◌-◌, ◌<◌, ◌^◌, ℕ, List, [], ◌∷◌, map, length, position, slice_get, slice_set, option_map, None, Some, IfOk};
+ghost use Rattle.std.specs.Prelude.{◌≡◌, ◌+◌, ◌-◌, ◌<◌, ◌^◌, ◌==◌, ℕ, not, List, [], ◌∷◌, map, filter, length, position, slice_get, slice_set, option_map, None, Some, IfOk, OnOk, OnErr};
 ghost use Rattle.std.specs.List.{AllByRecursion};
+ghost use Rattle.std.specs.Option.{option_copied};
 ghost use Rattle.slot_core.specs.declared.slots.Count.{Count};
 ghost use Rattle.slot_core.specs.Counts.{identity_at, open_at, slots_at, IdentitiesDiffer};
 ghost use Rattle.plan_types.specs.Lines.{has_line};
@@ -8,7 +9,9 @@ ghost use Rattle.plan_types.specs.Sound.{IsSoundBackend, IsSoundPlan};
 ghost use Rattle.plan_types.specs.declared.plan.Backend as backends;
 ghost use Rattle.conn_model.specs.declared.plain.Version as versions;
 ghost use Rattle.conn_model.specs.Answer.{version_at};
-ghost use Rattle.conn_model.specs.History.{new_version, with_offer};
+ghost use Rattle.conn_model.specs.History.{new_version, next_version, with_offer, with_version};
+ghost use Rattle.conn_model.specs.Tables.{written_tables};
+ghost use Rattle.proxy_types.specs.declared.server.ServerIdentity.{ServerIdentity};
 ghost use Rattle.conn_model.specs.Servers.{cursor_at, identity_in, pick_in, with_cursor};
 ghost use Rattle.conn_versions.specs.Kept.{AreCounted, AreTied};
 ghost use Rattle.conn_versions.specs.Slots.{OnlyAdds};
@@ -18,7 +21,7 @@ use crate::opening::{cursors, table_ids};
 use crate::picks::{BackendPicks, pick, picks_of, slot_of, use_server};
 use addr_core::Addr;
 use conn_model::plain::Version;
-use list_core::Seq;
+use list_core::{Seq, newest};
 use plan_types::{Backend, Plan, Server};
 use proxy_types::Place;
 use slot_core::{Slot, Slots};
@@ -66,13 +69,49 @@ impl Versions {
         let mut picks = Vec::new(alloc);
         picks.push(VersionPicks { backends })?;
         let mut versions = Vec::new(alloc);
-        versions.push(first_version(alloc, plan)?)?;
+        versions.push(version_after(alloc, 1, None, plan)?)?;
         Ok(Versions {
             alloc,
             versions,
             picks,
             slots,
         })
+    }
+
+    /// Adds the version of that number, of that plan: it is in force from now on. A table that is written the same as one of
+    /// the version before it keeps its incarnation; nothing of its backends was used, and the open connections of a server
+    /// count on.
+    pub fn push(&mut self, number: u64, plan: Plan) -> Result<(), AllocError>
+        requires sound { IsSoundPlan plan }
+        requires next { AllByRecursion (λ version. version.number < number) self.old.versions }
+        ensures ok { OnOk result (self.new.versions ≡ with_version self.old.versions (Some (number, plan))) }
+        ensures err { OnErr result (self.new.versions ≡ self.old.versions) }
+        ensures open { (place : ℕ) → open_at place self.new.counts ≡ open_at place self.old.counts }
+        ensures identities { (place : ℕ) (identity : ServerIdentity) → identity_at place self.old.counts ≡ Some identity → identity_at place self.new.counts ≡ Some identity }
+    {
+        let before = newest(self.versions.as_slice());
+        let version = version_after(self.alloc, number, before, plan)?;
+        let backends = picks_of_all(
+            self.alloc,
+            version.plan.backends.as_slice(),
+            &mut self.slots,
+        )?;
+        self.versions.try_reserve(1)?;
+        self.picks.try_reserve(1)?;
+        self.versions.push_reserved(version);
+        self.picks.push_reserved(VersionPicks { backends });
+        Ok(())
+    }
+
+    /// Forgets the version of that number. It takes no memory.
+    pub fn forget(&mut self, number: u64)
+        ensures versions { self.new.versions ≡ filter (λ version. not (version.number == number)) self.old.versions }
+        ensures counts { self.new.counts ≡ self.old.counts }
+    {
+        if let Some(place) = place_of(self.versions.as_slice(), number) {
+            let _version = self.versions.remove(place);
+            let _picks = self.picks.remove(place);
+        }
     }
 
     /// By number, the newest last.
@@ -87,7 +126,9 @@ impl Versions {
     /// The number of the server that is picked for a source (HAProxy manual, `balance`), of the backend of that number
     /// in the version of that number. None where no server that may be used has room, or where there is no such backend.
     pub fn pick(&self, version: u64, backend: u16, source: &Addr) -> Option<u16>
-        ensures { (kept : versions.Version) (found : backends.Backend) → version_at self.now.versions version ≡ Some kept → slice_get kept.plan.backends backend ≡ Some found →
+        ensures no_version { version_at self.now.versions version ≡ None → result ≡ None }
+        ensures no_backend { (kept : versions.Version) → version_at self.now.versions version ≡ Some kept → slice_get kept.plan.backends backend ≡ None → result ≡ None }
+        ensures picked { (kept : versions.Version) (found : backends.Backend) → version_at self.now.versions version ≡ Some kept → slice_get kept.plan.backends backend ≡ Some found →
             result ≡ option_map (λ turn. turn.server) (pick_in (open_to self.now.counts) found (cursor_at kept.cursors backend) source.now) }
     {
         let place = place_of(self.versions.as_slice(), version)?;
@@ -148,15 +189,20 @@ impl Versions {
     }
 }
 
-/// The first version, of that plan.
-fn first_version(alloc: Global, plan: Plan) -> Result<Version, AllocError>
+/// The version of that number, of a plan, which follows another, if there is one before.
+fn version_after(
+    alloc: Global,
+    number: u64,
+    before: Option<&Version>,
+    plan: Plan,
+) -> Result<Version, AllocError>
     requires { IsSoundPlan plan }
-    ensures { IfOk result (λ version. version ≡ new_version 1 plan) }
+    ensures { IfOk result (λ version. version ≡ next_version number (written_tables (option_copied before.entry)) plan) }
 {
-    let tables = table_ids(alloc, 1, plan.tables.as_slice())?;
+    let tables = table_ids(alloc, number, before, plan.tables.as_slice())?;
     let cursors = cursors(alloc, plan.backends.as_slice())?;
     Ok(Version {
-        number: 1,
+        number,
         plan,
         tables,
         cursors,
@@ -173,7 +219,7 @@ fn picks_of_all(
     requires apart { IdentitiesDiffer slots.old }
     ensures tied { IfOk result (λ own. AreTied backends.now (map (λ backend. None) backends.now) own.items) }
     ensures counted { IfOk result (λ own. AreCounted slots.new backends.now own.items) }
-    ensures adds { IfOk result (λ own. OnlyAdds slots.old slots.new) }
+    ensures adds { OnlyAdds slots.old slots.new }
 {
     let mut all = Vec::new(alloc);
     for backend in backends {
@@ -188,7 +234,8 @@ fn place_of(versions: &[Version], number: u64) -> Option<usize>
     versions.iter().position(|version| version.number == number)
 }
 
-fn has_line(backend: &Backend, line: u32) -> bool
+/// Whether a backend has a server of that line.
+pub fn has_line(backend: &Backend, line: u32) -> bool
     ensures { result ≡ has_line line backend.now }
 {
     backend

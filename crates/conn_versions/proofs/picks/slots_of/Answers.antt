@@ -24,3 +24,8 @@ loop-server-preserved c =
       each = one_more_at backend c.loop-server.places c.loop-server.slots c.add.new.self server c.in_ok-ix.ix one c.loop-server.invariant.each (ap (slice_get backend.servers) many ∙ place) counted;
       adds = adds_both c.args.slots.now c.loop-server.slots c.add.new.self c.loop-server.invariant.adds one;
     })
+
+pub returns-in_err-push-clause-adds : goal.returns-in_err-push-clause-adds
+returns-in_err-push-clause-adds c =
+    adds_both c.args.slots.now c.loop-server.slots c.add.new.self c.loop-server.invariant.adds
+    (one_added c.in_ok-identity.identity c.loop-server.slots c.add.new.self c.loop-server.invariant.adds.apart c.in_ok-ix.ensures.counts c.add.ensures.open c.add.ensures.kept)

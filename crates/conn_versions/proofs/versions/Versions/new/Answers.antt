@@ -2,6 +2,7 @@ use Rattle.std.proofs.Common.{◌≡◌, ◌++◌, ◌∷◌, [], ap, ◌∙◌}
 use Rattle.conn_model.specs.History.{new_version}
 use Rattle.conn_versions.specs.declared.versions.VersionPicks.{VersionPicks}
 use Rattle.conn_versions.proofs.Moves.{new_kept}
+use Rattle.conn_versions.proofs.Written.{first_version}
 use Rattle.conn_versions.proofs.versions.Versions.new.Goals as goal
 
 pub invariant_of-result : goal.invariant_of-result
@@ -9,7 +10,13 @@ invariant_of-result c =
     let own : VersionPicks = record { backends = c.in_ok-backends.backends } in
     let all : c.push.new.self.items ≡ own ∷ [] = c.in_ok-push.ensures.items ∙ ap (λ xs. xs ++ own ∷ []) c.new-picks.ensures.items in
     let versions : c.push-2.new.self.items ≡ new_version 1 c.args.plan ∷ [] =
-    c.in_ok-push-2.ensures.items ∙ ap (λ xs. xs ++ c.in_ok-first_version.field-0 ∷ []) c.new-versions.ensures.items ∙ ap (λ v. v ∷ []) c.in_ok-first_version.ensures in
+    c.in_ok-push-2.ensures.items ∙ ap (λ xs. xs ++ c.in_ok-version_after.field-0 ∷ []) c.new-versions.ensures.items
+    ∙ ap (λ v. v ∷ []) (c.in_ok-version_after.ensures ∙ first_version 1 c.args.plan) in
     let plan = rw c.as_slice.ensures at c.in_ok-backends.ensures.tied in
     let counted = rw c.as_slice.ensures at c.in_ok-backends.ensures.counted in
     rw (versions, all) (new_kept c.picks_of_all.new.slots (new_version 1 c.args.plan) own c.in_ok-backends.ensures.adds.apart c.requires (record { tied = plan; counted = counted }))
+
+pub returns-clause-versions : goal.returns-clause-versions
+returns-clause-versions c =
+    c.in_ok-push-2.ensures.items ∙ ap (λ xs. xs ++ c.in_ok-version_after.field-0 ∷ []) c.new-versions.ensures.items
+    ∙ ap (λ v. v ∷ []) (c.in_ok-version_after.ensures ∙ first_version 1 c.args.plan)
