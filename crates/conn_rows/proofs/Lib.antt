@@ -6,3 +6,5 @@ pub mod Plain
 pub mod Totals
 pub mod Counted
 pub mod Changes
+pub mod Kept
+pub mod Reloaded

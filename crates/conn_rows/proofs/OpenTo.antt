@@ -1,5 +1,5 @@
 -- How many connections to a server are open, by its slot and by the rows.
-use Rattle.std.proofs.Common.{◌≡◌, ℕ, zero, suc, ◌+◌, Bool, true, false, List, [], ◌∷◌, length, map, Option, Some, None, refl, sym, ap, subst, ◌∙◌, arith}
+use Rattle.std.proofs.Common.{◌≡◌, ℕ, zero, suc, Bool, true, false, List, [], ◌∷◌, length, map, Option, Some, None, refl, sym, ap, ◌∙◌, arith}
 use Rattle.std.proofs.Math.Path.{fun_ext}
 use Rattle.std.specs.Prelude.{filter, find, slice_get, option_map, ◌==◌, if◌then◌else◌}
 use Rattle.std.specs.List.{AllByRecursion}
@@ -11,12 +11,11 @@ use Rattle.proxy_types.specs.declared.server.ServerIdentity.{ServerIdentity}
 use Rattle.proxy_types.specs.ServerIdentity.{same_server}
 use Rattle.slot_core.specs.declared.slots.Count.{Count}
 use Rattle.slot_core.specs.declared.slots.SlotIx.{SlotIx}
-use Rattle.slot_core.specs.Counts.{identity_at, is_of, open_at, place_of, slots_at, IdentitiesDiffer}
+use Rattle.slot_core.specs.Counts.{identity_at, is_of, open_at, slots_at, IdentitiesDiffer}
 use Rattle.slot_core.proofs.CountLemmas.{same_server-refl}
 use Rattle.plan_types.specs.declared.plan.Backend.{Backend}
 use Rattle.plan_types.specs.declared.plan.Plan.{Plan}
-use Rattle.conn_model.specs.declared.plain.Version.{Version}
-use Rattle.conn_model.specs.Counts.{is_served_by, served_by, served_in, server_of, total}
+use Rattle.conn_model.specs.Counts.{is_served_by, served_by, server_of, total}
 use Rattle.conn_model.specs.Servers.{pick_in}
 use Rattle.conn_model.proofs.Lists.{all-at}
 use Rattle.conn_versions.specs.Versions.{VersionsValue, open_to}

@@ -28,7 +28,6 @@ use Rattle.conn_model.specs.Answer.{row_at, row_in, rest_in}
 use Rattle.conn_tables.specs.Tables.{StoredTables, plain_table}
 use Rattle.conn_rows.specs.Value.{RowsValue, rows_of}
 use Rattle.conn_model.specs.Answer.{awaits_server}
-use Rattle.conn_model.specs.declared.plain.Phase.{Phase}
 use Rattle.conn_rows.specs.Summaries.{is_waiting, stored_summary, summary_of}
 use Rattle.conn_rows.specs.declared.row.Seat.{Seat}
 use Rattle.conn_rows.specs.declared.row.Stage.{Stage}

@@ -7,8 +7,7 @@ use Rattle.std.proofs.lemmas.Option.{slice_get_read}
 use Rattle.conn_rows.specs.declared.row.StoredRow.{StoredRow}
 use Rattle.conn_rows.specs.Stored.{AreOpen, IsHeld, has_serial, with_stored}
 use Rattle.conn_model.specs.Words.{Rise}
-use Rattle.conn_tables.proofs.PlaceLemmas.{found_there, nowhere, position_within}
-use Rattle.conn_model.proofs.Lists.{all-append, all-at, all-filter, all-found, all-map, all-more, rise-append, rise-filter, rise-map}
+use Rattle.conn_model.proofs.Lists.{all-append, all-at, all-filter, all-found, all-map, all-more, found_there, nowhere, position_within, rise-append, rise-filter, rise-map}
 
 abbrev pub others : ℕ → List StoredRow → List StoredRow
 others serial rows = filter (λ row. not (has_serial serial row)) rows

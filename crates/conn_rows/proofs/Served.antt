@@ -1,13 +1,11 @@
 -- Open connections of servers, as the rows change.
-use Rattle.std.proofs.Common.{◌≡◌, ℕ, zero, suc, ◌*◌, ◌+◌, Bool, true, false, List, [], ◌∷◌, ◌++◌, length, map, set, Option, Some, None, refl, sym, ap, subst, ◌∙◌, arith}
-use Rattle.std.specs.Prelude.{filter, find, ◌^◌, ◌<◌, ◌≤◌, slice_get, slice_set, option_map, not, ◌==◌, if◌then◌else◌, Result, Ok, Err, OnOk, OnErr, IfSome, IfNone, IsSome, option_and_then}
+use Rattle.std.proofs.Common.{◌≡◌, ℕ, ◌*◌, ◌+◌, Bool, true, false, List, [], ◌∷◌, ◌++◌, length, map, set, Option, Some, None, refl, sym, ap, subst, ◌∙◌, arith}
+use Rattle.std.specs.Prelude.{filter, find, ◌^◌, ◌<◌, ◌≤◌, slice_get, slice_set, option_map, ◌==◌, if◌then◌else◌, Result, Ok, Err, OnOk, OnErr, IfSome, IsSome, option_and_then}
 use Rattle.std.specs.List.{AllByRecursion}
 use Rattle.std.proofs.lemmas.Bool.Decides.{nat_tests}
 use Rattle.std.specs.Option.{option_map_or}
-use Rattle.plan_types.specs.declared.plan.Backend.{Backend}
 use Rattle.plan_types.specs.declared.plan.Frontend.{Frontend}
 use Rattle.plan_types.specs.declared.plan.Plan.{Plan}
-use Rattle.plan_types.specs.declared.plan.Server.{Server}
 use Rattle.slot_core.specs.declared.slots.SlotIx.{SlotIx}
 use Rattle.slot_core.specs.Counts.{identity_at, open_at, slots_at}
 use Rattle.conn_model.specs.declared.plain.Version.{Version}
@@ -25,7 +23,7 @@ use Rattle.conn_rows.specs.declared.row.Stage.{Stage}
 use Rattle.conn_rows.specs.declared.row.Stage.TheVariants.{Waiting, Offered}
 use Rattle.conn_rows.specs.declared.row.StoredRow.{StoredRow}
 use Rattle.conn_rows.specs.Changes.{stage_fed, stage_offered, stage_up, stored_fed, stored_up}
-use Rattle.conn_rows.specs.Stored.{StoredFrontend, at_stage, has_serial, phase_of, phase_with, plan_at, rest_kept, rest_within, slot_of, with_stored}
+use Rattle.conn_rows.specs.Stored.{StoredFrontend, at_stage, has_serial, phase_of, plan_at, rest_kept, rest_within, slot_of, with_stored}
 use Rattle.conn_rows.specs.Value.{AllRows, AreServed, CountsFor, HasSlot, row_slots, rows_total}
 use Rattle.conn_rows.proofs.Totals.{total-set}
 

@@ -1,5 +1,5 @@
 //! The open connections of all frontends.
-ghost use Rattle.std.specs.Prelude.{◌≡◌, ◌+◌, ◌*◌, ◌-◌, ◌^◌, ◌<◌, ◌≤◌, ℕ, List, length, slice_get, option_map, IfOk, IfSome, IfNone, OnOk, OnErr, IsSome, None, Some, map, ◌++◌, ◌∷◌, []};
+ghost use Rattle.std.specs.Prelude.{◌≡◌, ◌+◌, ◌*◌, ◌-◌, ◌^◌, ◌<◌, ◌≤◌, ℕ, List, length, slice_get, option_map, IfOk, IfSome, IfNone, OnOk, OnErr, IsSome, None, Some, map, filter, ◌++◌, ◌∷◌, []};
 ghost use Rattle.std.specs.List.{AllByRecursion};
 ghost use Rattle.std.specs.Option.{option_copied};
 ghost use Rattle.addr_core.specs.declared.addr.Addr.{Addr};
@@ -11,14 +11,15 @@ ghost use Rattle.plan_types.specs.declared.plan.Backend as backends;
 ghost use Rattle.conn_model.specs.declared.plain.FrontendRows.{FrontendRows};
 ghost use Rattle.conn_model.specs.Words.{newest};
 ghost use Rattle.conn_model.specs.Answer.{row_at, version_at};
-ghost use Rattle.conn_model.specs.History.{opening, tracks_at, with_offer};
+ghost use Rattle.conn_model.specs.History.{opening, tables_with, tracks_at, with_offer, with_version};
 ghost use Rattle.conn_model.specs.Servers.{cursor_at, identity_in, pick_in};
 ghost use Rattle.conn_model.specs.declared.plain.Row.{Row};
 ghost use Rattle.conn_versions.specs.Versions.{AreSound, HasServer, VersionsValue};
 ghost use Rattle.conn_rows.specs.Stored.{plain_frontend, stored_in};
 ghost use Rattle.conn_rows.specs.Changes.{rest_at, row_fed, row_offered, row_tracking, row_up, status_of, used_by, with_arrival, with_conn, with_item, with_refusal, without_conn};
 ghost use Rattle.conn_model.specs.Counts.{offered_to, open_named, served_by};
-ghost use Rattle.conn_model.specs.Tables.{entry_counts, open_tracks, table_at, trackers, with_track, without_tracks};
+ghost use Rattle.conn_model.specs.Tables.{entry_counts, is_listed_by, open_tracks, table_at, trackers, with_track, without_tracks};
+ghost use Rattle.conn_rows.specs.Needed.{versions_needed, AreTracksHeld, AreVersionsKept, IsNextNumber};
 ghost use Rattle.rule_engine.specs.Meaning.{present};
 ghost use Rattle.conn_tables.specs.Tables.{key_at};
 ghost use Rattle.conn_tables.specs.Tracks.{slots_of, track_of};
@@ -29,7 +30,9 @@ ghost use Rattle.conn_rows.specs.Value.{rows_of, rows_total, state_of, AllRows, 
 
 use crate::counts;
 use crate::frontend::{FrontendState, HeaderStatus, end_all, end_all_empty};
+use crate::needed::forget_idle;
 use crate::opening::frontends;
+use crate::reload::bring;
 use crate::row::{Holdings, RowSummary, Seat, StoredRow, item, version_at};
 use crate::slots::give_back;
 use addr_core::{Addr, Pair};
@@ -125,9 +128,11 @@ impl Rows {
     }
 
     /// The number of the server that is picked for a source, of the backend of that number in the version of that
-    /// number. None where no server that may be used has room.
+    /// number. None where no server that may be used has room, or where there is no such backend.
     pub fn pick(&self, version: u64, backend: u16, source: &Addr) -> Option<u16>
-        ensures { (kept : Version) (found : backends.Backend) → version_at self.now.versions version ≡ Some kept → slice_get kept.plan.backends backend ≡ Some found →
+        ensures no_version { version_at self.now.versions version ≡ None → result ≡ None }
+        ensures no_backend { (kept : Version) → version_at self.now.versions version ≡ Some kept → slice_get kept.plan.backends backend ≡ None → result ≡ None }
+        ensures picked { (kept : Version) (found : backends.Backend) → version_at self.now.versions version ≡ Some kept → slice_get kept.plan.backends backend ≡ Some found →
             result ≡ option_map (λ turn. turn.server) (pick_in (served_by self.now.frontends) found (cursor_at kept.cursors backend) source.now) }
     {
         let _versions = self.kept.as_slice();
@@ -308,6 +313,34 @@ impl Rows {
             self.tables.release(tracks);
             give_back(&mut self.kept, slot);
         }
+    }
+
+    /// Brings a plan into force, as the version of that number, which follows the newest one: its tables that are written
+    /// the same as tables of that one are the same, and the others begin. Open connections keep their versions.
+    pub fn reload(&mut self, alloc: Global, number: u64, plan: Plan) -> Result<(), AllocError>
+        requires sound { IsSoundPlan plan }
+        requires next { IsNextNumber number self.old.versions self.old.tables }
+        requires kept { AreVersionsKept self.old.frontends self.old.versions }
+        ensures ok { OnOk result (self.new ≡ record self.old {
+          versions = with_version self.old.versions (Some (number, plan));
+          tables = self.old.tables ++ tables_with (newest self.old.versions) (Some (number, plan));
+        }) }
+        ensures err { OnErr result (self.new ≡ self.old) }
+    {
+        bring(&mut self.kept, &mut self.tables, alloc, number, plan)
+    }
+
+    /// Forgets the versions that are neither in force nor of an open connection, and then the tables that no version
+    /// lists. Open connections track no key of those. It takes no memory.
+    pub fn forget(&mut self)
+        requires { AreTracksHeld self.old.frontends (versions_needed self.old.frontends self.old.versions) }
+        ensures { self.new ≡ record self.old {
+          versions = versions_needed self.old.frontends self.old.versions;
+          tables = filter (is_listed_by (versions_needed self.old.frontends self.old.versions)) self.old.tables;
+        } }
+    {
+        forget_idle(&mut self.kept, self.frontends.as_slice());
+        self.tables.forget(self.kept.as_slice());
     }
 
     /// The same as plain data.

@@ -1,7 +1,7 @@
 use Rattle.std.proofs.Common.{◌≡◌, None, sym, ◌∙◌}
 use Rattle.std.specs.Prelude.{find}
 use Rattle.conn_rows.specs.Stored.{has_serial}
-use Rattle.conn_tables.proofs.PlaceLemmas.{nowhere, position_within}
+use Rattle.conn_model.proofs.Lists.{nowhere, position_within}
 use Rattle.conn_rows.proofs.Serials.{not_some}
 use Rattle.conn_rows.proofs.frontend.place_there.Goals as goal
 

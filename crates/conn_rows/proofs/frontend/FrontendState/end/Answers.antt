@@ -1,8 +1,5 @@
-use Rattle.std.proofs.Common.{◌+◌, ◌≤◌, ℕ, arith}
-use Rattle.std.specs.Option.{option_map_or}
-use Rattle.slot_core.specs.Counts.{open_at, slots_at}
+use Rattle.std.proofs.Common.{arith}
 use Rattle.conn_rows.specs.Value.{row_on, row_slots}
-use Rattle.conn_rows.proofs.Served.{slot_counted}
 use Rattle.conn_rows.proofs.frontend.FrontendState.end.Goals as goal
 
 pub returns-clause-tables : goal.returns-clause-tables

@@ -1,5 +1,4 @@
 use Rattle.std.proofs.Common.{◌≡◌, rules, sym, ap, ◌∙◌, map, [], length}
-use Rattle.slot_core.specs.Counts.{open_at}
 use Rattle.conn_model.specs.Counts.{total}
 use Rattle.conn_rows.specs.Stored.{StoredFrontend}
 use Rattle.conn_rows.specs.Value.{row_on, row_slots, rows_total}

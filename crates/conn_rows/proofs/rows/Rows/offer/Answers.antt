@@ -1,14 +1,11 @@
-use Rattle.std.proofs.Common.{◌≡◌, ℕ, ◌<◌, ◌≤◌, Some, ap, ◌∙◌, refl, sym, subst, length, arith}
-use Rattle.std.specs.Prelude.{slice_get, find, IsSome}
-use Rattle.slot_core.specs.Counts.{open_at}
+use Rattle.std.proofs.Common.{◌≡◌, ◌<◌, ◌≤◌, Some, ap, ◌∙◌, refl, sym, subst, length, arith}
+use Rattle.std.specs.Prelude.{slice_get, IsSome}
 use Rattle.conn_model.specs.Counts.{total}
-use Rattle.conn_model.specs.History.{with_offer}
-use Rattle.conn_rows.specs.declared.row.StoredRow.{StoredRow}
-use Rattle.conn_rows.specs.Changes.{row_offered, stage_offered, with_row}
-use Rattle.conn_rows.specs.Stored.{at_stage, has_serial, with_stored}
-use Rattle.conn_rows.specs.Value.{HasSlot, row_on, RowsValue}
+use Rattle.conn_rows.specs.Changes.{stage_offered}
+use Rattle.conn_rows.specs.Stored.{at_stage}
+use Rattle.conn_rows.specs.Value.{row_on, RowsValue}
 use Rattle.conn_rows.proofs.Counted.{still_rows, total-with}
-use Rattle.conn_rows.proofs.Plain.{changed, judged_there, offered_plain, offered_value, own_exists, own_there, rest_of_state, rest_open, rest_there}
+use Rattle.conn_rows.proofs.Plain.{judged_there, offered_value, own_exists, own_there, rest_of_state, rest_open, rest_there}
 use Rattle.conn_rows.proofs.Served.{all_slots_few, more_served, offered_has, slots-offer}
 use Rattle.conn_versions.specs.Versions.{HasServer}
 use Rattle.conn_rows.proofs.rows.Rows.offer.Goals as goal

@@ -1,4 +1,4 @@
-use Rattle.std.proofs.Common.{◌≡◌, ◌+◌, ◌≤◌, ℕ, refl, sym, ap, ◌∙◌, arith}
+use Rattle.std.proofs.Common.{◌≡◌, ◌+◌, refl, sym, ap, ◌∙◌, arith}
 use Rattle.slot_core.specs.Counts.{open_at, slots_at}
 use Rattle.std.specs.Option.{option_map_or}
 use Rattle.conn_tables.specs.Tables.{cur_in}

@@ -3,7 +3,7 @@ use Rattle.std.specs.Prelude.{slice_get}
 use Rattle.conn_model.specs.Tables.{open_tracks}
 use Rattle.conn_rows.specs.Stored.{plain_frontend}
 use Rattle.conn_tables.specs.Tables.{key_at}
-use Rattle.conn_rows.specs.Value.{HasSlot, RowsValue, row_slots}
+use Rattle.conn_rows.specs.Value.{RowsValue}
 use Rattle.conn_rows.proofs.Served.{still_served}
 use Rattle.conn_rows.proofs.Counted.{are_counted, cur_few, more_rows, trackers_more}
 use Rattle.conn_rows.proofs.Plain.{free_there, own_exists, own_there, row_there, tracking_value}

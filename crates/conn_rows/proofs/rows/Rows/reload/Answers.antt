@@ -1,0 +1,47 @@
+use Rattle.std.proofs.Common.{◌≡◌, Result, Ok, Err, Some, map, sym, subst, ◌∙◌}
+use Rattle.std.specs.Prelude.{OnOk, OnErr}
+use Rattle.conn_model.specs.History.{with_version}
+use Rattle.conn_rows.specs.Needed.{AreVersionsKept, IsNextNumber}
+use Rattle.conn_rows.specs.Stored.{plain_frontend}
+use Rattle.conn_rows.specs.Value.{RowsValue}
+use Rattle.conn_rows.proofs.Kept.{AreSeenAlike, seen_more, seen_same, served_seen}
+use Rattle.conn_rows.proofs.Reloaded.{brought_value, err_both, ok_both, same_value}
+use Rattle.conn_rows.proofs.rows.Rows.reload.Goals as goal
+
+pub bring-requires-clause-next : goal.bring-requires-clause-next
+bring-requires-clause-next c = subst (λ (v : RowsValue). IsNextNumber c.args.number v.versions v.tables) (sym c.self.view_is) c.requires.next
+
+kept : (c : goal.After-bring) → AreVersionsKept (map (plain_frontend c.self.inside.kept.versions) c.self.inside.frontends.items) c.self.inside.kept.versions
+kept c = subst (λ (v : RowsValue). AreVersionsKept v.frontends v.versions) (sym c.self.view_is) c.requires.kept
+
+alike : (c : goal.After-bring) → AreSeenAlike c.self.inside.kept.versions c.bring.new.kept.versions c.self.inside.frontends.items
+alike c = by c.bring.result c.bring.ensures.versions c.bring.ensures.versions_err
+  where
+    by : {X E : Type 0} (r : Result X E) → OnOk r (c.bring.new.kept.versions ≡ with_version c.self.inside.kept.versions (Some (c.args.number, c.args.plan))) →
+        OnErr r (c.bring.new.kept.versions ≡ c.self.inside.kept.versions) → AreSeenAlike c.self.inside.kept.versions c.bring.new.kept.versions c.self.inside.frontends.items
+    by (Ok x) ok err = seen_more c.self.inside.kept.versions c.bring.new.kept.versions c.args.number c.args.plan c.self.inside.frontends.items (kept c) ok
+    by (Err e) ok err = seen_same c.self.inside.kept.versions c.bring.new.kept.versions c.self.inside.frontends.items err
+
+pub invariant_of-self : goal.invariant_of-self
+invariant_of-self c = record {
+  rows = record {
+    few = c.self.invariant.rows.few;
+    small = c.self.invariant.rows.small;
+    counted = λ id key. c.bring.ensures.counts id key ∙ c.self.invariant.rows.counted id key;
+  };
+  served = served_seen c.self.inside.frontends.items c.self.inside.kept c.bring.new.kept (alike c) c.bring.ensures.open c.bring.ensures.identities c.self.invariant.served;
+}
+
+pub returns-clause-ok : goal.returns-clause-ok
+returns-clause-ok c =
+    ok_both c.bring.result
+    (λ versions tables.
+    brought_value c.self.inside.frontends.items c.self.inside.kept.versions c.bring.new.kept.versions c.self.inside.tables c.bring.new.tables c.args.self.now c.args.number c.args.plan c.self.view_is
+    (alike c) versions tables c.bring.ensures.spare)
+    c.bring.ensures.versions c.bring.ensures.tables
+
+pub returns-clause-err : goal.returns-clause-err
+returns-clause-err c =
+    err_both c.bring.result
+    (λ versions tables. same_value c.self.inside.frontends.items c.self.inside.kept.versions c.bring.new.kept.versions c.self.inside.tables c.bring.new.tables c.args.self.now c.self.view_is versions tables)
+    c.bring.ensures.versions_err c.bring.ensures.tables_err
