@@ -29,7 +29,7 @@ use Rattle.conn_core.specs.declared.outcome.Outcome.TheVariants.{Wait, Offer, Re
 use Rattle.conn_core.specs.Changes.{entered, entered_row, settled_versions}
 use Rattle.conn_core.specs.Machine.{IsCoreState}
 use Rattle.conn_core.specs.Outcome.{reply_by, said_by}
-use Rattle.conn_core.proofs.StateLemmas.{IsAfter, is_after, plan_is}
+use Rattle.conn_core.proofs.StateLemmas.{IsAfter, brings_none, is_after, plan_is}
 
 -- what the four look-ups of an accept find
 pub record Found (p : Plain) (listener : ℕ) (at : Listener) (own : FrontendRows) (version : Version) (frontend : Frontend) : Type 0 where
@@ -81,7 +81,7 @@ pub accepted : (p : Plain) → IsCoreState p → (moment listener : ℕ) (arriva
       tables = tables_by p.frontends p.tables (reply_by id 0 decision);
     })
 accepted p known moment listener arrival decision id own there next version clock is =
-    is_after p known (entry moment (Accept listener arrival.real) (reply_by id 0 decision)) _ is
+    is_after p known (entry moment (Accept listener arrival.real) (reply_by id 0 decision)) _ (brings_none (entry moment (Accept listener arrival.real) (reply_by id 0 decision)) refl) is
     (rw there (ap (λ vs. state vs (entered_row p.versions arrival tracks decision.outcome (own.serial + 1))) versions ∙ ap (state (with_said (newest_number p) (said_by id 0 decision.outcome) p.versions)) rows ∙ sym (after-accept p known.well moment listener arrival.real (reply_by id 0 decision) id own there (says decision.outcome) next)))
   where
     state : List Version → List Row → Plain

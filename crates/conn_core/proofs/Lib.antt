@@ -3,6 +3,7 @@ pub mod CountingLemmas
 pub mod JudgingLemmas
 pub mod RowLemmas
 pub mod SeenLemmas
+pub mod NeededLemmas
 pub mod StateLemmas
 pub mod PossibleLemmas
 pub mod TrackedLemmas

@@ -1,41 +1,68 @@
 -- The state of a core after one event.
-use Rattle.std.proofs.Common.{◌≡◌, ℕ, [], ◌∷◌, List, Bool, true, false, Option, Some, None, Ok, refl, max, sym, ap, subst, append-nil, ◌∙◌}
-use Rattle.std.specs.Prelude.{slice_get, slice_set, find, filter, not, map, option_map, ◌==◌, ◌++◌, if◌then◌else◌}
+use Rattle.std.proofs.Common.{◌≡◌, ℕ, [], ◌∷◌, List, Bool, true, false, Option, Some, None, Result, Ok, refl, max, sym, ap, subst, append-nil, ◌∙◌}
+use Rattle.std.specs.Prelude.{slice_get, slice_set, find, filter, not, map, option_and_then, option_map, ◌==◌, ◌++◌, if◌then◌else◌}
 use Rattle.std.specs.List.{AllByRecursion}
+use Rattle.std.specs.Option.{option_map_or}
 use Rattle.std.proofs.Math.Path.{fun_ext}
 use Rattle.plan_types.specs.declared.plan.Plan.{Plan}
 use Rattle.plan_types.specs.Sound.{IsSoundPlan}
+use Rattle.config_core.specs.Meaning.{meaning}
+use Rattle.config_core.specs.declared.fault.OpenFault.{OpenFault}
 use Rattle.conn_model.specs.declared.event.ConnId.{ConnId}
 use Rattle.conn_model.specs.declared.event.OwnedEvent.{OwnedEvent}
-use Rattle.conn_model.specs.declared.event.OwnedEvent.TheVariants.{Connected}
+use Rattle.conn_model.specs.declared.event.OwnedEvent.TheVariants.{Accept, Piece, Connected, ConnectFailed, Close, Expire, Reload}
 use Rattle.conn_model.specs.declared.reply.Reply.{Reply}
 use Rattle.conn_model.specs.declared.reply.Said.{Said}
-use Rattle.conn_model.specs.declared.reply.Said.TheVariants.{Up}
+use Rattle.conn_model.specs.declared.reply.Said.TheVariants.{Reloaded, Up}
 use Rattle.conn_model.specs.declared.plain.Row.{Row}
 use Rattle.conn_model.specs.declared.plain.FrontendRows.{FrontendRows}
+use Rattle.conn_model.specs.declared.plain.Listener.{Listener}
 use Rattle.conn_model.specs.declared.plain.TableState.{TableState}
 use Rattle.conn_model.specs.declared.plain.Version.{Version}
 use Rattle.conn_model.specs.declared.plain.Plain.{Plain}
 use Rattle.conn_model.specs.Counts.{change_row}
 use Rattle.conn_model.specs.Answer.{answer_in, reply_of, row_at, row_in}
-use Rattle.conn_model.specs.History.{after, by_counter, entry, id_of, is_last, judging_version, newest_number, phase_by, phase_up, plan_of, tables_by, tracks_at, with_said, Entry}
-use Rattle.conn_model.specs.Tables.{without_tracks}
+use Rattle.conn_model.specs.History.{after, by_counter, entry, id_of, is_last, judging_version, needed_versions, newest_number, next_version, number_said, phase_by, phase_up, plan_in, plan_of, plan_with, tables_by, tables_with, tracks_at, version_of, with_said, with_version, Entry}
+use Rattle.conn_model.specs.Tables.{is_listed_by, without_tracks, written_tables}
+use Rattle.conn_model.specs.Words.{newest}
 use Rattle.conn_model.proofs.Goes.{well_at}
 use Rattle.conn_model.proofs.Lists.{all-more}
 use Rattle.conn_model.proofs.Trackings.{tables_ended, tables_kept}
 use Rattle.conn_model.proofs.Well.{after-nil, well_after}
-use Rattle.conn_model.proofs.Steps.{after-change, after-end, judging-old, last_no_offer, row_said, versions_kept, IsOfOpen}
+use Rattle.conn_model.proofs.Steps.{after-change, after-end, after-reload, judging-old, last_no_offer, row_said, versions_kept, IsOfOpen}
+use Rattle.conn_model.proofs.Versions.{newest-end}
 use Rattle.conn_model.proofs.VersionSteps.{plans_stay}
 use Rattle.conn_rows.specs.Changes.{row_up, with_conn, without_conn}
+use Rattle.conn_rows.specs.Needed.{versions_needed}
 use Rattle.conn_rows.specs.Stored.{plan_at}
-use Rattle.conn_core.specs.Changes.{row_by, spoken}
-use Rattle.conn_core.specs.Machine.{IsCoreState}
+use Rattle.conn_rows.specs.Value.{RowsValue}
+use Rattle.conn_core.specs.Changes.{forgotten, row_by, spoken}
+use Rattle.conn_core.specs.Machine.{state_of, IsCoreState}
+
+-- an event with no plan brings no version
+no_version : (e : Entry) → plan_with e.event ≡ None → version_of e ≡ None
+no_version e none = ap (brought (number_said e.reply.said)) none ∙ by (number_said e.reply.said)
+  where
+    brought : Option ℕ → Option Plan → Option (ℕ × Plan)
+    brought number plan = option_and_then {U = ℕ × Plan} (λ n. option_map (λ plan. (n, plan)) plan) number
+
+    by : (number : Option ℕ) → brought number None ≡ None
+    by None = refl
+    by (Some number) = refl
+
+-- each plan that an entry brings is sound
+abbrev pub BringsSound : Entry → Type 0
+BringsSound e = (n : ℕ) (plan : Plan) → version_of e ≡ Some (n, plan) → IsSoundPlan plan
+
+-- where there is none
+pub brings_none : (e : Entry) → plan_with e.event ≡ None → BringsSound e
+brings_none e none n plan is = absurd (let wrong : None ≡ Some (n, plan) = sym (no_version e none) ∙ is in cc)
 
 -- an answered event leaves a state that a core can be in
-kept : (q : Plain) → IsCoreState q → (e : Entry) → answer_in q e.moment e.event ≡ Ok e.reply → IsCoreState (after q (e ∷ []))
-kept q known e is = record {
+kept : (q : Plain) → IsCoreState q → (e : Entry) → BringsSound e → answer_in q e.moment e.event ≡ Ok e.reply → IsCoreState (after q (e ∷ []))
+kept q known e brings is = record {
   well = well_after q known.well (e ∷ []) (tt, subst (λ s. answer_in s e.moment e.event ≡ Ok e.reply) (sym (after-nil q known.well)) is);
-  plans = plans_stay IsSoundPlan q known.well e known.plans;
+  plans = plans_stay IsSoundPlan q known.well e known.plans brings;
 }
 
 -- a state is the one after an entry, and one that a core can be in
@@ -43,8 +70,25 @@ pub record IsAfter (q : Plain) (e : Entry) (new' : Plain) : Type 0 where
   pub same : new' ≡ after q (e ∷ [])
   pub known : IsCoreState new'
 
-pub is_after : (q : Plain) → IsCoreState q → (e : Entry) (new' : Plain) → answer_in q e.moment e.event ≡ Ok e.reply → new' ≡ after q (e ∷ []) → IsAfter q e new'
-is_after q known e new' is same = record { same = same; known = subst IsCoreState (sym same) (kept q known e is) }
+pub is_after : (q : Plain) → IsCoreState q → (e : Entry) (new' : Plain) → BringsSound e → answer_in q e.moment e.event ≡ Ok e.reply → new' ≡ after q (e ∷ []) → IsAfter q e new'
+is_after q known e new' brings is same = record { same = same; known = subst IsCoreState (sym same) (kept q known e brings is) }
+
+-- a state without the versions that are not needed, and without the tables that no other lists
+abbrev pub pruned : Plain → Plain
+pruned p = record p {
+  versions = versions_needed p.frontends p.versions;
+  tables = filter (is_listed_by (versions_needed p.frontends p.versions)) p.tables;
+}
+
+-- once a connection ended, if one did
+abbrev pub pruned_if : Bool → Plain → Plain
+pruned_if true p = pruned p
+pruned_if false p = p
+
+-- so are the rows
+pub pruned_rows : (clock : ℕ) (listeners : List Listener) (last : Bool) (rows : RowsValue) → state_of clock listeners (forgotten last rows) ≡ pruned_if last (state_of clock listeners rows)
+pruned_rows clock listeners true rows = refl
+pruned_rows clock listeners false rows = refl
 
 -- the plan of a version is the one by which the replies to its rows are read
 pub plan_is : (p : Plain) (n : ℕ) → plan_of p [] n ≡ plan_at p.versions n
@@ -67,18 +111,28 @@ frontend_of frontends id row is = by (slice_get frontends id.frontend) refl
     by None none = absurd (let wrong : None ≡ Some row = ap (row_in id.serial) (sym none) ∙ is in cc)
     by (Some own) there = (own, there)
 
+-- an event of an open connection comes with no plan
+open_no_plan : (event : OwnedEvent) → IsOfOpen event → plan_with event ≡ None
+open_no_plan (Accept listener real) old = absurd old
+open_no_plan (Piece id bytes) old = refl
+open_no_plan (Connected id) old = refl
+open_no_plan (ConnectFailed id) old = refl
+open_no_plan (Close id why) old = refl
+open_no_plan (Expire id) old = refl
+open_no_plan (Reload text) old = absurd old
+
 -- the state once something is said to a connection that is open
 pub after_spoken : (p : Plain) → IsCoreState p → (moment : ℕ) (event : OwnedEvent) (id : ConnId) (reply : Reply) (row : Row) → row_at p.frontends id ≡ Some row →
     IsOfOpen event → id_of reply.said ≡ Some id → answer_in p moment event ≡ Ok reply →
-    IsAfter p (entry moment event reply) (record {
+    IsAfter p (entry moment event reply) (pruned_if (is_last reply.said) (record {
       clock = max p.clock moment;
       listeners = p.listeners;
       frontends = spoken p.versions event id reply p.frontends;
       versions = with_said row.version reply.said p.versions;
       tables = tables_by p.frontends p.tables reply;
-    })
+    }))
 after_spoken p known moment event id reply row open_now old whom is =
-    is_after p known (entry moment event reply) _ is (by (is_last reply.said) refl)
+    is_after p known (entry moment event reply) _ (brings_none (entry moment event reply) (open_no_plan event old)) is (by (is_last reply.said) refl)
   where
     own : FrontendRows
     own = (frontend_of p.frontends id row open_now).0
@@ -101,11 +155,12 @@ after_spoken p known moment event id reply row open_now old whom is =
     changes : row_said p event reply ≡ row_by p.versions event reply
     changes = fun_ext (λ (r : Row). ap (λ plan. record r { phase = phase_by plan event reply.said r.phase; tracks = by_counter (r.tracks ++ reply.tracks.items) }) (plan_is p r.version))
 
-    by : (b : Bool) → is_last reply.said ≡ b → state (spoken p.versions event id reply p.frontends) (with_said row.version reply.said p.versions) ≡ after p (entry moment event reply ∷ [])
+    by : (b : Bool) → is_last reply.said ≡ b → pruned_if b (state (spoken p.versions event id reply p.frontends) (with_said row.version reply.said p.versions)) ≡ after p (entry moment event reply ∷ [])
     by true last =
-        let left : spoken p.versions event id reply p.frontends ≡ slice_set p.frontends id.frontend (record own { rows = filter (λ row. not (row.serial == id.serial)) own.rows }) = rw (last, there) refl in
-        ap (λ fs. state fs (with_said row.version reply.said p.versions)) left
-        ∙ ap (state (slice_set p.frontends id.frontend (record own { rows = filter (λ row. not (row.serial == id.serial)) own.rows }))) (versions_kept row.version reply.said p.versions (last_no_offer reply.said last))
+        let left : List FrontendRows = slice_set p.frontends id.frontend (record own { rows = filter (λ row. not (row.serial == id.serial)) own.rows }) in
+        let gone : spoken p.versions event id reply p.frontends ≡ left = rw (last, there) refl in
+        ap (λ fs. pruned (state fs (with_said row.version reply.said p.versions))) gone
+        ∙ ap (λ vs. pruned (state left vs)) (versions_kept row.version reply.said p.versions (last_no_offer reply.said last))
         ∙ sym (after-end p known.well (entry moment event reply) id own there old whom last)
     by false last =
         let changed : spoken p.versions event id reply p.frontends ≡ slice_set p.frontends id.frontend (record own { rows = change_row id.serial (row_said p event reply) own.rows }) =
@@ -117,13 +172,13 @@ after_spoken p known moment event id reply row open_now old whom is =
 -- the state once a connection that is open ended
 pub after_last : (p : Plain) → IsCoreState p → (moment : ℕ) (event : OwnedEvent) (id : ConnId) (said : Said) (row : Row) → row_at p.frontends id ≡ Some row →
     IsOfOpen event → id_of said ≡ Some id → is_last said ≡ true → answer_in p moment event ≡ Ok (reply_of said) →
-    IsAfter p (entry moment event (reply_of said)) (record {
+    IsAfter p (entry moment event (reply_of said)) (pruned (record {
       clock = max p.clock moment;
       listeners = p.listeners;
       frontends = without_conn id p.frontends;
       versions = p.versions;
       tables = without_tracks (tracks_at p.frontends id) p.tables;
-    })
+    }))
 after_last p known moment event id said row open_now old whom last is =
     subst (IsAfter p (entry moment event (reply_of said))) same (after_spoken p known moment event id (reply_of said) row open_now old whom is)
   where
@@ -136,12 +191,13 @@ after_last p known moment event id said row open_now old whom last is =
     gone : spoken p.versions event id (reply_of said) p.frontends ≡ without_conn id p.frontends
     gone = rw last refl
 
-    same : state (spoken p.versions event id (reply_of said) p.frontends) (with_said row.version said p.versions) (tables_by p.frontends p.tables (reply_of said))
-        ≡ state (without_conn id p.frontends) p.versions (without_tracks (tracks_at p.frontends id) p.tables)
+    same : pruned_if (is_last said) (state (spoken p.versions event id (reply_of said) p.frontends) (with_said row.version said p.versions) (tables_by p.frontends p.tables (reply_of said)))
+        ≡ pruned (state (without_conn id p.frontends) p.versions (without_tracks (tracks_at p.frontends id) p.tables))
     same =
-        ap (λ fs. state fs (with_said row.version said p.versions) (tables_by p.frontends p.tables (reply_of said))) gone
-        ∙ ap (λ vs. state (without_conn id p.frontends) vs (tables_by p.frontends p.tables (reply_of said))) versions
-        ∙ ap (state (without_conn id p.frontends) p.versions) (tables_ended p known.well id said whom last)
+        ap (λ b. pruned_if b (state (spoken p.versions event id (reply_of said) p.frontends) (with_said row.version said p.versions) (tables_by p.frontends p.tables (reply_of said)))) last
+        ∙ ap (λ fs. pruned (state fs (with_said row.version said p.versions) (tables_by p.frontends p.tables (reply_of said)))) gone
+        ∙ ap (λ vs. pruned (state (without_conn id p.frontends) vs (tables_by p.frontends p.tables (reply_of said)))) versions
+        ∙ ap (λ ts. pruned (state (without_conn id p.frontends) p.versions ts)) (tables_ended p known.well id said whom last)
 
 -- Rows that are changed alike.
 
@@ -187,3 +243,44 @@ after_up p known moment id row open_now is =
 
     same : state (with_conn id said_up p.frontends) (tables_by p.frontends p.tables (reply_of (Up id))) ≡ state (with_conn id row_up p.frontends) p.tables
     same = ap (λ fs. state fs (tables_by p.frontends p.tables (reply_of (Up id)))) frontends ∙ ap (state (with_conn id row_up p.frontends)) (tables_kept p (Up id) refl)
+
+-- A reload.
+
+-- the number of the version at the end
+newest_last : (versions : List Version) (version : Version) → option_map_or (λ (v : Version). v.number) (newest (versions ++ version ∷ [])) 0 ≡ version.number
+newest_last versions version = ap (λ (o : Option Version). option_map_or (λ (v : Version). v.number) o 0) (newest-end versions version)
+
+-- the state once a plan came into force
+pub after_reload : (p : Plain) → IsCoreState p → (moment number : ℕ) (text : List ℕ) (plan : Plan) → meaning text ≡ Ok plan → IsSoundPlan plan →
+    answer_in p moment (Reload text) ≡ Ok (reply_of (Reloaded number)) →
+    IsAfter p (entry moment (Reload text) (reply_of (Reloaded number))) (pruned (record {
+      clock = max p.clock moment;
+      listeners = p.listeners;
+      frontends = p.frontends;
+      versions = with_version p.versions (Some (number, plan));
+      tables = p.tables ++ tables_with (newest p.versions) (Some (number, plan));
+    }))
+after_reload p known moment number text plan meant sound is =
+    is_after p known e _ brings is (ap pruned_to (newest_last p.versions next) ∙ sym (after-reload p known.well moment number text plan meant))
+  where
+    e : Entry
+    e = entry moment (Reload text) (reply_of (Reloaded number))
+
+    next : Version
+    next = next_version number (written_tables (newest p.versions)) plan
+
+    pruned_to : ℕ → Plain
+    pruned_to force = record {
+      clock = max p.clock moment;
+      listeners = p.listeners;
+      frontends = p.frontends;
+      versions = needed_versions p.frontends force (p.versions ++ next ∷ []);
+      tables = filter (is_listed_by (needed_versions p.frontends force (p.versions ++ next ∷ []))) (p.tables ++ tables_with (newest p.versions) (Some (number, plan)));
+    }
+
+    brings : BringsSound e
+    brings n other brought =
+        let it : version_of e ≡ Some (number, plan) = ap (λ (r : Result Plan OpenFault). option_map (λ (plan : Plan). (number, plan)) (plan_in r)) meant in
+        let both : Some (number, plan) ≡ Some (n, other) = sym it ∙ brought in
+        let same : (number, plan) ≡ (n, other) = cc in
+        subst IsSoundPlan (ap (λ (pair : ℕ × Plan). pair.1) same) sound

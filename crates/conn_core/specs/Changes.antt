@@ -1,5 +1,5 @@
 -- What a step makes of the open connections.
-use Rattle.std.specs.Prelude.{ℕ, List, [], ◌∷◌, ◌++◌, Some, IsSome, map, slice_get, ◌≡◌, ◌+◌, ◌<◌, ◌≤◌, ◌^◌, if◌then◌else◌}
+use Rattle.std.specs.Prelude.{ℕ, Bool, true, false, List, [], ◌∷◌, ◌++◌, Some, IsSome, filter, map, slice_get, ◌≡◌, ◌+◌, ◌<◌, ◌≤◌, ◌^◌, if◌then◌else◌}
 use Rattle.std.specs.List.{AllByRecursion}
 use Rattle.plan_types.specs.declared.plan.Frontend.{Frontend}
 use Rattle.plan_types.specs.declared.track.Track.{Track}
@@ -13,9 +13,11 @@ use Rattle.conn_model.specs.declared.plain.TableState.{TableState}
 use Rattle.conn_model.specs.declared.plain.Version.{Version}
 use Rattle.conn_model.specs.Answer.{frontend_in, new_row, rest_in, row_at, version_at}
 use Rattle.conn_model.specs.History.{is_last, phase_by, with_offer}
-use Rattle.conn_model.specs.Tables.{by_counter, tracks_at, without_tracks}
+use Rattle.conn_model.specs.Tables.{by_counter, is_listed_by, tracks_at, without_tracks}
 use Rattle.conn_rows.specs.Changes.{row_offered, with_conn, without_conn}
+use Rattle.conn_rows.specs.Needed.{versions_needed}
 use Rattle.conn_rows.specs.Stored.{plan_at}
+use Rattle.conn_rows.specs.Value.{RowsValue}
 use Rattle.conn_versions.specs.Versions.{HasServer}
 use Rattle.conn_core.specs.Tracking.{row_with}
 use Rattle.conn_core.specs.declared.entering.Arrival.{Arrival}
@@ -99,3 +101,11 @@ abbrev pub settled_tables : ConnId → Outcome → List FrontendRows → List Ta
 settled_tables id Wait frontends tables = tables
 settled_tables id (Offer offer) frontends tables = tables
 settled_tables id (Refuse cause) frontends tables = without_tracks (tracks_at frontends id) tables
+
+-- the rows once a connection ended, if one did: without the versions that are not needed, and the tables that no other lists
+abbrev pub forgotten : Bool → RowsValue → RowsValue
+forgotten true rows = record rows {
+  versions = versions_needed rows.frontends rows.versions;
+  tables = filter (is_listed_by (versions_needed rows.frontends rows.versions)) rows.tables;
+}
+forgotten false rows = rows

@@ -25,6 +25,11 @@ pub record IsNext (p : Plain) (admission : Admission) (own : FrontendRows) : Typ
   pub fits : own.serial + 1 < 2 ^ 64
   pub version : admission.version ≡ newest_number p
 
+-- the number is the next one after that of the newest version
+pub record IsNextVersion (p : Plain) (number : ℕ) : Type 0 where
+  pub next : number ≡ newest_number p + 1
+  pub fits : number < 2 ^ 64
+
 -- the core is the opening of the text
 abbrev pub IsOpened : List ℕ → ℕ → Plain → Type 0
 IsOpened text last core = (plan : Plan) × (meaning text ≡ Ok plan) × (core ≡ opening plan last)

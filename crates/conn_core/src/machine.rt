@@ -1,24 +1,26 @@
 //! The decision core.
-ghost use Rattle.std.specs.Prelude.{◌≡◌, ◌≢◌, ◌⊎◌, ◌+◌, ◌-◌, ◌^◌, ◌<◌, ◌≤◌, List, [], ◌∷◌, Option, Some, IfSome, IfNone, IfOk, IfErr, OnOk, OnErr, nat_le, Ok, Err};
+ghost use Rattle.std.specs.Prelude.{◌≡◌, ◌≢◌, ◌⊎◌, ◌+◌, ◌-◌, ◌^◌, ◌<◌, ◌≤◌, true, List, [], ◌∷◌, Option, Some, IfSome, IfNone, IfOk, IfErr, OnOk, OnErr, nat_le, Ok, Err};
 ghost use Rattle.std.specs.Option.{option_copied};
 ghost use Rattle.plan_types.specs.Sound.{IsSoundPlan};
 ghost use Rattle.pp_any.specs.declared.rest.Rest.{Rest};
 ghost use Rattle.conn_model.specs.declared.event.TheConstants.{HEADER_WAIT};
 ghost use Rattle.conn_model.specs.declared.plain.Row.{Row};
 ghost use Rattle.conn_model.specs.declared.reply.Said.{Said};
-ghost use Rattle.conn_model.specs.Answer.{answer_in, accept_answer, piece_answer, reply_of, server_answer, waiting_row};
+ghost use Rattle.conn_model.specs.declared.reply.Said.TheVariants.{Reloaded};
+ghost use Rattle.conn_model.specs.Answer.{answer_in, accept_answer, piece_answer, reload_answer, reply_of, server_answer, waiting_row};
+ghost use Rattle.conn_rows.specs.Needed.{versions_needed, AreTracksHeld};
 ghost use Rattle.conn_rows.specs.Summaries.{summary_of};
 ghost use Rattle.conn_model.specs.Counts.{counts_in, newest_backend};
-ghost use Rattle.conn_model.specs.History.{after, answer, counts, owned_event, opening, entry, NeedsNoMemory, IsFault, IsLegal, IsWell, Entry};
+ghost use Rattle.conn_model.specs.History.{after, answer, counts, owned_event, opening, entry, is_last, NeedsNoMemory, IsFault, IsLegal, IsWell, Entry};
 ghost use Rattle.conn_model.specs.declared.event.OwnedEvent.TheVariants as owned;
 ghost use Rattle.conn_model.specs.declared.plain.FrontendRows.{FrontendRows};
 ghost use Rattle.conn_model.specs.declared.plain.Plain.{Plain};
 ghost use Rattle.config_core.specs.Meaning.{meaning};
 ghost use Rattle.conn_model.specs.Tables.{open_tracks};
-ghost use Rattle.conn_core.specs.Changes.{CanOffer};
+ghost use Rattle.conn_core.specs.Changes.{forgotten, CanOffer};
 ghost use Rattle.conn_core.specs.Outcome.{reply_by};
 ghost use Rattle.conn_core.specs.Tracking.{ArePossible};
-ghost use Rattle.conn_core.specs.Machine.{AreSound, IsOpened, IsNext};
+ghost use Rattle.conn_core.specs.Machine.{AreSound, IsOpened, IsNext, IsNextVersion};
 
 use crate::entering::{Arrival, enter};
 use crate::facts::RuleFacts;
@@ -35,6 +37,7 @@ use conn_model::plain::{Listener, Plain};
 use conn_model::reply::{Cause, Reply, Said, StepFault};
 use conn_rows::{RowSummary, Rows};
 use list_core::{Duplicate, Seq};
+use plan_core::same_binds;
 use plan_types::{Backend, Plan};
 use std::alloc::{AllocError, Global};
 use std::marker::Model;
@@ -108,14 +111,14 @@ impl Core {
         ensures reply { IfOk result (λ r. (p : Plain) (h : List Entry) → IsWell p → IsLegal p h → self.old ≡ after p h →
             (answer p h moment (owned_event event.now) ≡ Ok r) × (self.new ≡ after p (entry moment (owned_event event.now) r ∷ h))) }
 
-        // A fault is the answer, or there was no memory for a reply.
-        ensures fault { IfErr result (λ f. (p : Plain) (h : List Entry) → self.old ≡ after p h → IsFault (answer p h moment (owned_event event.now)) f) }
+        // A fault is the answer, or there was no memory for a reply, or to read a new configuration.
+        ensures fault { IfErr result (λ f. (p : Plain) (h : List Entry) → self.old ≡ after p h → IsFault (owned_event event.now) (answer p h moment (owned_event event.now)) f) }
         ensures err { OnErr result (self.new ≡ self.old) }
 
         // The same of the state alone.
         ensures plain_reply { IfOk result (λ r. answer_in self.old moment (owned_event event.now) ≡ Ok r) }
         ensures plain_new { IfOk result (λ r. self.new ≡ after self.old (entry moment (owned_event event.now) r ∷ [])) }
-        ensures plain_fault { IfErr result (λ f. IsFault (answer_in self.old moment (owned_event event.now)) f) }
+        ensures plain_fault { IfErr result (λ f. IsFault (owned_event event.now) (answer_in self.old moment (owned_event event.now)) f) }
         ensures no_memory { NeedsNoMemory event.now → result ≢ Err StepFault.NoMemory }
 
         // Every history can be continued from there.
@@ -206,7 +209,7 @@ impl Core {
     fn work(&mut self, moment: u64, event: &Event<'_>) -> Result<Reply, StepFault>
         ensures reply { IfOk result (λ r. answer_in self.old moment (owned_event event.now) ≡ Ok r) }
         ensures new { IfOk result (λ r. self.new ≡ after self.old (entry moment (owned_event event.now) r ∷ [])) }
-        ensures fault { IfErr result (λ f. IsFault (answer_in self.old moment (owned_event event.now)) f) }
+        ensures fault { IfErr result (λ f. IsFault (owned_event event.now) (answer_in self.old moment (owned_event event.now)) f) }
         ensures err { OnErr result (self.new ≡ self.old) }
         ensures no_memory { NeedsNoMemory event.now → result ≢ Err StepFault.NoMemory }
     {
@@ -217,13 +220,14 @@ impl Core {
             Event::ConnectFailed(id) => self.connect_failed(moment, id),
             Event::Close(id, why) => self.close(moment, id, why),
             Event::Expire(id) => self.expire(moment, id),
+            Event::Reload(text) => self.reload(moment, text),
         }
     }
 
     fn accept(&mut self, moment: u64, listener: u16, real: Pair) -> Result<Reply, StepFault>
         ensures reply { IfOk result (λ r. answer_in self.old moment (owned.Accept listener real) ≡ Ok r) }
         ensures new { IfOk result (λ r. self.new ≡ after self.old (entry moment (owned.Accept listener real) r ∷ [])) }
-        ensures fault { IfErr result (λ f. IsFault (answer_in self.old moment (owned.Accept listener real)) f) }
+        ensures fault { IfErr result (λ f. IsFault (owned.Accept listener real) (answer_in self.old moment (owned.Accept listener real)) f) }
         ensures err { OnErr result (self.new ≡ self.old) }
     {
         let now = self.clock.max(moment);
@@ -264,7 +268,7 @@ impl Core {
         let Some(frontend) = frontend_named(&version.plan, own.name) else {
             return Err(StepFault::NoListener);
         };
-        let Some(serial) = next_serial(own.serial) else {
+        let Some(serial) = next_number(own.serial) else {
             return Err(StepFault::Exhausted);
         };
         let facts = RuleFacts {
@@ -291,7 +295,7 @@ impl Core {
     fn piece(&mut self, moment: u64, id: ConnId, piece: &[u8]) -> Result<Reply, StepFault>
         ensures reply { IfOk result (λ r. piece_answer self.old id piece.now ≡ Ok r) }
         ensures new { IfOk result (λ r. self.new ≡ after self.old (entry moment (owned.Piece id piece.now) r ∷ [])) }
-        ensures fault { IfErr result (λ f. IsFault (piece_answer self.old id piece.now) f) }
+        ensures fault { IfErr result (λ f. IsFault (owned.Piece id piece.now) (piece_answer self.old id piece.now) f) }
         ensures err { OnErr result (self.new ≡ self.old) }
     {
         let row = self.waiting_row(id)?;
@@ -302,6 +306,7 @@ impl Core {
             return Err(StepFault::NoMemory);
         };
         let reply = receive(&mut self.rows, id, &row, piece);
+        forget_after(&mut self.rows, &reply.said);
         self.clock = self.clock.max(moment);
         Ok(reply)
     }
@@ -358,6 +363,7 @@ impl Core {
     {
         self.awaiting(id)?;
         self.rows.remove(id);
+        self.rows.forget();
         self.clock = self.clock.max(moment);
         Ok(plain_reply(Said::Closed {
             id,
@@ -376,6 +382,7 @@ impl Core {
             return Err(StepFault::NoSuch);
         };
         self.rows.remove(id);
+        self.rows.forget();
         self.clock = self.clock.max(moment);
         Ok(plain_reply(Said::Closed { id, why }))
     }
@@ -393,6 +400,7 @@ impl Core {
             return Err(StepFault::NotDue);
         }
         self.rows.remove(id);
+        self.rows.forget();
         self.clock = now;
         Ok(plain_reply(Said::Refuse {
             id,
@@ -400,10 +408,79 @@ impl Core {
             cause: Cause::Expired,
         }))
     }
+
+    /// Brings a configuration into force, if it has no fault and binds the same addresses.
+    fn reload(&mut self, moment: u64, text: &str) -> Result<Reply, StepFault>
+        ensures reply { IfOk result (λ r. answer_in self.old moment (owned.Reload text.now) ≡ Ok r) }
+        ensures new { IfOk result (λ r. self.new ≡ after self.old (entry moment (owned.Reload text.now) r ∷ [])) }
+        ensures fault { IfErr result (λ f. IsFault (owned.Reload text.now) (answer_in self.old moment (owned.Reload text.now)) f) }
+        ensures err { OnErr result (self.new ≡ self.old) }
+    {
+        let plan = new_plan(self.alloc, text)?;
+        let version = self.next_version(&plan)?;
+        let Ok(()) = self.rows.reload(self.alloc, version, plan) else {
+            return Err(StepFault::NoMemory);
+        };
+        self.rows.forget();
+        self.clock = self.clock.max(moment);
+        Ok(plain_reply(Said::Reloaded { version }))
+    }
+
+    /// The number that a plan gets if it follows the newest version.
+    fn next_version(&self, plan: &Plan) -> Result<u64, StepFault>
+        ensures ok { IfOk result (λ n. reload_answer self.now (Ok plan.now) ≡ Ok (reply_of (Reloaded n))) }
+        ensures fault { IfErr result (λ f. reload_answer self.now (Ok plan.now) ≡ Err f) }
+        ensures next { IfOk result (λ n. IsNextVersion self.now n) }
+    {
+        let Some(newest) = self.rows.newest() else {
+            return Err(StepFault::BindChanged);
+        };
+        if !same_binds(&newest.plan, plan) {
+            return Err(StepFault::BindChanged);
+        }
+        match next_number(newest.number) {
+            Some(number) => Ok(number),
+            None => Err(StepFault::Exhausted),
+        }
+    }
 }
 
-/// The serial after that one, if there is one.
-fn next_serial(last: u64) -> Option<u64>
+/// The plan of a configuration that is to come into force.
+fn new_plan(alloc: Global, text: &str) -> Result<Plan, StepFault>
+    ensures ok { IfOk result (λ plan. meaning text.now ≡ Ok plan) }
+    ensures sound { IfOk result IsSoundPlan }
+    ensures fault { IfErr result (λ f. (f ≡ StepFault.NoMemory) ⊎ ((p : Plain) → reload_answer p (meaning text.now) ≡ Err f)) }
+{
+    match read_plan(alloc, text) {
+        Ok(plan) => Ok(plan),
+        Err(fault) => {
+            if matches!(fault, OpenFault::NoMemory) {
+                return Err(StepFault::NoMemory);
+            }
+            Err(StepFault::BadConfig(fault))
+        }
+    }
+}
+
+/// Forgets what is not needed any longer, if that reply ended a connection.
+fn forget_after(rows: &mut Rows, said: &Said)
+    requires { is_last said.now ≡ true → AreTracksHeld rows.old.frontends (versions_needed rows.old.frontends rows.old.versions) }
+    ensures { rows.new ≡ forgotten (is_last said.now) rows.old }
+{
+    if is_last(said) {
+        rows.forget();
+    }
+}
+
+/// Whether a reply is the last one to its connection.
+fn is_last(said: &Said) -> bool
+    ensures { result ≡ is_last said.now }
+{
+    matches!(said, Said::Refuse { .. } | Said::Closed { .. })
+}
+
+/// The number after that one, if there is one: of a connection or a version.
+fn next_number(last: u64) -> Option<u64>
     ensures next { IfSome result (λ serial. (serial ≡ last + 1) × (last + 1 < 2 ^ 64)) }
     ensures none { IfNone result (last ≡ 0xFFFF_FFFF_FFFF_FFFF) }
 {

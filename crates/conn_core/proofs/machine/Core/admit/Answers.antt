@@ -59,12 +59,12 @@ returns-clause-reply c =
     let reply : reply_by next 0 c.admission-decision.result ≡ admission (candidate_at q c.args.now number c.args.real own version frontend) c.in-Some.listener.now.accept_proxy c.args.real (length own.rows) =
     c.admission-decision.ensures.reply (with_row q number own (new_row (own.serial + 1) version.number c.args.real c.args.now)) next sees
     ∙ ap (λ n. admission (candidate_at q c.args.now number c.args.real own version frontend) c.in-Some.listener.now.accept_proxy c.args.real n) sums.connections in
-    let fits : own.serial + 1 < 2 ^ 64 = let s = sums.serial in let next = c.in-Some-next_serial.ensures.next.1 in omega (arith, s, next) in
+    let fits : own.serial + 1 < 2 ^ 64 = let s = sums.serial in let next = c.in-Some-next_number.ensures.next.1 in omega (arith, s, next) in
     ap (λ s. accept_answer s c.args.now c.args.listener c.args.real) (sym c.self.view_is)
     ∙ answer_is q c.args.now c.args.listener c.args.real c.in-Some.listener.now own version frontend found fits (reply_by next 0 c.admission-decision.result) reply
-    ∙ ap (λ n. Ok (reply_by (record { frontend = number; serial = n }) 0 c.admission-decision.result)) (ap (λ n. n + 1) (sym sums.serial) ∙ sym c.in-Some-next_serial.ensures.next.0)
+    ∙ ap (λ n. Ok (reply_by (record { frontend = number; serial = n }) 0 c.admission-decision.result)) (ap (λ n. n + 1) (sym sums.serial) ∙ sym c.in-Some-next_number.ensures.next.0)
 
 pub returns-clause-offers : goal.returns-clause-offers
 returns-clause-offers c =
-    accept_offers c.args.self.now (subst IsCoreState c.self.view_is c.self.invariant) c.args.now c.args.listener c.args.real (record { frontend = c.in-Some.listener.now.frontend; serial = c.in-Some-next_serial.serial })
+    accept_offers c.args.self.now (subst IsCoreState c.self.view_is c.self.invariant) c.args.now c.args.listener c.args.real (record { frontend = c.in-Some.listener.now.frontend; serial = c.in-Some-next_number.serial })
     c.admission-decision.result c.in-Some-newest.version.now (ap (λ p. newest p.versions) (sym c.self.view_is) ∙ sym c.in-Some-newest.ensures.newest) (returns-clause-reply c)

@@ -1,4 +1,4 @@
-use Rattle.std.proofs.Common.{◌≡◌, ◌+◌, ◌∙◌, [], ◌∷◌, true, max, Ok, ap, sym, refl}
+use Rattle.std.proofs.Common.{◌≡◌, ◌+◌, ◌∙◌, [], ◌∷◌, true, max, Ok, ap, sym, subst, refl}
 use Rattle.std.specs.Prelude.{nat_le}
 use Rattle.conn_model.specs.declared.event.OwnedEvent.TheVariants.{Expire}
 use Rattle.conn_model.specs.declared.event.TheConstants.{HEADER_WAIT}
@@ -8,15 +8,23 @@ use Rattle.conn_model.specs.declared.plain.Plain.{Plain}
 use Rattle.conn_model.specs.Answer.{answer_in, reply_of, waiting_row}
 use Rattle.conn_model.specs.History.{after, entry}
 use Rattle.conn_model.proofs.Replies.{waiting}
+use Rattle.conn_rows.specs.Needed.{versions_needed, AreTracksHeld}
+use Rattle.conn_rows.specs.Value.{RowsValue}
 use Rattle.conn_core.specs.Machine.{state_of}
+use Rattle.conn_core.proofs.NeededLemmas.{held_without}
 use Rattle.conn_core.proofs.StateLemmas.{IsAfter, after_last}
 use Rattle.conn_core.proofs.machine.Core.expire.Goals as goal
+
+pub forget-requires : goal.forget-requires
+forget-requires c =
+    subst (λ (r : RowsValue). AreTracksHeld r.frontends (versions_needed r.frontends r.versions)) (sym c.remove.ensures)
+    (held_without (state_of c.self.inside.clock c.self.inside.listeners c.self.inside.rows) c.self.invariant.well c.args.id)
 
 state : (c : goal.After-plain_reply) → Plain
 state c = state_of c.self.inside.clock c.self.inside.listeners c.self.inside.rows
 
 after_is : (c : goal.After-plain_reply) → IsAfter (state c) (entry c.args.moment (Expire c.args.id) (reply_of (Refuse c.args.id 0 Expired)))
-    (state_of c.max-now.result c.self.inside.listeners c.remove.new.self)
+    (state_of c.max-now.result c.self.inside.listeners c.forget.new.self)
 unfolding state
 after_is c =
     let found = c.in_ok-row.ensures.ok.0 in
@@ -26,7 +34,7 @@ after_is c =
     ∙ ap (λ n. nat_le (c.in_ok-row.row.accepted + HEADER_WAIT) n) (sym c.max-now.ensures)
     ∙ sym c.is_due.ensures ∙ c.if-not-is_due.false in
     let is : answer_in (state c) c.args.moment (Expire c.args.id) ≡ Ok (reply_of (Refuse c.args.id 0 Expired)) = rw (waits, due) refl in
-    rw (c.remove.ensures, c.max-now.ensures)
+    rw (c.forget.ensures, c.remove.ensures, c.max-now.ensures)
     (after_last (state c) c.self.invariant c.args.moment (Expire c.args.id) c.args.id (Refuse c.args.id 0 Expired) found.0 (waiting c.self.inside.rows.frontends c.args.id found waits).there tt refl refl is)
 
 pub invariant_of-self : goal.invariant_of-self

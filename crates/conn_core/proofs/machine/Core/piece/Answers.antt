@@ -1,17 +1,19 @@
-use Rattle.std.proofs.Common.{◌≡◌, ◌∙◌, ℕ, [], ◌∷◌, Ok, ap, sym, subst}
+use Rattle.std.proofs.Common.{◌≡◌, ◌∙◌, ℕ, Bool, [], ◌∷◌, Ok, ap, sym, subst}
 use Rattle.std.specs.Prelude.{slice_get}
 use Rattle.conn_model.specs.declared.event.OwnedEvent.TheVariants.{Piece}
 use Rattle.conn_model.specs.declared.plain.Plain.{Plain}
 use Rattle.conn_model.specs.Answer.{answer_in, waiting_row}
-use Rattle.conn_model.specs.History.{after, entry, tables_by, with_said}
+use Rattle.conn_model.specs.History.{after, entry, is_last, tables_by, with_said}
 use Rattle.conn_model.proofs.Goes.{well_at}
 use Rattle.conn_model.proofs.Replies.{answered, waiting}
 use Rattle.conn_rows.specs.declared.row.RowSummary.{RowSummary}
 use Rattle.conn_rows.specs.declared.rows.RowsState.{RowsState}
-use Rattle.conn_rows.specs.Value.{RowsValue}
+use Rattle.conn_rows.specs.Needed.{versions_needed, AreTracksHeld}
+use Rattle.conn_rows.specs.Value.{RowsValue, state_of as state_of_rows}
 use Rattle.conn_core.specs.Changes.{spoken}
 use Rattle.conn_core.specs.Machine.{state_of, AreSound}
-use Rattle.conn_core.proofs.StateLemmas.{IsAfter, after_spoken}
+use Rattle.conn_core.proofs.NeededLemmas.{held_spoken}
+use Rattle.conn_core.proofs.StateLemmas.{IsAfter, after_spoken, pruned_if, pruned_rows}
 use Rattle.conn_core.proofs.machine.Core.piece.Goals as goal
 
 pub receive-reply-requires-clause-sorted : goal.receive-reply-requires-clause-sorted
@@ -23,11 +25,23 @@ receive-reply-requires-clause-sorted c = λ own there.
 pub receive-reply-requires-clause-sound : goal.receive-reply-requires-clause-sound
 receive-reply-requires-clause-sound c = subst (λ (r : RowsValue). AreSound r.versions) (sym c.reserve.ensures.same) c.self.invariant.plans
 
+pub forget_after-requires : goal.forget_after-requires
+forget_after-requires c = λ last.
+    let q : Plain = state_of c.self.inside.clock c.self.inside.listeners c.self.inside.rows in
+    let left : RowsValue → RowsState = λ before. record {
+      frontends = spoken before.versions (Piece c.args.id c.args.piece.now) c.args.id c.receive-reply.result before.frontends;
+      versions = with_said c.in_ok-row.row.version c.receive-reply.result.said before.versions;
+      tables = tables_by before.frontends before.tables c.receive-reply.result;
+    } in
+    let leaves : state_of_rows c.receive-reply.new.rows ≡ left c.self.inside.rows = c.receive-reply.ensures.new ∙ ap left c.reserve.ensures.same in
+    subst (λ (s : RowsState). AreTracksHeld s.frontends (versions_needed s.frontends s.versions)) (sym leaves)
+    (held_spoken q c.self.invariant.well (Piece c.args.id c.args.piece.now) c.args.id c.receive-reply.result c.in_ok-row.row.version last)
+
 state : (c : goal.After-self-1) → Plain
 state c = state_of c.self.inside.clock c.self.inside.listeners c.self.inside.rows
 
 after_is : (c : goal.After-self-1) → IsAfter (state c) (entry c.args.moment (Piece c.args.id c.args.piece.now) c.receive-reply.result)
-    (state_of c.max-self-inside.result c.self.inside.listeners c.receive-reply.new.rows)
+    (state_of c.max-self-inside.result c.self.inside.listeners c.forget_after.new.rows)
 unfolding state
 after_is c =
     let rows : RowsValue = c.self.inside.rows in
@@ -44,11 +58,14 @@ after_is c =
       versions = with_said version c.receive-reply.result.said before.versions;
       tables = tables_by before.frontends before.tables c.receive-reply.result;
     } in
+    let last : Bool = is_last c.receive-reply.result.said in
     let leaves : state_of c.max-self-inside.result c.self.inside.listeners c.receive-reply.new.rows ≡ left found.0.version rows =
     ap (λ (s : RowsState). record { clock = c.max-self-inside.result; listeners = c.self.inside.listeners; frontends = s.frontends; versions = s.versions; tables = s.tables }) c.receive-reply.ensures.new
     ∙ ap (left c.in_ok-row.row.version) room ∙ ap (λ (s : RowSummary). left s.version rows) c.in_ok-row.ensures.ok.2 in
     subst (IsAfter (state c) (entry c.args.moment (Piece c.args.id c.args.piece.now) c.receive-reply.result))
-    (ap (λ n. record (left found.0.version rows) { clock = n }) (sym c.max-self-inside.ensures) ∙ sym leaves)
+    (ap (λ n. pruned_if last (record (left found.0.version rows) { clock = n })) (sym c.max-self-inside.ensures) ∙ ap (pruned_if last) (sym leaves)
+    ∙ sym (pruned_rows c.max-self-inside.result c.self.inside.listeners last c.receive-reply.new.rows)
+    ∙ ap (state_of c.max-self-inside.result c.self.inside.listeners) (sym c.forget_after.ensures))
     (after_spoken (state c) c.self.invariant c.args.moment (Piece c.args.id c.args.piece.now) c.args.id c.receive-reply.result found.0 (waiting rows.frontends c.args.id found waits).there tt speaks is)
 
 pub invariant_of-self-2 : goal.invariant_of-self-2
