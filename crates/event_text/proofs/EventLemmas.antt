@@ -1,11 +1,12 @@
 -- The line that writes an event hands it in.
 use Rattle.std.proofs.Common.{◌≡◌, ℕ, zero, suc, ◌*◌, ◌/◌, ◌%◌, ◌≤◌, ◌<◌, ◌^◌, length, Bool, true, false, eqb, List, [], ◌∷◌, Some, Ok, refl, ap, sym, ◌∙◌, append_assoc, arith}
-use Rattle.std.specs.Prelude.{codes, option_map, slice_index, nat_lt, ◌==◌, ◌&&◌, ◌||◌}
+use Rattle.std.specs.Prelude.{codes, map, option_map, slice_index, nat_lt, ◌==◌, ◌&&◌, ◌||◌}
 use Rattle.std.specs.Str.{bytes_eq}
 use Rattle.std.specs.Result.{result_ok}
 use Rattle.std.specs.List.{list_all, list_any, slice_split, join_with_byte, AllByRecursion}
 use Rattle.std.specs.Char.{is_ascii_digit}
 use Rattle.std.proofs.lemmas.Bool.Decides.{nat_tests}
+use Rattle.std.proofs.lemmas.List.{length-map}
 use Rattle.std.proofs.lemmas.List.Splits.{slice_split_at, slice_split_none}
 use Rattle.text_core.specs.Decimal.{decimal, decimal_of}
 use Rattle.addr_core.specs.PairValue.{PairValue}
@@ -15,14 +16,15 @@ use Rattle.addr_core.proofs.AddrLemmas.{endpoint_of_written}
 use Rattle.text_core.proofs.DecimalLemmas.{are_digits_decimal, decimal_of_written}
 use Rattle.conn_model.specs.declared.event.ConnId.{ConnId}
 use Rattle.conn_model.specs.declared.event.OwnedEvent.{OwnedEvent}
-use Rattle.conn_model.specs.declared.event.OwnedEvent.TheVariants.{Accept, Piece, Connected, ConnectFailed, Close, Expire}
+use Rattle.conn_model.specs.declared.event.OwnedEvent.TheVariants.{Accept, Piece, Connected, ConnectFailed, Close, Expire, Reload}
 use Rattle.conn_model.specs.declared.event.TheConstants.{PIECE_LIMIT}
 use Rattle.hex.specs.Hex.{encode_lower, encode_with, lower_digits, decode_sized, IsBytes}
 use Rattle.hex.proofs.HexLemmas.{length-encode_with, decode_sized-encode_lower}
 use Rattle.conn_model.specs.declared.event.Why.{Why}
 use Rattle.conn_model.specs.declared.event.Why.TheVariants.{Done, Fault, Stopped, Failed}
-use Rattle.event_text.specs.Script.{bytes_in, bytes_of, bytes_text, ends_of, event_line, event_of, event_words, id_of, id_in, id_text, is_mark, is_upper_digit, why_of, why_text, wanted_of, words_of, IsHandedIn, Wanted}
+use Rattle.event_text.specs.Script.{bytes_in, bytes_of, bytes_text, ends_of, event_in_lines, event_line, event_lines, event_with, event_words, head_of, head_written, id_of, id_in, id_text, is_mark, is_upper_digit, lines_after, text_lines, why_of, why_text, wanted_of, words_of, IsHandedIn, Wanted, ◌>>=◌}
 use Rattle.event_text.proofs.LackLemmas.{bytes_lack, decimal_lacks, endpoint_lacks, id_lacks, number_lacks, text_of-bytes, why_lacks, word_lacks, IsAside, Lacks}
+use Rattle.event_text.proofs.ReloadLemmas.{bar_lines-read, lines_joined, lines_some}
 
 or_false : (a b : Bool) → (a || b) ≡ false → (a ≡ false) × (b ≡ false)
 or_false true b is = let wrong : true ≡ false = is in absurd cc
@@ -113,6 +115,8 @@ words_lack mark aside moment (ConnectFailed id) =
     (_, _, refl, (number_lacks mark moment aside, (word_lacks mark aside (codes "failed") refl, (id_lacks mark aside id, tt))))
 words_lack mark aside moment (Expire id) =
     (_, _, refl, (number_lacks mark moment aside, (word_lacks mark aside (codes "expire") refl, (id_lacks mark aside id, tt))))
+words_lack mark aside moment (Reload text) =
+    (_, _, refl, (number_lacks mark moment aside, (word_lacks mark aside (codes "reload") refl, (number_lacks mark (length (text_lines text)) aside, tt))))
 
 space : IsAside 0x20
 space = record { some = omega arith; low = omega arith }
@@ -122,31 +126,56 @@ words_of-line moment event =
     let parts = words_lack 0x20 space moment event in
     ap (λ ws. words_of (join_with_byte 0x20 ws)) parts.2 ∙ words_of-joined parts.0 parts.1 parts.3 ∙ sym parts.2
 
-event_of-words : (moment : ℕ) (event : OwnedEvent) → moment < 2 ^ 64 → IsHandedIn event → event_of (event_words moment event) ≡ Some (moment, event)
-event_of-words moment (Accept listener real) short given =
+head_of-words : (moment : ℕ) (event : OwnedEvent) → moment < 2 ^ 64 → IsHandedIn event → head_of (event_words moment event) ≡ Some (head_written moment event)
+head_of-words moment (Accept listener real) short given =
     let at : decimal_of (decimal moment) 0xFFFF_FFFF_FFFF_FFFF ≡ Some moment = decimal_of_written (decimal moment) 0xFFFF_FFFF_FFFF_FFFF moment (omega arith) refl in
     let number : decimal_of (decimal listener) 0xFFFF ≡ Some listener = decimal_of_written (decimal listener) 0xFFFF listener (omega (arith, given.0)) refl in
     rw (at, number, ends_of-written real given.1 given.2 given.3) refl
-event_of-words moment (Close id why) short given =
+head_of-words moment (Close id why) short given =
     let at : decimal_of (decimal moment) 0xFFFF_FFFF_FFFF_FFFF ≡ Some moment = decimal_of_written (decimal moment) 0xFFFF_FFFF_FFFF_FFFF moment (omega arith) refl in
     rw (at, id_of-written id given.0 given.1, why_of-written why) refl
-event_of-words moment (Piece id bytes) short given =
+head_of-words moment (Piece id bytes) short given =
     let at : decimal_of (decimal moment) 0xFFFF_FFFF_FFFF_FFFF ≡ Some moment = decimal_of_written (decimal moment) 0xFFFF_FFFF_FFFF_FFFF moment (omega arith) refl in
     rw (at, id_of-written id given.0.0 given.0.1, bytes_of-written bytes given.1 given.2) refl
-event_of-words moment (Connected id) short given =
+head_of-words moment (Connected id) short given =
     let at : decimal_of (decimal moment) 0xFFFF_FFFF_FFFF_FFFF ≡ Some moment = decimal_of_written (decimal moment) 0xFFFF_FFFF_FFFF_FFFF moment (omega arith) refl in
     rw (at, id_of-written id given.0 given.1) refl
-event_of-words moment (ConnectFailed id) short given =
+head_of-words moment (ConnectFailed id) short given =
     let at : decimal_of (decimal moment) 0xFFFF_FFFF_FFFF_FFFF ≡ Some moment = decimal_of_written (decimal moment) 0xFFFF_FFFF_FFFF_FFFF moment (omega arith) refl in
     rw (at, id_of-written id given.0 given.1) refl
-event_of-words moment (Expire id) short given =
+head_of-words moment (Expire id) short given =
     let at : decimal_of (decimal moment) 0xFFFF_FFFF_FFFF_FFFF ≡ Some moment = decimal_of_written (decimal moment) 0xFFFF_FFFF_FFFF_FFFF moment (omega arith) refl in
     rw (at, id_of-written id given.0 given.1) refl
+head_of-words moment (Reload text) short given =
+    let at : decimal_of (decimal moment) 0xFFFF_FFFF_FFFF_FFFF ≡ Some moment = decimal_of_written (decimal moment) 0xFFFF_FFFF_FFFF_FFFF moment (omega arith) refl in
+    let count = length (text_lines text) in
+    let lines : decimal_of (decimal count) 0xFFFF_FFFF_FFFF_FFFF ≡ Some count = decimal_of_written (decimal count) 0xFFFF_FFFF_FFFF_FFFF count (omega (arith, given.1)) refl in
+    let some : (count == 0) ≡ false = grind (arith, nat_tests, lines_some text) in
+    rw (at, lines, some) refl
 
--- the line that writes an event hands it in
-pub event_of-line : (line : List ℕ) (moment : ℕ) (event : OwnedEvent) → moment < 2 ^ 64 → IsHandedIn event → line ≡ event_line moment event → event_of (words_of line) ≡ Some (moment, event)
-event_of-line line moment event short given is =
-    ap (λ l. event_of (words_of l)) is ∙ ap event_of (words_of-line moment event) ∙ event_of-words moment event short given
+-- the first line that writes an event says which it is
+pub head_of-line : (line : List ℕ) (moment : ℕ) (event : OwnedEvent) → moment < 2 ^ 64 → IsHandedIn event → line ≡ event_line moment event
+    → head_of (words_of line) ≡ Some (head_written moment event)
+head_of-line line moment event short given is =
+    ap (λ l. head_of (words_of l)) is ∙ ap head_of (words_of-line moment event) ∙ head_of-words moment event short given
+
+-- with the lines after it
+all_of-lines : (moment : ℕ) (event : OwnedEvent) → IsHandedIn event → event_with (head_written moment event) (lines_after event) ≡ Some (moment, event)
+all_of-lines moment (Accept listener real) given = refl
+all_of-lines moment (Piece id bytes) given = refl
+all_of-lines moment (Connected id) given = refl
+all_of-lines moment (ConnectFailed id) given = refl
+all_of-lines moment (Close id why) given = refl
+all_of-lines moment (Expire id) given = refl
+all_of-lines moment (Reload text) given =
+    let lines = text_lines text in
+    let same : (length (map (λ line. 0x7C ∷ line) lines) == length lines) ≡ true = grind (arith, nat_tests, length-map lines (λ line. 0x7C ∷ line)) in
+    rw (same, bar_lines-read text given.0, lines_joined text) refl
+
+-- the lines that write an event hand it in
+pub event_of-lines : (moment : ℕ) (event : OwnedEvent) → moment < 2 ^ 64 → IsHandedIn event → event_in_lines (event_lines moment event) ≡ Some (moment, event)
+event_of-lines moment event short given =
+    ap (λ head. head >>= λ h. event_with h (lines_after event)) (head_of-line (event_line moment event) moment event short given refl) ∙ all_of-lines moment event given
 
 -- digits are not the word of a question
 digits_differ : (text : List ℕ) → list_all is_ascii_digit text ≡ true → bytes_eq text (codes "ask") ≡ false
@@ -157,22 +186,24 @@ digits_differ (b ∷ text) all = by (is_ascii_digit b) refl
     by true is = let differs : eqb b 97 ≡ false = grind (arith, nat_tests) in rw differs refl
     by false is = let wrong = rw is at all in absurd cc
 
-wanted_of-words : (moment : ℕ) (event : OwnedEvent) → moment < 2 ^ 64 → IsHandedIn event → wanted_of (event_words moment event) ≡ Some (Wanted.reply (moment, event))
+wanted_of-words : (moment : ℕ) (event : OwnedEvent) → moment < 2 ^ 64 → IsHandedIn event → wanted_of (event_words moment event) ≡ Some (Wanted.reply (head_written moment event))
 wanted_of-words moment (Accept listener real) short given =
-    rw (digits_differ (decimal moment) (are_digits_decimal moment).digits) (ap (option_map (λ timed. Wanted.reply timed)) (event_of-words moment (Accept listener real) short given))
+    rw (digits_differ (decimal moment) (are_digits_decimal moment).digits) (ap (option_map (λ head. Wanted.reply head)) (head_of-words moment (Accept listener real) short given))
 wanted_of-words moment (Close id why) short given =
-    rw (digits_differ (decimal moment) (are_digits_decimal moment).digits) (ap (option_map (λ timed. Wanted.reply timed)) (event_of-words moment (Close id why) short given))
+    rw (digits_differ (decimal moment) (are_digits_decimal moment).digits) (ap (option_map (λ head. Wanted.reply head)) (head_of-words moment (Close id why) short given))
 wanted_of-words moment (Piece id bytes) short given =
-    rw (digits_differ (decimal moment) (are_digits_decimal moment).digits) (ap (option_map (λ timed. Wanted.reply timed)) (event_of-words moment (Piece id bytes) short given))
+    rw (digits_differ (decimal moment) (are_digits_decimal moment).digits) (ap (option_map (λ head. Wanted.reply head)) (head_of-words moment (Piece id bytes) short given))
 wanted_of-words moment (Connected id) short given =
-    rw (digits_differ (decimal moment) (are_digits_decimal moment).digits) (ap (option_map (λ timed. Wanted.reply timed)) (event_of-words moment (Connected id) short given))
+    rw (digits_differ (decimal moment) (are_digits_decimal moment).digits) (ap (option_map (λ head. Wanted.reply head)) (head_of-words moment (Connected id) short given))
 wanted_of-words moment (ConnectFailed id) short given =
-    rw (digits_differ (decimal moment) (are_digits_decimal moment).digits) (ap (option_map (λ timed. Wanted.reply timed)) (event_of-words moment (ConnectFailed id) short given))
+    rw (digits_differ (decimal moment) (are_digits_decimal moment).digits) (ap (option_map (λ head. Wanted.reply head)) (head_of-words moment (ConnectFailed id) short given))
 wanted_of-words moment (Expire id) short given =
-    rw (digits_differ (decimal moment) (are_digits_decimal moment).digits) (ap (option_map (λ timed. Wanted.reply timed)) (event_of-words moment (Expire id) short given))
+    rw (digits_differ (decimal moment) (are_digits_decimal moment).digits) (ap (option_map (λ head. Wanted.reply head)) (head_of-words moment (Expire id) short given))
+wanted_of-words moment (Reload text) short given =
+    rw (digits_differ (decimal moment) (are_digits_decimal moment).digits) (ap (option_map (λ head. Wanted.reply head)) (head_of-words moment (Reload text) short given))
 
 -- and wants an answer to it
 pub wanted_of-line : (line : List ℕ) (moment : ℕ) (event : OwnedEvent) → moment < 2 ^ 64 → IsHandedIn event → line ≡ event_line moment event
-    → wanted_of (words_of line) ≡ Some (Wanted.reply (moment, event))
+    → wanted_of (words_of line) ≡ Some (Wanted.reply (head_written moment event))
 wanted_of-line line moment event short given is =
     ap (λ l. wanted_of (words_of l)) is ∙ ap wanted_of (words_of-line moment event) ∙ wanted_of-words moment event short given

@@ -1,4 +1,5 @@
 pub mod LackLemmas
+pub mod ReloadLemmas
 pub mod EventLemmas
 pub mod LongLemmas
 pub mod DigitLemmas

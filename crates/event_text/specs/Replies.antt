@@ -6,16 +6,17 @@ use Rattle.addr_core.specs.Text.{endpoint_text, text_of}
 use Rattle.pp_any.specs.declared.fault.HeaderFault.{HeaderFault}
 use Rattle.pp_any.specs.declared.fault.HeaderFault.TheVariants as faults
 use Rattle.plan_types.specs.declared.track.Track.{Track}
+use Rattle.config_core.specs.Names.{open_text}
 use Rattle.conn_model.specs.declared.ask.Ask.{Ask}
 use Rattle.conn_model.specs.declared.ask.Ask.TheVariants as asks
 use Rattle.conn_model.specs.declared.ask.Counts.{Counts}
 use Rattle.conn_model.specs.declared.reply.Cause.{Cause}
 use Rattle.conn_model.specs.declared.reply.Cause.TheVariants.{Line, Header, Expired, NoBackend, NoServer}
 use Rattle.conn_model.specs.declared.reply.Said.{Said}
-use Rattle.conn_model.specs.declared.reply.Said.TheVariants.{Wait, Offer, Refuse, Up, Closed}
+use Rattle.conn_model.specs.declared.reply.Said.TheVariants.{Wait, Offer, Refuse, Up, Closed, Reloaded}
 use Rattle.conn_model.specs.declared.reply.Reply.{Reply}
 use Rattle.conn_model.specs.declared.reply.StepFault.{StepFault}
-use Rattle.conn_model.specs.declared.reply.StepFault.TheVariants.{NoListener, NoSuch, NotWaiting, NotOffered, NotDue, Exhausted, NoMemory}
+use Rattle.conn_model.specs.declared.reply.StepFault.TheVariants.{NoListener, NoSuch, NotWaiting, NotOffered, NotDue, BadConfig, BindChanged, Exhausted, NoMemory}
 use Rattle.event_text.specs.Script.{bytes_text, id_text, why_text}
 
 abbrev pub header_fault_text : HeaderFault → List ℕ
@@ -44,6 +45,7 @@ said_text (Offer id used line server to judged send) =
 said_text (Refuse id used cause) = codes "refuse " ++ id_text id ++ codes " used " ++ decimal used ++ codes " " ++ cause_text cause
 said_text (Up id) = codes "up " ++ id_text id
 said_text (Closed id why) = codes "closed " ++ id_text id ++ codes " " ++ why_text why
+said_text (Reloaded version) = codes "reloaded " ++ decimal version
 
 -- a tracked key: its counter, its table and the address
 abbrev pub track_text : Track → List ℕ
@@ -65,6 +67,8 @@ fault_name NoSuch = codes "NoSuch"
 fault_name NotWaiting = codes "NotWaiting"
 fault_name NotOffered = codes "NotOffered"
 fault_name NotDue = codes "NotDue"
+fault_name (BadConfig fault) = codes "BadConfig " ++ open_text fault
+fault_name BindChanged = codes "BindChanged"
 fault_name Exhausted = codes "Exhausted"
 fault_name NoMemory = codes "NoMemory"
 

@@ -1,10 +1,11 @@
 -- Scripts: the lines that hand in events, and those that ask for counts.
-use Rattle.std.specs.Prelude.{◌≡◌, ℕ, Bool, true, ◌<◌, ◌≤◌, ◌/◌, ◌^◌, ◌==◌, ◌&&◌, ◌||◌, nat_le, nat_lt, List, [], ◌∷◌, ◌++◌, length, take, codes, Option, Some, None, option_map, if◌then◌else◌}
-use Rattle.std.specs.List.{join_with_byte, list_any, slice_split}
+use Rattle.std.specs.Prelude.{◌≡◌, ℕ, Bool, true, ◌<◌, ◌≤◌, ◌/◌, ◌-◌, ◌^◌, ◌==◌, ◌&&◌, ◌||◌, nat_le, nat_lt, List, [], ◌∷◌, ◌++◌, length, map, take, codes, Option, Some, None, option_map, if◌then◌else◌}
+use Rattle.std.specs.List.{flat_map, join_with_byte, list_any, slice_split}
 use Rattle.std.specs.Result.{result_ok}
-use Rattle.std.specs.Str.{bytes_eq}
+use Rattle.std.specs.Str.{bytes_eq, is_utf8, IsUtf8}
 use Rattle.hex.specs.Hex.{decode_sized, encode_lower, IsBytes}
 use Rattle.text_core.specs.Decimal.{decimal, decimal_of}
+use Rattle.text_core.specs.Parts.{is_line_feed}
 use Rattle.addr_core.specs.PairValue.{PairValue, pair_of}
 use Rattle.addr_core.specs.Text.{addr_of, endpoint_of, endpoint_text, IsEndpoint}
 use Rattle.addr_core.specs.Family.{same_family}
@@ -13,9 +14,11 @@ use Rattle.conn_model.specs.declared.ask.Ask.TheVariants as asks
 use Rattle.conn_model.specs.declared.event.ConnId.{ConnId}
 use Rattle.conn_model.specs.declared.event.TheConstants.{PIECE_LIMIT}
 use Rattle.conn_model.specs.declared.event.OwnedEvent.{OwnedEvent}
-use Rattle.conn_model.specs.declared.event.OwnedEvent.TheVariants.{Accept, Piece, Connected, ConnectFailed, Close, Expire}
+use Rattle.conn_model.specs.declared.event.OwnedEvent.TheVariants.{Accept, Piece, Connected, ConnectFailed, Close, Expire, Reload}
 use Rattle.conn_model.specs.declared.event.Why.{Why}
 use Rattle.conn_model.specs.declared.event.Why.TheVariants.{Done, Fault, Stopped, Failed}
+use Rattle.event_text.specs.declared.script.FirstLine.{FirstLine}
+use Rattle.event_text.specs.declared.script.FirstLine.TheVariants as firsts
 use Rattle.event_text.specs.declared.script.EventRequest.{EventRequest}
 use Rattle.event_text.specs.declared.script.EventRequest.TheVariants as reads
 use Rattle.event_text.specs.declared.script.Request.{Request}
@@ -37,7 +40,11 @@ why_text Failed = codes "failed"
 abbrev pub bytes_text : List ℕ → List ℕ
 bytes_text bytes = if length bytes == 0 then codes "-" else encode_lower bytes
 
--- the words of the line that hands in an event at a moment
+-- the lines of a text: its parts between line feeds
+abbrev pub text_lines : List ℕ → List (List ℕ)
+text_lines text = slice_split is_line_feed text
+
+-- the words of the first line of an event at a moment
 abbrev pub event_words : ℕ → OwnedEvent → List (List ℕ)
 event_words moment (Accept listener real) =
     decimal moment ∷ codes "accept" ∷ decimal listener ∷ endpoint_text real.source ∷ endpoint_text real.destination ∷ []
@@ -46,10 +53,37 @@ event_words moment (Connected id) = decimal moment ∷ codes "connected" ∷ id_
 event_words moment (ConnectFailed id) = decimal moment ∷ codes "failed" ∷ id_text id ∷ []
 event_words moment (Close id why) = decimal moment ∷ codes "close" ∷ id_text id ∷ why_text why ∷ []
 event_words moment (Expire id) = decimal moment ∷ codes "expire" ∷ id_text id ∷ []
+event_words moment (Reload text) = decimal moment ∷ codes "reload" ∷ decimal (length (text_lines text)) ∷ []
 
--- the line, with one space between each two words
+-- that line, with one space between each two words
 abbrev pub event_line : ℕ → OwnedEvent → List ℕ
 event_line moment event = join_with_byte 0x20 (event_words moment event)
+
+-- the lines of a text, each after a bar
+abbrev pub bar_lines : List ℕ → List (List ℕ)
+bar_lines text = map (λ line. 0x7C ∷ line) (text_lines text)
+
+-- the lines after the first one: those of the text of a reload
+abbrev pub lines_after : OwnedEvent → List (List ℕ)
+lines_after (Accept listener real) = []
+lines_after (Piece id bytes) = []
+lines_after (Connected id) = []
+lines_after (ConnectFailed id) = []
+lines_after (Close id why) = []
+lines_after (Expire id) = []
+lines_after (Reload text) = bar_lines text
+
+-- all lines of an event
+abbrev pub event_lines : ℕ → OwnedEvent → List (List ℕ)
+event_lines moment event = event_line moment event ∷ lines_after event
+
+-- lines, each with its end
+abbrev pub ended_lines : List (List ℕ) → List ℕ
+ended_lines lines = flat_map (λ line. line ++ codes "\n") lines
+
+-- how an event is written
+abbrev pub event_text : ℕ → OwnedEvent → List ℕ
+event_text moment event = ended_lines (event_lines moment event)
 
 -- ---- what is read
 
@@ -145,13 +179,75 @@ event_by_verb verb words =
     else if bytes_eq verb (codes "close") then close_of words
     else bare_event_of verb words
 
-abbrev pub at_moment : ℕ → Option OwnedEvent → Option (ℕ × OwnedEvent)
-at_moment moment event = option_map (λ owned. (moment, owned)) event
+-- What the first line of an event says: all of the event with its moment, or a reload at a moment, whose text is on so
+-- many lines after it.
+pub data Head : Type 0 where
+  whole : ℕ × OwnedEvent → Head
+  reload : ℕ → ℕ → Head
 
--- the moment and the event of the words of a line
-abbrev pub event_of : List (List ℕ) → Option (ℕ × OwnedEvent)
-event_of (moment ∷ verb ∷ words) = decimal_of moment 0xFFFF_FFFF_FFFF_FFFF >>= λ number. at_moment number (event_by_verb verb words)
-event_of words = None
+-- a reload by the words after its verb: its text has a line at least
+abbrev pub reload_of : ℕ → List (List ℕ) → Option Head
+reload_of moment (count ∷ []) = do
+  lines ← decimal_of count 0xFFFF_FFFF_FFFF_FFFF
+  if lines == 0 then None else Some (Head.reload moment lines)
+reload_of moment words = None
+
+abbrev pub head_by_verb : ℕ → List ℕ → List (List ℕ) → Option Head
+head_by_verb moment verb words =
+    if bytes_eq verb (codes "reload") then reload_of moment words
+    else option_map (λ event. Head.whole (moment, event)) (event_by_verb verb words)
+
+-- what the words of the first line of an event say
+abbrev pub head_of : List (List ℕ) → Option Head
+head_of (moment ∷ verb ∷ words) = decimal_of moment 0xFFFF_FFFF_FFFF_FFFF >>= λ number. head_by_verb number verb words
+head_of words = None
+
+-- the text of a line after its bar
+abbrev pub bar_text : List ℕ → Option (List ℕ)
+bar_text [] = None
+bar_text (byte ∷ text) = if (byte == 0x7C) && is_utf8 text then Some text else None
+
+-- the texts of lines, each after its bar
+abbrev pub bar_texts : List (List ℕ) → Option (List (List ℕ))
+bar_texts [] = Some []
+bar_texts (line ∷ lines) = do
+  text ← bar_text line
+  texts ← bar_texts lines
+  Some (text ∷ texts)
+
+-- the moment and the event of a first line and all the lines after it
+abbrev pub event_with : Head → List (List ℕ) → Option (ℕ × OwnedEvent)
+event_with (Head.whole timed) [] = Some timed
+event_with (Head.whole timed) (line ∷ lines) = None
+event_with (Head.reload moment count) lines =
+    if length lines == count then option_map (λ texts. (moment, Reload (join_with_byte 0x0A texts))) (bar_texts lines) else None
+
+-- the moment and the event of all of its lines
+abbrev pub event_in_lines : List (List ℕ) → Option (ℕ × OwnedEvent)
+event_in_lines [] = None
+event_in_lines (line ∷ lines) = head_of (words_of line) >>= λ head. event_with head lines
+
+-- A reload of which lines are missing: what is there of its text, which is all before the next line.
+pub record Pending : Type 0 where
+  pub moment : ℕ
+  pub missing : ℕ
+  pub text : List ℕ
+
+-- one of which all lines are missing
+abbrev pub pending_reload : ℕ → ℕ → Pending
+pending_reload moment lines = record { moment = moment; missing = lines; text = [] }
+
+-- with the text of the next line, which has its end unless it is the last one
+abbrev pub with_text : Pending → List ℕ → Pending
+with_text pending text = record {
+  moment = pending.moment;
+  missing = pending.missing - 1;
+  text = if nat_lt 1 pending.missing then pending.text ++ text ++ codes "\n" else pending.text ++ text;
+}
+
+-- its text, once the missing lines have these texts
+abbrev pub text_with : Pending → List (List ℕ) → List ℕ
+text_with pending texts = pending.text ++ join_with_byte 0x0A texts
 
 -- the same of an event that was read, where a piece is so many bytes in front of a buffer
 abbrev pub event_read : List ℕ → EventRequest → OwnedEvent
@@ -162,8 +258,19 @@ event_read buffer (reads.ConnectFailed id) = ConnectFailed id
 event_read buffer (reads.Close id why) = Close id why
 event_read buffer (reads.Expire id) = Expire id
 
-abbrev pub timed_event : List ℕ → ℕ × EventRequest → ℕ × OwnedEvent
-timed_event buffer timed = (timed.0, event_read buffer timed.1)
+abbrev pub head_read : List ℕ → FirstLine → Head
+head_read buffer (firsts.Whole moment event) = Head.whole (moment, event_read buffer event)
+head_read buffer (firsts.Reload moment lines) = Head.reload moment lines
+
+-- what the first line of an event says that is written
+abbrev pub head_written : ℕ → OwnedEvent → Head
+head_written moment (Accept listener real) = Head.whole (moment, Accept listener real)
+head_written moment (Piece id bytes) = Head.whole (moment, Piece id bytes)
+head_written moment (Connected id) = Head.whole (moment, Connected id)
+head_written moment (ConnectFailed id) = Head.whole (moment, ConnectFailed id)
+head_written moment (Close id why) = Head.whole (moment, Close id why)
+head_written moment (Expire id) = Head.whole (moment, Expire id)
+head_written moment (Reload text) = Head.reload moment (length (text_lines text))
 
 -- what is asked for by the words after `ask frontend`
 abbrev pub frontend_asked : List (List ℕ) → Option Ask
@@ -195,9 +302,9 @@ ask_of (kind ∷ words) =
     else if bytes_eq kind (codes "entry") then entry_asked words
     else None
 
--- What a line wants: an answer to an event at a moment, or counts.
+-- What a line wants: an answer to an event of which it is the first line, or counts.
 pub data Wanted : Type 0 where
-  reply : ℕ × OwnedEvent → Wanted
+  reply : Head → Wanted
   count : Ask → Wanted
 
 -- what the words of a line want
@@ -205,14 +312,24 @@ abbrev pub wanted_of : List (List ℕ) → Option Wanted
 wanted_of [] = None
 wanted_of (word ∷ words) =
     if bytes_eq word (codes "ask") then option_map (λ ask. Wanted.count ask) (ask_of words)
-    else option_map (λ timed. Wanted.reply timed) (event_of (word ∷ words))
+    else option_map (λ head. Wanted.reply head) (head_of (word ∷ words))
 
 -- the same of a request that was read
 abbrev pub wanted : List ℕ → Request → Wanted
-wanted buffer (requests.Event moment event) = Wanted.reply (moment, event_read buffer event)
+wanted buffer (requests.Event first) = Wanted.reply (head_read buffer first)
 wanted buffer (requests.Ask ask) = Wanted.count ask
 
--- the numbers of an event are in range, its pair is of one family, and its piece is not too long
+-- the text of a reload has a line at least
+abbrev pub HasLines : FirstLine → Type 0
+HasLines (firsts.Whole moment event) = Unit {0}
+HasLines (firsts.Reload moment lines) = 0 < lines
+
+abbrev pub IsCounted : Request → Type 0
+IsCounted (requests.Event first) = HasLines first
+IsCounted (requests.Ask ask) = Unit {0}
+
+-- the numbers of an event are in range, its pair is of one family, its piece is not too long, and its text is one in
+-- UTF-8, whose lines can be counted
 abbrev pub IsId : ConnId → Type 0
 IsId id = (id.frontend < 2 ^ 16) × (id.serial < 2 ^ 64)
 
@@ -224,3 +341,4 @@ IsHandedIn (Connected id) = IsId id
 IsHandedIn (ConnectFailed id) = IsId id
 IsHandedIn (Close id why) = IsId id
 IsHandedIn (Expire id) = IsId id
+IsHandedIn (Reload text) = IsUtf8 text × (length (text_lines text) < 2 ^ 64)

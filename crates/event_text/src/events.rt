@@ -1,11 +1,12 @@
 //! Events as lines.
-ghost use Rattle.std.specs.Prelude.{◌≡◌, ◌/◌, ◌%◌, ◌++◌, ◌∷◌, [], slice_index, codes, OnOk};
+ghost use Rattle.std.specs.Prelude.{◌≡◌, ◌+◌, ◌<◌, ◌^◌, ◌/◌, ◌%◌, ◌++◌, ◌∷◌, [], length, slice_index, codes, OnOk, Some};
 ghost use Rattle.hex.specs.Hex.{encode_lower, lower_digits};
-ghost use Rattle.event_text.specs.Script.{bytes_text, event_line, id_text};
+ghost use Rattle.event_text.specs.Script.{bar_lines, bytes_text, ended_lines, event_in_lines, event_line, event_lines, event_text, id_text, text_lines, IsHandedIn};
 
 use crate::replies::{write_field, write_id, write_place, write_text, write_why};
 use conn_model::event::{ConnId, OwnedEvent};
 use std::alloc::AllocError;
+use text_core::cut_at;
 use text_core::decimal::append_decimal;
 
 const DIGITS: [u8; 16] = *b"0123456789abcdef";
@@ -45,6 +46,20 @@ fn write_verb(out: &mut Vec<u8>, verb: &[u8], id: &ConnId) -> Result<(), AllocEr
     write_id(out, id)
 }
 
+/// How many lines a text has: one more than it has line feeds.
+fn count_lines(text: &[u8]) -> u64
+    requires { length text.now + 1 < 2 ^ 64 }
+    ensures { result ≡ length (text_lines text.now) }
+{
+    let mut lines = 1u64;
+    for byte in text {
+        if *byte == b'\n' {
+            lines += 1;
+        }
+    }
+    lines
+}
+
 fn write_words(out: &mut Vec<u8>, moment: u64, event: &OwnedEvent) -> Result<(), AllocError>
     ensures { OnOk result (out.new.items ≡ out.old.items ++ event_line moment event.now) }
 {
@@ -70,14 +85,48 @@ fn write_words(out: &mut Vec<u8>, moment: u64, event: &OwnedEvent) -> Result<(),
             write_why(out, why)
         }
         OwnedEvent::Expire(id) => write_verb(out, b" expire ", id),
+        OwnedEvent::Reload(text) => write_field(out, b" reload ", count_lines(text.as_slice())),
     }
 }
 
-/// Appends the line that hands in an event at a moment, in ms. Where memory runs out, the front of that line may be
-/// there.
-pub fn write_event(out: &mut Vec<u8>, moment: u64, event: &OwnedEvent) -> Result<(), AllocError>
-    ensures { OnOk result (out.new.items ≡ out.old.items ++ (event_line moment event.now ++ codes "\n")) }
+/// A line of a text, after a bar.
+fn write_bar(out: &mut Vec<u8>, line: &[u8]) -> Result<(), AllocError>
+    ensures { OnOk result (out.new.items ≡ out.old.items ++ (0x7C ∷ line.now ++ codes "\n")) }
+{
+    write_text(out, b"|")?;
+    write_text(out, line)?;
+    write_text(out, b"\n")
+}
+
+/// The lines of a text, each after a bar.
+fn write_bars(out: &mut Vec<u8>, text: &[u8]) -> Result<(), AllocError>
+    ensures { OnOk result (out.new.items ≡ out.old.items ++ ended_lines (bar_lines text.now)) }
+{
+    let mut rest = text;
+    while let Some((line, more)) = cut_at(rest, b'\n') {
+        write_bar(out, line)?;
+        rest = more;
+    }
+    write_bar(out, rest)
+}
+
+fn write_lines(out: &mut Vec<u8>, moment: u64, event: &OwnedEvent) -> Result<(), AllocError>
+    ensures { OnOk result (out.new.items ≡ out.old.items ++ event_text moment event.now) }
 {
     write_words(out, moment, event)?;
-    write_text(out, b"\n")
+    write_text(out, b"\n")?;
+    if let OwnedEvent::Reload(text) = event {
+        write_bars(out, text.as_slice())?;
+    }
+    Ok(())
+}
+
+/// Appends the lines that hand in an event at a moment, in ms. Where memory runs out, the front of them may be there.
+pub fn write_event(out: &mut Vec<u8>, moment: u64, event: &OwnedEvent) -> Result<(), AllocError>
+    ensures text { OnOk result (out.new.items ≡ out.old.items ++ event_text moment event.now) }
+
+    // Those lines hand in that event.
+    ensures again { IsHandedIn event.now → event_in_lines (event_lines moment event.now) ≡ Some (moment, event.now) }
+{
+    write_lines(out, moment, event)
 }

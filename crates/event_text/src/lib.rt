@@ -3,12 +3,14 @@
 #![tactic(auto)]
 
 pub use events::write_event;
+pub use reload::{PendingReload, read_bar};
 pub use replies::{
     write_cause, write_counts, write_endpoint, write_fault, write_id, write_reply,
     write_reply_text, write_why,
 };
-pub use script::{EventRequest, Request, read_event, read_request};
+pub use script::{EventRequest, FirstLine, Request, read_event, read_request};
 
 mod events;
+mod reload;
 mod replies;
 mod script;

@@ -5,16 +5,18 @@ ghost use Rattle.hex.specs.Hex.{encode_lower};
 ghost use Rattle.text_core.specs.Decimal.{decimal};
 ghost use Rattle.addr_core.specs.declared.addr.Addr.TheVariants.{V4};
 ghost use Rattle.addr_core.specs.Text.{endpoint_text, host_text, text_of};
+ghost use Rattle.config_core.specs.Names.{open_text};
 ghost use Rattle.event_text.specs.Script.{bytes_text, id_text, why_text};
 ghost use Rattle.event_text.specs.Replies.{cause_text, count_line, fault_line, fault_name, header_fault_text, reply_line, reply_text, said_text, track_text};
 
 use addr_core::{Addr, Endpoint, Pair};
+use config_core::OpenFault;
 use conn_model::ask::{Ask, Counts};
 use conn_model::event::{ConnId, Why};
 use conn_model::reply::{Cause, Reply, Said, StepFault};
 use plan_types::Track;
 use pp_any::HeaderFault;
-use std::alloc::AllocError;
+use std::alloc::{AllocError, Global};
 use text_core::decimal::append_decimal;
 
 pub fn write_text(out: &mut Vec<u8>, text: &[u8]) -> Result<(), AllocError>
@@ -209,6 +211,7 @@ fn write_said(out: &mut Vec<u8>, said: &Said) -> Result<(), AllocError>
             write_text(out, b" ")?;
             write_why(out, why)
         }
+        Said::Reloaded { version } => write_field(out, b"reloaded ", *version),
     }
 }
 
@@ -269,25 +272,35 @@ pub fn write_counts(out: &mut Vec<u8>, ask: &Ask, counts: Option<Counts>) -> Res
     }
 }
 
-fn write_name(out: &mut Vec<u8>, fault: &StepFault) -> Result<(), AllocError>
+/// Why a configuration is refused.
+fn write_refusal(alloc: Global, out: &mut Vec<u8>, fault: &OpenFault) -> Result<(), AllocError>
+    ensures { OnOk result (out.new.items ≡ out.old.items ++ (codes "BadConfig " ++ open_text fault.now)) }
+{
+    let text = format!(in alloc; "BadConfig {}", *fault)?;
+    write_text(out, text.as_str().as_bytes())
+}
+
+fn write_name(alloc: Global, out: &mut Vec<u8>, fault: &StepFault) -> Result<(), AllocError>
     ensures { OnOk result (out.new.items ≡ out.old.items ++ fault_name fault.now) }
 {
-    match *fault {
+    match fault {
         StepFault::NoListener => write_text(out, b"NoListener"),
         StepFault::NoSuch => write_text(out, b"NoSuch"),
         StepFault::NotWaiting => write_text(out, b"NotWaiting"),
         StepFault::NotOffered => write_text(out, b"NotOffered"),
         StepFault::NotDue => write_text(out, b"NotDue"),
+        StepFault::BadConfig(refusal) => write_refusal(alloc, out, refusal),
+        StepFault::BindChanged => write_text(out, b"BindChanged"),
         StepFault::Exhausted => write_text(out, b"Exhausted"),
         StepFault::NoMemory => write_text(out, b"NoMemory"),
     }
 }
 
 /// Appends the line of a refused step. Where memory runs out, the front of that line may be there.
-pub fn write_fault(out: &mut Vec<u8>, fault: &StepFault) -> Result<(), AllocError>
+pub fn write_fault(alloc: Global, out: &mut Vec<u8>, fault: &StepFault) -> Result<(), AllocError>
     ensures { OnOk result (out.new.items ≡ out.old.items ++ fault_line fault.now) }
 {
     write_text(out, b"fault ")?;
-    write_name(out, fault)?;
+    write_name(alloc, out, fault)?;
     write_text(out, b"\n")
 }

@@ -5,7 +5,7 @@ ghost use Rattle.std.specs.Str.{bytes_eq};
 ghost use Rattle.conn_model.specs.declared.event.OwnedEvent.{OwnedEvent};
 ghost use Rattle.conn_model.specs.declared.event.TheConstants.{PIECE_LIMIT};
 ghost use Rattle.conn_model.specs.History.{owned_event};
-ghost use Rattle.event_text.specs.Script.{accept_of, ask_of, backend_asked, bare_event_of, bytes_in, bytes_of, close_of, ends_of, entry_asked, event_line, event_of, event_by_verb, event_on, event_read, frontend_asked, id_of, is_upper_digit, piece_of, server_asked, timed_event, wanted, wanted_of, why_of, words_of, Wanted, IsHandedIn};
+ghost use Rattle.event_text.specs.Script.{accept_of, ask_of, backend_asked, bare_event_of, bytes_in, bytes_of, close_of, ends_of, entry_asked, event_line, event_by_verb, event_on, event_read, frontend_asked, head_by_verb, head_of, head_read, head_written, id_of, is_upper_digit, piece_of, reload_of, server_asked, wanted, wanted_of, why_of, words_of, HasLines, Head, IsCounted, IsHandedIn, Wanted};
 
 use addr_core::{Pair, read_addr, read_endpoint};
 use conn_model::ask::Ask;
@@ -48,11 +48,20 @@ fn front(buffer: &[u8], length: usize) -> &[u8]
     &buffer[..length.min(buffer.len())]
 }
 
+/// What the first line of an event says.
+#[derive(Clone, Copy)]
+pub enum FirstLine {
+    /// All of the event, which is handed in at that moment, in ms.
+    Whole(u64, EventRequest),
+    /// A reload at that moment, whose text is on so many lines after it.
+    Reload(u64, u64),
+}
+
 /// What a line asks for.
 #[derive(Clone, Copy)]
 pub enum Request {
-    /// An answer to an event, which is handed in at that moment, in ms.
-    Event(u64, EventRequest),
+    /// An answer to an event of which it is the first line.
+    Event(FirstLine),
     /// Counts of what is open.
     Ask(Ask),
 }
@@ -230,30 +239,67 @@ fn read_event_words(verb: &[u8], rest: &[u8], buffer: &mut [u8]) -> Option<Event
     read_bare_event(verb, rest)
 }
 
-fn event_in(line: &[u8], buffer: &mut [u8]) -> Option<(u64, EventRequest)>
+fn read_reload(moment: u64, rest: &[u8]) -> Option<FirstLine>
+    ensures head { (buffer : List ℕ) → option_map (head_read buffer) result ≡ reload_of moment (words_of rest.now) }
+    ensures lines { IfSome result HasLines }
+{
+    if let Some((_count, _more)) = cut_word(rest) {
+        return None;
+    }
+    let lines = read_decimal(rest, u64::MAX)?;
+    if lines == 0 {
+        return None;
+    }
+    Some(FirstLine::Reload(moment, lines))
+}
+
+fn read_whole(moment: u64, verb: &[u8], rest: &[u8], buffer: &mut [u8]) -> Option<FirstLine>
     requires { length buffer.old ≡ PIECE_LIMIT }
-    ensures event { option_map (timed_event buffer.new) result ≡ event_of (words_of line.now) }
+    ensures head { option_map (head_read buffer.new) result ≡ option_map (λ event. Head.whole (moment, event)) (event_by_verb verb.now (words_of rest.now)) }
+    ensures lines { IfSome result HasLines }
+    ensures room { length buffer.new ≡ length buffer.old }
+{
+    let event = read_event_words(verb, rest, buffer)?;
+    Some(FirstLine::Whole(moment, event))
+}
+
+fn read_head(moment: u64, verb: &[u8], rest: &[u8], buffer: &mut [u8]) -> Option<FirstLine>
+    requires { length buffer.old ≡ PIECE_LIMIT }
+    ensures head { option_map (head_read buffer.new) result ≡ head_by_verb moment verb.now (words_of rest.now) }
+    ensures lines { IfSome result HasLines }
+    ensures room { length buffer.new ≡ length buffer.old }
+{
+    if is(verb, b"reload") {
+        return read_reload(moment, rest);
+    }
+    read_whole(moment, verb, rest, buffer)
+}
+
+fn head_in(line: &[u8], buffer: &mut [u8]) -> Option<FirstLine>
+    requires { length buffer.old ≡ PIECE_LIMIT }
+    ensures head { option_map (head_read buffer.new) result ≡ head_of (words_of line.now) }
+    ensures lines { IfSome result HasLines }
     ensures room { length buffer.new ≡ length buffer.old }
 {
     let (moment, rest) = cut_word(line)?;
     let (verb, rest) = cut_word(rest)?;
     let moment = read_decimal(moment, u64::MAX)?;
-    let event = read_event_words(verb, rest, buffer)?;
-    Some((moment, event))
+    read_head(moment, verb, rest, buffer)
 }
 
-/// The event that a line hands in, with its moment in ms. The bytes of a piece are read into the front of the buffer,
-/// which has the length `PIECE_LIMIT`.
-pub fn read_event(line: &[u8], buffer: &mut [u8]) -> Option<(u64, EventRequest)>
+/// What the first line of an event says. The bytes of a piece are read into the front of the buffer, which has the
+/// length `PIECE_LIMIT`.
+pub fn read_event(line: &[u8], buffer: &mut [u8]) -> Option<FirstLine>
     requires { length buffer.old ≡ PIECE_LIMIT }
-    ensures exact { option_map (timed_event buffer.new) result ≡ event_of (words_of line.now) }
+    ensures exact { option_map (head_read buffer.new) result ≡ head_of (words_of line.now) }
+    ensures lines { IfSome result HasLines }
     ensures room { length buffer.new ≡ length buffer.old }
 
     // An event that was written is read again.
     ensures again { (moment : ℕ) (event : OwnedEvent) → moment < 2 ^ 64 → IsHandedIn event →
-        line.now ≡ event_line moment event → option_map (timed_event buffer.new) result ≡ Some (moment, event) }
+        line.now ≡ event_line moment event → option_map (head_read buffer.new) result ≡ Some (head_written moment event) }
 {
-    event_in(line, buffer)
+    head_in(line, buffer)
 }
 
 /// What is asked for after `ask frontend`.
@@ -324,17 +370,19 @@ fn read_ask(rest: &[u8]) -> Option<Ask>
     None
 }
 
-fn timed_request(line: &[u8], buffer: &mut [u8]) -> Option<Request>
+fn event_request(line: &[u8], buffer: &mut [u8]) -> Option<Request>
     requires { length buffer.old ≡ PIECE_LIMIT }
-    ensures request { option_map (wanted buffer.new) result ≡ option_map (λ timed. Wanted.reply timed) (event_of (words_of line.now)) }
+    ensures request { option_map (wanted buffer.new) result ≡ option_map (λ head. Wanted.reply head) (head_of (words_of line.now)) }
+    ensures lines { IfSome result IsCounted }
     ensures room { length buffer.new ≡ length buffer.old }
 {
-    let (moment, event) = event_in(line, buffer)?;
-    Some(Request::Event(moment, event))
+    let first = head_in(line, buffer)?;
+    Some(Request::Event(first))
 }
 
 fn count_request(rest: &[u8]) -> Option<Request>
-    ensures { (buffer : List ℕ) → option_map (wanted buffer) result ≡ option_map (λ ask. Wanted.count ask) (ask_of (words_of rest.now)) }
+    ensures request { (buffer : List ℕ) → option_map (wanted buffer) result ≡ option_map (λ ask. Wanted.count ask) (ask_of (words_of rest.now)) }
+    ensures lines { IfSome result IsCounted }
 {
     let ask = read_ask(rest)?;
     Some(Request::Ask(ask))
@@ -343,6 +391,7 @@ fn count_request(rest: &[u8]) -> Option<Request>
 fn request_in(line: &[u8], buffer: &mut [u8]) -> Option<Request>
     requires { length buffer.old ≡ PIECE_LIMIT }
     ensures request { option_map (wanted buffer.new) result ≡ wanted_of (words_of line.now) }
+    ensures lines { IfSome result IsCounted }
     ensures room { length buffer.new ≡ length buffer.old }
 {
     match cut_word(line) {
@@ -350,7 +399,7 @@ fn request_in(line: &[u8], buffer: &mut [u8]) -> Option<Request>
             if is(word, b"ask") {
                 return count_request(rest);
             }
-            timed_request(line, buffer)
+            event_request(line, buffer)
         }
         None => None,
     }
@@ -361,11 +410,12 @@ fn request_in(line: &[u8], buffer: &mut [u8]) -> Option<Request>
 pub fn read_request(line: &[u8], buffer: &mut [u8]) -> Option<Request>
     requires { length buffer.old ≡ PIECE_LIMIT }
     ensures exact { option_map (wanted buffer.new) result ≡ wanted_of (words_of line.now) }
+    ensures lines { IfSome result IsCounted }
     ensures room { length buffer.new ≡ length buffer.old }
 
-    // The line that writes an event hands it in.
+    // The first line that writes an event hands it in.
     ensures again { (moment : ℕ) (event : OwnedEvent) → moment < 2 ^ 64 → IsHandedIn event →
-        line.now ≡ event_line moment event → option_map (wanted buffer.new) result ≡ Some (Wanted.reply (moment, event)) }
+        line.now ≡ event_line moment event → option_map (wanted buffer.new) result ≡ Some (Wanted.reply (head_written moment event)) }
 {
     request_in(line, buffer)
 }
