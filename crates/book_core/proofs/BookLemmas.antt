@@ -5,7 +5,7 @@ use Rattle.std.proofs.lemmas.List.{length-append}
 use Rattle.conn_model.specs.declared.event.OwnedEvent.{OwnedEvent}
 use Rattle.conn_model.specs.declared.plain.Plain.{Plain}
 use Rattle.conn_model.specs.declared.reply.Reply.{Reply}
-use Rattle.conn_model.specs.declared.event.OwnedEvent.TheVariants.{Accept, Piece, Connected, ConnectFailed, Close, Expire}
+use Rattle.conn_model.specs.declared.event.OwnedEvent.TheVariants.{Accept, Piece, Connected, ConnectFailed, Close, Expire, Reload}
 use Rattle.conn_model.specs.declared.reply.Said.{Said}
 use Rattle.conn_model.specs.History.{after, answer, entry, leaves_open, Entry, IsLegal, IsWell}
 use Rattle.conn_model.proofs.Goes.{legal_both, whole_in_parts}
@@ -70,6 +70,7 @@ open_few p well (e ∷ h) legal =
     opens_one (ConnectFailed id) said = omega arith
     opens_one (Close id why) said = omega arith
     opens_one (Expire id) said = omega arith
+    opens_one (Reload text) said = omega arith
 
 history_length : (h : List Entry) (records : List Record) → length (history_on h records) ≡ length h + length records
 history_length h [] = omega arith

@@ -1,14 +1,20 @@
 -- How many connections are open, and how many more or fewer after an answer.
-use Rattle.std.specs.Prelude.{ℕ, length, if◌then◌else◌}
-use Rattle.conn_model.specs.Counts.{total}
+use Rattle.std.specs.Prelude.{◌≡◌, ℕ, length, Some, if◌then◌else◌}
+use Rattle.conn_model.specs.Counts.{counts_in, total}
 use Rattle.conn_model.specs.History.{is_last, leaves_open}
+use Rattle.conn_model.specs.declared.ask.Ask.{Ask}
+use Rattle.conn_model.specs.declared.ask.Counts.{Counts}
 use Rattle.conn_model.specs.declared.event.OwnedEvent.{OwnedEvent}
-use Rattle.conn_model.specs.declared.event.OwnedEvent.TheVariants.{Accept, Piece, Connected, ConnectFailed, Close, Expire}
+use Rattle.conn_model.specs.declared.event.OwnedEvent.TheVariants.{Accept, Piece, Connected, ConnectFailed, Close, Expire, Reload}
 use Rattle.conn_model.specs.declared.plain.Plain.{Plain}
 use Rattle.conn_model.specs.declared.reply.Said.{Said}
 
 abbrev pub open_connections : Plain → ℕ
 open_connections p = total (λ own. length own.rows) p.frontends
+
+-- whatever is asked for, no connection is counted there
+abbrev pub IsNothingCounted : Plain → Type 0
+IsNothingCounted p = (ask : Ask) (counts : Counts) → counts_in p ask ≡ Some counts → counts.cur ≡ 0
 
 -- an accept opens a connection where it has to wait or is offered a server
 abbrev pub connections_opened : OwnedEvent → Said → ℕ
@@ -18,8 +24,9 @@ connections_opened (Connected id) said = 0
 connections_opened (ConnectFailed id) said = 0
 connections_opened (Close id why) said = 0
 connections_opened (Expire id) said = 0
+connections_opened (Reload text) said = 0
 
--- another event ends its connection where the reply is a last one
+-- another event of a connection ends it where the reply is a last one
 abbrev pub connections_ended : OwnedEvent → Said → ℕ
 connections_ended (Accept listener real) said = 0
 connections_ended (Piece id bytes) said = if is_last said then 1 else 0
@@ -27,3 +34,4 @@ connections_ended (Connected id) said = if is_last said then 1 else 0
 connections_ended (ConnectFailed id) said = if is_last said then 1 else 0
 connections_ended (Close id why) said = if is_last said then 1 else 0
 connections_ended (Expire id) said = if is_last said then 1 else 0
+connections_ended (Reload text) said = 0

@@ -8,7 +8,7 @@ ghost use Rattle.conn_model.specs.Answer.{answer_in};
 ghost use Rattle.conn_model.specs.History.{after, entry, opening, Entry, IsLegal, IsWell};
 ghost use Rattle.record_core.specs.Records.{history_of};
 ghost use Rattle.book_core.specs.Book.{BookState, IsBook};
-ghost use Rattle.book_core.specs.Open.{connections_ended, connections_opened, open_connections};
+ghost use Rattle.book_core.specs.Open.{connections_ended, connections_opened, open_connections, IsNothingCounted};
 
 /// Where the base is what a legal history left, as of a core that was opened and then answered events, the
 /// journal goes on with that history, and the core is the state after both.
@@ -32,4 +32,9 @@ pub fn open_connections_change()
     ensures opening { (plan : plans.Plan) (last : ℕ) → open_connections (opening plan last) ≡ 0 }
     ensures step { (p : Plain) → IsWell p → (moment : ℕ) (event : OwnedEvent) (reply : Reply) → answer_in p moment event ≡ Ok reply →
         open_connections (after p (entry moment event reply ∷ [])) + connections_ended event reply.said ≡ open_connections p + connections_opened event reply.said }
+{}
+
+/// Where no connection is open, none is counted of any frontend, backend, server or entry of a table.
+pub fn nothing_is_counted()
+    ensures { (p : Plain) → open_connections p ≡ 0 → IsNothingCounted p }
 {}

@@ -17,6 +17,12 @@ const RULE: &str =
 const HEADER: &str =
     "frontend f\nbind 127.0.0.1:9000 accept-proxy\ndefault_backend b\nbackend b\nserver s 10.0.0.20:80 send-proxy\n";
 
+const NO_RULE: &str =
+    "frontend f\nbind 127.0.0.1:9000\ndefault_backend b\nbackend b\nserver s 10.0.0.20:80\n";
+
+const OTHER_PORT: &str =
+    "frontend f\nbind 127.0.0.1:9001\ndefault_backend b\nbackend b\nserver s 10.0.0.20:80\n";
+
 /// The addresses of a connection from that address to 127.0.0.1:9000.
 fn pair_from(source: u32) -> Result<Pair, Fail> {
     let source = Endpoint {
@@ -51,7 +57,7 @@ fn id_of(serial: u64) -> ConnId {
 }
 
 /// What is said, as one word and a number: the bytes used where the connection waits, the bytes to send where it is offered, the
-/// line of a rule that rejects it.
+/// line of a rule that rejects it, the number of a version.
 fn summary(said: &Said) -> (&'static str, u64) {
     match said {
         Said::Wait { used, .. } => ("wait", *used),
@@ -63,6 +69,7 @@ fn summary(said: &Said) -> (&'static str, u64) {
         Said::Refuse { .. } => ("refuse", 0),
         Said::Up { id } => ("up", id.serial),
         Said::Closed { id, .. } => ("closed", id.serial),
+        Said::Reloaded { version } => ("reloaded", *version),
     }
 }
 
@@ -84,7 +91,7 @@ fn record(book: &Book, position: usize) -> Option<(u64, u64, &'static str, u64)>
     Some((record.number, record.moment, word, number))
 }
 
-/// Whether the record at a position is of a piece with those bytes.
+/// Whether the record at a position is of a piece or of a text with those bytes.
 fn has_bytes(book: &Book, position: usize, piece: &[u8]) -> bool {
     match book.journal().get(position) {
         Some(
@@ -93,6 +100,12 @@ fn has_bytes(book: &Book, position: usize, piece: &[u8]) -> bool {
                 ..
             },
         ) => bytes.as_slice() == piece,
+        Some(
+            Record {
+                event: OwnedEvent::Reload(text),
+                ..
+            },
+        ) => text.as_slice() == piece,
         _ => false,
     }
 }
@@ -193,6 +206,35 @@ fn servers_in_a_journal(rt: HostRuntime) -> Result<(), Fail> {
         book.counts(&Ask::Backend(0)),
         Some(Counts { cur: 1, cnt: 0 })
     );
+    book.end();
+    Ok(())
+}
+
+#[test]
+fn reloads_in_a_journal(rt: HostRuntime) -> Result<(), Fail> {
+    let pair = pair_from(0xc633_6409)?;
+    let Some(mut book) = open(rt.alloc(), RULE) else {
+        assert!(rt; false, "the configuration opens");
+        return Ok(());
+    };
+    assert_eq!(rt;
+        step(&mut book, 0, &Event::Accept(0, pair)),
+        Ok((1, "refuse", 3))
+    );
+    assert_eq!(rt;
+        step(&mut book, 1, &Event::Reload(OTHER_PORT)),
+        Err(StepFault::BindChanged)
+    );
+    assert_eq!(rt;
+        step(&mut book, 2, &Event::Reload(NO_RULE)),
+        Ok((2, "reloaded", 2))
+    );
+    assert_eq!(rt;
+        step(&mut book, 3, &Event::Accept(0, pair)),
+        Ok((3, "offer", 0))
+    );
+    assert!(rt; has_bytes(&book, 1, NO_RULE.as_bytes()));
+    assert_eq!(rt; record(&book, 1), Some((2, 2, "reloaded", 2)));
     book.end();
     Ok(())
 }

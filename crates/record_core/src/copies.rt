@@ -9,7 +9,7 @@ use list_core::Seq;
 use plan_types::Track;
 use std::alloc::{AllocError, Global};
 
-/// The event with memory of its own. Only the bytes of a piece need memory.
+/// The event with memory of its own. Only the bytes of a piece and the text of a reload need memory.
 pub fn copy_event(alloc: Global, event: &Event) -> Result<OwnedEvent, AllocError>
     ensures { IfOk result (λ copy. copy ≡ owned_event event.now) }
 {
@@ -20,6 +20,7 @@ pub fn copy_event(alloc: Global, event: &Event) -> Result<OwnedEvent, AllocError
         Event::ConnectFailed(id) => Ok(OwnedEvent::ConnectFailed(id)),
         Event::Close(id, why) => Ok(OwnedEvent::Close(id, why)),
         Event::Expire(id) => Ok(OwnedEvent::Expire(id)),
+        Event::Reload(text) => Ok(OwnedEvent::Reload(Seq::duplicate_of(alloc, text.as_bytes())?)),
     }
 }
 
@@ -58,6 +59,7 @@ fn copy_said(said: &Said) -> Said
         Said::Refuse { id, used, cause } => Said::Refuse { id, used, cause },
         Said::Up { id } => Said::Up { id },
         Said::Closed { id, why } => Said::Closed { id, why },
+        Said::Reloaded { version } => Said::Reloaded { version },
     }
 }
 
