@@ -47,9 +47,9 @@ continues_sent sent s bytes held t rest new u continues step =
 pub front_continues : (sent : List ℕ) (s : Progress) (bytes : List ℕ) (held : Option (List ℕ)) (t : Progress) (rest : List ℕ) → Continues sent s bytes held t rest → IsFrontOf sent s bytes held
 front_continues sent s bytes held t rest continues = λ more. (
   continues.now,
-  t.unsent ++ (script_outcome_in t.plain t.before (rest ++ more)).text,
+  t.unsent ++ (script_outcome_in t.plain t.reload t.before (rest ++ more)).text,
   continues.is_held,
-  ap (λ (o : Outcome). o.text) (sym (continues.same more)) ∙ append_assoc continues.now t.unsent (script_outcome_in t.plain t.before (rest ++ more)).text,
+  ap (λ (o : Outcome). o.text) (sym (continues.same more)) ∙ append_assoc continues.now t.unsent (script_outcome_in t.plain t.reload t.before (rest ++ more)).text,
 )
 
 -- a write that failed on the way leaves a front

@@ -1,7 +1,8 @@
 -- How a replay ends.
-use Rattle.std.proofs.Common.{◌≡◌, ◌≢◌, ◌⊎◌, ℕ, true, List, [], ◌∷◌, ◌++◌, Option, Some, ap, subst, sym, ◌∙◌, inl, inr, add-zero}
+use Rattle.std.proofs.Common.{◌≡◌, ◌≢◌, ◌⊎◌, ℕ, true, List, [], ◌∷◌, ◌++◌, Option, Some, None, refl, ap, subst, sym, ◌∙◌, inl, inr, add-zero}
 use Rattle.std.proofs.lemmas.List.{append-nil}
-use Rattle.replay_core.specs.Replay.{IsFront, Outcome, final_outcome}
+use Rattle.event_text.specs.Script.{Pending}
+use Rattle.replay_core.specs.Replay.{IsFront, Outcome, ending, final_outcome}
 use Rattle.replay_core.specs.Progress.{Progress, Continues, IsFrontOf, total, total_of}
 use Rattle.replay_core.specs.Reading.{Reaches, AnswersAll, IsCut, IsCutAfterAll, StopsAtLine, Stops, WritesAll, Ends, writes_answers}
 use Rattle.replay_core.specs.declared.fault.ReplayFault.{ReplayFault}
@@ -16,10 +17,16 @@ wrote_all sent s script now new t fault same is = record {
   counts = sym (ap (λ (o : Outcome). o.lines) same) ∙ add-zero t.answered;
 }
 
+ending_text : (reload : Option Pending) (before : ℕ) → (ending reload before).text ≡ []
+ending_text None before = refl
+ending_text (Some reload) before = refl
+
 -- what was written of the answers to the end is a front of them
 front_all : (sent : List ℕ) (s : Progress) (script now : List ℕ) (new : Option (List ℕ)) (t : Progress) (fault : Option ReplayFault) → total now t (final_outcome fault) ≡ total_of sent s script
     → IsFrontOf now t [] new → IsFront new (total_of sent s script).text
-front_all sent s script now new t fault same front = subst (λ (o : Outcome). IsFront new o.text) same (front [])
+front_all sent s script now new t fault same front =
+    let all : IsFront new (total now t (final_outcome fault)).text = subst (λ xs. IsFront new (now ++ t.unsent ++ xs)) (ending_text t.reload t.before) (front []) in
+    subst (λ (o : Outcome). IsFront new o.text) same all
 
 pub done_ok : (sent : List ℕ) (s : Progress) (script : List ℕ) (held new : Option (List ℕ)) (t : Progress) (fault : Option ReplayFault) → AnswersAll sent s script held t fault
     → ((now : List ℕ) → held ≡ Some now → new ≡ Some (now ++ t.unsent)) → WritesAll sent s script new t.answered fault

@@ -5,12 +5,13 @@ use Rattle.std.specs.Io.KnownBytes.{Consumes}
 use Rattle.std.proofs.lemmas.Bool.Decides.{nat_tests}
 use Rattle.text_core.specs.Parts.{parts, is_line_feed}
 use Rattle.conn_model.specs.declared.plain.Plain.{Plain}
+use Rattle.event_text.specs.Script.{Pending}
 use Rattle.line_reader.specs.Lines.{ConsumesAll, Gathers, GivesLastLine, GivesLine, GivesNothing, LineState}
 use Rattle.line_reader.specs.Unended.{BeginsTooLong}
 use Rattle.line_reader.specs.declared.lines.LineFault.{LineFault}
 use Rattle.line_reader.specs.declared.lines.LineFault.TheVariants as lines
 use Rattle.line_reader.specs.declared.lines.TheConstants.{MOST_LINE_BYTES}
-use Rattle.replay_core.specs.Replay.{request_at, final_outcome, script_fault}
+use Rattle.replay_core.specs.Replay.{asked_at, ending, final_outcome, script_fault}
 use Rattle.replay_core.specs.Turns.{outcome_in, script_outcome_in, turn}
 use Rattle.replay_core.specs.Progress.{Progress, Continues, IsFrontOf, IsLineFault, total, total_of, total_of_lines}
 use Rattle.replay_core.specs.Reading.{Reaches, AnswersAll, IsCut, StopsAtLine, Stops}
@@ -141,17 +142,21 @@ all_read sent s script left held t kept bytes less reaches moved =
     reaches.continues.same bytes ∙ ap (total_of sent s) (sym (reaches.is_read ∙ ap (λ xs. reaches.got ++ xs) all.0))
 
 -- the end after the last line feed
-pub done_end : (sent : List ℕ) (s : Progress) (script : List ℕ) (left held : Option (List ℕ)) (t : Progress) (old new : LineState) (less : Option (List ℕ))
-    → Reaches sent s script left held t old.kept → GivesNothing old new left less → (less ≡ Some []) × AnswersAll sent s script held t None
-done_end sent s script left held t old new less reaches gives = (
-  (all_left reaches.rest left less gives.bytes reaches.is_left gives.moved).1,
-  record {
-    now = reaches.continues.now;
-    is_held = reaches.continues.is_held;
-    same = ap (total_of reaches.continues.now t) (sym gives.is_empty) ∙ all_read sent s script left held t old.kept gives.bytes less reaches gives.moved;
-  },
-)
+ended_by : (sent : List ℕ) (s : Progress) (script : List ℕ) (left held : Option (List ℕ)) (t : Progress) (old new : LineState) (less : Option (List ℕ)) (fault : Option ReplayFault)
+    → Reaches sent s script left held t old.kept → GivesNothing old new left less → ending t.reload t.before ≡ final_outcome fault → AnswersAll sent s script held t fault
+ended_by sent s script left held t old new less fault reaches gives end = record {
+  now = reaches.continues.now;
+  is_held = reaches.continues.is_held;
+  same = ap (total reaches.continues.now t) (sym end) ∙ ap (total_of reaches.continues.now t) (sym gives.is_empty)
+      ∙ all_read sent s script left held t old.kept gives.bytes less reaches gives.moved;
+}
 
+pub done_end : (sent : List ℕ) (s : Progress) (script : List ℕ) (left held : Option (List ℕ)) (t : Progress) (old new : LineState) (less : Option (List ℕ))
+    → Reaches sent s script left held t old.kept → GivesNothing old new left less → ending t.reload t.before ≡ final_outcome None → (less ≡ Some []) × AnswersAll sent s script held t None
+done_end sent s script left held t old new less reaches gives end =
+    ((all_left reaches.rest left less gives.bytes reaches.is_left gives.moved).1, ended_by sent s script left held t old new less None reaches gives end)
+
+-- the last line
 done_by : (sent : List ℕ) (s : Progress) (script : List ℕ) (left held : Option (List ℕ)) (t u : Progress) (old new : LineState) (less : Option (List ℕ)) (fault : Option ReplayFault)
     → Reaches sent s script left held t old.kept → GivesLastLine old new left less
     → ((now : List ℕ) → total now u (final_outcome fault) ≡ total_of_lines now t (new.line ∷ [])) → AnswersAll sent s script held u fault
@@ -161,19 +166,39 @@ done_by sent s script left held t u old new less fault reaches gives step = reco
   same = step reaches.continues.now ∙ ap (total_of_lines reaches.continues.now t) (sym gives.is_line) ∙ all_read sent s script left held t old.kept gives.bytes less reaches gives.moved;
 }
 
--- the last line
 pub done_last : (sent : List ℕ) (s : Progress) (script : List ℕ) (left held : Option (List ℕ)) (t u : Progress) (old new : LineState) (less : Option (List ℕ))
     → Reaches sent s script left held t old.kept → GivesLastLine old new left less
-    → ((now : List ℕ) (more : List (List ℕ)) → total_of_lines now u more ≡ total_of_lines now t (new.line ∷ more)) → (less ≡ Some []) × AnswersAll sent s script held u None
-done_last sent s script left held t u old new less reaches gives step = (
-  (all_left reaches.rest left less gives.bytes reaches.is_left gives.moved).1,
-  done_by sent s script left held t u old new less None reaches gives (λ now. step now []),
-)
+    → ((now : List ℕ) → total now u (final_outcome None) ≡ total_of_lines now t (new.line ∷ [])) → (less ≡ Some []) × AnswersAll sent s script held u None
+done_last sent s script left held t u old new less reaches gives step =
+    ((all_left reaches.rest left less gives.bytes reaches.is_left gives.moved).1, done_by sent s script left held t u old new less None reaches gives step)
 
--- a fault in the last line
+-- a fault once all of the script was read
+stops_after_all : (sent : List ℕ) (s : Progress) (script : List ℕ) (held : Option (List ℕ)) (u : Progress) (less : Option (List ℕ)) (fault : ReplayFault) → IsLineFault fault → less ≡ Some []
+    → AnswersAll sent s script held u (Some fault) → Stops sent s script less held u fault
+stops_after_all sent s script held u less fault kind is done =
+    stops_by sent s script less held u fault kind
+    (record {
+      got = script;
+      rest = [];
+      now = done.now;
+      is_left = is;
+      is_read = sym (append-nil script);
+      is_held = done.is_held;
+      same = λ more only. done.same ∙ ap (total_of sent s) (sym (ap (λ xs. script ++ xs) (only refl) ∙ append-nil script));
+    })
+
+-- a line that is missing at the end
+pub stops_end : (sent : List ℕ) (s : Progress) (script : List ℕ) (left held : Option (List ℕ)) (t : Progress) (old new : LineState) (less : Option (List ℕ)) (fault : ReplayFault)
+    → Reaches sent s script left held t old.kept → GivesNothing old new left less → IsLineFault fault × (ending t.reload t.before ≡ final_outcome (Some fault))
+    → Stops sent s script less held t fault
+stops_end sent s script left held t old new less fault reaches gives stop =
+    stops_after_all sent s script held t less fault stop.0 (all_left reaches.rest left less gives.bytes reaches.is_left gives.moved).1
+    (ended_by sent s script left held t old new less (Some fault) reaches gives stop.1)
+
+-- a fault in the last line, or after it
 pub stops_last : (sent : List ℕ) (s : Progress) (script : List ℕ) (left held : Option (List ℕ)) (t u : Progress) (old new : LineState) (less : Option (List ℕ)) (fault : ReplayFault)
     → Reaches sent s script left held t old.kept → GivesLastLine old new left less
-    → ((fault ≡ NoMemory) ⊎ (IsLineFault fault × ((now : List ℕ) (more : List (List ℕ)) → total now u (final_outcome (Some fault)) ≡ total_of_lines now t (new.line ∷ more))))
+    → ((fault ≡ NoMemory) ⊎ (IsLineFault fault × ((now : List ℕ) → total now u (final_outcome (Some fault)) ≡ total_of_lines now t (new.line ∷ []))))
     → Stops sent s script less held u fault
 stops_last sent s script left held t u old new less fault reaches gives (inl is) =
     let all = all_left reaches.rest left less gives.bytes reaches.is_left gives.moved in
@@ -187,31 +212,23 @@ stops_last sent s script left held t u old new less fault reaches gives (inl is)
       front = front_continues sent s (reaches.got ++ gives.bytes) held t (old.kept ++ gives.bytes) (continues_more sent s reaches.got held t old.kept gives.bytes reaches.continues);
     })
 stops_last sent s script left held t u old new less fault reaches gives (inr stop) =
-    let done : AnswersAll sent s script held u (Some fault) = done_by sent s script left held t u old new less (Some fault) reaches gives (λ now. stop.1 now []) in
-    stops_by sent s script less held u fault stop.0
-    (record {
-      got = script;
-      rest = [];
-      now = done.now;
-      is_left = (all_left reaches.rest left less gives.bytes reaches.is_left gives.moved).1;
-      is_read = sym (append-nil script);
-      is_held = done.is_held;
-      same = λ more only. done.same ∙ ap (total_of sent s) (sym (ap (λ xs. script ++ xs) (only refl) ∙ append-nil script));
-    })
+    stops_after_all sent s script held u less fault stop.0 (all_left reaches.rest left less gives.bytes reaches.is_left gives.moved).1
+    (done_by sent s script left held t u old new less (Some fault) reaches gives stop.1)
 
 long_test : (n : ℕ) → MOST_LINE_BYTES < n → nat_lt MOST_LINE_BYTES n ≡ true
 long_test n long = grind (arith, nat_tests)
 
-request_too_long : (number : ℕ) (line : List ℕ) → nat_lt MOST_LINE_BYTES (length line) ≡ true → request_at number line ≡ Err (TooLong number)
-request_too_long number line long = rw long refl
+asked_too_long : (reload : Option Pending) (number : ℕ) (line : List ℕ) → nat_lt MOST_LINE_BYTES (length line) ≡ true → asked_at reload number line ≡ Err (TooLong number)
+asked_too_long reload number line long = rw long refl
 
 -- a line that is too long
-too_long : (p : Plain) (before : ℕ) (bytes : List ℕ) → BeginsTooLong bytes → (more : List ℕ) → final_outcome (Some (TooLong (before + 1))) ≡ script_outcome_in p before (bytes ++ more)
-too_long p before bytes begins more =
+too_long : (p : Plain) (reload : Option Pending) (before : ℕ) (bytes : List ℕ) → BeginsTooLong bytes → (more : List ℕ)
+    → final_outcome (Some (TooLong (before + 1))) ≡ script_outcome_in p reload before (bytes ++ more)
+too_long p reload before bytes begins more =
     let first = begins more in
-    let turned : turn p (request_at (before + 1) first.0) (λ q. outcome_in q (before + 1) first.1) ≡ final_outcome (Some (TooLong (before + 1))) =
-    ap (λ a. turn p a (λ q. outcome_in q (before + 1) first.1)) (request_too_long (before + 1) first.0 (long_test (length first.0) first.3)) in
-    sym (ap (outcome_in p before) first.2 ∙ turned)
+    let turned : turn p (asked_at reload (before + 1) first.0) (λ q next. outcome_in q next (before + 1) first.1) ≡ final_outcome (Some (TooLong (before + 1))) =
+    ap (λ a. turn p a (λ q next. outcome_in q next (before + 1) first.1)) (asked_too_long reload (before + 1) first.0 (long_test (length first.0) first.3)) in
+    sym (ap (outcome_in p reload before) first.2 ∙ turned)
 
 -- no next line
 pub stops_reading : (sent : List ℕ) (s : Progress) (script : List ℕ) (left held : Option (List ℕ)) (t : Progress) (old new : LineState) (less : Option (List ℕ)) (fault : LineFault)
@@ -226,7 +243,7 @@ stops_reading sent s script left held t old new less lines.TooLong reaches gathe
       is_left = more.is_left;
       is_read = more.is_read;
       is_held = more.continues.is_held;
-      same = λ next only. ap (total more.continues.now t) (too_long t.plain t.before (new.line ++ new.kept) (long refl) next) ∙ more.continues.same next;
+      same = λ next only. ap (total more.continues.now t) (too_long t.plain t.reload t.before (new.line ++ new.kept) (long refl) next) ∙ more.continues.same next;
     }
 stops_reading sent s script left held t old new less lines.Read reaches gathers long =
     (new.line ++ new.kept, reaches_gathered sent s script left held t old new less reaches gathers)

@@ -3,14 +3,16 @@ use Rattle.std.specs.Prelude.{◌≡◌, ◌⊎◌, ℕ, List, ◌++◌, Option,
 use Rattle.device_core.specs.Device.{raised}
 use Rattle.device_core.specs.Patience.{IsWornOut}
 use Rattle.conn_model.specs.declared.plain.Plain.{Plain}
+use Rattle.event_text.specs.Script.{Pending}
 use Rattle.replay_core.specs.Replay.{IsFront, Outcome, before_rest}
 use Rattle.replay_core.specs.Turns.{outcome_in, script_outcome_in}
 use Rattle.replay_core.specs.declared.fault.ReplayFault.{ReplayFault}
 use Rattle.replay_core.specs.declared.fault.ReplayFault.TheVariants.{Config, Format, TooLong, Read, Write, NoMemory}
 
--- the state after so many lines, with the answers that were not yet written
+-- The state after so many lines, with the reload of which lines are missing, if there is one, and the answers that were not yet written.
 pub record Progress : Type 0 where
   pub plain : Plain
+  pub reload : Option Pending
   pub before : ℕ
   pub answered : ℕ
   pub unsent : List ℕ
@@ -21,11 +23,11 @@ total sent s rest = before_rest (sent ++ s.unsent) s.answered rest
 
 -- what comes of lines, in all
 abbrev pub total_of_lines : List ℕ → Progress → List (List ℕ) → Outcome
-total_of_lines sent s lines = total sent s (outcome_in s.plain s.before lines)
+total_of_lines sent s lines = total sent s (outcome_in s.plain s.reload s.before lines)
 
 -- what comes of bytes, in all
 abbrev pub total_of : List ℕ → Progress → List ℕ → Outcome
-total_of sent s bytes = total sent s (script_outcome_in s.plain s.before bytes)
+total_of sent s bytes = total sent s (script_outcome_in s.plain s.reload s.before bytes)
 
 -- Whatever follows, bytes after one progress come to the same outcome as the rest of them after another.
 pub record Continues (sent : List ℕ) (s : Progress) (bytes : List ℕ) (held : Option (List ℕ)) (t : Progress) (rest : List ℕ) : Type 0 where

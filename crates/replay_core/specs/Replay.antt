@@ -2,13 +2,15 @@
 use Rattle.std.specs.Prelude.{◌≡◌, ◌⊎◌, ℕ, Bool, ◌+◌, ◌==◌, ◌||◌, nat_lt, List, [], ◌∷◌, ◌++◌, length, slice_index, Option, Some, None, option_map, Result, Ok, Err, if◌then◌else◌}
 use Rattle.text_core.specs.Parts.{parts, is_line_feed}
 use Rattle.plan_types.specs.declared.plan.Plan.{Plan}
+use Rattle.conn_model.specs.declared.ask.Ask.{Ask}
 use Rattle.conn_model.specs.declared.event.OwnedEvent.{OwnedEvent}
+use Rattle.conn_model.specs.declared.event.OwnedEvent.TheVariants.{Reload}
 use Rattle.conn_model.specs.declared.plain.Plain.{Plain}
 use Rattle.conn_model.specs.declared.reply.Reply.{Reply}
 use Rattle.conn_model.specs.declared.reply.StepFault.{StepFault}
 use Rattle.conn_model.specs.History.{Entry, answer, counts, entry, opening}
 use Rattle.config_core.specs.Meaning.{meaning}
-use Rattle.event_text.specs.Script.{Wanted, wanted, wanted_of, words_of}
+use Rattle.event_text.specs.Script.{Head, Pending, Wanted, bar_text, pending_reload, text_with, wanted, wanted_of, with_text, words_of}
 use Rattle.event_text.specs.Replies.{count_line, fault_line, reply_line}
 use Rattle.event_text.specs.declared.script.Request.{Request}
 use Rattle.line_reader.specs.declared.lines.LineFault.{LineFault}
@@ -37,16 +39,34 @@ before_rest text lines rest = record { text = text ++ rest.text; lines = lines +
 abbrev pub is_skipped : List ℕ → Bool
 is_skipped line = length line == 0 || slice_index line 0 == 0x23
 
-abbrev pub request_else : ℕ → Option Wanted → Result (Option Wanted) ReplayFault
-request_else number None = Err (Format number)
-request_else number (Some wants) = Ok (Some wants)
+-- What a line asks for: nothing, with the reload of which lines are missing after it, if there is one; counts; or an answer to an event, which it ends.
+pub data Asked : Type 0 where
+  nothing : Option Pending → Asked
+  of_counts : Ask → Asked
+  of_event : ℕ × OwnedEvent → Asked
 
--- what the line of that number asks for: an answer to an event, counts, or nothing; else what is wrong with it
-abbrev pub request_at : ℕ → List ℕ → Result (Option Wanted) ReplayFault
-request_at number line =
-    if nat_lt MOST_LINE_BYTES (length line) || nat_lt MOST_LINES number then Err (TooLong number)
-    else if is_skipped line then Ok None
-    else request_else number (wanted_of (words_of line))
+abbrev pub asked_by : Wanted → Asked
+asked_by (Wanted.count ask) = Asked.of_counts ask
+asked_by (Wanted.reply (Head.whole timed)) = Asked.of_event timed
+asked_by (Wanted.reply (Head.reload moment lines)) = Asked.nothing (Some (pending_reload moment lines))
+
+-- a reload is answered once no line of its text is missing
+abbrev pub asked_with : Pending → Asked
+asked_with reload = if reload.missing == 0 then Asked.of_event (reload.moment, Reload (text_with reload [])) else Asked.nothing (Some reload)
+
+-- What a line asks for, if it has its form. Where lines of a reload are missing it is the next of them.
+abbrev pub asked_in : Option Pending → List ℕ → Option Asked
+asked_in None line = if is_skipped line then Some (Asked.nothing None) else option_map asked_by (wanted_of (words_of line))
+asked_in (Some reload) line = option_map (λ text. asked_with (with_text reload text)) (bar_text line)
+
+abbrev pub asked_else : ℕ → Option Asked → Result Asked ReplayFault
+asked_else number None = Err (Format number)
+asked_else number (Some asked) = Ok asked
+
+-- what the line of that number asks for, or what is wrong with it
+abbrev pub asked_at : Option Pending → ℕ → List ℕ → Result Asked ReplayFault
+asked_at reload number line =
+    if nat_lt MOST_LINE_BYTES (length line) || nat_lt MOST_LINES number then Err (TooLong number) else asked_else number (asked_in reload line)
 
 -- what ends a replay where no line of that number comes
 abbrev pub script_fault : ℕ → LineFault → ReplayFault
@@ -54,10 +74,14 @@ script_fault number lines.TooLong = TooLong number
 script_fault number lines.Read = Read
 script_fault number lines.NoMemory = NoMemory
 
--- what was read of a line, where the bytes of a piece are in front of a buffer
-abbrev pub request_read : List ℕ → Result (Option Request) ReplayFault → Result (Option Wanted) ReplayFault
-request_read buffer (Ok request) = Ok (option_map (wanted buffer) request)
-request_read buffer (Err fault) = Err fault
+-- what was read of a line outside a reload, where the bytes of a piece are in front of a buffer
+abbrev pub asked_of : List ℕ → Option Request → Asked
+asked_of buffer None = Asked.nothing None
+asked_of buffer (Some request) = asked_by (wanted buffer request)
+
+abbrev pub asked_read : List ℕ → Result (Option Request) ReplayFault → Result Asked ReplayFault
+asked_read buffer (Ok request) = Ok (asked_of buffer request)
+asked_read buffer (Err fault) = Err fault
 
 -- ---- the lines of a script
 
@@ -72,21 +96,26 @@ history_after h moment event (Ok reply) = entry moment event reply ∷ h
 history_after h moment event (Err fault) = h
 
 -- what comes of a line after a history, and of the rest
-abbrev pub after_line : Plain → List Entry → Result (Option Wanted) ReplayFault → (List Entry → Outcome) → Outcome
+abbrev pub after_line : Plain → List Entry → Result Asked ReplayFault → (List Entry → Option Pending → Outcome) → Outcome
 after_line p h (Err fault) rest = final_outcome (Some fault)
-after_line p h (Ok None) rest = rest h
-after_line p h (Ok (Some (Wanted.count ask))) rest = before_rest (count_line ask (counts p h ask)) 1 (rest h)
-after_line p h (Ok (Some (Wanted.reply timed))) rest =
-    let answered = answer p h timed.0 timed.1 in before_rest (answer_text answered) 1 (rest (history_after h timed.0 timed.1 answered))
+after_line p h (Ok (Asked.nothing reload)) rest = rest h reload
+after_line p h (Ok (Asked.of_counts ask)) rest = before_rest (count_line ask (counts p h ask)) 1 (rest h None)
+after_line p h (Ok (Asked.of_event timed)) rest =
+    let answered = answer p h timed.0 timed.1 in before_rest (answer_text answered) 1 (rest (history_after h timed.0 timed.1 answered) None)
 
--- what comes of lines, after a history and so many lines
-abbrev pub outcome : Plain → List Entry → ℕ → List (List ℕ) → Outcome
-outcome p h before [] = final_outcome None
-outcome p h before (line ∷ lines) = after_line p h (request_at (before + 1) line) (λ g. outcome p g (before + 1) lines)
+-- after the last line: where lines of a reload are missing, the next one lacks its form
+abbrev pub ending : Option Pending → ℕ → Outcome
+ending None before = final_outcome None
+ending (Some reload) before = final_outcome (Some (Format (before + 1)))
+
+-- what comes of lines, after a history and so many lines, where lines of a reload may be missing
+abbrev pub outcome : Plain → List Entry → Option Pending → ℕ → List (List ℕ) → Outcome
+outcome p h reload before [] = ending reload before
+outcome p h reload before (line ∷ lines) = after_line p h (asked_at reload (before + 1) line) (λ g next. outcome p g next (before + 1) lines)
 
 -- what comes of a script where a plan is opened
 abbrev pub script_outcome : Plan → List ℕ → Outcome
-script_outcome plan script = outcome (opening plan 0) [] 0 (parts is_line_feed script)
+script_outcome plan script = outcome (opening plan 0) [] None 0 (parts is_line_feed script)
 
 -- ---- a whole replay
 

@@ -40,8 +40,8 @@ pub fn answer_all<I: Input, O: Output>(
                 session.answer_line(lines.line())?;
                 session.send_many(writer)?;
             }
-            Ok(Next::LastLine) => return session.answer_line(lines.line()),
-            Ok(Next::End) => return Ok(()),
+            Ok(Next::LastLine) => return session.answer_last(lines.line()),
+            Ok(Next::End) => return session.at_end(),
             Err(fault) => return Err(session.script_fault(fault)),
         }
     }

@@ -104,8 +104,8 @@ fn piece_buffer(alloc: Global) -> Result<Vec<u8>, AllocError>
     Ok(vec![in alloc; 0; PIECE_LIMIT]?)
 }
 
-/// Opens a core on the configuration and answers each event of the script with one line. A line that
-/// hands in no event ends the replay, after the answers to all events before it. At most
+/// Opens a core on the configuration and answers each event of the script with one line. A reload is answered after the
+/// lines of its text. A line that has not its form ends the replay, after the answers to all events before it. At most
 /// `device_core::MOST_READS` reads are made.
 pub fn run_replay<I: Input, O: Output>(
     alloc: Global,

@@ -7,7 +7,8 @@ ghost use Rattle.conn_model.specs.Counts.{counts_in};
 ghost use Rattle.event_text.specs.Replies.{count_line};
 ghost use Rattle.conn_model.specs.History.{owned_event};
 ghost use Rattle.conn_model.specs.declared.event.TheConstants.{PIECE_LIMIT};
-ghost use Rattle.replay_core.specs.Replay.{answer_text, request_at, request_read, final_outcome, script_fault};
+ghost use Rattle.event_text.specs.Script.{IsCounted};
+ghost use Rattle.replay_core.specs.Replay.{answer_text, asked_at, asked_read, asked_with, ending, final_outcome, script_fault};
 ghost use Rattle.replay_core.specs.Turns.{plain_after};
 ghost use Rattle.replay_core.specs.Progress.{total, total_of_lines, GaveUp, Continues, IsFrontOf, IsLineFault};
 
@@ -15,11 +16,14 @@ use crate::fault::ReplayFault;
 use conn_core::Core;
 use conn_model::ask::Ask;
 use conn_model::event::Event;
-use conn_model::reply::StepFault;
+use conn_model::reply::{Reply, StepFault};
 use device_core::{Failed, Output, write_all};
-use event_text::{Request, read_request, write_counts, write_fault, write_reply};
+use event_text::{
+    FirstLine, PendingReload, Request, read_bar, read_request, write_counts, write_fault,
+    write_reply,
+};
 use line_reader::LineFault;
-use std::alloc::Global;
+use std::alloc::{AllocError, Global};
 use std::marker::Model;
 
 /// How many lines a script has at most.
@@ -31,7 +35,10 @@ const MOST_UNSENT: usize = 65_536;
 /// A core between two lines of a script, with the answers that were not yet written. It cannot be dropped: it ends by
 /// `end`.
 pub struct Session {
+    alloc: Global,
     core: Core,
+    /// The reload of which lines are missing.
+    reload: Option<PendingReload>,
     before: u64,
     answered: u64,
     unsent: Vec<u8>,
@@ -40,26 +47,27 @@ pub struct Session {
 }
 
 impl Model for Session {
-    ghost use Rattle.std.specs.Prelude.{◌≡◌, ◌≤◌, length};
+    ghost use Rattle.std.specs.Prelude.{◌≡◌, ◌≤◌, ◌<◌, length, IfSome};
     ghost use Rattle.replay_core.specs.Progress.{Progress};
     ghost use Rattle.replay_core.specs.declared.session.TheConstants.{MOST_LINES};
     ghost use Rattle.conn_model.specs.declared.event.TheConstants.{PIECE_LIMIT};
 
     ghost Value = { Progress };
 
-    ghost view = { λ s. record { plain = s.core; before = s.before; answered = s.answered; unsent = s.unsent.items } };
+    ghost view = { λ s. record { plain = s.core; reload = s.reload; before = s.before; answered = s.answered; unsent = s.unsent.items } };
 
-    ghost invariant = { λ s. (s.before ≤ MOST_LINES) × (s.answered ≤ s.before) × (length s.piece.items ≡ PIECE_LIMIT) };
+    ghost invariant = { λ s. (s.before ≤ MOST_LINES) × (s.answered ≤ s.before) × (length s.piece.items ≡ PIECE_LIMIT) × IfSome s.reload (λ r. 0 < r.missing) };
 }
 
-/// What a line asks for.
+/// What a line outside a reload asks for.
 fn read_line(number: u64, line: &[u8], piece: &mut [u8]) -> Result<Option<Request>, ReplayFault>
     requires short { length line.now ≤ MOST_LINE_BYTES }
     requires room { length piece.old ≡ PIECE_LIMIT }
-    ensures exact { request_read piece.new result ≡ request_at number line.now }
+    ensures exact { asked_read piece.new result ≡ asked_at None number line.now }
     ensures room { length piece.new ≡ length piece.old }
     ensures small { IfOk result (λ _. number ≤ MOST_LINES) }
     ensures kind { IfErr result IsLineFault }
+    ensures lines { IfOk result (λ request. IfSome request IsCounted) }
 {
     if number > MOST_LINES {
         return Err(ReplayFault::TooLong(number));
@@ -73,8 +81,47 @@ fn read_line(number: u64, line: &[u8], piece: &mut [u8]) -> Result<Option<Reques
     }
 }
 
+/// A reload with the text of that line.
+fn add_line(
+    number: u64,
+    mut reload: PendingReload,
+    line: &[u8],
+) -> Result<PendingReload, ReplayFault>
+    requires short { length line.now ≤ MOST_LINE_BYTES }
+    requires missing { 0 < reload.missing }
+    ensures ok { IfOk result (λ with. asked_at (Some reload) number line.now ≡ Ok (asked_with with)) }
+    ensures small { IfOk result (λ _. number ≤ MOST_LINES) }
+    ensures err { IfErr result (λ f. (f ≡ ReplayFault.NoMemory) ⊎ (IsLineFault f × (asked_at (Some reload) number line.now ≡ Err f))) }
+{
+    if number > MOST_LINES {
+        return Err(ReplayFault::TooLong(number));
+    }
+    let Some(text) = read_bar(line) else {
+        return Err(ReplayFault::Format(number));
+    };
+    if reload.add(text).is_err() {
+        return Err(ReplayFault::NoMemory);
+    }
+    Ok(reload)
+}
+
+/// Collects the line of an answer.
+fn write_answer(
+    alloc: Global,
+    unsent: &mut Vec<u8>,
+    answered: Result<Reply, StepFault>,
+) -> Result<(), AllocError>
+    ensures { OnOk result (unsent.new.items ≡ unsent.old.items ++ answer_text answered) }
+{
+    match answered {
+        Ok(reply) => write_reply(unsent, &reply),
+        Err(fault) => write_fault(alloc, unsent, &fault),
+    }
+}
+
 /// Answers an event, and collects the line of the answer.
 fn answer(
+    alloc: Global,
     core: &mut Core,
     unsent: &mut Vec<u8>,
     moment: u64,
@@ -84,12 +131,11 @@ fn answer(
     ensures plain { OnOk result (core.new ≡ plain_after core.old moment (owned_event event.now) (answer_in core.old moment (owned_event event.now))) }
     ensures err { IfErr result (λ f. f ≡ ReplayFault.NoMemory) }
 {
-    let written = match core.step(moment, event) {
-        Ok(reply) => write_reply(unsent, &reply),
-        Err(StepFault::NoMemory) => return Err(ReplayFault::NoMemory),
-        Err(fault) => write_fault(unsent, &fault),
-    };
-    if written.is_err() {
+    let answered = core.step(moment, event);
+    if let Err(StepFault::NoMemory) = answered {
+        return Err(ReplayFault::NoMemory);
+    }
+    if write_answer(alloc, unsent, answered).is_err() {
         return Err(ReplayFault::NoMemory);
     }
     Ok(())
@@ -111,10 +157,12 @@ impl Session {
 
     pub fn new(alloc: Global, core: Core, piece: Vec<u8>) -> Self
         requires { length piece.items ≡ PIECE_LIMIT }
-        ensures { result ≡ record { plain = core; before = 0; answered = 0; unsent = [] } }
+        ensures { result ≡ record { plain = core; reload = None; before = 0; answered = 0; unsent = [] } }
     {
         Session {
+            alloc,
             core,
+            reload: None,
             before: 0,
             answered: 0,
             unsent: Vec::new(alloc),
@@ -138,7 +186,9 @@ impl Session {
         ensures { result ≡ self.answered }
     {
         let Session {
+            alloc: _,
             core,
+            reload: _reload,
             before: _,
             answered,
             unsent: _unsent,
@@ -156,18 +206,85 @@ impl Session {
         ensures err { IfErr result (λ f. (f ≡ ReplayFault.NoMemory) ⊎ (IsLineFault f
             × ((sent : List ℕ) (more : List (List ℕ)) → total sent self.new (final_outcome (Some f)) ≡ total_of_lines sent self.old (line.now ∷ more)))) }
     {
-        match read_line(self.before + 1, line, &mut self.piece)? {
-            Some(Request::Event(moment, request)) => {
-                let event = request.event(&self.piece);
-                answer(&mut self.core, &mut self.unsent, moment, &event)?;
-            }
-            Some(Request::Ask(ask)) => count(&self.core, &mut self.unsent, &ask)?,
-            None => {
-                self.before += 1;
-                return Ok(());
-            }
+        match self.reload.take() {
+            Some(reload) => self.answer_text(reload, line),
+            None => self.answer_request(line),
         }
-        self.answered += 1;
+    }
+
+    /// Answers the last line.
+    pub fn answer_last(&mut self, line: &[u8]) -> Result<(), ReplayFault>
+        requires { length line.now ≤ MOST_LINE_BYTES }
+        ensures ok { OnOk result ((sent : List ℕ) → total sent self.new (final_outcome None) ≡ total_of_lines sent self.old (line.now ∷ [])) }
+        ensures err { IfErr result (λ f. (f ≡ ReplayFault.NoMemory) ⊎ (IsLineFault f
+            × ((sent : List ℕ) → total sent self.new (final_outcome (Some f)) ≡ total_of_lines sent self.old (line.now ∷ [])))) }
+    {
+        self.answer_line(line)?;
+        self.at_end()
+    }
+
+    /// No line may be missing at the end.
+    pub fn at_end(&self) -> Result<(), ReplayFault>
+        ensures ok { OnOk result (ending self.now.reload self.now.before ≡ final_outcome None) }
+        ensures err { IfErr result (λ f. IsLineFault f × (ending self.now.reload self.now.before ≡ final_outcome (Some f))) }
+    {
+        match self.reload {
+            Some(_) => Err(ReplayFault::Format(self.before + 1)),
+            None => Ok(()),
+        }
+    }
+
+    /// Answers a line outside a reload.
+    fn answer_request(&mut self, line: &[u8]) -> Result<(), ReplayFault>
+        requires short { length line.now ≤ MOST_LINE_BYTES }
+        requires outside { self.old.reload ≡ None }
+        ensures ok { OnOk result ((sent : List ℕ) (more : List (List ℕ)) → total_of_lines sent self.new more ≡ total_of_lines sent self.old (line.now ∷ more)) }
+        ensures before { OnOk result ((self.new.before ≡ self.old.before + 1) × (self.new.before ≤ MOST_LINES)) }
+        ensures err { IfErr result (λ f. (f ≡ ReplayFault.NoMemory) ⊎ (IsLineFault f
+            × ((sent : List ℕ) (more : List (List ℕ)) → total sent self.new (final_outcome (Some f)) ≡ total_of_lines sent self.old (line.now ∷ more)))) }
+    {
+        match read_line(self.before + 1, line, &mut self.piece)? {
+            Some(Request::Event(FirstLine::Whole(moment, request))) => {
+                let event = request.event(&self.piece);
+                answer(self.alloc, &mut self.core, &mut self.unsent, moment, &event)?;
+                self.answered += 1;
+            }
+            Some(Request::Event(FirstLine::Reload(moment, lines))) => {
+                self.reload = Some(PendingReload::new(self.alloc, moment, lines));
+            }
+            Some(Request::Ask(ask)) => {
+                count(&self.core, &mut self.unsent, &ask)?;
+                self.answered += 1;
+            }
+            None => {}
+        }
+        self.before += 1;
+        Ok(())
+    }
+
+    /// Answers a line of the text of a reload.
+    fn answer_text(&mut self, reload: PendingReload, line: &[u8]) -> Result<(), ReplayFault>
+        requires short { length line.now ≤ MOST_LINE_BYTES }
+        requires missing { 0 < reload.missing }
+        requires taken { self.old.reload ≡ None }
+        ensures ok { OnOk result ((sent : List ℕ) (more : List (List ℕ)) → total_of_lines sent self.new more ≡ total_of_lines sent (record self.old { reload = Some reload }) (line.now ∷ more)) }
+        ensures before { OnOk result ((self.new.before ≡ self.old.before + 1) × (self.new.before ≤ MOST_LINES)) }
+        ensures err { IfErr result (λ f. (f ≡ ReplayFault.NoMemory) ⊎ (IsLineFault f
+            × ((sent : List ℕ) (more : List (List ℕ)) → total sent self.new (final_outcome (Some f)) ≡ total_of_lines sent (record self.old { reload = Some reload }) (line.now ∷ more)))) }
+    {
+        let reload = add_line(self.before + 1, reload, line)?;
+        if reload.missing() == 0 {
+            answer(
+                self.alloc,
+                &mut self.core,
+                &mut self.unsent,
+                reload.moment(),
+                &reload.event(),
+            )?;
+            self.answered += 1;
+        } else {
+            self.reload = Some(reload);
+        }
         self.before += 1;
         Ok(())
     }

@@ -1,7 +1,7 @@
 use Rattle.std.proofs.Common.{◌∙◌, arith}
 use Rattle.std.proofs.lemmas.Result.{IfErr-weaker, on_ok_weaker, err_from_is_err_and}
 use Rattle.device_core.proofs.StallLemmas.{unblocked_on}
-use Rattle.replay_core.proofs.ReachLemmas.{done_end, done_last, reaches_line, reaches_sent, stops_last, stops_line, stops_reading, stops_write}
+use Rattle.replay_core.proofs.ReachLemmas.{done_end, done_last, reaches_line, reaches_sent, stops_end, stops_last, stops_line, stops_reading, stops_write}
 use Rattle.replay_core.proofs.reading.answer_all.Goals as goal
 
 pub returns-in_err-answer_line-in-Ok-Line-clause-stops : goal.returns-in_err-answer_line-in-Ok-Line-clause-stops
@@ -45,25 +45,38 @@ loop-session-preserved g c =
 pub returns-in-Ok-LastLine-clause-ok : goal.returns-in-Ok-LastLine-clause-ok
 returns-in-Ok-LastLine-clause-ok g c =
     let gives = rw c.in-Ok-LastLine.field-0-is at c.in-Ok-LastLine.ensures.gives in
-    on_ok_weaker c.answer_line-in-Ok-LastLine.result
+    on_ok_weaker c.answer_last.result
     (λ step script sent left held.
-    done_last sent c.args.session.now script _ _ c.loop-session.session c.answer_line-in-Ok-LastLine.new.self c.loop-session.lines c.advance.new.self _
+    done_last sent c.args.session.now script _ _ c.loop-session.session c.answer_last.new.self c.loop-session.lines c.advance.new.self _
     (c.loop-session.invariant.reaches script sent left held) gives (rw c.line-in-Ok-LastLine.ensures at step))
-    c.answer_line-in-Ok-LastLine.ensures.ok
+    c.answer_last.ensures.ok
 
 pub returns-in-Ok-LastLine-clause-stops : goal.returns-in-Ok-LastLine-clause-stops
 returns-in-Ok-LastLine-clause-stops g c =
     let gives = rw c.in-Ok-LastLine.field-0-is at c.in-Ok-LastLine.ensures.gives in
-    IfErr-weaker c.answer_line-in-Ok-LastLine.result _ _
+    IfErr-weaker c.answer_last.result _ _
     (λ fault why script sent left held.
-    stops_last sent c.args.session.now script _ _ c.loop-session.session c.answer_line-in-Ok-LastLine.new.self c.loop-session.lines c.advance.new.self _ fault
+    stops_last sent c.args.session.now script _ _ c.loop-session.session c.answer_last.new.self c.loop-session.lines c.advance.new.self _ fault
     (c.loop-session.invariant.reaches script sent left held) gives (rw c.line-in-Ok-LastLine.ensures at why))
-    c.answer_line-in-Ok-LastLine.ensures.err
+    c.answer_last.ensures.err
 
 pub returns-in-Ok-End-clause-ok : goal.returns-in-Ok-End-clause-ok
-returns-in-Ok-End-clause-ok g c = λ script sent left held.
+returns-in-Ok-End-clause-ok g c =
+    let gives = rw c.in-Ok-End.field-0-is at c.in-Ok-End.ensures.gives in
+    on_ok_weaker c.at_end.result
+    (λ end script sent left held.
     done_end sent c.args.session.now script _ _ c.loop-session.session c.loop-session.lines c.advance.new.self _
-    (c.loop-session.invariant.reaches script sent left held) (rw c.in-Ok-End.field-0-is at c.in-Ok-End.ensures.gives)
+    (c.loop-session.invariant.reaches script sent left held) gives end)
+    c.at_end.ensures.ok
+
+pub returns-in-Ok-End-clause-stops : goal.returns-in-Ok-End-clause-stops
+returns-in-Ok-End-clause-stops g c =
+    let gives = rw c.in-Ok-End.field-0-is at c.in-Ok-End.ensures.gives in
+    IfErr-weaker c.at_end.result _ _
+    (λ fault why script sent left held.
+    stops_end sent c.args.session.now script _ _ c.loop-session.session c.loop-session.lines c.advance.new.self _ fault
+    (c.loop-session.invariant.reaches script sent left held) gives why)
+    c.at_end.ensures.err
 
 pub returns-in-Err-clause-stops : goal.returns-in-Err-clause-stops
 returns-in-Err-clause-stops g c = λ script sent left held.

@@ -8,7 +8,7 @@ use Rattle.replay_core.proofs.PlanLemmas.{ends_by, writes_script}
 use Rattle.replay_core.proofs.replay.run_replay.Goals as goal
 
 begun : Plain → Progress
-begun p = record { plain = p; before = 0; answered = 0; unsent = [] }
+begun p = record { plain = p; reload = None; before = 0; answered = 0; unsent = [] }
 
 pub returns-in-Ok-replayed-clause-ok : goal.returns-in-Ok-replayed-clause-ok
 unfolding begun
