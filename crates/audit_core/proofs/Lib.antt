@@ -1,5 +1,6 @@
 pub mod OpenLemmas
 pub mod VerdictLemmas
+pub mod LinesLemmas
 pub mod RecordLemmas
 pub mod ReachLemmas
 pub mod EndLemmas

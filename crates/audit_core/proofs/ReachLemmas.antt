@@ -5,16 +5,16 @@ use Rattle.std.specs.Io.KnownBytes.{Consumes}
 use Rattle.std.proofs.lemmas.Bool.Decides.{nat_tests}
 use Rattle.list_core.specs.Each.{◌>>=◌}
 use Rattle.text_core.specs.Parts.{parts, is_line_feed}
-use Rattle.conn_model.specs.declared.reply.Reply.{Reply}
-use Rattle.conn_model.specs.declared.reply.StepFault.{StepFault}
 use Rattle.line_reader.specs.Lines.{ConsumesAll, Gathers, GivesLastLine, GivesLine, GivesNothing, LineState}
 use Rattle.line_reader.specs.Unended.{BeginsTooLong}
 use Rattle.line_reader.specs.declared.lines.LineFault.{LineFault}
 use Rattle.line_reader.specs.declared.lines.LineFault.TheVariants as lines
 use Rattle.line_reader.specs.declared.lines.TheConstants.{MOST_LINE_BYTES}
 use Rattle.audit_core.specs.Verdict.{fault_at}
-use Rattle.audit_core.specs.Standing.{Reaches, Standing, at_end, on_awaited, on_line, verdict_in}
+use Rattle.audit_core.specs.Standing.{Reaches, Standing, at_end, on_due, on_line, verdict_in}
 use Rattle.audit_core.specs.Check.{IsLineFault, Stops, reading_fault}
+use Rattle.audit_core.specs.declared.due.Due.{Due}
+use Rattle.audit_core.specs.declared.due.Due.TheVariants as dues
 use Rattle.audit_core.specs.declared.fault.CheckFault.{CheckFault}
 use Rattle.audit_core.specs.declared.fault.CheckKind.{CheckKind}
 use Rattle.audit_core.specs.declared.fault.CheckKind.TheVariants.{Format, WrongReply, NoMemory, Read, TooLong, Config}
@@ -142,11 +142,12 @@ long_test : (n : ℕ) → MOST_LINE_BYTES < n → nat_lt MOST_LINE_BYTES n ≡ t
 long_test n long = grind (arith, nat_tests)
 
 too_long : (t : Standing) (line : List ℕ) → nat_lt MOST_LINE_BYTES (length line) ≡ true → on_line t line ≡ Err (fault_at (t.lines + 1) TooLong)
-too_long t line long = by t.awaited
+too_long t line long = by t.due
   where
-    by : (awaited : Option (Result Reply StepFault)) → on_awaited t awaited line ≡ Err (fault_at (t.lines + 1) TooLong)
-    by None = rw long refl
-    by (Some answered) = rw long refl
+    by : (due : Due) → on_due t due line ≡ Err (fault_at (t.lines + 1) TooLong)
+    by dues.Event = rw long refl
+    by (dues.Text pending) = rw long refl
+    by (dues.Reply answered) = rw long refl
 
 -- no next line
 pub stops_reading : (s : Standing) (text : List ℕ) (left : Option (List ℕ)) (t : Standing) (old new : LineState) (less : Option (List ℕ)) (fault : LineFault)

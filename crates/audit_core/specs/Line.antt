@@ -5,7 +5,7 @@ use Rattle.addr_core.specs.Text.{endpoint_text}
 use Rattle.addr_core.specs.declared.addr.Endpoint.{Endpoint}
 use Rattle.conn_model.specs.declared.event.ConnId.{ConnId}
 use Rattle.conn_model.specs.declared.reply.Said.{Said}
-use Rattle.conn_model.specs.declared.reply.Said.TheVariants.{Wait, Offer, Refuse, Up, Closed}
+use Rattle.conn_model.specs.declared.reply.Said.TheVariants.{Wait, Offer, Refuse, Up, Closed, Reloaded}
 use Rattle.event_text.specs.Script.{id_text, why_text}
 use Rattle.event_text.specs.Replies.{cause_text}
 
@@ -25,6 +25,7 @@ audit_text peer offered (Offer id used line server to judged send) = None
 audit_text peer offered (Refuse id used cause) = Some (front_text id peer ++ codes "refuse " ++ cause_text cause)
 audit_text peer offered (Up id) = None
 audit_text peer offered (Closed id why) = Some (front_text id peer ++ offer_text offered ++ codes "closed " ++ why_text why)
+audit_text peer offered (Reloaded version) = None
 
 -- what is written of a line, if there is one
 abbrev pub written_line : Option (List ℕ) → List ℕ

@@ -7,13 +7,18 @@ use Rattle.conn_model.specs.declared.plain.Plain.{Plain}
 use Rattle.conn_model.specs.declared.reply.Reply.{Reply}
 use Rattle.conn_model.specs.Counts.{total}
 use Rattle.conn_model.specs.History.{Entry}
-use Rattle.event_text.specs.Script.{event_line, event_of, words_of, IsHandedIn}
+use Rattle.event_text.specs.Script.{◌>>=◌, ended_lines, event_line, event_with, head_of, lines_after, words_of, Head, IsHandedIn}
 use Rattle.event_text.specs.Replies.{reply_text}
 
--- the event of a line that has it after that number
+-- what the first line of an event says, which has the event after that number
+abbrev pub numbered_head : ℕ → List (List ℕ) → Option Head
+numbered_head number [] = None
+numbered_head number (word ∷ words) = if bytes_eq word (decimal number) then head_of words else None
+
+-- the event of its lines, under that number
 abbrev pub numbered_event : ℕ → List (List ℕ) → Option (ℕ × OwnedEvent)
 numbered_event number [] = None
-numbered_event number (word ∷ words) = if bytes_eq word (decimal number) then event_of words else None
+numbered_event number (line ∷ lines) = numbered_head number (words_of line) >>= λ head. event_with head lines
 
 abbrev pub reply_mark : List ℕ
 reply_mark = codes "= "
@@ -22,31 +27,36 @@ reply_mark = codes "= "
 abbrev pub recorded_reply : Reply → List ℕ
 recorded_reply reply = reply_mark ++ reply_text reply
 
--- the line that writes an event after a number
-abbrev pub numbered_line : ℕ → ℕ → OwnedEvent → List ℕ
-numbered_line number moment event = decimal number ++ codes " " ++ event_line moment event
+-- the lines that write an event under a number: that of its first line is before it
+abbrev pub numbered_lines : ℕ → ℕ → OwnedEvent → List (List ℕ)
+numbered_lines number moment event = (decimal number ++ codes " " ++ event_line moment event) ∷ lines_after event
 
--- the text of an entry: its event under its number, and its reply, each with the end of its line
+-- the lines of an entry: its event under its number, and its reply
+abbrev pub entry_lines : ℕ → Entry → List (List ℕ)
+entry_lines number e = numbered_lines number e.moment e.event ++ recorded_reply e.reply ∷ []
+
+-- its text: these lines, each with its end
 abbrev pub entry_text : ℕ → Entry → List ℕ
-entry_text number e = numbered_line number e.moment e.event ++ codes "\n" ++ recorded_reply e.reply ++ codes "\n"
+entry_text number e = ended_lines (entry_lines number e)
 
 -- the record that is written of a history: each entry under its number, from 1, the oldest first
 abbrev pub history_text : List Entry → List ℕ
 history_text [] = []
 history_text (e ∷ h) = history_text h ++ entry_text (length h + 1) e
 
--- each event is one that a line can hand in
+-- each event is one that lines can hand in
 abbrev pub AreHandedIn : List Entry → Type 0
 AreHandedIn [] = Unit {0}
 AreHandedIn (e ∷ h) = (e.moment < 2 ^ 64) × IsHandedIn e.event × AreHandedIn h
 
--- The lines record the history: of each entry, the oldest first, its event under its number, from 1, and then its reply.
+-- The lines record the history: of each entry, the oldest first, the lines of its event under its number, from 1, and
+-- then its reply.
 abbrev pub IsRecord : List Entry → List (List ℕ) → Type 0
 IsRecord [] lines = lines ≡ []
 IsRecord (e ∷ h) lines =
-    (before : List (List ℕ)) × (event : List ℕ) × IsRecord h before
-    × (numbered_event (length h + 1) (words_of event) ≡ Some (e.moment, e.event))
-    × (lines ≡ before ++ event ∷ recorded_reply e.reply ∷ [])
+    (before : List (List ℕ)) × (event : List (List ℕ)) × IsRecord h before
+    × (numbered_event (length h + 1) event ≡ Some (e.moment, e.event))
+    × (lines ≡ before ++ event ++ recorded_reply e.reply ∷ [])
 
 -- how many connections are open
 abbrev pub open_connections : Plain → ℕ

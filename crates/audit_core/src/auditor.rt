@@ -1,5 +1,5 @@
 //! A core along the lines of a record.
-ghost use Rattle.std.specs.Prelude.{◌≡◌, ◌≢◌, ◌⊎◌, ◌+◌, ◌<◌, ◌≤◌, ◌++◌, ◌^◌, length, Option, Some, None, Ok, Err, IfOk, IfErr, OnOk, OnErr, option_map, is_some};
+ghost use Rattle.std.specs.Prelude.{◌≡◌, ◌⊎◌, ◌+◌, ◌<◌, ◌≤◌, ◌^◌, ℕ, List, length, Option, Some, None, Ok, Err, IfSome, IfOk, IfErr, OnOk, OnErr, option_map};
 ghost use Rattle.std.specs.Str.{bytes_eq};
 ghost use Rattle.line_reader.specs.declared.lines.TheConstants.{MOST_LINE_BYTES};
 ghost use Rattle.text_core.specs.Decimal.{decimal};
@@ -7,14 +7,16 @@ ghost use Rattle.conn_model.specs.declared.event.TheConstants.{PIECE_LIMIT};
 ghost use Rattle.conn_model.specs.Answer.{answer_in};
 ghost use Rattle.conn_model.specs.Counts.{total};
 ghost use Rattle.conn_model.specs.History.{owned_event};
-ghost use Rattle.event_text.specs.Script.{timed_event, words_of};
+ghost use Rattle.event_text.specs.Script.{head_read, with_text, words_of, HasLines};
 ghost use Rattle.replay_core.specs.Turns.{plain_after};
-ghost use Rattle.audit_core.specs.Record.{numbered_event, open_connections};
-ghost use Rattle.audit_core.specs.Verdict.{event_at, fault_at, reply_at};
-ghost use Rattle.audit_core.specs.Standing.{after_event, at_end, on_line, after_reply};
+ghost use Rattle.audit_core.specs.Record.{numbered_head, open_connections};
+ghost use Rattle.audit_core.specs.Verdict.{fault_at, reply_at, text_at};
+ghost use Rattle.audit_core.specs.Standing.{at_end, on_due, on_line};
 ghost use Rattle.audit_core.specs.Check.{reading_fault, IsLineFault};
+ghost use Rattle.audit_core.specs.declared.due.Due.TheVariants as dues;
 ghost use Rattle.audit_core.specs.declared.fault.TheConstants.{MOST_RECORD_LINES};
 
+use crate::due::Due;
 use crate::fault::{CheckFault, CheckKind, MOST_RECORD_LINES};
 use crate::writing::write_recorded;
 use addr_core::Endpoint;
@@ -22,20 +24,22 @@ use conn_core::Core;
 use conn_model::event::Event;
 use conn_model::plain::FrontendRows;
 use conn_model::reply::{Reply, StepFault};
-use event_text::{EventRequest, read_event};
+use event_text::{EventRequest, FirstLine, PendingReload, read_bar, read_event};
 use line_reader::LineFault;
 use std::alloc::{AllocError, Global};
 use std::marker::Model;
+use std::mem;
 use text_core::cut_at;
 use text_core::decimal::write_decimal;
 
 /// A core between two lines of a record. It cannot be dropped: it ends by `end`.
 pub struct Auditor {
+    alloc: Global,
     core: Core,
     lines: u64,
     records: u64,
-    /// The answer to the last event, until its line came.
-    awaited: Option<Result<Reply, StepFault>>,
+    /// What the next line has to be.
+    due: Due,
     /// The peer of the last event, if it is an accept.
     peer: Option<Endpoint>,
     /// The bytes of the piece of a line.
@@ -47,15 +51,15 @@ pub struct Auditor {
 impl Model for Auditor {
     ghost use Rattle.std.specs.Prelude.{◌≡◌, ◌≤◌, length};
     ghost use Rattle.conn_model.specs.declared.event.TheConstants.{PIECE_LIMIT};
-    ghost use Rattle.audit_core.specs.Standing.{Standing};
+    ghost use Rattle.audit_core.specs.Standing.{IsDue, Standing};
     ghost use Rattle.audit_core.specs.Record.{open_connections};
     ghost use Rattle.audit_core.specs.declared.fault.TheConstants.{MOST_RECORD_LINES};
 
     ghost Value = { Standing };
 
-    ghost view = { λ a. record { plain = a.core; lines = a.lines; records = a.records; awaited = a.awaited } };
+    ghost view = { λ a. record { plain = a.core; lines = a.lines; records = a.records; due = a.due } };
 
-    ghost invariant = { λ a. (a.lines ≤ MOST_RECORD_LINES) × (a.records ≤ a.lines) × (open_connections a.core ≤ a.lines) × (length a.piece.items ≡ PIECE_LIMIT) };
+    ghost invariant = { λ a. (a.lines ≤ MOST_RECORD_LINES) × (a.records ≤ a.lines) × (open_connections a.core ≤ a.lines) × (length a.piece.items ≡ PIECE_LIMIT) × IsDue a.due };
 }
 
 /// A fault of that line.
@@ -72,10 +76,11 @@ fn is_number(word: &[u8], number: u64) -> bool
     word == write_decimal(number).as_str().as_bytes()
 }
 
-/// The event of a line that has it after that number.
-fn read_numbered(number: u64, line: &[u8], piece: &mut [u8]) -> Option<(u64, EventRequest)>
+/// What the first line of an event says, which has the event after that number.
+fn read_numbered(number: u64, line: &[u8], piece: &mut [u8]) -> Option<FirstLine>
     requires { length piece.old ≡ PIECE_LIMIT }
-    ensures event { option_map (timed_event piece.new) result ≡ numbered_event number (words_of line.now) }
+    ensures head { option_map (head_read piece.new) result ≡ numbered_head number (words_of line.now) }
+    ensures lines { IfSome result HasLines }
     ensures room { length piece.new ≡ length piece.old }
 {
     let (word, rest) = cut_at(line, b' ')?;
@@ -83,6 +88,23 @@ fn read_numbered(number: u64, line: &[u8], piece: &mut [u8]) -> Option<(u64, Eve
         return None;
     }
     read_event(rest, piece)
+}
+
+/// Takes a line of the text of a reload.
+fn add_line(at: u64, pending: &mut PendingReload, line: &[u8]) -> Result<(), CheckFault>
+    requires short { length line.now ≤ MOST_LINE_BYTES }
+    requires few { at ≤ MOST_RECORD_LINES }
+    requires missing { 0 < pending.old.missing }
+    ensures ok { OnOk result ((text : List ℕ) × (text_at at line.now ≡ Ok text) × (pending.new ≡ with_text pending.old text)) }
+    ensures err { IfErr result (λ f. (f ≡ fault_at 0 CheckKind.NoMemory) ⊎ (IsLineFault f.kind × (text_at at line.now ≡ Err f))) }
+{
+    let Some(text) = read_bar(line) else {
+        return Err(fault_at(at, CheckKind::Format));
+    };
+    match pending.add(text) {
+        Ok(()) => Ok(()),
+        Err(AllocError) => Err(fault_at(0, CheckKind::NoMemory)),
+    }
 }
 
 fn peer_of(request: &EventRequest) -> Option<Endpoint> {
@@ -173,13 +195,14 @@ impl Auditor {
     pub fn new(alloc: Global, core: Core, piece: Vec<u8>) -> Self
         requires room { length piece.items ≡ PIECE_LIMIT }
         requires none { open_connections core ≡ 0 }
-        ensures { result ≡ record { plain = core; lines = 0; records = 0; awaited = None } }
+        ensures { result ≡ record { plain = core; lines = 0; records = 0; due = dues.Event } }
     {
         Auditor {
+            alloc,
             core,
             lines: 0,
             records: 0,
-            awaited: None,
+            due: Due::Event,
             peer: None,
             piece,
             reply: Vec::new(alloc),
@@ -199,9 +222,9 @@ impl Auditor {
 
     /// The reply to the last event, until its line comes.
     pub fn answer(&self) -> Option<&Reply> {
-        match &self.awaited {
-            Some(Ok(reply)) => Some(reply),
-            Some(Err(_)) | None => None,
+        match &self.due {
+            Due::Reply(Ok(reply)) => Some(reply),
+            Due::Event | Due::Text(_) | Due::Reply(Err(_)) => None,
         }
     }
 
@@ -228,10 +251,11 @@ impl Auditor {
     /// Ends the check with its core.
     pub fn end(self) {
         let Auditor {
+            alloc: _,
             core,
             lines: _,
             records: _,
-            awaited: _awaited,
+            due: _due,
             peer: _,
             piece: _piece,
             reply: _reply,
@@ -239,35 +263,86 @@ impl Auditor {
         core.end();
     }
 
-    /// Checks that no reply is to come.
+    /// Checks that no line is missing.
     pub fn finish(&self) -> Result<(), CheckFault>
         ensures ok { OnOk result (at_end self.now ≡ Ok self.now) }
         ensures err { IfErr result (λ f. IsLineFault f.kind × (at_end self.now ≡ Err f)) }
     {
-        if self.awaited.is_some() {
-            return Err(fault_at(self.lines + 1, CheckKind::Format));
+        match &self.due {
+            Due::Event => Ok(()),
+            Due::Text(_) | Due::Reply(_) => Err(fault_at(self.lines + 1, CheckKind::Format)),
         }
-        Ok(())
     }
 
+    /// Checks the first line of an event.
     fn check_event(&mut self, line: &[u8]) -> Result<(), CheckFault>
         requires short { length line.now ≤ MOST_LINE_BYTES }
         requires few { self.old.lines < MOST_RECORD_LINES }
-        requires none { self.old.awaited ≡ None }
-        ensures ok { OnOk result (on_line self.old line.now ≡ Ok self.new) }
-        ensures err { IfErr result (λ f. (f ≡ fault_at 0 CheckKind.NoMemory) ⊎ (IsLineFault f.kind × (on_line self.old line.now ≡ Err f))) }
+        ensures ok { OnOk result (on_due self.old dues.Event line.now ≡ Ok self.new) }
+        ensures next { OnOk result ((self.new.lines ≡ self.old.lines + 1) × (self.new.lines ≤ MOST_RECORD_LINES)) }
+        ensures err { IfErr result (λ f. (f ≡ fault_at 0 CheckKind.NoMemory) ⊎ (IsLineFault f.kind × (on_due self.old dues.Event line.now ≡ Err f))) }
     {
         let at = self.lines + 1;
-        let Some((moment, request)) = read_numbered(self.records + 1, line, &mut self.piece) else {
-            return Err(fault_at(at, CheckKind::Format));
-        };
-        let event = request.event(&self.piece);
-        let Ok(answered) = answer(&mut self.core, moment, &event) else {
+        match read_numbered(self.records + 1, line, &mut self.piece) {
+            Some(FirstLine::Whole(moment, request)) => {
+                let event = request.event(&self.piece);
+                let Ok(answered) = answer(&mut self.core, moment, &event) else {
+                    return Err(fault_at(0, CheckKind::NoMemory));
+                };
+                self.due = Due::Reply(answered);
+                self.peer = peer_of(&request);
+            }
+            Some(FirstLine::Reload(moment, lines)) => {
+                self.due = Due::Text(PendingReload::new(self.alloc, moment, lines));
+            }
+            None => return Err(fault_at(at, CheckKind::Format)),
+        }
+        self.lines = at;
+        Ok(())
+    }
+
+    /// Checks a line of the text of a reload, and answers it after the last one.
+    fn check_text(&mut self, mut pending: PendingReload, line: &[u8]) -> Result<(), CheckFault>
+        requires short { length line.now ≤ MOST_LINE_BYTES }
+        requires few { self.old.lines < MOST_RECORD_LINES }
+        requires missing { 0 < pending.missing }
+        ensures ok { OnOk result (on_due self.old (dues.Text pending) line.now ≡ Ok self.new) }
+        ensures next { OnOk result ((self.new.lines ≡ self.old.lines + 1) × (self.new.lines ≤ MOST_RECORD_LINES)) }
+        ensures err { IfErr result (λ f. (f ≡ fault_at 0 CheckKind.NoMemory) ⊎ (IsLineFault f.kind × (on_due self.old (dues.Text pending) line.now ≡ Err f))) }
+    {
+        let at = self.lines + 1;
+        add_line(at, &mut pending, line)?;
+        self.lines = at;
+        if pending.missing() > 0 {
+            self.due = Due::Text(pending);
+            return Ok(());
+        }
+        let event = pending.event();
+        let Ok(answered) = answer(&mut self.core, pending.moment(), &event) else {
             return Err(fault_at(0, CheckKind::NoMemory));
         };
-        self.awaited = Some(answered);
-        self.peer = peer_of(&request);
+        self.due = Due::Reply(answered);
+        self.peer = None;
+        Ok(())
+    }
+
+    /// Checks a line in the place of a reply.
+    fn check_reply(
+        &mut self,
+        answered: &Result<Reply, StepFault>,
+        line: &[u8],
+    ) -> Result<(), CheckFault>
+        requires short { length line.now ≤ MOST_LINE_BYTES }
+        requires few { self.old.lines < MOST_RECORD_LINES }
+        requires none { self.old.due ≡ dues.Event }
+        ensures ok { OnOk result (on_due self.old (dues.Reply answered.now) line.now ≡ Ok self.new) }
+        ensures next { OnOk result ((self.new.lines ≡ self.old.lines + 1) × (self.new.lines ≤ MOST_RECORD_LINES)) }
+        ensures err { IfErr result (λ f. (f ≡ fault_at 0 CheckKind.NoMemory) ⊎ (IsLineFault f.kind × (on_due self.old (dues.Reply answered.now) line.now ≡ Err f))) }
+    {
+        let at = self.lines + 1;
+        judge_reply(at, answered, line, &mut self.reply)?;
         self.lines = at;
+        self.records += 1;
         Ok(())
     }
 
@@ -281,13 +356,10 @@ impl Auditor {
         if self.lines == MOST_RECORD_LINES {
             return Err(fault_at(self.lines + 1, CheckKind::TooLong));
         }
-        match &self.awaited {
-            Some(answered) => judge_reply(self.lines + 1, answered, line, &mut self.reply)?,
-            None => return self.check_event(line),
+        match mem::replace(&mut self.due, Due::Event) {
+            Due::Event => self.check_event(line),
+            Due::Text(pending) => self.check_text(pending, line),
+            Due::Reply(answered) => self.check_reply(&answered, line),
         }
-        self.awaited = None;
-        self.lines += 1;
-        self.records += 1;
-        Ok(())
     }
 }

@@ -94,8 +94,8 @@ pub fn open_auditor(alloc: Global, config: &str) -> Result<Auditor, CheckFault>
 }
 
 /// Checks a record against the configuration: each of its events is answered again, by a core that opens with the
-/// configuration, and has to be answered as its reply says. What is kept depends on the connections that are open,
-/// and on one line. At most `device_core::MOST_READS` reads are made.
+/// configuration, and has to be answered as its reply says. What is kept depends on the connections that are open, on
+/// one line, and on the text of a reload until it is answered. At most `device_core::MOST_READS` reads are made.
 pub fn check_record<I: Input>(
     alloc: Global,
     config: &str,

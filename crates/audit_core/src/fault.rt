@@ -18,7 +18,8 @@ pub struct Checked {
 /// What is wrong.
 #[derive(Clone, Copy, Debug, PartialEq, Eq)]
 pub enum CheckKind {
-    /// The line is neither the event with the next number nor, after an event, a reply; or a reply is missing there.
+    /// The line is not the first one of the event with the next number; or it is not one of the text of a reload, or a
+    /// reply, where one has to come; or such a line is missing there.
     Format,
     /// The line is not the reply to the event before it, or that event has none.
     WrongReply,

@@ -72,7 +72,7 @@ impl Journal {
                 Some(known) => self.remember(id, known.peer, Some((judged.source(), *line))),
                 None => Ok(()),
             },
-            Said::Up { .. } => Ok(()),
+            Said::Up { .. } | Said::Reloaded { .. } => Ok(()),
             Said::Refuse { id, .. } | Said::Closed { id, .. } => match self.take(id, peer) {
                 Some(known) => self.add_line(&known, reply),
                 None => Ok(()),

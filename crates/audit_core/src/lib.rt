@@ -10,6 +10,7 @@ pub use writing::write_record;
 mod audit;
 mod auditor;
 mod check;
+mod due;
 mod fault;
 mod journal;
 mod line;

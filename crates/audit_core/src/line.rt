@@ -1,5 +1,5 @@
 //! The line of a connection that ended.
-ghost use Rattle.std.specs.Prelude.{◌≡◌, ◌++◌, codes, Option, Some, is_some, IfOk, OnOk};
+ghost use Rattle.std.specs.Prelude.{◌≡◌, ◌++◌, Option, Some, is_some, IfOk, OnOk};
 ghost use Rattle.audit_core.specs.Line.{audit_text, front_text, offer_text, written_line};
 
 use addr_core::Endpoint;
@@ -45,7 +45,9 @@ pub fn write_audit_line(
     ensures text { OnOk result (out.new.items ≡ out.old.items ++ written_line (audit_text real.now offered reply.now.said)) }
 {
     match &reply.said {
-        Said::Wait { .. } | Said::Offer { .. } | Said::Up { .. } => Ok(false),
+        Said::Wait { .. } | Said::Offer { .. } | Said::Up { .. } | Said::Reloaded { .. } => {
+            Ok(false)
+        }
         Said::Refuse { id, used: _, cause } => {
             write_front(out, id, real)?;
             out.extend_from_slice(b"refuse ")?;

@@ -1,7 +1,7 @@
 //! Records are written.
 ghost use Rattle.std.specs.Prelude.{◌≡◌, ◌++◌, OnOk};
 ghost use Rattle.record_core.specs.Records.{entry_of};
-ghost use Rattle.audit_core.specs.Record.{entry_text, numbered_line, recorded_reply};
+ghost use Rattle.audit_core.specs.Record.{entry_text, recorded_reply};
 
 use conn_model::event::OwnedEvent;
 use conn_model::reply::Reply;
@@ -18,8 +18,8 @@ pub fn write_recorded(out: &mut Vec<u8>, reply: &Reply) -> Result<(), AllocError
     write_reply_text(out, reply)
 }
 
-/// Appends the lines of a record: its event under its number, and its reply. The records of a book, written one after the
-/// other, are what `check_record` reads. Where memory runs out, the front of these lines may be there.
+/// Appends the lines of a record: those of its event under its number, and its reply. The records of a book, written one
+/// after the other, are what `check_record` reads. Where memory runs out, the front of these lines may be there.
 pub fn write_record(out: &mut Vec<u8>, entry: &Record) -> Result<(), AllocError>
     ensures { OnOk result (out.new.items ≡ out.old.items ++ entry_text entry.now.number (entry_of entry.now)) }
 {

@@ -6,4 +6,6 @@ mod check;
 #[cfg(test)]
 mod records;
 #[cfg(test)]
+mod reloads;
+#[cfg(test)]
 mod replay;

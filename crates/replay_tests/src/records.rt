@@ -25,6 +25,17 @@ const RIGHT: Checked = Checked {
     live: 0,
 };
 
+/// The text of a reload by which a server of another address is used, and the rule is gone.
+const RELOADED: &str =
+    "frontend f\nbind 127.0.0.1:9000\ndefault_backend b\nbackend b\nserver s 10.0.0.21:80\n";
+
+/// A record with that reload.
+const RELOAD_RECORD: &[u8] =
+    b"1 0 accept 0 192.0.2.5:4000 127.0.0.1:9000\n= offer 0.1 used 0 line 6 to 10.0.0.20:80 src 192.0.2.5:4000 dst 127.0.0.1:9000 send -\n2 1 reload 6\n|frontend f\n|bind 127.0.0.1:9000\n|default_backend b\n|backend b\n|server s 10.0.0.21:80\n|\n= reloaded 2\n3 2 accept 0 198.51.100.9:4001 127.0.0.1:9000\n= offer 0.2 used 0 line 5 to 10.0.0.21:80 src 198.51.100.9:4001 dst 127.0.0.1:9000 send -\n4 3 close 0.1 done\n= closed 0.1 done\n";
+
+const RELOAD_AUDIT: &[u8] =
+    b"conn 0.1 real 192.0.2.5:4000 src 192.0.2.5:4000 line 6 closed done\nchecked 4 open 1\n";
+
 /// The record cannot be read.
 const UNREADABLE: CheckFault = CheckFault {
     line: 0,
@@ -214,5 +225,196 @@ fn record_is_written(rt: HostRuntime) -> Result<(), Fail> {
     core.end();
     assert!(rt; all);
     assert_eq!(rt; out.as_slice(), RECORD);
+    Ok(())
+}
+
+/// What is found in the record with a reload where one text is in the place of another.
+fn check_changed(
+    alloc: Global,
+    from: &[u8],
+    to: &[u8],
+) -> Result<Result<Checked, CheckFault>, Fail> {
+    let mut record = Vec::new(alloc);
+    // The bytes of `from` that are still to be left out.
+    let mut skipped = 0usize;
+    for at in 0..RELOAD_RECORD.len() {
+        if skipped > 0 {
+            skipped -= 1;
+            continue;
+        }
+        if !from.is_empty() && RELOAD_RECORD[at..].starts_with(from) {
+            record.extend_from_slice(to)?;
+            skipped = from.len() - 1;
+        } else {
+            record.push(RELOAD_RECORD[at])?;
+        }
+    }
+    let mut reader = MemoryInput::new(alloc, record.as_slice(), Schedule::plain(alloc))?;
+    Ok(check_record(alloc, CONFIG, &mut reader))
+}
+
+#[test]
+fn record_of_a_reload_is_right(rt: HostRuntime) -> Result<(), Fail> {
+    let found = check_changed(rt.alloc(), b"", b"")?;
+    let right = Checked {
+        records: 4,
+        live: 1,
+    };
+    assert_eq!(rt; found, Ok(right));
+    let mut reader = MemoryInput::new(rt.alloc(), RELOAD_RECORD, Schedule::plain(rt.alloc()))?;
+    let mut again = MemoryInput::new(rt.alloc(), RELOAD_RECORD, Schedule::plain(rt.alloc()))?;
+    let mut writer = MemoryOutput::new(rt.alloc(), 4096, Schedule::plain(rt.alloc()))?;
+    let found = run_audit(rt.alloc(), CONFIG, &mut reader, &mut again, &mut writer);
+    assert!(rt; matches!(found, Ok(None)));
+    assert_eq!(rt; writer.as_slice(), RELOAD_AUDIT);
+    Ok(())
+}
+
+/// Changes after which the reply on that line is wrong: that to a later event, or that to a reload which is refused.
+const OTHER_REPLIES: [(&[u8], &[u8], u64); 5] = [
+    (b"server s 10.0.0.21:80", b"server s 10.0.0.22:80", 12),
+    (b"|default_backend b\n", b"|maxconn 1\n", 12),
+    (b"server s 10.0.0.21:80", b"server s 10.0.0.21", 10),
+    (b"|bind 127.0.0.1:9000", b"|bind 127.0.0.1:9001", 10),
+    (b"= reloaded 2", b"= reloaded 3", 10),
+];
+
+/// Changes after which that line has another form than it has to have.
+const OTHER_FORMS: [(&[u8], &[u8], u64); 8] = [
+    (b"|backend b", b"backend b", 7),
+    (b"|backend b", b" |backend b", 7),
+    (b"|\n= reloaded", b"\n= reloaded", 9),
+    (b"|backend b", b"|backend \xff", 7),
+    (b"reload 6", b"reload 5", 9),
+    (b"reload 6", b"reload 7", 10),
+    (b"reload 6", b"reload 0", 3),
+    (b"2 1 reload 6", b"3 1 reload 6", 3),
+];
+
+/// A line of a reload is changed, or is none of its text.
+#[test]
+fn lines_of_a_reload_are_changed(rt: HostRuntime) -> Result<(), Fail> {
+    for (changes, kind) in [
+        (&OTHER_REPLIES[..], CheckKind::WrongReply),
+        (&OTHER_FORMS[..], CheckKind::Format),
+    ] {
+        for (from, to, line) in changes {
+            let found = check_changed(rt.alloc(), from, to)?;
+            let fault = CheckFault { line: *line, kind };
+            assert_eq!(rt; found, Err(fault), "at {line}");
+        }
+    }
+    Ok(())
+}
+
+/// A record ends within the text of a reload, or before its reply.
+#[test]
+fn record_ends_within_a_reload(rt: HostRuntime) -> Result<(), Fail> {
+    let mut lines = 0u64;
+    for end in 0..RELOAD_RECORD.len() {
+        if RELOAD_RECORD[end] != b'\n' {
+            continue;
+        }
+        lines = lines.saturating_add(1);
+        let right = lines == 2 || lines == 10 || lines == 12 || lines == 14;
+        // With the end of the last line and without it.
+        for front in [&RELOAD_RECORD[..end], &RELOAD_RECORD[..end + 1]] {
+            let mut reader = MemoryInput::new(rt.alloc(), front, Schedule::plain(rt.alloc()))?;
+            match check_record(rt.alloc(), CONFIG, &mut reader) {
+                Ok(_) => assert!(rt; right, "after {lines}"),
+                Err(fault) => {
+                    let missing = CheckFault {
+                        line: lines.saturating_add(1),
+                        kind: CheckKind::Format,
+                    };
+                    assert!(rt; !right, "after {lines}");
+                    assert_eq!(rt; fault, missing);
+                }
+            }
+        }
+    }
+    assert_eq!(rt; lines, 14);
+    Ok(())
+}
+
+/// A line of a text is as long as any, or too long, whatever else is wrong with it.
+#[test]
+fn long_lines_of_a_reload(rt: HostRuntime) -> Result<(), Fail> {
+    for (bar, length, expected) in [
+        (b"|#", 131_198usize, None),
+        (b"|#", 131_199, Some(CheckKind::TooLong)),
+        (b"##", 131_198, Some(CheckKind::Format)),
+        (b"##", 131_199, Some(CheckKind::TooLong)),
+    ] {
+        let mut line = Vec::new(rt.alloc());
+        line.extend_from_slice(bar)?;
+        for _ in 0..length {
+            line.push(b'#')?;
+        }
+        line.push(b'\n')?;
+        line.extend_from_slice(b"|backend b")?;
+        let found = check_changed(rt.alloc(), b"|backend b", line.as_slice())?;
+        // A line of a configuration is not as long, so the reload is refused where the record goes on.
+        let (at, kind) = match expected {
+            Some(kind) => (7, kind),
+            None => (10, CheckKind::Format),
+        };
+        assert_eq!(rt; found, Err(CheckFault { line: at, kind }));
+    }
+    Ok(())
+}
+
+/// What is written of a reload is its record.
+#[test]
+fn record_of_a_reload_is_written(rt: HostRuntime) -> Result<(), Fail> {
+    let (near, far) = (pair_from(0xc000_0205, 4000)?, pair_from(0xc633_6409, 4001)?);
+    let first = ConnId {
+        frontend: 0,
+        serial: 1,
+    };
+    let events = [
+        Event::Accept(0, near),
+        Event::Reload(RELOADED),
+        Event::Accept(0, far),
+        Event::Close(first, Why::Done),
+    ];
+    let mut out = Vec::new(rt.alloc());
+    let Ok(mut core) = Core::open(rt.alloc(), CONFIG) else {
+        assert!(rt; false, "the configuration opens");
+        return Ok(());
+    };
+    let mut all = true;
+    for n in 0..4usize {
+        let moment = n as u64;
+        all = writes(
+            rt.alloc(),
+            &mut core,
+            moment + 1,
+            moment,
+            &events[n],
+            &mut out,
+        ) && all;
+    }
+    core.end();
+    assert!(rt; all);
+    assert_eq!(rt; out.as_slice(), RELOAD_RECORD);
+    Ok(())
+}
+
+/// Where memory runs out, nothing else is found: tried with each allocation refused in turn.
+#[test]
+fn memory_for_a_reload(rt: HostRuntime) -> Result<(), Fail> {
+    let found = check_changed(rt.alloc(), b"", b"")?;
+    let none = CheckFault {
+        line: 0,
+        kind: CheckKind::NoMemory,
+    };
+    match found {
+        Ok(counted) => {
+            assert_eq!(rt; counted.records, 4);
+            assert_eq!(rt; counted.live, 1);
+        }
+        Err(fault) => assert_eq!(rt; fault, none),
+    }
     Ok(())
 }
