@@ -31,13 +31,14 @@ use Rattle.conn_tables.proofs.PlaceLemmas.{get-set}
 use Rattle.pipe_core.specs.Waiting.{Holds}
 use Rattle.pipe_core.proofs.PieceLemmas.{reply_said}
 
--- an offer uses at most so many bytes, no server takes the connection, and nothing is closed
+-- an offer uses at most so many bytes, no server takes the connection, nothing is closed, and nothing is reloaded
 abbrev pub UsesAtMost : ℕ → Said → Type 0
 UsesAtMost most (saids.Wait id used) = Unit {0}
 UsesAtMost most (saids.Offer id used line server to judged send) = used ≤ most
 UsesAtMost most (saids.Refuse id used cause) = Unit {0}
 UsesAtMost most (saids.Up id) = ⊥
 UsesAtMost most (saids.Closed id why) = ⊥
+UsesAtMost most (saids.Reloaded version) = ⊥
 
 decision_uses : (candidate : Candidate) (used most : ℕ) (judged : PairValue) (made : Slots) → used ≤ most → UsesAtMost most (decision candidate used judged made).said
 decision_uses candidate used most judged made within = by (verdict (view_of candidate judged.source.addr) candidate.frontend made).result

@@ -16,6 +16,7 @@ use Rattle.plan_types.specs.Sound.{most_binds, IsSoundFrontend, IsSoundPlan, IsW
 use Rattle.plan_types.specs.declared.plan.Bind.{Bind}
 use Rattle.plan_types.specs.declared.plan.Frontend.{Frontend}
 use Rattle.plan_types.specs.declared.plan.Plan.{Plan}
+use Rattle.conn_model.specs.declared.event.OwnedEvent.{OwnedEvent}
 use Rattle.conn_model.specs.declared.event.OwnedEvent.TheVariants.{Accept}
 use Rattle.conn_model.specs.declared.plain.FrontendRows.{FrontendRows}
 use Rattle.conn_model.specs.declared.plain.Listener.{Listener}
@@ -188,15 +189,15 @@ has_reply plan name listener real is = by_frontend (frontend_of (opening plan 0)
         by_listener (Some place) placed = by_place number place within placed (rw (there, placed) at is)
 
 -- where there is a reply, want of memory is the only fault
-pub lacks_memory : (answer : Result Reply StepFault) (reply : Reply) (fault : StepFault) → answer ≡ Ok reply → IsFault answer fault → fault ≡ NoMemory
-lacks_memory answer reply fault is (inr known) = known.0
-lacks_memory answer reply fault is (inl wrong) = absurd (let e : Ok reply ≡ Err fault = sym is ∙ wrong in cc)
+pub lacks_memory : (event : OwnedEvent) (answer : Result Reply StepFault) (reply : Reply) (fault : StepFault) → answer ≡ Ok reply → IsFault event answer fault → fault ≡ NoMemory
+lacks_memory event answer reply fault is (inr known) = known.0
+lacks_memory event answer reply fault is (inl wrong) = absurd (let e : Ok reply ≡ Err fault = sym is ∙ wrong in cc)
 
 pub accept_lacks_memory : (p : Plain) (plan : Plan) → p ≡ opening plan 0 → (name : List ℕ) (listener : ℕ) (real : PairValue) (fault : StepFault) → listener_of p name ≡ Some listener →
-    IsFault (answer_in p 0 (Accept listener real)) fault → fault ≡ NoMemory
+    IsFault (Accept listener real) (answer_in p 0 (Accept listener real)) fault → fault ≡ NoMemory
 accept_lacks_memory p plan opens name listener real fault is known =
     let got = has_reply plan name listener real (rw opens at is) in
-    lacks_memory (answer_in p 0 (Accept listener real)) got.0 fault (rw opens got.1) known
+    lacks_memory (Accept listener real) (answer_in p 0 (Accept listener real)) got.0 fault (rw opens got.1) known
 
 -- the first listener of a frontend of a core that was opened
 pub some_listener : (p : Plain) (plan : Plan) → p ≡ opening plan 0 → AreSound p.versions → (name : List ℕ) (number : ℕ) → frontend_of p name ≡ Some number →

@@ -136,6 +136,7 @@ later_twice m n (Ok reply) = ap (λ s. Ok (record reply { said = s })) (by reply
     by (saids.Refuse id used cause) = let e : used + (m + n) ≡ used + n + m = omega arith in ap (λ k. saids.Refuse id k cause) e
     by (saids.Up id) = refl
     by (saids.Closed id why) = refl
+    by (saids.Reloaded version) = refl
 
 pub later_none : (r : Result Reply StepFault) → later 0 r ≡ r
 later_none (Err fault) = refl
@@ -147,6 +148,7 @@ later_none (Ok reply) = ap (λ s. Ok (record reply { said = s })) (by reply.said
     by (saids.Refuse id used cause) = let e : used + 0 ≡ used = omega arith in ap (λ k. saids.Refuse id k cause) e
     by (saids.Up id) = refl
     by (saids.Closed id why) = refl
+    by (saids.Reloaded version) = refl
 
 -- What is known once a piece was answered.
 

@@ -2,6 +2,7 @@ use Rattle.pipe_core.proofs.AcceptLemmas.{piece_uses}
 use Rattle.pipe_core.proofs.JudgedLemmas.{offers, refuses}
 use Rattle.pipe_core.proofs.ListenerLemmas.{lacks_memory}
 use Rattle.pipe_core.proofs.PieceLemmas.{waits_on}
+use Rattle.conn_model.specs.declared.event.OwnedEvent.TheVariants.{Piece}
 use Rattle.pipe_core.proofs.StateLemmas.{piece_said}
 use Rattle.pipe_core.proofs.header.judge_piece.Goals as goal
 
@@ -27,4 +28,4 @@ returns-in-Refuse-clause-decides c = λ first got waits.
 pub want_of_memory-requires : goal.want_of_memory-requires
 want_of_memory-requires c =
     let holds = c.requires.waits in
-    lacks_memory _ _ c.in-Err.fault (piece_said c.args.core.now c.args.id holds.0 holds.1 c.args.piece.now) c.in-Err.ensures.plain_fault
+    lacks_memory (Piece c.args.id c.args.piece.now) _ _ c.in-Err.fault (piece_said c.args.core.now c.args.id holds.0 holds.1 c.args.piece.now) c.in-Err.ensures.plain_fault
