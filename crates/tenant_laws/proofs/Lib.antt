@@ -1,0 +1,14 @@
+pub mod Lists
+pub mod Truth
+pub mod Rules
+pub mod Counts
+pub mod Views
+pub mod Judging
+pub mod Same
+pub mod PartReplies
+pub mod Step
+pub mod Outside
+pub mod Inside
+pub mod Reload
+pub mod Texts
+pub mod Whole

@@ -1,0 +1,4 @@
+pub mod Parts
+pub mod Agreement
+pub mod Runs
+pub mod Samples
