@@ -1,4 +1,0 @@
-pub mod Calls
-pub mod Driving
-pub mod Receipts
-pub mod Settling
