@@ -43,6 +43,14 @@ impl<D> StdDevice<D> {
         }
     }
 
+    /// The reader or writer itself, for what is no read and no write. A read or a write that is made so is not
+    /// counted.
+    pub fn get_mut(&mut self) -> &mut D
+        ensures { result.now ≡ self.old.device }
+    {
+        &mut self.inner
+    }
+
     pub fn into_inner(self) -> D
         ensures { result ≡ self.device }
     {
