@@ -1,0 +1,131 @@
+//! A book whose records are the calls of passes.
+ghost use Rattle.std.specs.Prelude.{◌≡◌, ◌<◌, ◌≤◌, ◌+◌, ◌^◌, IfOk, MatchOption, Ok, OnErr, OnOk, false, true, vec_capacity, vec_len};
+ghost use Rattle.conn_model.specs.History.{owned_event};
+ghost use Rattle.conn_model.specs.declared.event.OwnedEvent.TheVariants as owned;
+ghost use Rattle.conn_model.specs.declared.reply.Said.TheVariants.{Closed};
+ghost use Rattle.book_core.specs.Book.{book_answer, IsBook};
+ghost use Rattle.book_core.specs.Open.{connections_ended, connections_opened, open_connections};
+ghost use Rattle.desk_core.specs.Calls.{IsAnswered, IsReloaded};
+
+use crate::pass::Pass;
+use book_core::{Book, Receipt};
+use conn_model::event::{ConnId, Event, OwnedEvent, Why};
+use conn_model::reply::StepFault;
+use record_core::{Record, copy_event, copy_reply};
+use std::alloc::{AllocError, Global};
+use std::sync::ledger;
+use std::sync::ledger::Ledger;
+
+/// A book that made as many records as the passes' calls come to.
+pub(crate) struct CountedBook<M: Ledger> {
+    pub(crate) book: Book,
+    pub(crate) made: ledger::Book<M>,
+    pub ghost counted: { book.made ≡ made.total },
+}
+
+/// A copy of an event whose record is kept, and room for that record.
+fn copy_to_keep(
+    alloc: Global,
+    keeps: bool,
+    kept: &mut Vec<Record>,
+    event: &Event,
+) -> Result<Option<OwnedEvent>, AllocError>
+    ensures copy { IfOk result (λ copy. MatchOption copy (keeps ≡ false) (λ e. (keeps ≡ true) × (e ≡ owned_event event.now) × (vec_len kept.new < vec_capacity kept.new))) }
+    ensures kept { kept.new.items ≡ kept.old.items }
+{
+    if keeps {
+        kept.reserve(1)?;
+        Ok(Some(copy_event(alloc, event)?))
+    } else {
+        Ok(None)
+    }
+}
+
+impl<M: Ledger> CountedBook<M> {
+    pub(crate) fn new(book: Book, made: ledger::Book<M>) -> CountedBook<M>
+        requires { book.made ≡ made.total }
+        ensures { result.book ≡ book }
+    {
+        CountedBook { book, made }
+    }
+
+    /// Answers one event for a pass. Of a record that a pass keeps, the event is copied and room is made before the book
+    /// answers.
+    pub(crate) fn step(
+        &mut self,
+        pass: &mut Pass<M>,
+        moment: u64,
+        event: &Event,
+    ) -> Result<Receipt, StepFault>
+        ensures pass { IfOk result (λ r. IsAnswered pass.old pass.new moment (owned_event event.now) r) }
+        ensures number { IfOk result (λ r. r.number ≡ self.old.book.made + 1) }
+        ensures reply { IfOk result (λ r. book_answer self.old.book moment (owned_event event.now) ≡ Ok r.reply) }
+        ensures made { IfOk result (λ r. self.new.book.made ≡ self.old.book.made + 1) }
+        ensures base { self.new.book.base ≡ self.old.book.base }
+        ensures open_connections { IfOk result (λ r. open_connections self.new.book.state + connections_ended (owned_event event.now) r.reply.said
+            ≡ open_connections self.old.book.state + connections_opened (owned_event event.now) r.reply.said) }
+        ensures few { IfOk result (λ r. (r.number < 2 ^ 64) × (open_connections self.old.book.state < open_connections self.old.book.base + r.number)) }
+        ensures err { OnErr result (self.new.book ≡ self.old.book) }
+        ensures unchanged { OnErr result (pass.new ≡ pass.old) }
+    {
+        let CountedBook { book, made } = self;
+        let Pass {
+            alloc,
+            calls,
+            keeps,
+            kept,
+            share,
+        } = pass;
+        let Ok(copy) = copy_to_keep(*alloc, *keeps, kept, event) else {
+            return Err(StepFault::NoMemory);
+        };
+        let receipt = book.step(moment, event)?;
+        made.add(share, 1);
+        made.audit(share);
+        *calls += 1;
+        if let Some(event) = copy {
+            kept.push_reserved(Record {
+                number: receipt.number,
+                moment,
+                event,
+                reply: copy_reply(&receipt.reply),
+            });
+        }
+        Ok(receipt)
+    }
+
+    /// Closes a connection for a pass.
+    pub(crate) fn close(
+        &mut self,
+        pass: &mut Pass<M>,
+        moment: u64,
+        id: ConnId,
+        why: Why,
+    ) -> Result<Receipt, StepFault>
+        ensures pass { IfOk result (λ r. IsAnswered pass.old pass.new moment (owned.Close id why) r) }
+        ensures said { IfOk result (λ r. r.reply.said ≡ Closed id why) }
+        ensures made { IfOk result (λ r. self.new.book.made ≡ self.old.book.made + 1) }
+        ensures base { self.new.book.base ≡ self.old.book.base }
+        ensures open_connections { IfOk result (λ r. open_connections self.new.book.state + 1 ≡ open_connections self.old.book.state) }
+        ensures err { OnErr result (self.new.book ≡ self.old.book) }
+        ensures unchanged { OnErr result (pass.new ≡ pass.old) }
+    {
+        self.step(pass, moment, &Event::Close(id, why))
+    }
+    /// Brings a new configuration into force for a pass.
+    pub(crate) fn reload(
+        &mut self,
+        pass: &mut Pass<M>,
+        moment: u64,
+        text: &str,
+    ) -> Result<Receipt, StepFault>
+        ensures pass { IfOk result (λ r. IsAnswered pass.old pass.new moment (owned.Reload text.now) r) }
+        ensures said { IfOk result (λ r. IsReloaded r.reply.said) }
+        ensures base { self.new.book.base ≡ self.old.book.base }
+        ensures open_connections { OnOk result (open_connections self.new.book.state ≡ open_connections self.old.book.state) }
+        ensures err { OnErr result (self.new.book ≡ self.old.book) }
+        ensures unchanged { OnErr result (pass.new ≡ pass.old) }
+    {
+        self.step(pass, moment, &Event::Reload(text))
+    }
+}

@@ -1,0 +1,222 @@
+//! The desk.
+ghost use Rattle.std.specs.Prelude.{◌≡◌, ◌<◌, ◌-◌, ◌+◌, ◌^◌, [], IfOk, IfErr, OnErr};
+ghost use Rattle.std.specs.Option.{option_map};
+ghost use Rattle.conn_model.specs.declared.event.OwnedEvent.TheVariants as owned;
+ghost use Rattle.conn_model.specs.declared.reply.Said.TheVariants.{Closed};
+ghost use Rattle.book_core.specs.Open.{open_connections};
+ghost use Rattle.desk_core.specs.Calls.{open_id, IsAnswered, IsReloaded};
+
+use crate::counted::CountedBook;
+use crate::lease::{Drive, Driven, Lease};
+use crate::locked::Locked;
+use crate::pass::Pass;
+use addr_core::Pair;
+use book_core::{Book, Receipt};
+use conn_model::ask::{Ask, Counts};
+use conn_model::event::Why;
+use conn_model::reply::StepFault;
+use std::alloc::Global;
+use std::sync::ledger::{Blank, Ledger, Share};
+use std::sync::{Mutex, Wait, ledger};
+
+/// The part of a desk that threads share: a book in a lock. Each call is one entry of the history of that book, or
+/// none.
+pub struct SharedDesk<M: Ledger, O: Ledger> {
+    locked: Mutex<Locked<M, O>>,
+}
+
+impl<M: Ledger, O: Ledger> SharedDesk<M, O> {
+    ghost use Rattle.desk_core.specs.Driving.{driven_event, IsDriven};
+
+    fn into_locked(self) -> Locked<M, O> {
+        let SharedDesk { locked } = self;
+        locked.into_inner()
+    }
+
+    /// A connection came to a listener, by its number; the pair is its peer and its local end. There is a lease where
+    /// the connection has to wait or is offered a server.
+    pub fn accept<R: Wait>(
+        &self,
+        rt: &R,
+        pass: &mut Pass<M>,
+        moment: u64,
+        listener: u16,
+        real: &Pair,
+    ) -> Result<(Receipt, Option<Lease<O>>), StepFault>
+        ensures pass { IfOk result (λ r. IsAnswered pass.old pass.new moment (owned.Accept listener real.now) r.0) }
+        ensures lease { IfOk result (λ r. option_map (λ lease. lease.id) r.1 ≡ open_id r.0.reply.said) }
+        ensures err { OnErr result (pass.new ≡ pass.old) }
+    {
+        self.locked.lock(rt).accept(pass, moment, listener, real)
+    }
+
+    /// Something is driven on the connection of the lease.
+    pub fn drive<R: Wait>(
+        &self,
+        rt: &R,
+        pass: &mut Pass<M>,
+        moment: u64,
+        lease: Lease<O>,
+        drive: &Drive<'_>,
+    ) -> Driven<O>
+        ensures { IsDriven pass.old pass.new moment (driven_event lease.id drive.now) lease.id result }
+    {
+        self.locked.lock(rt).drive(pass, moment, lease, drive)
+    }
+
+    /// The connection of the lease ended. Without memory for the record the lease comes back.
+    pub fn close<R: Wait>(
+        &self,
+        rt: &R,
+        pass: &mut Pass<M>,
+        moment: u64,
+        lease: Lease<O>,
+        why: Why,
+    ) -> Result<Receipt, (StepFault, Lease<O>)>
+        ensures pass { IfOk result (λ r. IsAnswered pass.old pass.new moment (owned.Close lease.id why) r) }
+        ensures said { IfOk result (λ r. r.reply.said ≡ Closed lease.id why) }
+        ensures err { IfErr result (λ failed. (pass.new ≡ pass.old) × (failed.1.id ≡ lease.id)) }
+    {
+        self.locked.lock(rt).close(pass, moment, lease, why)
+    }
+
+    /// A new configuration is to come into force: its text. Connections that are open keep theirs.
+    pub fn reload<R: Wait>(
+        &self,
+        rt: &R,
+        pass: &mut Pass<M>,
+        moment: u64,
+        text: &str,
+    ) -> Result<Receipt, StepFault>
+        ensures pass { IfOk result (λ r. IsAnswered pass.old pass.new moment (owned.Reload text.now) r) }
+        ensures said { IfOk result (λ r. IsReloaded r.reply.said) }
+        ensures err { OnErr result (pass.new ≡ pass.old) }
+    {
+        self.locked.lock(rt).reload(pass, moment, text)
+    }
+
+    /// What is open of that which is asked for, if there is such a thing.
+    pub fn ask<R: Wait>(&self, rt: &R, ask: &Ask) -> Option<Counts> {
+        self.locked.lock(rt).counts(ask)
+    }
+}
+
+/// A book that threads share, and its owner's means to give out passes.
+pub struct Desk<M: Ledger, O: Ledger> {
+    alloc: Global,
+    shared: SharedDesk<M, O>,
+    given: u64,
+    pool: Share<M>,
+    pub ghost parts: { pool.parts + given ≡ 65537 },
+    pub ghost no_calls: { pool.amount ≡ 0 },
+}
+
+/// What is left of a desk: its book, and the tokens by which the passes' calls are its records, and the leases its open
+/// connections.
+pub struct Shut<M: Ledger, O: Ledger> {
+    pub(crate) book: Book,
+    pub(crate) made: ledger::Book<M>,
+    pub(crate) leases: ledger::Book<O>,
+    pub(crate) live: u64,
+    pub(crate) given: u64,
+    pub(crate) pool: Share<M>,
+    pub ghost counted: { book.made ≡ made.total },
+    pub ghost leased: { open_connections book.state ≡ leases.total },
+    pub ghost lives: { live ≡ leases.total },
+    pub ghost parts: { pool.parts + given ≡ 65537 },
+    pub ghost no_calls: { pool.amount ≡ 0 },
+}
+
+impl<M: Ledger, O: Ledger> Shut<M, O> {
+    /// The book with all records.
+    pub fn book(&self) -> &Book
+        ensures { result.now ≡ self.now.book }
+    {
+        &self.book
+    }
+}
+
+impl<M: Ledger, O: Ledger> Desk<M, O> {
+    /// A desk over a book with no record and no open connection. Of the blanks one becomes the ledger of calls, the
+    /// other that of leases.
+    pub fn new(alloc: Global, book: Book, made: Blank, leases: Blank) -> Desk<M, O>
+        requires fresh { (book.made ≡ 0) × (open_connections book.state ≡ 0) × (open_connections book.base ≡ 0) }
+        requires made_name { made.name ≡ M.name }
+        requires made_parts { (made.parts ≡ M.parts) × (made.parts ≡ 65537) }
+        requires leases_name { leases.name ≡ O.name }
+        requires leases_parts { (leases.parts ≡ O.parts) × (leases.parts ≡ 2 ^ 64 - 1) }
+        ensures { result.given ≡ 0 }
+    {
+        let (made, pool) = made.open::<M>();
+        let (leases, idle) = leases.open::<O>();
+        Desk {
+            alloc,
+            shared: SharedDesk {
+                locked: Mutex::new(Locked {
+                    counted: CountedBook::new(book, made),
+                    leases,
+                    idle,
+                    live: 0,
+                }),
+            },
+            given: 0,
+            pool,
+        }
+    }
+
+    /// How many passes were given out.
+    pub fn given(&self) -> u64
+        ensures { result ≡ self.now.given }
+    {
+        self.given
+    }
+
+    /// A pass with no call, which keeps the records of its calls if that is wanted.
+    pub fn pass(&mut self, keeps: bool) -> Pass<M>
+        requires { self.old.given < 65536 }
+        ensures given { self.new.given ≡ self.old.given + 1 }
+        ensures pass { (result.calls ≡ 0) × (result.kept ≡ []) × (result.keeps ≡ keeps) }
+    {
+        let Desk {
+            alloc,
+            shared: _,
+            given,
+            pool,
+        } = self;
+        let share = pool.split_off(1, 0);
+        *given += 1;
+        Pass::new(*alloc, keeps, share)
+    }
+
+    /// What threads share.
+    pub fn shared(&self) -> &SharedDesk<M, O> {
+        &self.shared
+    }
+
+    /// Ends the calls.
+    pub fn into_book(self) -> Shut<M, O>
+        ensures { result.given ≡ self.given }
+    {
+        let Desk {
+            alloc: _,
+            shared,
+            given,
+            pool,
+        } = self;
+        let Locked {
+            counted,
+            leases,
+            idle: _,
+            live,
+        } = shared.into_locked();
+        let CountedBook { book, made } = counted;
+        Shut {
+            book,
+            made,
+            leases,
+            live,
+            given,
+            pool,
+        }
+    }
+}

@@ -1,0 +1,16 @@
+//! Tests of `desk_core`, of what no contract says: that its calls do not give up, that threads may share it, and that what is
+//! asked is counted.
+#![tactic(auto)]
+
+#[cfg(test)]
+mod books;
+#[cfg(test)]
+mod calls;
+#[cfg(test)]
+mod leases;
+#[cfg(test)]
+mod reloads;
+#[cfg(test)]
+mod servers;
+#[cfg(test)]
+mod threads;
