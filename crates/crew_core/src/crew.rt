@@ -1,0 +1,361 @@
+//! The crew: the workers, each in a thread of its own, and the acceptor in the caller's.
+ghost use Rattle.std.specs.Prelude.{◌≡◌, ◌<◌, ◌≤◌, ◌+◌, ◌-◌, ◌^◌, [], IfErr, IfOk, OnErr, OnOk, vec_capacity, vec_len};
+ghost use Rattle.book_core.specs.Open.{open_connections};
+ghost use Rattle.desk_core.specs.Calls.{calls_of};
+ghost use Rattle.crew_core.specs.Crew.{IsIdle};
+
+use crate::acceptor::{Front, LANE};
+use crate::calls::Hall;
+use crate::table::Table;
+use crate::traits::{Clock, Dial, Door, Gate, Link};
+use crate::worker::{Arrival, Bench, PIECE, REPORTS, Worker};
+use book_core::Book;
+use desk_core::{Desk, Lease, Pass, Shut};
+use rtrb::{Producer, RingBuffer};
+use std::alloc::{AllocError, Global};
+use std::sync::Wait;
+use std::sync::ledger::{Blank, Ledger};
+use std::thread;
+use std::thread::Threads;
+
+/// Why a crew did nothing.
+#[derive(Clone, Copy, Debug, PartialEq, Eq)]
+pub enum CrewFault {
+    /// A thread cannot be started.
+    Spawn,
+    NoMemory,
+}
+
+/// How a crew works.
+#[derive(Clone, Copy, Debug, PartialEq, Eq)]
+pub struct Setup {
+    /// How many workers there are, 1 to 64.
+    pub workers: u16,
+    /// How many turns each worker makes at the most, and the acceptor.
+    pub turns: u64,
+    /// Whether the passes keep the records of their calls.
+    pub keeps: bool,
+}
+
+/// What a crew did.
+#[derive(Clone, Copy, Debug, PartialEq, Eq)]
+pub struct Summary {
+    /// The connections that the door gave.
+    pub accepted: u64,
+    /// Those of them that a worker took.
+    pub taken: u64,
+    /// The replies `Closed`.
+    pub closed: u64,
+    /// All replies.
+    pub recorded: u64,
+}
+
+/// What is left of a crew.
+pub struct Crew<M: Ledger, O: Ledger, L> {
+    pub summary: Summary,
+    pub shut: Shut<M, O>,
+    /// That of the acceptor first, and then those of the workers.
+    pub passes: Vec<Pass<M>>,
+    /// For each worker the leases whose connections could not be closed for want of memory.
+    pub left: Vec<Vec<Lease<O>>>,
+    pub dials: Vec<L>,
+}
+
+/// What takes memory before a crew begins.
+struct Rooms<M: Ledger, O: Ledger, K: Link, L: Dial<Link = K>> {
+    benches: Vec<Bench<K>>,
+    lanes: Vec<Producer<Arrival<K>>>,
+    passes: Vec<Pass<M>>,
+    dials: Vec<L>,
+    left: Vec<Vec<Lease<O>>>,
+    workers: Vec<Worker<M, O, K, L>>,
+}
+
+/// A bench for one worker, and the lane that leads to it.
+fn bench<K: Link>(alloc: Global) -> Result<(Bench<K>, Producer<Arrival<K>>), AllocError> {
+    let (lane, arrivals) = RingBuffer::new(alloc, LANE)?;
+    let bench = Bench {
+        arrivals,
+        table: Table::new(alloc),
+        buffer: Vec::from_elem(alloc, 0u8, PIECE)?,
+        ready: Vec::with_capacity(alloc, REPORTS)?,
+    };
+    Ok((bench, lane))
+}
+
+/// Makes all rooms for so many workers.
+fn make_rooms<M: Ledger, O: Ledger, K: Link, L: Dial<Link = K> + Drop>(
+    alloc: Global,
+    workers: usize,
+) -> Result<Rooms<M, O, K, L>, AllocError>
+    requires { workers ≤ 64 }
+    ensures benches { IfOk result (λ r. vec_len r.benches ≡ workers) }
+    ensures passes { IfOk result (λ r. (vec_len r.passes ≡ 0) × (workers + 1 ≤ vec_capacity r.passes)) }
+    ensures dials { IfOk result (λ r. (vec_len r.dials ≡ 0) × (workers ≤ vec_capacity r.dials)) }
+    ensures left { IfOk result (λ r. (vec_len r.left ≡ 0) × (workers ≤ vec_capacity r.left)) }
+    ensures workers { IfOk result (λ r. (vec_len r.workers ≡ 0) × (workers ≤ vec_capacity r.workers)) }
+{
+    let mut benches = Vec::with_capacity(alloc, workers)?;
+    let mut lanes = Vec::with_capacity(alloc, workers)?;
+    for _worker in 0..workers {
+        let (bench, lane) = bench(alloc)?;
+        benches.push(bench)?;
+        lanes.push(lane)?;
+    }
+    let passes = Vec::with_capacity(alloc, workers + 1)?;
+    let dials = Vec::with_capacity(alloc, workers)?;
+    let left = Vec::with_capacity(alloc, workers)?;
+    match Vec::with_capacity(alloc, workers) {
+        Ok(workers) => Ok(Rooms {
+            benches,
+            lanes,
+            passes,
+            dials,
+            left,
+            workers,
+        }),
+        Err(full) => {
+            left.destroy_empty();
+            Err(full)
+        }
+    }
+}
+
+/// Whether so many threads can be started at one time. Where the system refuses one later all the same, the workers
+/// of that half work one after another.
+fn can_spawn<R: Threads>(rt: &R, alloc: Global, workers: usize) -> Result<(), CrewFault> {
+    let Ok(mut handles) = Vec::with_capacity(alloc, workers) else {
+        return Err(CrewFault::NoMemory);
+    };
+    let mut fault = None;
+    for _worker in 0..workers {
+        match thread::spawn(rt, || ()) {
+            Ok(handle) => {
+                if handles.push(handle).is_err() {
+                    fault = Some(CrewFault::NoMemory);
+                }
+            }
+            Err(_refused) => fault = Some(CrewFault::Spawn),
+        }
+    }
+    for handle in handles {
+        handle.join(rt);
+    }
+    match fault {
+        None => Ok(()),
+        Some(fault) => Err(fault),
+    }
+}
+
+/// Each worker in a thread of its own.
+fn attend_each<
+    M: Ledger + Send + Sync,
+    O: Ledger + Send + Sync,
+    K: Link + Send,
+    L: Dial<Link = K> + Send,
+    G: Gate + Sync,
+    C: Clock + Sync,
+    R: Threads + Wait + Sync,
+>(rt: &R, hall: &Hall<'_, M, O, G, C>, workers: &mut [Worker<M, O, K, L>]) {
+    let threads = workers.len().max(1);
+    thread::for_each_mut(rt, workers, threads, &|_, worker| worker.work(rt, hall));
+}
+
+/// The workers, and the acceptor beside them in the caller's thread. It says how many connections came, and how many of
+/// them no lane had room for.
+fn work_beside<
+    M: Ledger + Send + Sync,
+    O: Ledger + Send + Sync,
+    K: Link + Send,
+    L: Dial<Link = K> + Send,
+    D: Door<Link = K>,
+    G: Gate + Sync,
+    C: Clock + Sync,
+    R: Threads + Wait + Sync,
+>(
+    rt: &R,
+    hall: &Hall<'_, M, O, G, C>,
+    workers: &mut [Worker<M, O, K, L>],
+    front: Front<'_, M, K, D>,
+) -> (u64, u64) {
+    let (_all, came) = thread::join(
+        rt,
+        || attend_each(rt, hall, workers),
+        move || front.accept_all(rt, hall),
+    );
+    came
+}
+
+/// A crew that did nothing.
+fn idle<M: Ledger, O: Ledger, L>(alloc: Global, desk: Desk<M, O>, dials: Vec<L>) -> Crew<M, O, L>
+    requires { (desk.given ≡ 0) × (M.parts ≡ 65537) }
+    ensures idle { IsIdle result.summary }
+    ensures nothing { (result.passes.items ≡ []) × (result.left.items ≡ []) × (result.shut.book.made ≡ 0) }
+    ensures dials { result.dials ≡ dials }
+{
+    let mut shut = desk.into_book();
+    let mut passes = Vec::new(alloc);
+    let recorded = shut.count_calls(&mut passes);
+    Crew {
+        summary: Summary {
+            accepted: 0,
+            taken: 0,
+            closed: 0,
+            recorded,
+        },
+        shut,
+        passes,
+        left: Vec::new(alloc),
+        dials,
+    }
+}
+
+/// Gives each dial its worker. The last worker is the first of the list.
+fn man<M: Ledger, O: Ledger, K: Link, L: Dial<Link = K> + Drop>(
+    alloc: Global,
+    desk: &mut Desk<M, O>,
+    keeps: bool,
+    benches: Vec<Bench<K>>,
+    dials: Vec<L>,
+    workers: &mut Vec<Worker<M, O, K, L>>,
+)
+    requires empty { vec_len workers.old ≡ 0 }
+    requires room { vec_len dials ≤ vec_capacity workers.old }
+    requires few { vec_len dials ≤ 64 }
+    requires benches { vec_len benches ≡ vec_len dials }
+    requires given { desk.old.given ≡ 1 }
+    ensures given { desk.new.given ≡ vec_len workers.new + 1 }
+    ensures len { vec_len workers.new ≡ vec_len dials }
+{
+    let (mut benches, mut dials) = (benches, dials);
+    while let (Some(dial), Some(bench)) = (dials.pop(), benches.pop()) {
+        let number = dials.len() as u16;
+        let pass = desk.pass(keeps);
+        workers.push_reserved(Worker::new(alloc, number, pass, bench, dial));
+    }
+}
+
+/// Takes the workers apart, and says how many replies were `Closed` and how many connections no worker took.
+fn dismiss<M: Ledger, O: Ledger, K: Link, L: Dial<Link = K>>(
+    workers: Vec<Worker<M, O, K, L>>,
+    passes: &mut Vec<Pass<M>>,
+    left: &mut Vec<Vec<Lease<O>>>,
+    dials: &mut Vec<L>,
+) -> (u64, u64)
+    requires passes { vec_len passes.old + vec_len workers ≤ vec_capacity passes.old }
+    requires left { vec_len left.old + vec_len workers ≤ vec_capacity left.old }
+    requires dials { vec_len dials.old + vec_len workers ≤ vec_capacity dials.old }
+    ensures passes { vec_len passes.new ≡ vec_len passes.old + vec_len workers }
+    ensures closed { calls_of passes.old.items + result.0 ≤ calls_of passes.new.items }
+{
+    let mut workers = workers;
+    let mut closed = 0u64;
+    let mut waiting = 0u64;
+    while let Some(worker) = workers.pop() {
+        let Worker { calls, bench, dial } = worker;
+        let Bench { mut arrivals, .. } = bench;
+        let (pass, leases, replies) = calls.into_parts();
+        closed = closed.saturating_add(replies);
+        waiting = waiting.saturating_add(arrivals.slots() as u64);
+        passes.push_reserved(pass);
+        left.push_reserved(leases);
+        dials.push_reserved(dial);
+    }
+    workers.destroy_empty();
+    (closed, waiting)
+}
+
+/// How many of the connections that came a worker took: all but those that wait for one.
+fn taken(accepted: u64, waiting: u64) -> u64
+    ensures { result ≤ accepted }
+{
+    accepted.saturating_sub(waiting)
+}
+
+/// Runs a crew over a book with no record and no open connection, until the door is closed, the gate stops all workers, or the turns
+/// are used up; then what is open is closed. Each worker has one of the dials. Of the blanks one becomes the ledger of
+/// calls, the other that of leases. After a fault nothing was done.
+pub fn run_crew<
+    R: Threads + Wait + Sync,
+    M: Ledger + Send + Sync,
+    O: Ledger + Send + Sync,
+    K: Link + Send,
+    L: Dial<Link = K> + Send + Drop,
+    D: Door<Link = K>,
+    G: Gate + Sync,
+    C: Clock + Sync,
+>(
+    rt: &R,
+    alloc: Global,
+    book: Book,
+    made: Blank,
+    leases: Blank,
+    door: &mut D,
+    dials: Vec<L>,
+    gate: &G,
+    clock: &C,
+    setup: Setup,
+) -> Result<Crew<M, O, L>, (CrewFault, Crew<M, O, L>)>
+    requires fresh { (book.made ≡ 0) × (open_connections book.state ≡ 0) × (open_connections book.base ≡ 0) }
+    requires made_name { made.name ≡ M.name }
+    requires made_parts { (made.parts ≡ M.parts) × (made.parts ≡ 65537) }
+    requires leases_name { leases.name ≡ O.name }
+    requires leases_parts { (leases.parts ≡ O.parts) × (leases.parts ≡ 2 ^ 64 - 1) }
+    requires workers { (vec_len dials ≡ setup.workers) × (1 ≤ setup.workers) × (setup.workers ≤ 64) }
+    // The replies are those of its passes, which are all that were given, and each is a record of the book.
+    ensures passes { IfOk result (λ crew. vec_len crew.passes ≡ crew.shut.given) }
+    ensures recorded { IfOk result (λ crew. (crew.summary.recorded ≡ calls_of crew.passes.items) × (crew.summary.recorded ≡ crew.shut.book.made)) }
+    ensures closed { IfOk result (λ crew. crew.summary.closed ≤ crew.summary.recorded) }
+    ensures taken { IfOk result (λ crew. crew.summary.taken ≤ crew.summary.accepted) }
+    // After a fault nothing was done.
+    ensures idle { IfErr result (λ fault. IsIdle fault.1.summary) }
+    ensures nothing { IfErr result (λ fault. (fault.1.passes.items ≡ []) × (fault.1.left.items ≡ []) × (fault.1.shut.book.made ≡ 0)) }
+    ensures dials { IfErr result (λ fault. fault.1.dials ≡ dials) }
+{
+    let mut desk = Desk::<M, O>::new(alloc, book, made, leases);
+    if let Err(fault) = can_spawn(rt, alloc, dials.len()) {
+        return Err((fault, idle(alloc, desk, dials)));
+    }
+    let Ok(rooms) = make_rooms::<M, O, K, L>(alloc, dials.len()) else {
+        return Err((CrewFault::NoMemory, idle(alloc, desk, dials)));
+    };
+    let Rooms {
+        benches,
+        lanes,
+        mut passes,
+        dials: mut dials_back,
+        mut left,
+        mut workers,
+    } = rooms;
+    let mut pass = desk.pass(setup.keeps);
+    man(alloc, &mut desk, setup.keeps, benches, dials, &mut workers);
+    let hall = Hall {
+        alloc,
+        desk: desk.shared(),
+        gate,
+        clock,
+        turns: setup.turns,
+    };
+    let front = Front {
+        door,
+        lanes,
+        pass: &mut pass,
+    };
+    let (accepted, held) = work_beside(rt, &hall, workers.as_mut_slice(), front);
+    passes.push_reserved(pass);
+    let (closed, waiting) = dismiss(workers, &mut passes, &mut left, &mut dials_back);
+    let mut shut = desk.into_book();
+    let recorded = shut.count_calls(&mut passes);
+    Ok(Crew {
+        summary: Summary {
+            accepted,
+            taken: taken(accepted, waiting.saturating_add(held)),
+            closed,
+            recorded,
+        },
+        shut,
+        passes,
+        left,
+        dials: dials_back,
+    })
+}

@@ -1,0 +1,37 @@
+//! What is known of a link's readiness.
+
+use crate::traits::Ready;
+
+/// Whether a link can be read and written now. A flag that is down is raised by what the dial reports; one that is up is
+/// lowered by a call that was blocked.
+#[derive(Clone, Copy, Debug, PartialEq, Eq)]
+pub(crate) struct Flags {
+    pub(crate) reads: bool,
+    pub(crate) writes: bool,
+    pub(crate) is_closed: bool,
+}
+
+impl Flags {
+    /// Of a link that was just made: what is written to it fits into its buffers.
+    pub(crate) fn new() -> Flags {
+        Flags {
+            reads: false,
+            writes: true,
+            is_closed: false,
+        }
+    }
+
+    pub(crate) fn raise(&mut self, ready: &Ready) {
+        self.reads |= ready.reads;
+        self.writes |= ready.writes;
+        self.is_closed |= ready.is_closed;
+    }
+
+    /// So many bytes were read where so many were asked for. Where fewer came no more is there until the dial reports
+    /// it, unless the other side has ended: then the end is still to be read.
+    pub(crate) fn note_read(&mut self, count: usize, asked: usize) {
+        if count < asked && !self.is_closed {
+            self.reads = false;
+        }
+    }
+}

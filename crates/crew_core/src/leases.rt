@@ -1,0 +1,81 @@
+//! The leases of one worker, by the keys of its connections.
+ghost use Rattle.std.specs.Prelude.{◌≡◌, ◌+◌, ◌≤◌, IfSome, IsTrue, vec_capacity, vec_len};
+ghost use Rattle.crew_core.specs.Leases.{IsVacant};
+
+use desk_core::Lease;
+use std::alloc::{AllocError, Global};
+use std::sync::ledger::Ledger;
+
+/// The leases of one worker. None of them can be lost: what is not spent comes back by `into_left`, for which there is room at any
+/// time.
+pub(crate) struct Leases<O: Ledger> {
+    slots: Vec<Option<Lease<O>>>,
+    left: Vec<Lease<O>>,
+    pub ghost room: { vec_len left + vec_len slots ≤ vec_capacity left },
+}
+
+impl<O: Ledger> Leases<O> {
+    pub(crate) fn new(alloc: Global) -> Leases<O> {
+        Leases {
+            slots: Vec::new(alloc),
+            left: Vec::new(alloc),
+        }
+    }
+
+    /// How many keys there is room for.
+    pub(crate) fn len(&self) -> usize {
+        self.slots.len()
+    }
+
+    /// One key more.
+    fn grow(&mut self) -> Result<(), AllocError> {
+        let Leases { slots, left } = self;
+        left.reserve(slots.len() + 1)?;
+        slots.reserve(1)?;
+        slots.push_reserved(None);
+        Ok(())
+    }
+
+    /// Makes room for the lease of a key that has none; whether there is room.
+    pub(crate) fn make_room(&mut self, key: usize) -> bool
+        ensures { IsTrue result → IsVacant self.new.slots.items key }
+    {
+        if key == self.slots.len() && self.grow().is_err() {
+            return false;
+        }
+        matches!(self.slots.get(key), Some(None))
+    }
+
+    /// Keeps the lease of a key that has none.
+    pub(crate) fn put(&mut self, key: usize, lease: Lease<O>)
+        requires { IsVacant self.old.slots.items key }
+    {
+        match self.slots.get_mut(key) {
+            Some(slot) => match slot.replace(lease) {
+                None => {}
+                Some(_other) => unreachable!(),
+            },
+            None => unreachable!(),
+        }
+    }
+
+    /// The lease of a key. There is room to put it back.
+    pub(crate) fn take(&mut self, key: usize) -> Option<Lease<O>>
+        ensures { IfSome result (λ lease. IsVacant self.new.slots.items key) }
+    {
+        self.slots.get_mut(key)?.take()
+    }
+
+    /// The leases that were not spent.
+    pub(crate) fn into_left(self) -> Vec<Lease<O>> {
+        let Leases { slots, left } = self;
+        let (mut slots, mut left) = (slots, left);
+        while let Some(slot) = slots.pop() {
+            if let Some(lease) = slot {
+                left.push_reserved(lease);
+            }
+        }
+        slots.destroy_empty();
+        left
+    }
+}

@@ -1,0 +1,232 @@
+//! What a worker does with one of its connections.
+
+use crate::calls::{Hall, Outcome};
+use crate::conn::Stage;
+use crate::stream::Progress;
+use crate::traits::{Clock, Dial, Dialled, Gate, Link};
+use crate::worker::{Bench, Worker};
+use addr_core::Endpoint;
+use conn_model::event::Why;
+use conn_model::reply::{Said, StepFault};
+use desk_core::Drive;
+use device_core::Got;
+use std::sync::Wait;
+use std::sync::ledger::Ledger;
+
+/// How many pieces of a header are read before other connections have their turn.
+const PIECES: u32 = 4;
+
+/// What a read of a waiting connection gave.
+#[derive(Clone, Copy, Debug, PartialEq, Eq)]
+enum Piece {
+    /// So many bytes in the buffer.
+    Bytes(usize),
+    /// Nothing at this moment.
+    Blocked,
+    /// The end, or a fault.
+    Over,
+}
+
+/// The bytes from the one place to the other.
+fn part(bytes: &[u8], from: usize, until: usize) -> &[u8] {
+    bytes.get(from..until).unwrap_or(&[])
+}
+
+impl<M: Ledger, O: Ledger, K: Link, L: Dial<Link = K>> Worker<M, O, K, L> {
+    /// The next connection of the queue has its turn.
+    pub(crate) fn serve<G: Gate, C: Clock, R: Wait>(
+        &mut self,
+        rt: &R,
+        hall: &Hall<'_, M, O, G, C>,
+        key: usize,
+    ) {
+        if let Some(why) = self.bench.table.ended(key) {
+            return self.close(rt, hall, key, why);
+        }
+        let Some(conn) = self.bench.table.conn(key) else {
+            return;
+        };
+        match conn.stage {
+            Stage::Header => self.receive(rt, hall, key),
+            Stage::Server(to) => self.dial_server(rt, hall, key, &to),
+            Stage::Bytes => self.relay(rt, hall, key),
+        }
+    }
+
+    /// Reads once from a connection that waits for its header.
+    fn read(&mut self, key: usize) -> Piece {
+        let Some(conn) = self.bench.table.conn(key) else {
+            return Piece::Blocked;
+        };
+        let buffer = &mut self.bench.buffer;
+        if !conn.client_flags.reads || buffer.is_empty() {
+            return Piece::Blocked;
+        }
+        let asked = buffer.len();
+        match conn.client.read(buffer.as_mut_slice()) {
+            Ok(Got::Bytes(count)) => {
+                conn.client_flags.note_read(count, asked);
+                Piece::Bytes(count)
+            }
+            Ok(Got::Blocked) => {
+                conn.client_flags.reads = false;
+                Piece::Blocked
+            }
+            Ok(Got::End) | Err(_) => Piece::Over,
+        }
+    }
+
+    /// Hands the bytes that came to the desk, until the header is whole.
+    fn receive<G: Gate, C: Clock, R: Wait>(
+        &mut self,
+        rt: &R,
+        hall: &Hall<'_, M, O, G, C>,
+        key: usize,
+    ) {
+        for _piece in 0..PIECES {
+            let count = match self.read(key) {
+                Piece::Bytes(count) => count,
+                Piece::Blocked => return,
+                Piece::Over => return self.close(rt, hall, key, Why::Fault),
+            };
+            let bytes = part(self.bench.buffer.as_slice(), 0, count);
+            match self.calls.drive(rt, hall, key, &Drive::Piece(bytes)) {
+                Outcome::Open(Said::Wait { .. }) => {}
+                Outcome::Open(Said::Offer { used, to, send, .. }) => {
+                    let rest = (used as usize, count);
+                    return self.offer(rt, hall, key, to, send.as_slice(), rest);
+                }
+                Outcome::Open(_) | Outcome::Stopped => return,
+                Outcome::Ended => return self.forget(key),
+                Outcome::Failed(_) => return self.close(rt, hall, key, Why::Failed),
+            }
+        }
+        self.bench.table.enqueue(key);
+    }
+
+    /// A connection was offered a server. What is in the buffer from the one place to the other follows its header.
+    pub(crate) fn offer<G: Gate, C: Clock, R: Wait>(
+        &mut self,
+        rt: &R,
+        hall: &Hall<'_, M, O, G, C>,
+        key: usize,
+        to: Endpoint,
+        send: &[u8],
+        rest: (usize, usize),
+    ) {
+        let (from, until) = rest;
+        let Bench { table, buffer, .. } = &mut self.bench;
+        let Some(conn) = table.conn(key) else {
+            return;
+        };
+        let rest = part(buffer.as_slice(), from, until);
+        match conn.offer(hall.alloc, to, send, rest) {
+            Ok(()) => self.dial_server(rt, hall, key, &to),
+            Err(_) => self.close(rt, hall, key, Why::Fault),
+        }
+    }
+
+    /// Asks for the link to the server of a connection.
+    fn dial_server<G: Gate, C: Clock, R: Wait>(
+        &mut self,
+        rt: &R,
+        hall: &Hall<'_, M, O, G, C>,
+        key: usize,
+        to: &Endpoint,
+    ) {
+        let (drive, server) = match self.dial.poll(key, to) {
+            Dialled::Later => return,
+            Dialled::Link(server) => (Drive::Connected, Some(server)),
+            Dialled::Failed => (Drive::ConnectFailed, None),
+        };
+        match self.calls.drive(rt, hall, key, &drive) {
+            Outcome::Open(_) => {
+                if let (Some(conn), Some(server)) = (self.bench.table.conn(key), server) {
+                    conn.connect(server);
+                    self.bench.table.enqueue(key);
+                }
+            }
+            Outcome::Stopped => {}
+            Outcome::Ended => self.forget(key),
+            Outcome::Failed(_) => self.close(rt, hall, key, Why::Failed),
+        }
+    }
+
+    /// Passes bytes on.
+    fn relay<G: Gate, C: Clock, R: Wait>(
+        &mut self,
+        rt: &R,
+        hall: &Hall<'_, M, O, G, C>,
+        key: usize,
+    ) {
+        let Some(conn) = self.bench.table.conn(key) else {
+            return;
+        };
+        match conn.relay(self.bench.buffer.as_mut_slice()) {
+            None => self.close(rt, hall, key, Why::Done),
+            Some(Progress::Fault) => self.close(rt, hall, key, Why::Fault),
+            Some(Progress::More) => self.bench.table.enqueue(key),
+            Some(Progress::Idle) => {}
+        }
+    }
+
+    /// Connections that have waited for their header for too long.
+    pub(crate) fn expire<G: Gate, C: Clock, R: Wait>(
+        &mut self,
+        rt: &R,
+        hall: &Hall<'_, M, O, G, C>,
+    ) {
+        let now = hall.clock.now();
+        for _wait in 0..self.bench.table.waiting() {
+            if self.calls.is_stopped {
+                return;
+            }
+            let Some(wait) = self.bench.table.due(now) else {
+                return;
+            };
+            if !self.bench.table.waits_for_header(&wait) {
+                continue;
+            }
+            match self.calls.drive(rt, hall, wait.key, &Drive::Expire) {
+                Outcome::Open(_) | Outcome::Stopped => {}
+                Outcome::Ended => self.forget(wait.key),
+                Outcome::Failed(StepFault::NotDue) => self.bench.table.wait_again(&wait, now),
+                Outcome::Failed(_) => self.close(rt, hall, wait.key, Why::Failed),
+            }
+        }
+    }
+
+    /// A connection that was reported to have ended is not kept any longer.
+    fn forget(&mut self, key: usize) {
+        self.dial.forget(key);
+        self.bench.table.remove(key);
+    }
+
+    /// Ends a connection. Where there is no memory to record that, it is tried again in a later turn.
+    pub(crate) fn close<G: Gate, C: Clock, R: Wait>(
+        &mut self,
+        rt: &R,
+        hall: &Hall<'_, M, O, G, C>,
+        key: usize,
+        why: Why,
+    ) {
+        match self.calls.close(rt, hall, key, why) {
+            Outcome::Open(_) | Outcome::Ended => self.forget(key),
+            Outcome::Stopped => {}
+            Outcome::Failed(_) => {
+                self.dial.forget(key);
+                self.bench.table.end(key, why);
+            }
+        }
+    }
+
+    /// Closes what is open, and the gate is not asked. A lease whose close is refused is left.
+    pub(crate) fn stop<G: Gate, C: Clock, R: Wait>(&mut self, rt: &R, hall: &Hall<'_, M, O, G, C>) {
+        for key in 0..self.calls.leases.len() {
+            let why = self.bench.table.ended(key).unwrap_or(Why::Stopped);
+            let _ = self.calls.close_at_once(rt, hall, key, why);
+            self.dial.forget(key);
+        }
+        self.bench.table.clear();
+    }
+}

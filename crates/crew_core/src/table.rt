@@ -1,0 +1,205 @@
+//! The connections of one worker.
+
+use crate::conn::{Conn, Stage};
+use crate::traits::{Link, Ready};
+use conn_model::event::Why;
+use slab::Slab;
+use std::alloc::{AllocError, Global};
+use std::collections::VecDeque;
+
+/// A connection by its key.
+#[derive(Drop)]
+pub(crate) enum Entry<K: Link> {
+    Open(Conn<K>),
+    /// It ended, and there was no memory to record that. It is tried again.
+    Ended(Why),
+}
+
+#[derive(Drop)]
+struct Place<K: Link> {
+    entry: Entry<K>,
+    /// Whether its key is in the queue.
+    is_queued: bool,
+    /// The number of the accept among those of this worker.
+    serial: u64,
+}
+
+/// A connection that waits for its header.
+#[derive(Clone, Copy, Debug)]
+pub(crate) struct HeaderWait {
+    /// In ms.
+    due: u64,
+    pub(crate) key: usize,
+    serial: u64,
+}
+
+/// The connections of a worker, and which of them are to be served next.
+#[derive(Drop)]
+pub(crate) struct Table<K: Link> {
+    places: Slab<Place<K>>,
+    /// Keys, each once.
+    queue: VecDeque<usize>,
+    /// In the order of accepts, which is that of the moments.
+    waits: VecDeque<HeaderWait>,
+    /// How many of the queue have ended.
+    ended: usize,
+    serial: u64,
+}
+
+impl<K: Link> Table<K> {
+    pub(crate) fn new(alloc: Global) -> Table<K> {
+        Table {
+            places: Slab::new(alloc),
+            queue: VecDeque::new(alloc),
+            waits: VecDeque::new(alloc),
+            ended: 0,
+            serial: 0,
+        }
+    }
+
+    /// Makes room for one connection more, with its place in the queue and its wait for a header.
+    pub(crate) fn make_room(&mut self) -> Result<usize, AllocError> {
+        self.places.reserve(1)?;
+        let unqueued = self.places.len().saturating_sub(self.queue.len());
+        self.queue.reserve(unqueued.saturating_add(1))?;
+        self.waits.reserve(1)?;
+        Ok(self.places.vacant_key())
+    }
+
+    /// Keeps a connection, and says under which key.
+    pub(crate) fn insert(&mut self, conn: Conn<K>) -> Result<usize, AllocError> {
+        self.serial = self.serial.saturating_add(1);
+        let place = Place {
+            entry: Entry::Open(conn),
+            is_queued: false,
+            serial: self.serial,
+        };
+        match self.places.insert(place) {
+            Ok(key) => Ok(key),
+            Err(_full) => Err(AllocError),
+        }
+    }
+
+    pub(crate) fn conn(&mut self, key: usize) -> Option<&mut Conn<K>> {
+        match &mut self.places.get_mut(key)?.entry {
+            Entry::Open(conn) => Some(conn),
+            Entry::Ended(_) => None,
+        }
+    }
+
+    /// Why the connection of a key ended, where that is not recorded yet.
+    pub(crate) fn ended(&self, key: usize) -> Option<Why> {
+        match &self.places.get(key)?.entry {
+            Entry::Open(_) => None,
+            Entry::Ended(why) => Some(*why),
+        }
+    }
+
+    /// Puts a key into the queue, unless it is there.
+    pub(crate) fn enqueue(&mut self, key: usize) {
+        let Some(place) = self.places.get_mut(key) else {
+            return;
+        };
+        if !place.is_queued {
+            place.is_queued = self.queue.push_back(key).is_ok();
+        }
+    }
+
+    /// What the dial reported of a link.
+    pub(crate) fn raise(&mut self, ready: &Ready) {
+        if let Some(conn) = self.conn(ready.key) {
+            conn.raise(ready);
+            self.enqueue(ready.key);
+        }
+    }
+
+    /// How many keys are in the queue.
+    pub(crate) fn queued(&self) -> usize {
+        self.queue.len()
+    }
+
+    /// The next key of the queue.
+    pub(crate) fn dequeue(&mut self) -> Option<usize> {
+        let key = self.queue.pop_front()?;
+        let place = self.places.get_mut(key)?;
+        place.is_queued = false;
+        if matches!(place.entry, Entry::Ended(_)) {
+            self.ended = self.ended.saturating_sub(1);
+        }
+        Some(key)
+    }
+
+    pub(crate) fn remove(&mut self, key: usize) {
+        let _ = self.places.try_remove(key);
+    }
+
+    /// The connection of a key ended, and its links with it, but that could not be recorded.
+    pub(crate) fn end(&mut self, key: usize, why: Why) {
+        let Some(place) = self.places.get_mut(key) else {
+            return;
+        };
+        place.entry = Entry::Ended(why);
+        self.ended = self.ended.saturating_add(1);
+        self.enqueue(key);
+    }
+
+    /// The connection of a key, which was inserted last, waits for its header until that moment.
+    pub(crate) fn wait(&mut self, key: usize, due: u64) {
+        let serial = self.serial;
+        let _ = self.waits.push_back(HeaderWait { due, key, serial });
+    }
+
+    /// A wait that is over by another's clock, but not by that of the desk, is tried again 1 ms later.
+    pub(crate) fn wait_again(&mut self, wait: &HeaderWait, now: u64) {
+        let due = now.saturating_add(1);
+        let _ = self.waits.push_front(HeaderWait { due, ..*wait });
+    }
+
+    /// How many waits there are.
+    pub(crate) fn waiting(&self) -> usize {
+        self.waits.len()
+    }
+
+    /// The first wait, if it is over.
+    pub(crate) fn due(&mut self, now: u64) -> Option<HeaderWait> {
+        let wait = *self.waits.front()?;
+        if now < wait.due {
+            return None;
+        }
+        self.waits.pop_front()
+    }
+
+    /// Whether it is still that connection that has the key, and still waits.
+    pub(crate) fn waits_for_header(&self, wait: &HeaderWait) -> bool {
+        match self.places.get(wait.key) {
+            Some(
+                Place {
+                    entry: Entry::Open(conn),
+                    serial,
+                    ..
+                },
+            ) => *serial == wait.serial && matches!(conn.stage, Stage::Header),
+            _ => false,
+        }
+    }
+
+    /// How long the worker may wait, in ms: not at all where something is to be served, and otherwise until the first wait for a
+    /// header is over.
+    pub(crate) fn limit(&self, now: u64, most: u64) -> u64 {
+        if self.queue.len() > self.ended {
+            return 0;
+        }
+        let limit = match self.waits.front() {
+            Some(wait) => wait.due.saturating_sub(now).min(most),
+            None => most,
+        };
+        if self.ended > 0 { limit.min(1) } else { limit }
+    }
+
+    /// Drops all links.
+    pub(crate) fn clear(&mut self) {
+        self.places.clear();
+        self.queue.clear();
+        self.waits.clear();
+    }
+}

@@ -1,0 +1,95 @@
+//! What a crew works on: connections of bytes, a door that they come through, and the way out to servers.
+
+use addr_core::{Endpoint, Pair};
+use book_core::Receipt;
+use conn_model::reply::StepFault;
+use device_core::{Input, Output};
+
+/// A connection of bytes that does not wait: where nothing can be read or written at this moment, a call is blocked.
+/// Dropping it ends it.
+pub trait Link: Input + Output + Drop {
+    /// Ends the writing, so that the other side reads to its end; whether that went well. The crew calls it once.
+    fn shut(&mut self) -> bool;
+}
+
+/// What came to the door.
+#[derive(Drop)]
+pub enum Knock<K> {
+    /// A connection to a listener, by its number; the pair is its peer and its local end.
+    Conn(u16, Pair, K),
+    /// A new configuration is to come into force: its text.
+    Reload(String),
+    /// Nothing came. The door may have waited before it said so.
+    Idle,
+    /// Nothing will come any more.
+    Closed,
+}
+
+/// Where connections come in. One thread alone uses it.
+pub trait Door {
+    type Link: Link;
+
+    /// What came next.
+    fn next(&mut self) -> Knock<Self::Link>;
+
+    /// What became of the reload that was last handed out.
+    fn report(&mut self, answer: &Result<Receipt, StepFault>);
+}
+
+/// What became of a connection to a server.
+#[derive(Drop)]
+pub enum Dialled<K> {
+    Link(K),
+    /// It is under way. It is asked for again once its key is ready.
+    Later,
+    Failed,
+}
+
+/// What a worker may do with a connection now, as far as its dial knows.
+#[derive(Clone, Copy, Debug, PartialEq, Eq)]
+pub struct Ready {
+    /// The key of the connection.
+    pub key: usize,
+    /// Of the link to its server, and not of the one to its client.
+    pub of_server: bool,
+    pub reads: bool,
+    pub writes: bool,
+    /// The other side will write no more, so that the end follows the bytes that are still to be read.
+    pub is_closed: bool,
+}
+
+/// One worker's way out to the servers, and its watch over the links that it keeps. No other thread uses it.
+pub trait Dial {
+    type Link: Link;
+
+    /// Begins to connect to a server for the connection of that key, or says what became of it. A link that it hands
+    /// out is watched.
+    fn poll(&mut self, key: usize, to: &Endpoint) -> Dialled<Self::Link>;
+
+    /// What was begun for the key is not asked for any more.
+    fn forget(&mut self, key: usize);
+
+    /// Watches the link of a client under its key; whether that went well.
+    fn watch(&mut self, key: usize, link: &mut Self::Link) -> bool;
+
+    /// Waits until something is ready, for `limit` ms at the most, and adds what is ready to the list as far as it has room.
+    /// It may end sooner. A key that is not in use any more may be among what is ready.
+    fn wait(&mut self, limit: u64, ready: &mut Vec<Ready>);
+}
+
+/// The time.
+pub trait Clock {
+    /// In ms. It never falls.
+    fn now(&self) -> u64;
+
+    /// Waits for a moment. The acceptor calls it where it found nothing to do.
+    fn rest(&self);
+}
+
+/// What is called around each call of a worker at the desk, while no lock is held. `nth` counts the worker's calls from 0.
+pub trait Gate {
+    /// Whether the call may be made. At `false` the worker stops.
+    fn enter(&self, worker: u16, nth: u64) -> bool;
+
+    fn leave(&self, worker: u16, nth: u64);
+}

@@ -1,0 +1,163 @@
+//! One worker: its turns, and what it does with each connection.
+
+ghost use Rattle.std.specs.Prelude.{◌≡◌};
+
+use crate::calls::{Calls, Hall, Outcome};
+use crate::conn::Conn;
+use crate::table::Table;
+use crate::traits::{Clock, Dial, Gate, Link, Ready};
+use addr_core::Pair;
+use conn_model::event::{HEADER_WAIT, Why};
+use conn_model::reply::Said;
+use desk_core::Pass;
+use rtrb::Consumer;
+use std::alloc::Global;
+use std::sync::Wait;
+use std::sync::ledger::Ledger;
+
+/// The most bytes that a worker reads in one call.
+pub(crate) const PIECE: usize = 16_384;
+
+/// How many links a dial reports in one turn at the most.
+pub(crate) const REPORTS: usize = 256;
+
+/// How long a worker waits at the most, in ms, where nothing is due.
+const LONGEST_WAIT: u64 = 100;
+
+/// A connection that the acceptor hands to a worker.
+#[derive(Drop)]
+pub(crate) struct Arrival<K: Link> {
+    pub(crate) listener: u16,
+    pub(crate) real: Pair,
+    pub(crate) link: K,
+}
+
+/// What a worker needs besides its pass and its dial. All of it takes memory.
+#[derive(Drop)]
+pub(crate) struct Bench<K: Link> {
+    pub(crate) arrivals: Consumer<Arrival<K>>,
+    pub(crate) table: Table<K>,
+    pub(crate) buffer: Vec<u8>,
+    pub(crate) ready: Vec<Ready>,
+}
+
+/// A worker.
+pub(crate) struct Worker<M: Ledger, O: Ledger, K: Link, L: Dial<Link = K>> {
+    pub(crate) calls: Calls<M, O>,
+    pub(crate) bench: Bench<K>,
+    pub(crate) dial: L,
+}
+
+impl<M: Ledger, O: Ledger, K: Link, L: Dial<Link = K>> Worker<M, O, K, L> {
+    pub(crate) fn new(
+        alloc: Global,
+        number: u16,
+        pass: Pass<M>,
+        bench: Bench<K>,
+        dial: L,
+    ) -> Worker<M, O, K, L>
+        ensures { result.calls.pass ≡ pass }
+    {
+        Worker {
+            calls: Calls::new(alloc, number, pass),
+            bench,
+            dial,
+        }
+    }
+
+    /// Works until the door is closed, the gate stops it, or its turns are used up. Then what is open is closed.
+    pub(crate) fn work<G: Gate, C: Clock, R: Wait>(&mut self, rt: &R, hall: &Hall<'_, M, O, G, C>) {
+        for _turn in 0..hall.turns {
+            self.turn(rt, hall);
+            let has_ended = self.bench.arrivals.is_abandoned() && self.bench.arrivals.is_empty();
+            if self.calls.is_stopped || has_ended {
+                break;
+            }
+        }
+        self.stop(rt, hall);
+    }
+
+    /// One turn. It costs what is ready, and not what is open.
+    fn turn<G: Gate, C: Clock, R: Wait>(&mut self, rt: &R, hall: &Hall<'_, M, O, G, C>) {
+        let limit = self.bench.table.limit(hall.clock.now(), LONGEST_WAIT);
+        self.bench.ready.clear();
+        self.dial.wait(limit, &mut self.bench.ready);
+        for ready in &self.bench.ready {
+            self.bench.table.raise(ready);
+        }
+        self.take_arrivals(rt, hall);
+        self.expire(rt, hall);
+        for _key in 0..self.bench.table.queued() {
+            if self.calls.is_stopped {
+                return;
+            }
+            if let Some(key) = self.bench.table.dequeue() {
+                self.serve(rt, hall, key);
+            }
+        }
+    }
+
+    fn take_arrivals<G: Gate, C: Clock, R: Wait>(&mut self, rt: &R, hall: &Hall<'_, M, O, G, C>) {
+        for _place in 0..self.bench.arrivals.slots() {
+            if self.calls.is_stopped {
+                return;
+            }
+            if let Ok(arrival) = self.bench.arrivals.pop() {
+                self.accept(rt, hall, arrival);
+            }
+        }
+    }
+
+    /// A connection came. Where it cannot be kept, it is shut.
+    fn accept<G: Gate, C: Clock, R: Wait>(
+        &mut self,
+        rt: &R,
+        hall: &Hall<'_, M, O, G, C>,
+        arrival: Arrival<K>,
+    ) {
+        let Arrival {
+            listener,
+            real,
+            link,
+        } = arrival;
+        let Ok(key) = self.bench.table.make_room() else {
+            return shut(link);
+        };
+        match self.calls.accept(rt, hall, key, listener, &real) {
+            Outcome::Open(said) => self.keep(rt, hall, key, link, &said),
+            Outcome::Ended | Outcome::Stopped => {}
+            Outcome::Failed(_fault) => shut(link),
+        }
+    }
+
+    /// Keeps an accepted connection under its key.
+    fn keep<G: Gate, C: Clock, R: Wait>(
+        &mut self,
+        rt: &R,
+        hall: &Hall<'_, M, O, G, C>,
+        key: usize,
+        link: K,
+        said: &Said,
+    ) {
+        let mut conn = Conn::new(link);
+        let is_watched = self.dial.watch(key, &mut conn.client);
+        let kept = self.bench.table.insert(conn);
+        if kept != Ok(key) || !is_watched {
+            return self.close(rt, hall, key, Why::Fault);
+        }
+        match said {
+            Said::Offer { to, send, .. } => {
+                self.offer(rt, hall, key, *to, send.as_slice(), (0, 0));
+            }
+            _ => {
+                let due = hall.clock.now().saturating_add(HEADER_WAIT);
+                self.bench.table.wait(key, due);
+            }
+        }
+    }
+}
+
+fn shut<K: Link>(link: K) {
+    let mut link = link;
+    let _ = link.shut();
+}

@@ -1,0 +1,38 @@
+//! A door with a list of knocks.
+
+use crate::link::FakeLink;
+use crate::stage::{Mark, Stage};
+use book_core::Receipt;
+use conn_model::reply::StepFault;
+use crew_core::{Door, Knock};
+use std::sync::Arc;
+
+/// A door that hands out its knocks, the last of the list first. Then it is closed once that mark is set.
+#[derive(Drop)]
+pub struct FakeDoor {
+    pub stage: Arc<Stage>,
+    pub knocks: Vec<Knock<FakeLink>>,
+    pub closes_after: Option<Mark>,
+    /// How many reloads went well, and how many did not.
+    pub reloads: (u32, u32),
+}
+
+impl Door for FakeDoor {
+    type Link = FakeLink;
+
+    fn next(&mut self) -> Knock<FakeLink> {
+        match self.knocks.pop() {
+            Some(knock) => knock,
+            None if self.stage.has_come(self.closes_after) => Knock::Closed,
+            None => Knock::Idle,
+        }
+    }
+
+    fn report(&mut self, answer: &Result<Receipt, StepFault>) {
+        let (well, badly) = self.reloads;
+        self.reloads = match answer {
+            Ok(_) => (well.saturating_add(1), badly),
+            Err(_) => (well, badly.saturating_add(1)),
+        };
+    }
+}

@@ -1,0 +1,124 @@
+//! Two workers that share a table, and one that passes bytes on.
+use crate::link::{Script, Text};
+use crate::play::{Play, run};
+use crate::stage::Mark;
+use crew_core::Summary;
+use desk_core::Settled;
+
+/// Two servers behind a PROXY header, and a table by which a source has one connection at a time.
+pub const TABLE: &str =
+    "frontend web\nbind 127.0.0.1:8080 accept-proxy\nmaxconn 3\nstick-table type ip size 2 store conn_cur,conn_cnt\nacl lan src 10.0.0.0/8\ntcp-request connection reject if !lan\ntcp-request session track-sc0 src\ntcp-request session reject if { sc0_conn_cur gt 1 }\ndefault_backend app\nbackend app\nbalance roundrobin\nserver s1 10.0.0.11:443 weight 2 maxconn 1 send-proxy\nserver s2 10.0.0.12:443 send-proxy-v2\n";
+
+/// A client that sends its header and some bytes, and waits for the answer.
+pub const CLIENT: Script = Script {
+    gives: Text::Request,
+    gives_after: None,
+    ends_after: Some(Mark::Answered),
+    fails: false,
+    expects: Text::Answer,
+    comes: Mark::Answered,
+    drops: Some(Mark::FirstOver),
+};
+
+/// A server that answers when it has all bytes.
+pub const SERVER: Script = Script {
+    gives: Text::Answer,
+    gives_after: Some(Mark::Served),
+    ends_after: Some(Mark::Answered),
+    fails: false,
+    expects: Text::Request,
+    comes: Mark::Served,
+    drops: None,
+};
+
+/// One worker and one client, until its link is dropped.
+pub const PLAIN: Play<'static> = Play {
+    text: TABLE,
+    reload: None,
+    clients: &[CLIENT],
+    server: SERVER,
+    fails: 0,
+    is_late: false,
+    closes_after: Some(Mark::FirstOver),
+    calls: u64::MAX,
+    holds: false,
+    workers: 1,
+    turns: 10_000,
+    step: 0,
+};
+
+#[test]
+fn bytes_after_a_header_come_to_the_server_and_its_answer_back(rt: HostRuntime) {
+    let play = Play {
+        is_late: true,
+        ..PLAIN
+    };
+    let Some(ended) = run(&rt, rt.alloc(), &rt, &play) else {
+        assert!(rt; false, "there is memory");
+        return;
+    };
+    assert_eq!(rt; ended.fault, None);
+    assert_eq!(rt;
+        ended.words.as_slice(),
+        [("wait", 1), ("offer", 12), ("up", 1), ("done", 1)].as_slice()
+    );
+    assert!(rt;
+        ended.is_served && ended.is_answered && !ended.is_wrong,
+        "all bytes came"
+    );
+    assert_eq!(rt; ended.settled, Ok(Settled { made: 4, live: 0 }));
+}
+
+#[test]
+fn second_worker_sees_the_first_ones_connection(rt: HostRuntime) {
+    let first = Script {
+        ends_after: Some(Mark::SecondOver),
+        ..CLIENT
+    };
+    let second = Script {
+        gives: Text::Header,
+        gives_after: Some(Mark::Served),
+        ends_after: None,
+        drops: Some(Mark::SecondOver),
+        ..CLIENT
+    };
+    let server = Script {
+        ends_after: Some(Mark::SecondOver),
+        ..SERVER
+    };
+    let play = Play {
+        clients: &[first, second],
+        server,
+        holds: true,
+        workers: 2,
+        ..PLAIN
+    };
+    let Some(ended) = run(&rt, rt.alloc(), &rt, &play) else {
+        assert!(rt; false, "there is memory");
+        return;
+    };
+    assert_eq!(rt; ended.fault, None);
+    assert_eq!(rt;
+        ended.words.as_slice(),
+        [
+            ("wait", 1),
+            ("wait", 2),
+            ("offer", 12),
+            ("up", 2),
+            ("refuse", 8),
+            ("done", 2)
+        ]
+        .as_slice()
+    );
+    assert_eq!(rt;
+        ended.summary,
+        Summary {
+            accepted: 2,
+            taken: 2,
+            closed: 1,
+            recorded: 6
+        }
+    );
+    assert_eq!(rt; ended.calls, 6);
+    assert_eq!(rt; ended.settled, Ok(Settled { made: 6, live: 0 }));
+}
