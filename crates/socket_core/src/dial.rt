@@ -1,0 +1,135 @@
+//! A worker's connections to servers, and its watch over all its sockets.
+use crate::WAKE;
+use crate::addresses::socket_address;
+use crate::link::{Progress, SocketLink};
+use addr_core::Endpoint;
+use crew_core::{Dial, Dialled, Ready};
+use mio::event::Event;
+use mio::net::TcpStream;
+use mio::{Events, Poll, Token, Waker};
+use std::alloc::Global;
+use std::collections::HashMap;
+use std::io;
+use std::net::Net;
+use std::sync::Arc;
+use std::time::Duration;
+
+/// How many events a wait takes from the system at most.
+const MOST_EVENTS: usize = 256;
+
+/// The poll of a worker, and its connections that are under way. Each socket is registered once, for reading and for
+/// writing, under a token that has its key; the system reports only what changed.
+#[derive(Drop)]
+pub struct SocketDial<'a, R: Net> {
+    rt: &'a R,
+    poll: Poll,
+    events: Events,
+    // How many of the events were handed out, or none where all were.
+    handed_out: Option<usize>,
+    // Kept for as long as the poll: a wake is lost if its waker is dropped first.
+    waker: Arc<Waker, Global>,
+    under_way: HashMap<usize, SocketLink>,
+}
+
+/// The token of a socket of the connection of that key.
+fn token_of(key: usize, of_server: bool) -> Token {
+    Token(key.wrapping_mul(2) | usize::from(of_server))
+}
+
+/// What an event says, if it is one of a socket.
+fn ready_of(event: &Event) -> Option<Ready> {
+    let token = event.token();
+    if token == WAKE {
+        return None;
+    }
+    Some(Ready {
+        key: token.0 / 2,
+        of_server: token.0 % 2 == 1,
+        reads: event.is_readable() || event.is_read_closed() || event.is_error(),
+        writes: event.is_writable() || event.is_write_closed() || event.is_error(),
+        is_closed: event.is_read_closed(),
+    })
+}
+
+impl<'a, R: Net> SocketDial<'a, R> {
+    /// Fails where the system or memory has no room for one more poll.
+    pub fn new(rt: &'a R, alloc: Global) -> io::Result<SocketDial<'a, R>> {
+        let poll = Poll::new(rt)?;
+        let waker = Arc::new(alloc, Waker::new(poll.registry(), WAKE)?)?;
+        Ok(SocketDial {
+            rt,
+            poll,
+            events: Events::with_capacity(alloc, MOST_EVENTS)?,
+            handed_out: None,
+            waker,
+            under_way: HashMap::new(alloc),
+        })
+    }
+
+    /// What ends a wait of this dial from another thread. The dial keeps it too.
+    pub fn waker(&self) -> io::Result<Arc<Waker, Global>> {
+        Ok(Arc::try_clone(&self.waker)?)
+    }
+
+    /// Begins to connect. The socket is watched at once, so that its outcome is reported under its key.
+    fn begin(&mut self, key: usize, to: &Endpoint) -> Option<SocketLink> {
+        let stream = TcpStream::connect(self.rt, socket_address(to)).ok()?;
+        let mut link = SocketLink::of(stream);
+        if link.watch(self.poll.registry(), token_of(key, true)) {
+            Some(link)
+        } else {
+            None
+        }
+    }
+}
+
+impl<'a, R: Net> Dial for SocketDial<'a, R> {
+    type Link = SocketLink;
+
+    fn poll(&mut self, key: usize, to: &Endpoint) -> Dialled<SocketLink> {
+        let begun = match self.under_way.remove(&key) {
+            Some(link) => Some(link),
+            None => self.begin(key, to),
+        };
+        let Some(mut link) = begun else {
+            return Dialled::Failed;
+        };
+        match link.progress() {
+            Progress::Connected => Dialled::Link(link),
+            Progress::Failed => Dialled::Failed,
+            Progress::UnderWay => match self.under_way.insert(key, link) {
+                Ok(_) => Dialled::Later,
+                Err(_) => Dialled::Failed,
+            },
+        }
+    }
+
+    fn forget(&mut self, key: usize) {
+        let _link = self.under_way.remove(&key);
+    }
+
+    fn watch(&mut self, key: usize, link: &mut SocketLink) -> bool {
+        link.watch(self.poll.registry(), token_of(key, false))
+    }
+
+    fn wait(&mut self, limit: u64, ready: &mut Vec<Ready>) {
+        let from = match self.handed_out {
+            Some(count) => count,
+            None => {
+                let limit = Duration::from_millis(limit);
+                let _waited = self.poll.poll(&mut self.events, Some(limit));
+                0
+            }
+        };
+        // The system reports a change once, so what finds no room now is kept for the next wait.
+        for (place, event) in self.events.iter().enumerate().skip(from) {
+            if let Some(one) = ready_of(&event) {
+                if ready.push(one).is_err() {
+                    self.handed_out = Some(place);
+                    return;
+                }
+            }
+        }
+        self.handed_out = None;
+    }
+}

@@ -1,0 +1,228 @@
+//! The door: connections of the listeners, and the words of an operator.
+use crate::link::SocketLink;
+use crate::listeners::{ListenFault, Listeners};
+use crate::pace::Pace;
+use crate::ports::{Arrival, Ports};
+use crate::seats::{Seat, Seats};
+use crate::words::{Bell, MOST_WORDS, Word};
+use book_core::Receipt;
+use conn_model::reply::{Said, StepFault};
+use crew_core::{Clock, Door, Knock};
+use log::{Log, info, warn};
+use mio::Waker;
+use rtrb::{Consumer, RingBuffer};
+use std::alloc::{AllocError, Global};
+use std::io;
+use std::net::Net;
+use std::sync::Arc;
+
+/// How long the door waits for a knock, and how long it accepts nothing after the system refused to give a connection,
+/// in ms.
+const WAIT: u64 = 100;
+
+/// How long the door waits where nothing is accepted, in ms.
+const PAUSE: u64 = 10;
+
+/// Where connections come in, and words.
+#[derive(Drop)]
+pub struct SocketDoor<'a, R: Log, C: Clock> {
+    rt: &'a R,
+    clock: &'a C,
+    ports: Ports,
+    words: Consumer<Word>,
+    // Kept for as long as the ports: a wake is lost if its waker is dropped first.
+    waker: Arc<Waker, Global>,
+    /// The wakers of the workers.
+    workers: Vec<Arc<Waker, Global>>,
+    /// How many connections were handed out.
+    given: u64,
+    /// Whether the worker of the last one is still to be woken.
+    owes_wake: bool,
+    /// Until when nothing is accepted.
+    resumes: Option<u64>,
+    is_closed: bool,
+    seats: Arc<Seats, Global>,
+    full: Pace,
+    refused: Pace,
+    lost: Pace,
+}
+
+impl<'a, R: Log + Net, C: Clock> SocketDoor<'a, R, C> {
+    /// A door over these listeners, and the bell by which words come to it. No more than `most` connections are open at
+    /// one time.
+    pub fn new(
+        rt: &'a R,
+        alloc: Global,
+        clock: &'a C,
+        listeners: Listeners,
+        most: u64,
+    ) -> Result<(SocketDoor<'a, R, C>, Bell), ListenFault> {
+        let ports = Ports::new(rt, alloc, listeners)?;
+        let waker = ports.waker(alloc)?;
+        let (to_door, words) = RingBuffer::new(alloc, MOST_WORDS)?;
+        let bell = Bell::new(to_door, Arc::try_clone(&waker)?);
+        let door = SocketDoor {
+            rt,
+            clock,
+            ports,
+            words,
+            waker,
+            workers: Vec::new(alloc),
+            given: 0,
+            owes_wake: false,
+            resumes: None,
+            is_closed: false,
+            seats: Arc::new(alloc, Seats::new(most)).map_err(|_| ListenFault::NoMemory)?,
+            full: Pace::new(),
+            refused: Pace::new(),
+            lost: Pace::new(),
+        };
+        Ok((door, bell))
+    }
+}
+
+impl<'a, R: Log, C: Clock> SocketDoor<'a, R, C> {
+    /// Has the door wake the next worker where a connection is for it. The workers are added in their order.
+    pub fn add_worker(&mut self, waker: Arc<Waker, Global>) -> Result<(), AllocError> {
+        Ok(self.workers.push(waker)?)
+    }
+
+    /// Wakes the worker of the connection that was handed out last. Connection n goes to worker n modulo workers, and
+    /// is in the hands of its worker by the time that the door is asked again.
+    fn wake_last(&mut self) {
+        let count = self.workers.len();
+        if self.owes_wake && count != 0 {
+            let last = self.given.saturating_sub(1);
+            let place = (last % count as u64) as usize;
+            let _woken = self.workers[place].wake();
+        }
+        self.owes_wake = false;
+    }
+
+    fn wake_all(&self) {
+        for worker in self.workers.iter() {
+            let _woken = worker.wake();
+        }
+    }
+
+    /// The next word, if one came. Where none will come any more, that is `Quit`.
+    fn next_word(&mut self) -> Option<Word> {
+        // In this order: a word that was handed in before the bell was dropped is not missed.
+        let is_last = self.words.is_abandoned();
+        match self.words.pop() {
+            Ok(word) => Some(word),
+            Err(_) if is_last => Some(Word::Quit),
+            Err(_) => None,
+        }
+    }
+
+    fn is_paused(&mut self) -> bool {
+        match self.resumes {
+            None => false,
+            Some(moment) if self.clock.now() < moment => true,
+            Some(_) => {
+                self.resumes = None;
+                false
+            }
+        }
+    }
+
+    /// Nothing is accepted for a moment. What waits stays with the system.
+    fn pause(&mut self, error: &io::Error) {
+        let now = self.clock.now();
+        if self.refused.allows(now) {
+            warn!(self.rt; "no connection can be accepted: {error}");
+        }
+        self.resumes = Some(now.saturating_add(WAIT));
+    }
+
+    /// Nothing is accepted until a connection ends. What waits stays with the system.
+    fn hold(&mut self) {
+        let now = self.clock.now();
+        if self.full.allows(now) {
+            warn!(self.rt; "no connection is accepted: as many are open as the limit of open files allows");
+        }
+        self.resumes = Some(now.saturating_add(PAUSE));
+    }
+
+    fn accept(&mut self) -> Option<Knock<SocketLink>> {
+        if self.is_paused() {
+            return None;
+        }
+        let Some(seat) = Seat::take(&self.seats) else {
+            self.hold();
+            return None;
+        };
+        match self.ports.accept() {
+            Arrival::Conn(listener, pair, link) => {
+                self.given = self.given.wrapping_add(1);
+                self.owes_wake = true;
+                Some(Knock::Conn(listener, pair, link.with_seat(seat)))
+            }
+            Arrival::Lost => {
+                if self.lost.allows(self.clock.now()) {
+                    warn!(self.rt; "a connection was dropped: it ended early, or its ends are not of one family");
+                }
+                None
+            }
+            Arrival::Refused(error) => {
+                self.pause(&error);
+                None
+            }
+            Arrival::Nothing => None,
+        }
+    }
+
+    /// What came, if anything did. Words come first, so that connections cannot keep them waiting.
+    fn knock(&mut self) -> Option<Knock<SocketLink>> {
+        match self.next_word() {
+            Some(Word::Reload(text)) => Some(Knock::Reload(text)),
+            Some(Word::Quit) => {
+                self.is_closed = true;
+                self.wake_all();
+                Some(Knock::Closed)
+            }
+            None => self.accept(),
+        }
+    }
+}
+
+impl<'a, R: Log, C: Clock> Door for SocketDoor<'a, R, C> {
+    type Link = SocketLink;
+
+    fn next(&mut self) -> Knock<SocketLink> {
+        self.wake_last();
+        if self.is_closed {
+            self.wake_all();
+            return Knock::Closed;
+        }
+        if let Some(knock) = self.knock() {
+            return knock;
+        }
+        let limit = if self.is_paused() {
+            PAUSE
+        } else if self.ports.may_accept() {
+            0
+        } else {
+            WAIT
+        };
+        self.ports.wait(limit);
+        self.knock().unwrap_or(Knock::Idle)
+    }
+
+    /// Says what became of a reload, in one line for each.
+    fn report(&mut self, answer: &Result<Receipt, StepFault>) {
+        match answer {
+            Ok(receipt) => {
+                if let Said::Reloaded { version } = &receipt.reply.said {
+                    info!(self.rt; "reloaded as version {version}");
+                }
+            }
+            Err(StepFault::BadConfig(fault)) => warn!(self.rt; "the reload is refused: {fault}"),
+            Err(StepFault::BindChanged) => {
+                warn!(self.rt; "the reload is refused: it binds other addresses than are in force")
+            }
+            Err(fault) => warn!(self.rt; "the reload is refused: {fault:?}"),
+        }
+    }
+}

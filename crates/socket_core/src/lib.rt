@@ -1,0 +1,34 @@
+//! The sockets of a crew: listeners, connections to servers, and the words of an operator.
+//!
+//! No other crate opens a socket. What is decided about a connection is not decided here.
+#![tactic(auto)]
+
+pub use clock::SystemClock;
+pub use dial::SocketDial;
+pub use door::SocketDoor;
+pub use gate::NoGate;
+pub use link::{Socket, SocketLink};
+pub use listeners::{ListenFault, Listeners, listen};
+pub use pace::Pace;
+pub use record::{RecordFault, write_journal};
+pub use serving::{ServeFault, Served, make_dials, open_book, serve};
+pub use words::{Bell, Word};
+
+mod addresses;
+mod clock;
+mod dial;
+mod door;
+mod gate;
+mod link;
+mod listeners;
+mod pace;
+mod ports;
+mod record;
+mod seats;
+mod serving;
+mod words;
+
+use mio::Token;
+
+/// The token of a waker. No listener and no key of a connection has it.
+const WAKE: Token = Token(usize::MAX);

@@ -1,0 +1,131 @@
+//! A connection of bytes over a socket.
+ghost use Rattle.std.specs.Prelude.{◌<◌, length};
+
+use crate::seats::Seat;
+use crew_core::Link;
+use device_core::{Failed, Got, Input, Output, Put, StdDevice};
+use mio::net::TcpStream;
+use mio::{Interest, Registry, Token};
+use std::io;
+use std::io::{Read, Write};
+use std::net::Shutdown;
+
+/// A socket of a connection. Dropping it ends the connection.
+#[derive(Drop)]
+pub struct Socket {
+    stream: TcpStream,
+}
+
+impl Read for Socket {
+    fn read(&mut self, buf: &mut [u8]) -> io::Result<usize> {
+        self.stream.read(buf)
+    }
+}
+
+impl Write for Socket {
+    fn write(&mut self, buf: &[u8]) -> io::Result<usize> {
+        self.stream.write(buf)
+    }
+
+    fn flush(&mut self) -> io::Result<()> {
+        Ok(())
+    }
+}
+
+/// A socket as a connection that does not wait.
+#[derive(Drop)]
+pub struct SocketLink {
+    device: StdDevice<Socket>,
+    // Of a client.
+    seat: Option<Seat>,
+}
+
+impl SocketLink {
+    /// The link of a stream. Small messages are sent without delay, where the system does that.
+    pub fn of(stream: TcpStream) -> SocketLink {
+        let _is_set = stream.set_nodelay(true);
+        SocketLink {
+            device: StdDevice::of(Socket { stream }),
+            seat: None,
+        }
+    }
+
+    /// The link of a client, which keeps its seat for as long as it is there.
+    pub fn with_seat(self, seat: Seat) -> SocketLink {
+        let SocketLink { device, seat: _ } = self;
+        SocketLink {
+            device,
+            seat: Some(seat),
+        }
+    }
+
+    /// Has a poll report the socket under that token when it can be read or written; whether that went well.
+    pub fn watch(&mut self, registry: &Registry, token: Token) -> bool {
+        let both = Interest::READABLE | Interest::WRITABLE;
+        let stream = &mut self.device.get_mut().stream;
+        registry.register(stream, token, both).is_ok()
+    }
+
+    /// How far a connection is that was begun.
+    pub fn progress(&mut self) -> Progress {
+        let stream = &mut self.device.get_mut().stream;
+        // The system tells an error once, and after that a connection that failed reads as one that ended. So this
+        // question is the first.
+        if !matches!(stream.take_error(), Ok(None)) {
+            return Progress::Failed;
+        }
+        match stream.peer_addr() {
+            Ok(_) => Progress::Connected,
+            Err(_) => Progress::UnderWay,
+        }
+    }
+}
+
+/// How far a connection is that was begun.
+#[derive(Clone, Copy, Debug, PartialEq, Eq)]
+pub enum Progress {
+    Connected,
+    UnderWay,
+    Failed,
+}
+
+impl Input for SocketLink {
+    ghost use Rattle.std.specs.Prelude.{◌≡◌, None};
+    ghost use Rattle.device_core.specs.Device.{Reads, failures_after, raised, read_stalls};
+
+    ghost left = { λ _. None };
+
+    ghost failures = { λ link. link.device.failures };
+
+    ghost calls = { λ link. link.device.calls };
+
+    ghost stalls = { λ link. link.device.stalls };
+
+    fn read(&mut self, buffer: &mut [u8]) -> Result<Got, Failed> {
+        self.device.read(buffer)
+    }
+}
+
+impl Output for SocketLink {
+    ghost use Rattle.std.specs.Prelude.{◌≡◌, None};
+    ghost use Rattle.device_core.specs.Device.{Writes, failures_after, raised, write_stalls};
+
+    ghost held = { λ _. None };
+
+    ghost failures = { λ link. link.device.failures };
+
+    ghost calls = { λ link. link.device.calls };
+
+    ghost stalls = { λ link. link.device.stalls };
+
+    fn write(&mut self, bytes: &[u8]) -> Result<Put, Failed> {
+        self.device.write(bytes)
+    }
+}
+
+impl Link for SocketLink {
+    fn shut(&mut self) -> bool {
+        let stream = &mut self.device.get_mut().stream;
+        stream.shutdown(Shutdown::Write).is_ok()
+    }
+}
