@@ -1,5 +1,5 @@
 //! The command line.
-use clap::{Arg, Command};
+use clap::{Arg, Command, value_parser};
 use std::alloc::{AllocError, Global};
 
 fn file<'a>(alloc: Global) -> Arg<'a> {
@@ -52,6 +52,19 @@ fn audit<'a>(alloc: Global) -> Result<Command<'a>, AllocError> {
         .arg(record)
 }
 
+fn serve<'a>(alloc: Global) -> Result<Command<'a>, AllocError> {
+    let workers = Arg::new(alloc, "workers")
+        .long("workers")
+        .value_name("N")
+        .value_parser(value_parser!(u16).range(1..=64))
+        .default_value("2")
+        .help("How many threads judge connections and pass them on, 1 to 64");
+    Command::new(alloc, "serve")
+        .about("Takes connections and passes them on, until standard input says `quit` or ends")
+        .arg(file(alloc))?
+        .arg(workers)
+}
+
 /// The commands and their words.
 pub fn commands<'a>(alloc: Global) -> Result<Command<'a>, AllocError> {
     Command::new(alloc, "l4proxy")
@@ -62,5 +75,6 @@ pub fn commands<'a>(alloc: Global) -> Result<Command<'a>, AllocError> {
         .subcommand(check(alloc)?)?
         .subcommand(replay(alloc)?)?
         .subcommand(pipe(alloc)?)?
-        .subcommand(audit(alloc)?)
+        .subcommand(audit(alloc)?)?
+        .subcommand(serve(alloc)?)
 }

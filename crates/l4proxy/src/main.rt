@@ -4,28 +4,33 @@
 //! `l4proxy replay FILE SCRIPT` opens the configuration FILE and answers the events of SCRIPT, one
 //! line each, on standard output. `l4proxy pipe FILE FRONTEND PEER LOCAL` passes one connection on, from
 //! standard input to standard output. `l4proxy audit FILE RECORD` answers the events of RECORD again and
-//! compares each reply. The exit status is 0 when that is done, 1 where the configuration or the
+//! compares each reply. `l4proxy serve FILE` takes connections and passes them on, and writes the record of them on
+//! standard output when standard input says `quit` or ends. The exit status is 0 when that is done, 1 where the configuration or the
 //! connection is refused, a line of the script hands in no event or one of the record is wrong, 2 for
 //! words that are no command, and 3 where something cannot be read or written, or memory ran out.
 #![tactic(auto)]
 
 use crate::command::commands;
 use crate::message::refusal;
+use crate::serve::{ServeWords, Stand};
 use clap::ArgMatches;
 use clap::error::ErrorKind;
 use conn_core::OpenFault;
 use device_core::{FromRead, ToWrite};
 use replay_core::{PrintFault, ReplayFault, run_check, run_replay};
+use socket_core::{ServeFault, SystemClock};
 use std::process::ExitCode;
 use std::rt::Files;
-use std::{env, fs, io};
+use std::{env, fs, io, thread};
 
 mod advice;
 mod audit;
 mod command;
+mod input;
 mod message;
 mod pipe;
 mod quote;
+mod serve;
 
 /// All was done.
 const DONE: u8 = 0;
@@ -124,15 +129,25 @@ fn check_file<R: Files + AllocGlobal + Print + Eprint>(rt: &R, file: &str) -> u8
     }
 }
 
-/// Does what the words ask for.
+/// What the words ask for.
+#[derive(Drop)]
+enum Asked {
+    /// It is done, with that status.
+    Done(u8),
+    /// To serve, which begins where threads can be started.
+    Serve(ServeWords),
+}
+
+/// Does what the words ask for, unless that is to serve.
 fn run<R: Files + AllocGlobal + io::Input + Print + Eprint>(
     rt: &R,
     words: &[String],
-) -> Result<u8, clap::Error> {
+) -> Result<Asked, clap::Error> {
     let matches = commands(rt.alloc())?.try_get_matches_from(words)?;
     match matches.subcommand() {
-        Some((name, given)) => Ok(run_command(rt, name, given)),
-        None => Ok(USAGE),
+        Some(("serve", given)) => Ok(Asked::Serve(serve::words(rt.alloc(), given)?)),
+        Some((name, given)) => Ok(Asked::Done(run_command(rt, name, given))),
+        None => Ok(Asked::Done(USAGE)),
     }
 }
 
@@ -150,19 +165,54 @@ fn run_command<R: Files + AllocGlobal + io::Input + Print + Eprint>(
     }
 }
 
-fn main(rt: HostRuntime) -> ExitCode {
-    let words: Vec<String> = match env::args(&rt) {
-        Ok(words) => match words.collect(rt.alloc()) {
-            Ok(words) => words,
-            Err(_) => return ExitCode::from(DEVICE),
-        },
-        Err(error) if error.kind() == io::ErrorKind::OutOfMemory => return ExitCode::from(DEVICE),
-        Err(_) => return ExitCode::from(USAGE),
-    };
-    match run(&rt, words.as_slice()) {
-        Ok(status) => ExitCode::from(status),
-        Err(error) => ExitCode::from(explain(&rt, &error)),
+/// The words of the command line, or the status where there are none.
+fn arguments(rt: &(impl env::Env + AllocGlobal)) -> Result<Vec<String>, u8> {
+    match env::args(rt) {
+        Ok(words) => words.collect(rt.alloc()).map_err(|_| DEVICE),
+        Err(error) if error.kind() == io::ErrorKind::OutOfMemory => Err(DEVICE),
+        Err(_) => Err(USAGE),
     }
+}
+
+fn main(rt: HostRuntime) -> ExitCode {
+    let asked = match arguments(&rt) {
+        Ok(words) => run(&rt, words.as_slice()),
+        Err(status) => return ExitCode::from(status),
+    };
+    let words = match asked {
+        Ok(Asked::Serve(words)) => words,
+        Ok(Asked::Done(status)) => return ExitCode::from(status),
+        Err(error) => return ExitCode::from(explain(&rt, &error)),
+    };
+    let clock = match SystemClock::start(&rt) {
+        Ok(clock) => clock,
+        Err(error) => return ExitCode::from(serve::fail(&rt, &error)),
+    };
+    let stand = match serve::open(&rt, &clock, &words) {
+        Ok(stand) => stand,
+        Err(status) => return ExitCode::from(status),
+    };
+    let Stand {
+        book,
+        mut door,
+        bell,
+        dials,
+    } = stand;
+    // What goes to a thread is made here, where the runtime is known. The reader of standard input is not waited for:
+    // it may be in a read when the crew ends for another cause.
+    let ServeWords { file, workers, .. } = words;
+    let reader = match rt.clone() {
+        Ok(handle) => thread::spawn(&rt, move || {
+            input::read_words(&handle, file.as_str(), bell)
+        })
+        .is_ok(),
+        Err(_) => false,
+    };
+    if !reader {
+        book.end();
+        return ExitCode::from(serve::fail(&rt, &ServeFault::Spawn));
+    }
+    ExitCode::from(serve::attend(&rt, &clock, book, &mut door, dials, workers))
 }
 
 /// Prints why the words are no command, or the help that they ask for.

@@ -1,0 +1,73 @@
+//! What standard input says while `l4proxy serve` runs.
+use crew_core::Clock;
+use log::{Log, warn};
+use socket_core::{Bell, Pace, SystemClock, Word};
+use std::rt::Files;
+use std::{fs, io, rt};
+
+/// The reader of standard input, and when it last spoke of each cause.
+#[derive(Drop)]
+struct Ear<'a, R: rt::Clock> {
+    rt: &'a R,
+    file: &'a str,
+    bell: Bell,
+    clock: SystemClock<'a, R>,
+    unknown: Pace,
+    unreadable: Pace,
+    full: Pace,
+}
+
+impl<'a, R: Files + AllocGlobal + rt::Clock + Log> Ear<'a, R> {
+    /// Hands the text of the file to the door. Where the file cannot be read, nothing changes.
+    fn reload(&mut self) {
+        let Ok(text) = fs::read_to_string(self.rt, self.file) else {
+            if self.unreadable.allows(self.clock.now()) {
+                warn!(self.rt; "nothing is reloaded: {} cannot be read", self.file);
+            }
+            return;
+        };
+        if !self.bell.ring(Word::Reload(text)) && self.full.allows(self.clock.now()) {
+            warn!(self.rt; "nothing is reloaded: too many reloads wait");
+        }
+    }
+
+    fn skip(&mut self) {
+        if self.unknown.allows(self.clock.now()) {
+            warn!(self.rt; "a line of standard input is skipped: it is neither `reload` nor `quit`");
+        }
+    }
+}
+
+/// Hands the words of standard input to the door: `reload` reads the file again, `quit` and the end of the input close
+/// the door. Other lines are skipped.
+pub fn read_words<'a, R: Files + AllocGlobal + io::Input + rt::Clock + Log>(
+    rt: &'a R,
+    file: &'a str,
+    bell: Bell,
+) {
+    // Without the time the bell is dropped here, which closes the door.
+    let Ok(clock) = SystemClock::start(rt) else {
+        return;
+    };
+    let mut ear = Ear {
+        rt,
+        file,
+        bell,
+        clock,
+        unknown: Pace::new(),
+        unreadable: Pace::new(),
+        full: Pace::new(),
+    };
+    for line in rt.lines(rt.alloc()) {
+        match line {
+            Ok(line) => match line.as_str() {
+                "reload" => ear.reload(),
+                "quit" => break,
+                _ => ear.skip(),
+            },
+            Err(error) if error.kind() == io::ErrorKind::InvalidData => ear.skip(),
+            Err(_) => break,
+        }
+    }
+    let _is_in = ear.bell.ring(Word::Quit);
+}

@@ -1,0 +1,255 @@
+//! `l4proxy serve`: connections of sockets, until standard input says `quit` or ends.
+ghost use Rattle.std.specs.Prelude.{◌≡◌, ◌≤◌, IfOk, IfSome, vec_len};
+ghost use Rattle.book_core.specs.Open.{open_connections};
+
+use crate::{DEVICE, DONE, REFUSED, explain_refusal, unreadable};
+use addr_core::{Endpoint, write_endpoint};
+use book_core::Book;
+use clap::ArgMatches;
+use conn_core::OpenFault;
+use crew_core::{Clock, Dial, Door};
+use desk_core::SettleFault;
+use device_core::ToWrite;
+use log::Log;
+use socket_core::{
+    Bell, Listeners, ServeFault, Served, SocketDial, SocketDoor, SocketLink, SystemClock, listen,
+    make_dials, open_book, serve,
+};
+use std::alloc::{AllocError, Global};
+use std::net::Net;
+use std::rt::Files;
+use std::sync::Wait;
+use std::thread::Threads;
+use std::{fmt, fs, io, rt};
+
+/// How many descriptors are left for all that is no connection, listener or poll.
+const OTHER_FILES: u64 = 12;
+
+/// How many workers there are where the words do not say.
+const WORKERS: u16 = 2;
+
+/// The words of the command.
+#[derive(Drop)]
+pub struct ServeWords {
+    pub file: String,
+    /// 1 to 64.
+    pub workers: u16,
+    pub ghost some_workers: { 1 ≤ workers },
+    pub ghost few_workers: { workers ≤ 64 },
+}
+
+/// What the words name.
+pub fn words(alloc: Global, given: &ArgMatches<'_>) -> Result<ServeWords, AllocError> {
+    let mut file = String::new(alloc);
+    file.push_str(given.get_str("FILE").unwrap_or(""))?;
+    let workers = given.get_one("workers").unwrap_or(WORKERS).clamp(1, 64);
+    Ok(ServeWords { file, workers })
+}
+
+/// What stands ready before the first connection is taken.
+pub struct Stand<'a, R: Net + Log + rt::Clock> {
+    pub book: Book,
+    pub door: SocketDoor<'a, R, SystemClock<'a, R>>,
+    pub bell: Bell,
+    pub dials: Vec<SocketDial<'a, R>>,
+}
+
+/// Says on standard error what keeps it from serving.
+pub fn fail<F: fmt::Display>(rt: &impl Eprint, fault: &F) -> u8 {
+    let _written = eprintln!(rt; "l4proxy: {fault}");
+    DEVICE
+}
+
+/// A book over the configuration of the file.
+fn read_book<R: Files + AllocGlobal + Eprint>(rt: &R, file: &str) -> Result<Book, u8>
+    ensures made { IfOk result (λ book. book.made ≡ 0) }
+    ensures state { IfOk result (λ book. open_connections book.state ≡ 0) }
+    ensures base { IfOk result (λ book. open_connections book.base ≡ 0) }
+{
+    let Ok(text) = fs::read_to_string(rt, file) else {
+        return Err(unreadable(rt, file));
+    };
+    match open_book(rt.alloc(), text.as_str()) {
+        Ok(book) => Ok(book),
+        Err(fault) => {
+            explain_refusal(rt, file, text.as_str(), &fault);
+            match fault {
+                OpenFault::NoMemory => Err(DEVICE),
+                _ => Err(REFUSED),
+            }
+        }
+    }
+}
+
+/// The addresses of the book's listeners, by their numbers.
+fn addresses(alloc: Global, book: &Book) -> Result<Vec<Endpoint>, AllocError> {
+    let mut all = Vec::new(alloc);
+    for listener in book.base().listeners.as_slice() {
+        all.push(listener.at)?;
+    }
+    Ok(all)
+}
+
+/// Says where it listens, in one line for each listener.
+fn say_listeners(rt: &impl Eprint, book: &Book, listeners: &Listeners) {
+    for (number, listener) in book.base().listeners.as_slice().iter().enumerate() {
+        let at = listeners.at(number).unwrap_or(listener.at);
+        let frontends = book.base().frontends.as_slice();
+        let name = match frontends.get(usize::from(listener.frontend)) {
+            Some(frontend) => std::str::from_utf8(frontend.name.as_slice()).unwrap_or(""),
+            None => "",
+        };
+        let at = write_endpoint(&at);
+        let _written = eprintln!(rt; "l4proxy: listening on {at} (frontend {name})");
+    }
+}
+
+/// How many files the process may open, as the system says (`/proc/self/limits`), if there is a limit.
+fn open_files<R: Files + AllocGlobal>(rt: &R) -> Option<u64> {
+    let text = fs::read_to_string(rt, "/proc/self/limits").ok()?;
+    for line in text.as_str().lines() {
+        if let Some(limits) = line.strip_prefix("Max open files") {
+            return limits.split_whitespace().next()?.parse::<u64>().ok();
+        }
+    }
+    None
+}
+
+/// How many connections may be open at one time: each takes two descriptors, beside those of the listeners, of the
+/// workers' and the door's polls with their wakers, and some for all else.
+fn most_connections<R: Files + AllocGlobal>(rt: &R, listeners: usize, workers: u16) -> u64 {
+    let polls = u64::from(workers).saturating_add(1).saturating_mul(2);
+    let others = polls
+        .saturating_add(listeners as u64)
+        .saturating_add(OTHER_FILES);
+    match open_files(rt) {
+        Some(limit) => (limit.saturating_sub(others) / 2).max(1),
+        None => u64::MAX,
+    }
+}
+
+/// Binds the book's listeners, all of them before any connection is taken, and makes what watches them.
+fn open_sockets<'a, R: Files + Net + Log + rt::Clock + AllocGlobal + Eprint>(
+    rt: &'a R,
+    clock: &'a SystemClock<'a, R>,
+    book: &Book,
+    workers: u16,
+) -> Result<
+    (
+        SocketDoor<'a, R, SystemClock<'a, R>>,
+        Bell,
+        Vec<SocketDial<'a, R>>,
+    ),
+    u8,
+>
+    ensures { IfOk result (λ all. vec_len all.2 ≡ workers) }
+{
+    let alloc = rt.alloc();
+    let addresses = match addresses(alloc, book) {
+        Ok(addresses) => addresses,
+        Err(_) => return Err(fail(rt, &ServeFault::NoMemory)),
+    };
+    let listeners = match listen(rt, alloc, addresses.as_slice()) {
+        Ok(listeners) => listeners,
+        Err(fault) => return Err(fail(rt, &fault)),
+    };
+    say_listeners(rt, book, &listeners);
+    let most = most_connections(rt, listeners.len(), workers);
+    let (mut door, bell) = match SocketDoor::new(rt, alloc, clock, listeners, most) {
+        Ok(opened) => opened,
+        Err(fault) => return Err(fail(rt, &fault)),
+    };
+    match make_dials(rt, alloc, &mut door, workers) {
+        Ok(dials) => Ok((door, bell, dials)),
+        Err(fault) => Err(fail(rt, &fault)),
+    }
+}
+
+/// Opens the configuration and its listeners, or else says what is wrong and gives the status.
+pub fn open<'a, R: Files + Net + Log + rt::Clock + AllocGlobal + Eprint>(
+    rt: &'a R,
+    clock: &'a SystemClock<'a, R>,
+    words: &ServeWords,
+) -> Result<Stand<'a, R>, u8>
+    ensures made { IfOk result (λ stand. stand.book.made ≡ 0) }
+    ensures state { IfOk result (λ stand. open_connections stand.book.state ≡ 0) }
+    ensures base { IfOk result (λ stand. open_connections stand.book.base ≡ 0) }
+    ensures dials { IfOk result (λ stand. vec_len stand.dials ≡ words.now.workers) }
+{
+    let book = read_book(rt, words.file.as_str())?;
+    match open_sockets(rt, clock, &book, words.workers) {
+        Ok((door, bell, dials)) => Ok(Stand {
+            book,
+            door,
+            bell,
+            dials,
+        }),
+        Err(status) => {
+            book.end();
+            Err(status)
+        }
+    }
+}
+
+/// Says what was served.
+fn say_served(rt: &impl Eprint, served: &Served) -> u8 {
+    if let Err(fault) = &served.written {
+        let _written = eprintln!(rt; "l4proxy: standard output: {fault}");
+    }
+    match &served.settled {
+        Ok(settled) => {
+            let accepted = served.summary.accepted;
+            let _written = eprintln!(rt;
+                "l4proxy: {accepted} connections, {} records, {} open",
+                settled.made, settled.live
+            );
+        }
+        Err(fault) => say_unsettled(rt, fault),
+    }
+    match (&served.written, &served.settled) {
+        (Err(_), _) => DEVICE,
+        (Ok(()), Err(_)) => REFUSED,
+        (Ok(()), Ok(_)) => DONE,
+    }
+}
+
+/// Says in what the record differs from what the threads did.
+fn say_unsettled(rt: &impl Eprint, fault: &SettleFault) {
+    let _written = match fault {
+        SettleFault::WrongReceipt(number) => eprintln!(rt;
+            "l4proxy: record {number} differs from what was answered"
+        ),
+        SettleFault::Missing(number) => eprintln!(rt; "l4proxy: record {number} is missing"),
+        SettleFault::Twice(number) => eprintln!(rt; "l4proxy: record {number} was answered twice"),
+        SettleFault::NotAll => eprintln!(rt;
+            "l4proxy: the records or the open connections are not those of all workers"
+        ),
+    };
+}
+
+/// Serves until the door is closed; then writes the record on standard output, and says what was served.
+pub fn attend<
+    R: Threads + Wait + AllocGlobal + Print + Eprint + Sync,
+    L: Dial<Link = SocketLink> + Send + Drop,
+    D: Door<Link = SocketLink>,
+    C: Clock + Sync,
+>(rt: &R, clock: &C, book: Book, door: &mut D, dials: Vec<L>, workers: u16) -> u8
+    requires fresh { (book.made ≡ 0) × (open_connections book.state ≡ 0) × (open_connections book.base ≡ 0) }
+    requires workers { (vec_len dials ≡ workers) × (1 ≤ workers) × (workers ≤ 64) }
+{
+    let _written = eprintln!(rt; "l4proxy: ready");
+    let mut writer = ToWrite::of(io::writer(rt));
+    match serve(
+        rt,
+        rt.alloc(),
+        book,
+        door,
+        dials,
+        clock,
+        workers,
+        &mut writer,
+    ) {
+        Ok(served) => say_served(rt, &served),
+        Err(fault) => fail(rt, &fault),
+    }
+}
