@@ -11,7 +11,7 @@ import threading
 import time
 
 ROOT = pathlib.Path(__file__).resolve().parent.parent
-PARTS = (['rt', 'ci'], ['must-not-compile/run'], ['tests/run'], ['tests/pipe/run'])
+PARTS = (['rt', 'ci'], ['must-not-compile/run'], ['tests/run'], ['tests/pipe/run'], ['tests/serve'])
 MOST_EXPENSIVE = 5
 TICKS = os.sysconf('SC_CLK_TCK')
 
