@@ -1,0 +1,320 @@
+//! Clients and servers for a TCP relay, for `bench/serve/run`. The standard library and epoll alone.
+//!
+//!     load servers            three servers on free ports of the loopback: it prints `once PORT`, `discard PORT` and
+//!                             `echo PORT`, and serves until its standard input ends
+//!     load rate PORT N S      N clients for S seconds: each connects, sends 64 bytes, and takes all up to the end, again
+//!                             and again, from `once`
+//!     load bulk PORT N S      N connections that send as much as they can for S seconds, to `discard`
+//!     load ping PORT N S      N connections that send 64 bytes and wait for them to come back, again and again, from `echo`
+//!     load hold PORT N        N connections, each of which got 5 bytes back from `echo`; it prints `held`, and holds them
+//!                             until its standard input ends
+//!
+//! `rate`, `bulk` and `ping` print what was done (connections, bytes, messages), in how many seconds, and how many
+//! connections went wrong.
+
+use std::io::{ErrorKind, Read, Write};
+use std::net::{Shutdown, TcpListener, TcpStream};
+use std::os::fd::{AsRawFd, FromRawFd, RawFd};
+use std::sync::atomic::{AtomicBool, AtomicU64, Ordering::Relaxed};
+use std::thread;
+use std::time::{Duration, Instant};
+
+const MESSAGE: [u8; 64] = [b'x'; 64];
+const PART: usize = 131_072;
+const LISTENER: u64 = u64::MAX;
+
+// epoll, as Linux has it on x86-64
+
+#[repr(C, packed)]
+#[derive(Clone, Copy)]
+struct Event {
+    flags: u32,
+    key: u64,
+}
+
+const READABLE: u32 = 1;
+const WRITABLE: u32 = 4;
+const ADD: i32 = 1;
+const CHANGE: i32 = 3;
+const INTERNET: i32 = 2;
+const STREAM: i32 = 1;
+const NONBLOCKING: i32 = 0o4000;
+const IN_PROGRESS: i32 = 115;
+
+extern "C" {
+    fn epoll_create1(flags: i32) -> i32;
+    fn epoll_ctl(set: i32, what: i32, fd: i32, event: *mut Event) -> i32;
+    fn epoll_wait(set: i32, events: *mut Event, most: i32, limit: i32) -> i32;
+    fn socket(domain: i32, kind: i32, protocol: i32) -> i32;
+    fn connect(fd: i32, address: *const u8, length: u32) -> i32;
+}
+
+struct Poll {
+    set: i32,
+    events: [Event; 256],
+}
+
+impl Poll {
+    fn new() -> Poll {
+        let set = unsafe { epoll_create1(0) };
+        assert!(set >= 0, "no epoll");
+        Poll { set, events: [Event { flags: 0, key: 0 }; 256] }
+    }
+
+    fn watch(&self, what: i32, fd: RawFd, flags: u32, key: u64) {
+        let mut event = Event { flags, key };
+        assert_eq!(unsafe { epoll_ctl(self.set, what, fd, &mut event) }, 0, "epoll_ctl");
+    }
+
+    /// The keys that are ready, within `limit` ms.
+    fn wait(&mut self, limit: i32) -> Vec<u64> {
+        let count = unsafe { epoll_wait(self.set, self.events.as_mut_ptr(), 256, limit) };
+        self.events[..count.max(0) as usize].iter().map(|event| event.key).collect()
+    }
+}
+
+// Servers
+
+/// Sends back what comes; with `once` it closes after the first part.
+fn echo(listener: TcpListener, once: bool) {
+    listener.set_nonblocking(true).expect("a listener that does not wait");
+    let mut poll = Poll::new();
+    poll.watch(ADD, listener.as_raw_fd(), READABLE, LISTENER);
+    let mut links: Vec<Option<TcpStream>> = Vec::new();
+    let mut part = vec![0; PART];
+    loop {
+        for key in poll.wait(-1) {
+            if key == LISTENER {
+                while let Ok((link, _)) = listener.accept() {
+                    let fd = link.as_raw_fd() as usize;
+                    let _ = (link.set_nonblocking(true), link.set_nodelay(true));
+                    links.resize_with(links.len().max(fd + 1), || None);
+                    poll.watch(ADD, fd as i32, READABLE, fd as u64);
+                    links[fd] = Some(link);
+                }
+                continue;
+            }
+            let place = &mut links[key as usize];
+            let Some(link) = place else { continue };
+            let is_over = match link.read(&mut part) {
+                Ok(0) => true,
+                Ok(count) => link.write_all(&part[..count]).is_err() || once,
+                Err(error) => error.kind() != ErrorKind::WouldBlock,
+            };
+            if is_over {
+                *place = None;
+            }
+        }
+    }
+}
+
+/// Takes all up to the end, and then says how much it was.
+fn discard(listener: TcpListener) {
+    for link in listener.incoming() {
+        let Ok(mut link) = link else { continue };
+        thread::spawn(move || {
+            let mut part = vec![0; 2 * PART];
+            let mut total = 0u64;
+            while let Ok(count @ 1..) = link.read(&mut part) {
+                total += count as u64;
+            }
+            let _ = link.write_all(&total.to_le_bytes());
+        });
+    }
+}
+
+fn servers() {
+    let servers: [(&str, fn(TcpListener)); 3] =
+        [("once", |listener| echo(listener, true)), ("discard", discard), ("echo", |listener| echo(listener, false))];
+    for (name, serve) in servers {
+        let listener = TcpListener::bind("127.0.0.1:0").expect("a free port");
+        println!("{name} {}", listener.local_addr().expect("its port").port());
+        thread::spawn(move || serve(listener));
+    }
+    wait_for_end();
+}
+
+// Clients
+
+fn open(port: u16) -> TcpStream {
+    let link = TcpStream::connect(("127.0.0.1", port)).expect("a connection");
+    let _ = link.set_nodelay(true);
+    link
+}
+
+/// Begins to connect, and does not wait for it.
+fn begin(port: u16) -> Option<TcpStream> {
+    let mut address = [0u8; 16];
+    address[0] = INTERNET as u8;
+    address[2..4].copy_from_slice(&port.to_be_bytes());
+    address[4..8].copy_from_slice(&[127, 0, 0, 1]);
+    unsafe {
+        let fd = socket(INTERNET, STREAM | NONBLOCKING, 0);
+        if fd < 0 {
+            return None;
+        }
+        let link = TcpStream::from_raw_fd(fd);
+        let is_wrong = connect(fd, address.as_ptr(), 16) < 0 && std::io::Error::last_os_error().raw_os_error() != Some(IN_PROGRESS);
+        let _ = link.set_nodelay(true);
+        (!is_wrong).then_some(link)
+    }
+}
+
+/// One client, between its connect and the end.
+struct Visit {
+    link: TcpStream,
+    has_sent: bool,
+    taken: usize,
+}
+
+/// Goes on with a visit; `Some` at its end, and whether it went well.
+fn go_on(visit: &mut Visit, poll: &Poll, key: u64, part: &mut [u8]) -> Option<bool> {
+    let step = if visit.has_sent { visit.link.read(part) } else { visit.link.write(&MESSAGE) };
+    match step {
+        Err(error) if error.kind() == ErrorKind::WouldBlock => None,
+        Err(_) => Some(false),
+        Ok(_) if !visit.has_sent => {
+            visit.has_sent = true;
+            poll.watch(CHANGE, visit.link.as_raw_fd(), READABLE, key);
+            None
+        }
+        Ok(0) => Some(visit.taken == MESSAGE.len()),
+        Ok(count) => {
+            visit.taken += count;
+            None
+        }
+    }
+}
+
+fn come_and_go(port: u16, clients: usize, until: Instant, done: &AtomicU64, wrong: &AtomicU64) {
+    let mut poll = Poll::new();
+    let mut visits: Vec<Option<Visit>> = (0..clients).map(|_| None).collect();
+    let mut part = [0; 4096];
+    while Instant::now() < until {
+        for (key, place) in visits.iter_mut().enumerate().filter(|(_, place)| place.is_none()) {
+            match begin(port) {
+                Some(link) => {
+                    poll.watch(ADD, link.as_raw_fd(), READABLE | WRITABLE, key as u64);
+                    *place = Some(Visit { link, has_sent: false, taken: 0 });
+                }
+                None => {
+                    wrong.fetch_add(1, Relaxed);
+                }
+            }
+        }
+        for key in poll.wait(10) {
+            let place = &mut visits[key as usize];
+            let Some(visit) = place else { continue };
+            if let Some(is_good) = go_on(visit, &poll, key, &mut part) {
+                if is_good { done } else { wrong }.fetch_add(1, Relaxed);
+                *place = None;
+            }
+        }
+    }
+}
+
+fn rate(port: u16, clients: usize, seconds: f64) {
+    let (done, wrong) = (AtomicU64::new(0), AtomicU64::new(0));
+    let begun = Instant::now();
+    let until = begun + Duration::from_secs_f64(seconds);
+    thread::scope(|scope| {
+        for part in 0..2 {
+            let (done, wrong) = (&done, &wrong);
+            scope.spawn(move || come_and_go(port, (clients + part) / 2, until, done, wrong));
+        }
+    });
+    report(done.into_inner(), begun, wrong.into_inner());
+}
+
+/// Sends until it is told to stop; how many bytes, and whether all of them arrived.
+fn pour(port: u16, stop: &AtomicBool) -> (u64, bool) {
+    let (mut link, part, mut total) = (open(port), vec![7; PART], 0u64);
+    while !stop.load(Relaxed) {
+        match link.write(&part) {
+            Ok(count) => total += count as u64,
+            Err(_) => return (total, false),
+        }
+    }
+    let mut answer = [0; 8];
+    let is_right = link.shutdown(Shutdown::Write).is_ok() && link.read_exact(&mut answer).is_ok();
+    (total, is_right && u64::from_le_bytes(answer) == total)
+}
+
+fn bulk(port: u16, links: usize, seconds: f64) {
+    let stop = AtomicBool::new(false);
+    let begun = Instant::now();
+    let sent: Vec<(u64, bool)> = thread::scope(|scope| {
+        let threads: Vec<_> = (0..links).map(|_| scope.spawn(|| pour(port, &stop))).collect();
+        thread::sleep(Duration::from_secs_f64(seconds));
+        stop.store(true, Relaxed);
+        threads.into_iter().map(|thread| thread.join().expect("a thread that ends")).collect()
+    });
+    let wrong = sent.iter().filter(|(_, is_right)| !is_right).count();
+    report(sent.iter().map(|(total, _)| total).sum(), begun, wrong as u64);
+}
+
+fn ping(port: u16, links: usize, seconds: f64) {
+    let mut poll = Poll::new();
+    let mut links: Vec<(TcpStream, usize)> = (0..links).map(|_| (open(port), 0)).collect();
+    for (key, (link, _)) in links.iter_mut().enumerate() {
+        link.set_nonblocking(true).expect("a link that does not wait");
+        poll.watch(ADD, link.as_raw_fd(), READABLE, key as u64);
+        link.write_all(&MESSAGE).expect("the first message");
+    }
+    let (mut part, mut done, mut wrong) = ([0; 64], 0u64, 0u64);
+    let begun = Instant::now();
+    let until = begun + Duration::from_secs_f64(seconds);
+    while Instant::now() < until && wrong == 0 {
+        for key in poll.wait(100) {
+            let (link, taken) = &mut links[key as usize];
+            match link.read(&mut part) {
+                Ok(count @ 1..) => {
+                    *taken += count;
+                    if *taken >= MESSAGE.len() {
+                        *taken -= MESSAGE.len();
+                        done += 1;
+                        wrong += u64::from(link.write_all(&MESSAGE).is_err());
+                    }
+                }
+                Err(error) if error.kind() == ErrorKind::WouldBlock => {}
+                _ => wrong += 1,
+            }
+        }
+    }
+    report(done, begun, wrong);
+}
+
+fn hold(port: u16, count: usize) {
+    let links: Vec<TcpStream> = (0..count)
+        .map(|_| {
+            let (mut link, mut answer) = (open(port), [0; 5]);
+            link.write_all(b"hello").and_then(|()| link.read_exact(&mut answer)).expect("an answer");
+            link
+        })
+        .collect();
+    println!("held");
+    wait_for_end();
+    drop(links);
+}
+
+fn report(done: u64, begun: Instant, wrong: u64) {
+    println!("{done} {:.6} {wrong}", begun.elapsed().as_secs_f64());
+}
+
+fn wait_for_end() {
+    let _ = std::io::stdin().read_to_end(&mut Vec::new());
+}
+
+fn main() {
+    let words: Vec<String> = std::env::args().skip(1).collect();
+    let number = |at: usize| words.get(at).and_then(|word| word.parse::<f64>().ok()).expect("a number");
+    let (port, count) = (|| number(1) as u16, || number(2) as usize);
+    match words.first().map(String::as_str) {
+        Some("servers") => servers(),
+        Some("rate") => rate(port(), count(), number(3)),
+        Some("bulk") => bulk(port(), count(), number(3)),
+        Some("ping") => ping(port(), count(), number(3)),
+        Some("hold") => hold(port(), count()),
+        _ => panic!("servers, rate, bulk, ping or hold"),
+    }
+}
