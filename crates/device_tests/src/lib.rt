@@ -2,6 +2,8 @@
 #![tactic(auto)]
 
 #[cfg(test)]
+mod burst;
+#[cfg(test)]
 mod device;
 #[cfg(test)]
 mod pair;

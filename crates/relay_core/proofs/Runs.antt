@@ -3,7 +3,7 @@ use Rattle.std.proofs.Common.{ℕ, List, [], ◌∷◌, ◌++◌, Option, Some, 
 use Rattle.std.specs.Io.KnownBytes.{Consumes, Appends}
 use Rattle.relay_core.specs.Law.{Moves, Stream, Carries, Step, Follows, all_read, all_written}
 
-Consumes-nil : (left : Option (List ℕ)) → Consumes left left []
+pub Consumes-nil : (left : Option (List ℕ)) → Consumes left left []
 Consumes-nil None = tt
 Consumes-nil (Some xs) = refl
 
@@ -11,7 +11,7 @@ Appends-nil : (written : Option (List ℕ)) → Appends written written []
 Appends-nil None = tt
 Appends-nil (Some xs) = sym (append-nil xs)
 
-Consumes-both : (a b c : Option (List ℕ)) (xs ys : List ℕ) → Consumes a b xs → Consumes b c ys → Consumes a c (xs ++ ys)
+pub Consumes-both : (a b c : Option (List ℕ)) (xs ys : List ℕ) → Consumes a b xs → Consumes b c ys → Consumes a c (xs ++ ys)
 Consumes-both None b c xs ys p q = tt
 Consumes-both (Some l) None c xs ys p q = absurd p
 Consumes-both (Some l) (Some m) None xs ys p q = absurd q

@@ -22,6 +22,10 @@ room flow = flow.capacity - length flow.bytes
 abbrev pub IsDone : Held → Type 0
 IsDone flow = IsTrue flow.ended × (flow.bytes ≡ [])
 
+-- the end did not come, and nothing is held
+abbrev pub IsIdle : Held → Type 0
+IsIdle flow = (flow.ended ≡ false) × (flow.bytes ≡ [])
+
 -- a fill asks the reader where the end did not come and there is room
 abbrev pub asks_reader : Held → Bool
 asks_reader flow = not flow.ended && nat_lt 0 (room flow)

@@ -2,7 +2,7 @@
 ghost use Rattle.std.specs.Prelude.{◌≡◌, ◌<◌, ◌≤◌, ◌+◌, ◌++◌, [], ◌↔◌, IfOk, IsTrue, true, length, take};
 ghost use Rattle.std.specs.Io.KnownBytes.{Consumes, Appends};
 ghost use Rattle.relay_core.specs.Law.{Moves};
-ghost use Rattle.relay_core.specs.Flow.{room, IsDone, asks_reader, IsFillAnswer, read_in, after_fill, fill_calls, fill_failures, fill_stalls, IsDrainAnswer, drained_count, after_drain, drain_calls, drain_failures, drain_stalls};
+ghost use Rattle.relay_core.specs.Flow.{room, IsDone, IsIdle, asks_reader, IsFillAnswer, read_in, after_fill, fill_calls, fill_failures, fill_stalls, IsDrainAnswer, drained_count, after_drain, drain_calls, drain_failures, drain_stalls};
 
 use crate::once::{read_front, write_once};
 use circular_buffer::HeapCircularBuffer;
@@ -68,6 +68,13 @@ impl Flow {
         Ok(Flow { ring, ended: false })
     }
 
+    /// How many bytes it holds at the most.
+    pub fn capacity(&self) -> usize
+        ensures { result ≡ self.now.capacity }
+    {
+        self.ring.capacity()
+    }
+
     /// How many more bytes there is room for.
     pub fn room(&self) -> usize
         ensures { result ≡ room self.now }
@@ -87,6 +94,21 @@ impl Flow {
         ensures { IsTrue result ↔ (self.now.bytes ≡ []) }
     {
         self.ring.is_empty()
+    }
+
+    /// Whether nothing is held and the end did not come.
+    pub fn is_idle(&self) -> bool
+        ensures { IsTrue result ↔ IsIdle self.now }
+    {
+        self.is_empty() && !self.ended
+    }
+
+    /// Begins anew, with nothing held. The memory stays.
+    pub fn reset(&mut self)
+        ensures { self.new ≡ record self.old { bytes = []; ended = false } }
+    {
+        self.ring.clear();
+        self.ended = false;
     }
 
     /// Lets bytes follow those that are held.

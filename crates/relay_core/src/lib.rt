@@ -1,12 +1,15 @@
 //! Bytes on their way from a reader to a writer: none is lost, none comes twice, and none overtakes another.
 #![tactic(auto)]
 
+pub use burst::{Burst, Stop};
 pub use flow::{Drained, Filled, Flow, FlowFault};
 pub use law::run_carries;
 pub use pass::Moved;
 pub use relay::Relay;
 
+mod burst;
 mod flow;
+mod gather;
 mod law;
 mod once;
 mod pass;

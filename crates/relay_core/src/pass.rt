@@ -55,7 +55,11 @@ impl Flow {
     }
 
     /// Writes bytes past the flow, and holds what the writer did not take.
-    fn send<O: Output>(&mut self, writer: &mut O, bytes: &[u8]) -> Result<Drained, FlowFault>
+    pub(crate) fn send<O: Output>(
+        &mut self,
+        writer: &mut O,
+        bytes: &[u8],
+    ) -> Result<Drained, FlowFault>
         requires some { 0 < length bytes.now }
         requires empty { self.old.bytes ≡ [] }
         requires fits { length bytes.now ≤ room self.old }

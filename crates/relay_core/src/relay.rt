@@ -1,10 +1,12 @@
 //! Both directions of a connection.
-ghost use Rattle.std.specs.Prelude.{◌≡◌, true, ℕ, ◌<◌, ◌≤◌, ◌+◌, ◌++◌, ◌↔◌, [], IfOk, IsTrue, length};
+ghost use Rattle.std.specs.Prelude.{◌≡◌, true, ℕ, ◌<◌, ◌≤◌, ◌+◌, ◌++◌, ◌↔◌, [], IfOk, IsTrue, length, take};
 ghost use Rattle.std.specs.Io.KnownBytes.{Consumes, Appends};
-ghost use Rattle.relay_core.specs.Flow.{IsDone, asks_reader, IsFillAnswer, after_fill, fill_calls, fill_stalls, IsDrainAnswer, after_drain};
+ghost use Rattle.relay_core.specs.Flow.{room, IsDone, IsIdle, asks_reader, IsFillAnswer, after_fill, fill_calls, fill_stalls, IsDrainAnswer, after_drain};
+ghost use Rattle.relay_core.specs.Burst.{burst_limit, IsBurstStop, after_reads, HasAsked, stop_stalls, burst_read, burst_count, burst_written, burst_read_failures, burst_write_failures, burst_write_calls, burst_write_stalls, HasGathered, HasStopped};
 ghost use Rattle.relay_core.specs.Law.{Moves};
 ghost use Rattle.relay_core.specs.Pass.{pass_read, pass_written, pass_read_failures, pass_write_calls, pass_write_failures, pass_write_stalls, HasFilled};
 
+use crate::burst::Burst;
 use crate::flow::{Flow, FlowFault};
 use crate::pass::Moved;
 use device_core::{Input, Output};
@@ -108,6 +110,103 @@ impl Relay {
         ensures write_stalls { O.stalls writer.new ≡ pass_write_stalls result (O.stalls writer.old) }
     {
         self.back.pass(reader, writer, piece)
+    }
+
+    /// One burst from the client to the server.
+    pub fn burst_forth<I: Input, O: Output>(
+        &mut self,
+        reader: &mut I,
+        writer: &mut O,
+        piece: &mut [u8],
+        most: usize,
+    ) -> Result<Burst, FlowFault>
+        requires some { 0 < most }
+        requires fits { most ≤ length piece.old }
+        ensures other { self.new.back ≡ self.old.back }
+        ensures stop { IfOk result (λ b. IsBurstStop (asks_reader self.old.forth) self.old.forth b.read (burst_limit self.old.forth.bytes (room self.old.forth) most (length piece.old)) (I.left reader.old) piece.new (Ok b.stop)) }
+        ensures drained { IfOk result (λ b. IsDrainAnswer (self.old.forth.bytes ++ take b.read piece.new) (Ok b.drained)) }
+        ensures after { IfOk result (λ b. self.new.forth ≡ after_drain (after_reads self.old.forth b.read (Ok b.stop) piece.new) (Ok b.drained)) }
+
+        // After a fault what was read is held.
+        ensures read_fault { (result ≡ Err FlowFault.Read) → HasGathered self.old.forth self.new.forth (burst_limit self.old.forth.bytes (room self.old.forth) most (length piece.old)) (I.left reader.old) piece.new (Err FlowFault.Read) }
+        ensures write_fault { (result ≡ Err FlowFault.Write) → HasStopped self.old.forth self.new.forth (burst_limit self.old.forth.bytes (room self.old.forth) most (length piece.old)) (I.left reader.old) piece.new }
+
+        // What was held, followed by what was read, is what was written out, followed by what is held.
+        ensures read { Consumes (I.left reader.old) (I.left reader.new) (burst_read result self.old.forth self.new.forth piece.new) }
+        ensures written { Appends (O.held writer.old) (O.held writer.new) (burst_written result self.old.forth piece.new) }
+        ensures law { Moves self.old.forth.bytes (burst_read result self.old.forth self.new.forth piece.new) (burst_written result self.old.forth piece.new) self.new.forth.bytes }
+
+        // Reads of at most `most` bytes, one write at most, and a fault only where the device failed.
+        ensures read_calls { HasAsked (asks_reader self.old.forth) most (burst_count result self.old.forth self.new.forth) (I.calls reader.old) (I.calls reader.new) }
+        ensures write_calls { O.calls writer.new ≡ burst_write_calls result (O.calls writer.old) }
+        ensures read_failures { I.failures reader.new ≡ burst_read_failures result (I.failures reader.old) }
+        ensures write_failures { O.failures writer.new ≡ burst_write_failures result (O.failures writer.old) }
+        ensures read_stalls { IfOk result (λ b. I.stalls reader.new ≡ stop_stalls (asks_reader self.old.forth) b.read (Ok b.stop) (I.stalls reader.old)) }
+        ensures write_stalls { O.stalls writer.new ≡ burst_write_stalls result (O.stalls writer.old) }
+    {
+        self.forth.burst(reader, writer, piece, most)
+    }
+
+    /// One burst from the server to the client.
+    pub fn burst_back<I: Input, O: Output>(
+        &mut self,
+        reader: &mut I,
+        writer: &mut O,
+        piece: &mut [u8],
+        most: usize,
+    ) -> Result<Burst, FlowFault>
+        requires some { 0 < most }
+        requires fits { most ≤ length piece.old }
+        ensures other { self.new.forth ≡ self.old.forth }
+        ensures stop { IfOk result (λ b. IsBurstStop (asks_reader self.old.back) self.old.back b.read (burst_limit self.old.back.bytes (room self.old.back) most (length piece.old)) (I.left reader.old) piece.new (Ok b.stop)) }
+        ensures drained { IfOk result (λ b. IsDrainAnswer (self.old.back.bytes ++ take b.read piece.new) (Ok b.drained)) }
+        ensures after { IfOk result (λ b. self.new.back ≡ after_drain (after_reads self.old.back b.read (Ok b.stop) piece.new) (Ok b.drained)) }
+
+        // After a fault what was read is held.
+        ensures read_fault { (result ≡ Err FlowFault.Read) → HasGathered self.old.back self.new.back (burst_limit self.old.back.bytes (room self.old.back) most (length piece.old)) (I.left reader.old) piece.new (Err FlowFault.Read) }
+        ensures write_fault { (result ≡ Err FlowFault.Write) → HasStopped self.old.back self.new.back (burst_limit self.old.back.bytes (room self.old.back) most (length piece.old)) (I.left reader.old) piece.new }
+
+        // What was held, followed by what was read, is what was written out, followed by what is held.
+        ensures read { Consumes (I.left reader.old) (I.left reader.new) (burst_read result self.old.back self.new.back piece.new) }
+        ensures written { Appends (O.held writer.old) (O.held writer.new) (burst_written result self.old.back piece.new) }
+        ensures law { Moves self.old.back.bytes (burst_read result self.old.back self.new.back piece.new) (burst_written result self.old.back piece.new) self.new.back.bytes }
+
+        // Reads of at most `most` bytes, one write at most, and a fault only where the device failed.
+        ensures read_calls { HasAsked (asks_reader self.old.back) most (burst_count result self.old.back self.new.back) (I.calls reader.old) (I.calls reader.new) }
+        ensures write_calls { O.calls writer.new ≡ burst_write_calls result (O.calls writer.old) }
+        ensures read_failures { I.failures reader.new ≡ burst_read_failures result (I.failures reader.old) }
+        ensures write_failures { O.failures writer.new ≡ burst_write_failures result (O.failures writer.old) }
+        ensures read_stalls { IfOk result (λ b. I.stalls reader.new ≡ stop_stalls (asks_reader self.old.back) b.read (Ok b.stop) (I.stalls reader.old)) }
+        ensures write_stalls { O.stalls writer.new ≡ burst_write_stalls result (O.stalls writer.old) }
+    {
+        self.back.burst(reader, writer, piece, most)
+    }
+
+    /// Whether neither direction holds a byte and neither end came.
+    pub fn is_idle(&self) -> bool
+        ensures { IsTrue result ↔ (IsIdle self.now.forth × IsIdle self.now.back) }
+    {
+        self.forth.is_idle() && self.back.is_idle()
+    }
+
+    /// Begins anew, as a new relay that gets these first bytes. It takes no memory.
+    pub fn reset(&mut self, send: &[u8], rest: &[u8])
+        requires { length send.now + length rest.now ≤ self.old.forth.capacity }
+        ensures forth { self.new.forth ≡ record { bytes = send.now ++ rest.now; ended = false; capacity = self.old.forth.capacity } }
+        ensures back { self.new.back ≡ record { bytes = []; ended = false; capacity = self.old.back.capacity } }
+    {
+        self.back.reset();
+        let flow = &mut self.forth;
+        flow.reset();
+        flow.put(send);
+        flow.put(rest);
+    }
+
+    /// How many bytes each direction holds at the most, as they were made.
+    pub fn capacity(&self) -> usize
+        ensures { result ≡ self.now.forth.capacity }
+    {
+        self.forth.capacity()
     }
 
     /// Whether the client's end came and the server has all of its bytes: then the write side to the server may be shut.
