@@ -1,4 +1,5 @@
 pub mod Calls
 pub mod Driving
+pub mod Leased
 pub mod Receipts
 pub mod Settling

@@ -117,6 +117,7 @@ pub struct Shut<M: Ledger, O: Ledger> {
     pub(crate) book: Book,
     pub(crate) made: ledger::Book<M>,
     pub(crate) leases: ledger::Book<O>,
+    pub(crate) idle: Share<O>,
     pub(crate) live: u64,
     pub(crate) given: u64,
     pub(crate) pool: Share<M>,
@@ -125,6 +126,7 @@ pub struct Shut<M: Ledger, O: Ledger> {
     pub ghost lives: { live ≡ leases.total },
     pub ghost parts: { pool.parts + given ≡ 65537 },
     pub ghost no_calls: { pool.amount ≡ 0 },
+    pub ghost no_leases: { idle.amount ≡ 0 },
 }
 
 impl<M: Ledger, O: Ledger> Shut<M, O> {
@@ -206,7 +208,7 @@ impl<M: Ledger, O: Ledger> Desk<M, O> {
         let Locked {
             counted,
             leases,
-            idle: _,
+            idle,
             live,
         } = shared.into_locked();
         let CountedBook { book, made } = counted;
@@ -214,6 +216,7 @@ impl<M: Ledger, O: Ledger> Desk<M, O> {
             book,
             made,
             leases,
+            idle,
             live,
             given,
             pool,

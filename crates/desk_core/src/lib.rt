@@ -3,14 +3,17 @@
 
 pub use desk::{Desk, SharedDesk, Shut};
 pub use lease::{Drive, Driven, Lease};
+pub use lease_list::LeaseList;
 pub use pass::Pass;
 pub use receipts::SettleFault;
 pub use settling::{Settled, settle};
 
+mod bounding;
 mod counted;
 mod desk;
 pub mod laws;
 mod lease;
+mod lease_list;
 mod locked;
 mod pass;
 mod receipts;

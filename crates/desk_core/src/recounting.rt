@@ -52,6 +52,7 @@ impl<M: Ledger, O: Ledger> Shut<M, O> {
             book,
             made,
             leases: _,
+            idle: _,
             live: _,
             given: _,
             pool,

@@ -96,6 +96,7 @@ pub fn settle<M: Ledger, O: Ledger>(
         book,
         mut made,
         leases: _,
+        idle: _,
         live,
         given,
         mut pool,
