@@ -7,7 +7,7 @@ use addr_core::Pair;
 use book_core::Receipt;
 use conn_model::event::Why;
 use conn_model::reply::{Reply, Said, StepFault};
-use desk_core::{Drive, Driven, Lease, Pass, SharedDesk};
+use desk_core::{Drive, Driven, LeaseList, Pass, SharedDesk};
 use std::alloc::Global;
 use std::sync::Wait;
 use std::sync::ledger::Ledger;
@@ -70,7 +70,7 @@ impl<M: Ledger, O: Ledger> Calls<M, O> {
     }
 
     /// Its pass, the leases that were not spent, and how many replies were `Closed`.
-    pub(crate) fn into_parts(self) -> (Pass<M>, Vec<Lease<O>>, u64)
+    pub(crate) fn into_parts(self) -> (Pass<M>, LeaseList<O>, u64)
         ensures pass { result.0 ≡ self.pass }
         ensures closed { result.2 ≤ self.pass.calls }
     {

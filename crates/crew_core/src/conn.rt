@@ -1,11 +1,12 @@
 //! A connection of a worker.
 
 use crate::flags::Flags;
-use crate::stream::{FLOW, Progress, Stream, Way};
+use crate::spares::Spares;
+use crate::stream::{Progress, Stream, Way};
 use crate::traits::{Link, Ready};
 use addr_core::Endpoint;
 use relay_core::Relay;
-use std::alloc::{AllocError, Global};
+use std::alloc::AllocError;
 
 /// What a connection waits for.
 #[derive(Clone, Copy, Debug)]
@@ -23,6 +24,7 @@ pub(crate) enum Stage {
 pub(crate) struct Conn<K: Link> {
     pub(crate) client: K,
     server: Option<K>,
+    /// None while no byte is held and neither end has come.
     relay: Option<Relay>,
     pub(crate) stage: Stage,
     pub(crate) client_flags: Flags,
@@ -38,8 +40,8 @@ impl<K: Link> Conn<K> {
             server: None,
             relay: None,
             stage: Stage::Header,
-            client_flags: Flags::new(),
-            server_flags: Flags::new(),
+            client_flags: Flags::of_client(),
+            server_flags: Flags::of_server(),
             forth: Stream::new(Way::Forth, 0),
             back: Stream::new(Way::Back, 0),
         }
@@ -57,15 +59,12 @@ impl<K: Link> Conn<K> {
     /// header.
     pub(crate) fn offer(
         &mut self,
-        alloc: Global,
+        spares: &mut Spares,
         to: Endpoint,
         send: &[u8],
         rest: &[u8],
     ) -> Result<(), AllocError> {
-        if send.len() > FLOW || rest.len() > FLOW - send.len() {
-            return Err(AllocError);
-        }
-        self.relay = Some(Relay::new(alloc, FLOW, send, rest)?);
+        self.relay = Some(spares.take(send, rest)?);
         self.forth = Stream::new(Way::Forth, send.len() + rest.len());
         self.stage = Stage::Server(to);
         Ok(())
@@ -78,25 +77,42 @@ impl<K: Link> Conn<K> {
     }
 
     /// Passes bytes on in both directions, as far as its links are ready. `None` says that both directions are over.
-    pub(crate) fn relay(&mut self, piece: &mut [u8]) -> Option<Progress> {
-        let (Some(server), Some(relay)) = (&mut self.server, &mut self.relay) else {
+    pub(crate) fn relay(&mut self, spares: &mut Spares, buffer: &mut [u8]) -> Option<Progress> {
+        let relay = match self.relay.take() {
+            Some(relay) => Ok(relay),
+            None => spares.take(&[], &[]),
+        };
+        let Ok(mut relay) = relay else {
             return Some(Progress::Fault);
+        };
+        let progress = self.pump_both(&mut relay, buffer);
+        let is_over = self.forth.is_over() && self.back.is_over();
+        if is_over || relay.is_idle() {
+            spares.give_back(relay);
+        } else {
+            self.relay = Some(relay);
+        }
+        if is_over { None } else { Some(progress) }
+    }
+
+    fn pump_both(&mut self, relay: &mut Relay, buffer: &mut [u8]) -> Progress {
+        let Some(server) = &mut self.server else {
+            return Progress::Fault;
         };
         let forth = self.forth.pump(
             relay,
             (&mut self.client, server),
             (&mut self.client_flags, &mut self.server_flags),
-            piece,
+            buffer,
+            self.back.is_over(),
         );
         let back = self.back.pump(
             relay,
             (server, &mut self.client),
             (&mut self.server_flags, &mut self.client_flags),
-            piece,
+            buffer,
+            self.forth.is_over(),
         );
-        if self.forth.is_over() && self.back.is_over() {
-            return None;
-        }
-        Some(forth.and(back))
+        forth.and(back)
     }
 }

@@ -1,16 +1,19 @@
 //! The crew: the workers, each in a thread of its own, and the acceptor in the caller's.
-ghost use Rattle.std.specs.Prelude.{◌≡◌, ◌<◌, ◌≤◌, ◌+◌, ◌-◌, ◌^◌, [], IfErr, IfOk, OnErr, OnOk, vec_capacity, vec_len};
+ghost use Rattle.std.specs.Prelude.{◌≡◌, ◌<◌, ◌≤◌, ◌+◌, ◌-◌, ◌^◌, [], IfErr, IfOk, OnErr, OnOk, sum_by, vec_capacity, vec_len};
 ghost use Rattle.book_core.specs.Open.{open_connections};
 ghost use Rattle.desk_core.specs.Calls.{calls_of};
+ghost use Rattle.desk_core.specs.Leased.{leases_in};
 ghost use Rattle.crew_core.specs.Crew.{IsIdle};
 
 use crate::acceptor::{Front, LANE};
 use crate::calls::Hall;
+use crate::spares::Spares;
+use crate::stream::FLOW;
 use crate::table::Table;
 use crate::traits::{Clock, Dial, Door, Gate, Link};
-use crate::worker::{Arrival, Bench, PIECE, REPORTS, Worker};
+use crate::worker::{Arrival, Bench, REPORTS, Worker};
 use book_core::Book;
-use desk_core::{Desk, Lease, Pass, Shut};
+use desk_core::{Desk, Lease, LeaseList, Pass, Shut};
 use rtrb::{Producer, RingBuffer};
 use std::alloc::{AllocError, Global};
 use std::sync::Wait;
@@ -56,7 +59,7 @@ pub struct Crew<M: Ledger, O: Ledger, L> {
     pub shut: Shut<M, O>,
     /// That of the acceptor first, and then those of the workers.
     pub passes: Vec<Pass<M>>,
-    /// For each worker the leases whose connections could not be closed for want of memory.
+    /// For each worker, the last one first, the leases whose connections could not be closed for want of memory.
     pub left: Vec<Vec<Lease<O>>>,
     pub dials: Vec<L>,
 }
@@ -67,6 +70,7 @@ struct Rooms<M: Ledger, O: Ledger, K: Link, L: Dial<Link = K>> {
     lanes: Vec<Producer<Arrival<K>>>,
     passes: Vec<Pass<M>>,
     dials: Vec<L>,
+    lists: Vec<LeaseList<O>>,
     left: Vec<Vec<Lease<O>>>,
     workers: Vec<Worker<M, O, K, L>>,
 }
@@ -77,10 +81,29 @@ fn bench<K: Link>(alloc: Global) -> Result<(Bench<K>, Producer<Arrival<K>>), All
     let bench = Bench {
         arrivals,
         table: Table::new(alloc),
-        buffer: Vec::from_elem(alloc, 0u8, PIECE)?,
+        buffer: Vec::from_elem(alloc, 0u8, FLOW)?,
+        spares: Spares::new(alloc)?,
         ready: Vec::with_capacity(alloc, REPORTS)?,
     };
     Ok((bench, lane))
+}
+
+/// Room for the leases of so many workers, as lists and without the rest of these.
+fn make_lists<O: Ledger>(
+    alloc: Global,
+    workers: usize,
+) -> Result<(Vec<LeaseList<O>>, Vec<Vec<Lease<O>>>), AllocError>
+    ensures lists { IfOk result (λ r. (vec_len r.0 ≡ 0) × (workers ≤ vec_capacity r.0)) }
+    ensures left { IfOk result (λ r. (vec_len r.1 ≡ 0) × (workers ≤ vec_capacity r.1)) }
+{
+    let lists = Vec::with_capacity(alloc, workers)?;
+    match Vec::with_capacity(alloc, workers) {
+        Ok(left) => Ok((lists, left)),
+        Err(full) => {
+            lists.destroy_empty();
+            Err(full)
+        }
+    }
 }
 
 /// Makes all rooms for so many workers.
@@ -92,6 +115,7 @@ fn make_rooms<M: Ledger, O: Ledger, K: Link, L: Dial<Link = K> + Drop>(
     ensures benches { IfOk result (λ r. vec_len r.benches ≡ workers) }
     ensures passes { IfOk result (λ r. (vec_len r.passes ≡ 0) × (workers + 1 ≤ vec_capacity r.passes)) }
     ensures dials { IfOk result (λ r. (vec_len r.dials ≡ 0) × (workers ≤ vec_capacity r.dials)) }
+    ensures lists { IfOk result (λ r. (vec_len r.lists ≡ 0) × (workers ≤ vec_capacity r.lists)) }
     ensures left { IfOk result (λ r. (vec_len r.left ≡ 0) × (workers ≤ vec_capacity r.left)) }
     ensures workers { IfOk result (λ r. (vec_len r.workers ≡ 0) × (workers ≤ vec_capacity r.workers)) }
 {
@@ -104,17 +128,19 @@ fn make_rooms<M: Ledger, O: Ledger, K: Link, L: Dial<Link = K> + Drop>(
     }
     let passes = Vec::with_capacity(alloc, workers + 1)?;
     let dials = Vec::with_capacity(alloc, workers)?;
-    let left = Vec::with_capacity(alloc, workers)?;
+    let (lists, left) = make_lists(alloc, workers)?;
     match Vec::with_capacity(alloc, workers) {
         Ok(workers) => Ok(Rooms {
             benches,
             lanes,
             passes,
             dials,
+            lists,
             left,
             workers,
         }),
         Err(full) => {
+            lists.destroy_empty();
             left.destroy_empty();
             Err(full)
         }
@@ -239,13 +265,14 @@ fn man<M: Ledger, O: Ledger, K: Link, L: Dial<Link = K> + Drop>(
 fn dismiss<M: Ledger, O: Ledger, K: Link, L: Dial<Link = K>>(
     workers: Vec<Worker<M, O, K, L>>,
     passes: &mut Vec<Pass<M>>,
-    left: &mut Vec<Vec<Lease<O>>>,
+    lists: &mut Vec<LeaseList<O>>,
     dials: &mut Vec<L>,
 ) -> (u64, u64)
     requires passes { vec_len passes.old + vec_len workers ≤ vec_capacity passes.old }
-    requires left { vec_len left.old + vec_len workers ≤ vec_capacity left.old }
+    requires lists { vec_len lists.old + vec_len workers ≤ vec_capacity lists.old }
     requires dials { vec_len dials.old + vec_len workers ≤ vec_capacity dials.old }
     ensures passes { vec_len passes.new ≡ vec_len passes.old + vec_len workers }
+    ensures lists { vec_len lists.new ≡ vec_len lists.old + vec_len workers }
     ensures closed { calls_of passes.old.items + result.0 ≤ calls_of passes.new.items }
 {
     let mut workers = workers;
@@ -258,11 +285,41 @@ fn dismiss<M: Ledger, O: Ledger, K: Link, L: Dial<Link = K>>(
         closed = closed.saturating_add(replies);
         waiting = waiting.saturating_add(arrivals.slots() as u64);
         passes.push_reserved(pass);
-        left.push_reserved(leases);
+        lists.push_reserved(leases);
         dials.push_reserved(dial);
     }
     workers.destroy_empty();
     (closed, waiting)
+}
+
+/// The leases of each list without the rest of it, those of the last list first.
+fn leases_alone<O: Ledger>(lists: Vec<LeaseList<O>>, left: Vec<Vec<Lease<O>>>) -> Vec<Vec<Lease<O>>>
+    requires empty { vec_len left ≡ 0 }
+    requires room { vec_len lists ≤ vec_capacity left }
+    ensures { sum_by (λ leases. vec_len leases) result.items ≡ leases_in lists.items }
+{
+    let (mut lists, mut left) = (lists, left);
+    while let Some(list) = lists.pop() {
+        left.push_reserved(list.into_leases());
+    }
+    lists.destroy_empty();
+    left
+}
+
+/// Hands on the leases that were not spent, of which each is an open connection's.
+fn hand_on<M: Ledger, O: Ledger>(
+    shut: &mut Shut<M, O>,
+    lists: Vec<LeaseList<O>>,
+    left: Vec<Vec<Lease<O>>>,
+) -> Vec<Vec<Lease<O>>>
+    requires empty { vec_len left ≡ 0 }
+    requires room { vec_len lists ≤ vec_capacity left }
+    ensures open { sum_by (λ leases. vec_len leases) result.items ≤ open_connections shut.new.book.state }
+    ensures same { (shut.new.book ≡ shut.old.book) × (shut.new.given ≡ shut.old.given) }
+{
+    let mut lists = lists;
+    let _open = shut.count_open(&mut lists);
+    leases_alone(lists, left)
 }
 
 /// How many of the connections that came a worker took: all but those that wait for one.
@@ -307,6 +364,8 @@ pub fn run_crew<
     ensures recorded { IfOk result (λ crew. (crew.summary.recorded ≡ calls_of crew.passes.items) × (crew.summary.recorded ≡ crew.shut.book.made)) }
     ensures closed { IfOk result (λ crew. crew.summary.closed ≤ crew.summary.recorded) }
     ensures taken { IfOk result (λ crew. crew.summary.taken ≤ crew.summary.accepted) }
+    // No more leases are left than connections are open.
+    ensures left { IfOk result (λ crew. sum_by (λ leases. vec_len leases) crew.left.items ≤ open_connections crew.shut.book.state) }
     // After a fault nothing was done.
     ensures idle { IfErr result (λ fault. IsIdle fault.1.summary) }
     ensures nothing { IfErr result (λ fault. (fault.1.passes.items ≡ []) × (fault.1.left.items ≡ []) × (fault.1.shut.book.made ≡ 0)) }
@@ -324,7 +383,8 @@ pub fn run_crew<
         lanes,
         mut passes,
         dials: mut dials_back,
-        mut left,
+        mut lists,
+        left,
         mut workers,
     } = rooms;
     let mut pass = desk.pass(setup.keeps);
@@ -343,9 +403,10 @@ pub fn run_crew<
     };
     let (accepted, held) = work_beside(rt, &hall, workers.as_mut_slice(), front);
     passes.push_reserved(pass);
-    let (closed, waiting) = dismiss(workers, &mut passes, &mut left, &mut dials_back);
+    let (closed, waiting) = dismiss(workers, &mut passes, &mut lists, &mut dials_back);
     let mut shut = desk.into_book();
     let recorded = shut.count_calls(&mut passes);
+    let left = hand_on(&mut shut, lists, left);
     Ok(Crew {
         summary: Summary {
             accepted,

@@ -12,8 +12,17 @@ pub(crate) struct Flags {
 }
 
 impl Flags {
-    /// Of a link that was just made: what is written to it fits into its buffers.
-    pub(crate) fn new() -> Flags {
+    /// Of the link of a client, which may have sent something already.
+    pub(crate) fn of_client() -> Flags {
+        Flags {
+            reads: true,
+            writes: true,
+            is_closed: false,
+        }
+    }
+
+    /// Of the link to a server: it has sent nothing yet, and what is written to it fits into its buffers.
+    pub(crate) fn of_server() -> Flags {
         Flags {
             reads: false,
             writes: true,
@@ -27,10 +36,17 @@ impl Flags {
         self.is_closed |= ready.is_closed;
     }
 
-    /// So many bytes were read where so many were asked for. Where fewer came no more is there until the dial reports
-    /// it, unless the other side has ended: then the end is still to be read.
+    /// So many bytes were read where so many were asked for.
     pub(crate) fn note_read(&mut self, count: usize, asked: usize) {
-        if count < asked && !self.is_closed {
+        if count < asked {
+            self.note_short_read();
+        }
+    }
+
+    /// Fewer bytes were read than were asked for. No more are there until the dial reports it, unless the other side has
+    /// ended: then the end is still to be read.
+    pub(crate) fn note_short_read(&mut self) {
+        if !self.is_closed {
             self.reads = false;
         }
     }

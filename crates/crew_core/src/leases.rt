@@ -1,8 +1,8 @@
 //! The leases of one worker, by the keys of its connections.
-ghost use Rattle.std.specs.Prelude.{◌≡◌, ◌+◌, ◌≤◌, IfSome, IsTrue, vec_capacity, vec_len};
+ghost use Rattle.std.specs.Prelude.{◌≡◌, ◌+◌, ◌≤◌, IfSome, IsTrue, length, vec_len};
 ghost use Rattle.crew_core.specs.Leases.{IsVacant};
 
-use desk_core::Lease;
+use desk_core::{Lease, LeaseList};
 use std::alloc::{AllocError, Global};
 use std::sync::ledger::Ledger;
 
@@ -10,15 +10,15 @@ use std::sync::ledger::Ledger;
 /// time.
 pub(crate) struct Leases<O: Ledger> {
     slots: Vec<Option<Lease<O>>>,
-    left: Vec<Lease<O>>,
-    pub ghost room: { vec_len left + vec_len slots ≤ vec_capacity left },
+    left: LeaseList<O>,
+    pub ghost room: { length left.ids + vec_len slots ≤ left.room },
 }
 
 impl<O: Ledger> Leases<O> {
     pub(crate) fn new(alloc: Global) -> Leases<O> {
         Leases {
             slots: Vec::new(alloc),
-            left: Vec::new(alloc),
+            left: LeaseList::new(alloc),
         }
     }
 
@@ -67,7 +67,7 @@ impl<O: Ledger> Leases<O> {
     }
 
     /// The leases that were not spent.
-    pub(crate) fn into_left(self) -> Vec<Lease<O>> {
+    pub(crate) fn into_left(self) -> LeaseList<O> {
         let Leases { slots, left } = self;
         let (mut slots, mut left) = (slots, left);
         while let Some(slot) = slots.pop() {

@@ -11,6 +11,7 @@ mod crew;
 mod flags;
 mod leases;
 mod serving;
+mod spares;
 mod stream;
 mod table;
 mod traits;

@@ -4,12 +4,12 @@ use crate::calls::{Hall, Outcome};
 use crate::conn::Stage;
 use crate::stream::Progress;
 use crate::traits::{Clock, Dial, Dialled, Gate, Link};
-use crate::worker::{Bench, Worker};
+use crate::worker::{Bench, PIECE, Worker};
 use addr_core::Endpoint;
 use conn_model::event::Why;
 use conn_model::reply::{Said, StepFault};
 use desk_core::Drive;
-use device_core::Got;
+use device_core::{Failed, Got};
 use std::sync::Wait;
 use std::sync::ledger::Ledger;
 
@@ -30,6 +30,14 @@ enum Piece {
 /// The bytes from the one place to the other.
 fn part(bytes: &[u8], from: usize, until: usize) -> &[u8] {
     bytes.get(from..until).unwrap_or(&[])
+}
+
+/// Reads one piece into the front of the buffer.
+fn read_piece<K: Link>(link: &mut K, buffer: &mut [u8]) -> Result<Got, Failed> {
+    if buffer.len() < PIECE {
+        return Err(Failed);
+    }
+    link.read(&mut buffer[..PIECE])
 }
 
 impl<M: Ledger, O: Ledger, K: Link, L: Dial<Link = K>> Worker<M, O, K, L> {
@@ -58,14 +66,12 @@ impl<M: Ledger, O: Ledger, K: Link, L: Dial<Link = K>> Worker<M, O, K, L> {
         let Some(conn) = self.bench.table.conn(key) else {
             return Piece::Blocked;
         };
-        let buffer = &mut self.bench.buffer;
-        if !conn.client_flags.reads || buffer.is_empty() {
+        if !conn.client_flags.reads {
             return Piece::Blocked;
         }
-        let asked = buffer.len();
-        match conn.client.read(buffer.as_mut_slice()) {
+        match read_piece(&mut conn.client, self.bench.buffer.as_mut_slice()) {
             Ok(Got::Bytes(count)) => {
-                conn.client_flags.note_read(count, asked);
+                conn.client_flags.note_read(count, PIECE);
                 Piece::Bytes(count)
             }
             Ok(Got::Blocked) => {
@@ -115,12 +121,17 @@ impl<M: Ledger, O: Ledger, K: Link, L: Dial<Link = K>> Worker<M, O, K, L> {
         rest: (usize, usize),
     ) {
         let (from, until) = rest;
-        let Bench { table, buffer, .. } = &mut self.bench;
+        let Bench {
+            table,
+            buffer,
+            spares,
+            ..
+        } = &mut self.bench;
         let Some(conn) = table.conn(key) else {
             return;
         };
         let rest = part(buffer.as_slice(), from, until);
-        match conn.offer(hall.alloc, to, send, rest) {
+        match conn.offer(spares, to, send, rest) {
             Ok(()) => self.dial_server(rt, hall, key, &to),
             Err(_) => self.close(rt, hall, key, Why::Fault),
         }
@@ -159,10 +170,16 @@ impl<M: Ledger, O: Ledger, K: Link, L: Dial<Link = K>> Worker<M, O, K, L> {
         hall: &Hall<'_, M, O, G, C>,
         key: usize,
     ) {
-        let Some(conn) = self.bench.table.conn(key) else {
+        let Bench {
+            table,
+            buffer,
+            spares,
+            ..
+        } = &mut self.bench;
+        let Some(conn) = table.conn(key) else {
             return;
         };
-        match conn.relay(self.bench.buffer.as_mut_slice()) {
+        match conn.relay(spares, buffer.as_mut_slice()) {
             None => self.close(rt, hall, key, Why::Done),
             Some(Progress::Fault) => self.close(rt, hall, key, Why::Fault),
             Some(Progress::More) => self.bench.table.enqueue(key),

@@ -2,13 +2,14 @@
 
 use crate::flags::Flags;
 use crate::traits::Link;
-use relay_core::{Drained, Filled, FlowFault, Moved, Relay};
+use crate::worker::PIECE;
+use relay_core::{Burst, Drained, FlowFault, Relay, Stop};
 
 /// How many bytes each direction of a connection holds at the most.
 pub(crate) const FLOW: usize = 65_536;
 
-/// How many passes a direction makes before other connections have their turn.
-const ROUNDS: u32 = 4;
+/// How many bursts a direction makes before other connections have their turn.
+const ROUNDS: u32 = 2;
 
 /// Which way bytes go.
 #[derive(Clone, Copy, Debug, PartialEq, Eq)]
@@ -20,19 +21,19 @@ pub(crate) enum Way {
 }
 
 impl Way {
-    fn pass<K: Link>(
+    fn burst<K: Link>(
         self,
         relay: &mut Relay,
         input: &mut K,
         output: &mut K,
-        piece: &mut [u8],
-    ) -> Result<Moved, FlowFault> {
-        if piece.is_empty() {
+        buffer: &mut [u8],
+    ) -> Result<Burst, FlowFault> {
+        if buffer.len() < PIECE {
             return Err(FlowFault::Read);
         }
         match self {
-            Way::Forth => relay.forth(input, output, piece),
-            Way::Back => relay.back(input, output, piece),
+            Way::Forth => relay.burst_forth(input, output, buffer, PIECE),
+            Way::Back => relay.burst_back(input, output, buffer, PIECE),
         }
     }
 
@@ -62,7 +63,8 @@ pub(crate) struct Stream {
     /// How many bytes are held.
     held: usize,
     has_ended: bool,
-    is_shut: bool,
+    /// Whether the end came, and all that came before it went out.
+    is_over: bool,
 }
 
 impl Stream {
@@ -71,13 +73,12 @@ impl Stream {
             way,
             held,
             has_ended: false,
-            is_shut: false,
+            is_over: false,
         }
     }
 
-    /// Whether its end was passed on.
     pub(crate) fn is_over(&self) -> bool {
-        self.is_shut
+        self.is_over
     }
 
     fn room(&self) -> usize {
@@ -89,33 +90,33 @@ impl Stream {
         reads || output.writes && self.held > 0
     }
 
-    fn note(&mut self, moved: &Moved, asked: usize, input: &mut Flags, output: &mut Flags) {
-        match moved.filled {
-            Filled::Bytes(count) => {
-                self.held = self.held.saturating_add(count);
-                input.note_read(count, asked);
-            }
-            Filled::End => {
+    fn note(&mut self, burst: &Burst, input: &mut Flags, output: &mut Flags) {
+        self.held = self.held.saturating_add(burst.read);
+        match burst.stop {
+            Stop::Full | Stop::NoRoom => {}
+            Stop::Short => input.note_short_read(),
+            Stop::Blocked => input.reads = false,
+            Stop::End => {
                 self.has_ended = true;
                 input.reads = false;
             }
-            Filled::Blocked => input.reads = false,
-            Filled::NoRoom => {}
         }
-        match moved.drained {
+        match burst.drained {
             Drained::Bytes(count) => self.held = self.held.saturating_sub(count),
             Drained::Blocked => output.writes = false,
             Drained::Empty => {}
         }
     }
 
-    /// Some passes, as far as both links are ready, and at the end of the reader the end of the writing.
+    /// Some bursts, as far as both links are ready, and at the end of the reader the end of the writing. Where the other
+    /// direction is over, the writer is not shut: the connection ends, and with it both links.
     pub(crate) fn pump<K: Link>(
         &mut self,
         relay: &mut Relay,
         links: (&mut K, &mut K),
         flags: (&mut Flags, &mut Flags),
-        piece: &mut [u8],
+        buffer: &mut [u8],
+        is_last: bool,
     ) -> Progress {
         let (input, output) = links;
         let (input_flags, output_flags) = flags;
@@ -123,14 +124,13 @@ impl Stream {
             if !self.can_move(input_flags, output_flags) {
                 return Progress::Idle;
             }
-            let asked = piece.len().min(self.room());
-            let Ok(moved) = self.way.pass(relay, input, output, piece) else {
+            let Ok(burst) = self.way.burst(relay, input, output, buffer) else {
                 return Progress::Fault;
             };
-            self.note(&moved, asked, input_flags, output_flags);
-            if self.way.is_done(relay) && !self.is_shut {
-                self.is_shut = true;
-                if !output.shut() {
+            self.note(&burst, input_flags, output_flags);
+            if self.way.is_done(relay) && !self.is_over {
+                self.is_over = true;
+                if !is_last && !output.shut() {
                     return Progress::Fault;
                 }
                 return Progress::Idle;

@@ -4,6 +4,7 @@ ghost use Rattle.std.specs.Prelude.{◌≡◌};
 
 use crate::calls::{Calls, Hall, Outcome};
 use crate::conn::Conn;
+use crate::spares::Spares;
 use crate::table::Table;
 use crate::traits::{Clock, Dial, Gate, Link, Ready};
 use addr_core::Pair;
@@ -15,7 +16,7 @@ use std::alloc::Global;
 use std::sync::Wait;
 use std::sync::ledger::Ledger;
 
-/// The most bytes that a worker reads in one call.
+/// The most bytes that a worker reads in one call. Its buffer holds as many as a flow does.
 pub(crate) const PIECE: usize = 16_384;
 
 /// How many links a dial reports in one turn at the most.
@@ -38,6 +39,7 @@ pub(crate) struct Bench<K: Link> {
     pub(crate) arrivals: Consumer<Arrival<K>>,
     pub(crate) table: Table<K>,
     pub(crate) buffer: Vec<u8>,
+    pub(crate) spares: Spares,
     pub(crate) ready: Vec<Ready>,
 }
 
@@ -152,6 +154,7 @@ impl<M: Ledger, O: Ledger, K: Link, L: Dial<Link = K>> Worker<M, O, K, L> {
             _ => {
                 let due = hall.clock.now().saturating_add(HEADER_WAIT);
                 self.bench.table.wait(key, due);
+                self.bench.table.enqueue(key);
             }
         }
     }

@@ -5,10 +5,10 @@ use Rattle.crew_core.proofs.crew.dismiss.Given as goal
 abbrev pub invariant-loop-worker : goal.invariant-loop-worker
 invariant-loop-worker g l =
     (vec_len l.passes + vec_len l.workers ≡ vec_len l.initial.passes + vec_len l.initial.workers)
-    × (vec_len l.left + vec_len l.workers ≡ vec_len l.initial.left + vec_len l.initial.workers)
+    × (vec_len l.lists + vec_len l.workers ≡ vec_len l.initial.lists + vec_len l.initial.workers)
     × (vec_len l.dials + vec_len l.workers ≡ vec_len l.initial.dials + vec_len l.initial.workers)
     × (vec_capacity l.passes ≡ vec_capacity l.initial.passes)
-    × (vec_capacity l.left ≡ vec_capacity l.initial.left)
+    × (vec_capacity l.lists ≡ vec_capacity l.initial.lists)
     × (vec_capacity l.dials ≡ vec_capacity l.initial.dials)
     × (calls_of l.initial.passes.items + l.closed ≤ calls_of l.passes.items)
 

@@ -1,8 +1,8 @@
-use Rattle.std.proofs.Common.{◌≡◌, ◌≤◌, ◌+◌, vec_capacity, vec_len}
+use Rattle.std.proofs.Common.{◌≤◌, ◌+◌, length, vec_len}
 use Rattle.crew_core.proofs.leases.Leases.into_left.Given as goal
 
 abbrev pub invariant-loop-slot : goal.invariant-loop-slot
-invariant-loop-slot g l = vec_len l.left + vec_len l.slots ≤ vec_capacity l.left
+invariant-loop-slot g l = length l.left.ids + vec_len l.slots ≤ l.left.room
 
 abbrev pub decreases-loop-slot : goal.decreases-loop-slot
 decreases-loop-slot g l = vec_len l.slots
