@@ -1,6 +1,7 @@
 //! A worker's connections to servers, and its watch over all its sockets.
 use crate::WAKE;
 use crate::addresses::socket_address;
+use crate::alarm::Alarm;
 use crate::link::{Progress, SocketLink};
 use addr_core::Endpoint;
 use crew_core::{Dial, Dialled, Ready};
@@ -27,7 +28,9 @@ pub struct SocketDial<'a, R: Net> {
     // How many of the events were handed out, or none where all were.
     handed_out: Option<usize>,
     // Kept for as long as the poll: a wake is lost if its waker is dropped first.
-    waker: Arc<Waker, Global>,
+    alarm: Arc<Alarm, Global>,
+    /// How many times the alarm was set off until the last wait.
+    rings: u64,
     under_way: HashMap<usize, SocketLink>,
 }
 
@@ -55,20 +58,32 @@ impl<'a, R: Net> SocketDial<'a, R> {
     /// Fails where the system or memory has no room for one more poll.
     pub fn new(rt: &'a R, alloc: Global) -> io::Result<SocketDial<'a, R>> {
         let poll = Poll::new(rt)?;
-        let waker = Arc::new(alloc, Waker::new(poll.registry(), WAKE)?)?;
+        let alarm = Arc::new(alloc, Alarm::new(Waker::new(poll.registry(), WAKE)?))?;
         Ok(SocketDial {
             rt,
             poll,
             events: Events::with_capacity(alloc, MOST_EVENTS)?,
             handed_out: None,
-            waker,
+            alarm,
+            rings: 0,
             under_way: HashMap::new(alloc),
         })
     }
 
     /// What ends a wait of this dial from another thread. The dial keeps it too.
-    pub fn waker(&self) -> io::Result<Arc<Waker, Global>> {
-        Ok(Arc::try_clone(&self.waker)?)
+    pub fn alarm(&self) -> io::Result<Arc<Alarm, Global>> {
+        Ok(Arc::try_clone(&self.alarm)?)
+    }
+
+    /// Asks the system for what is ready, and waits for it for `limit` ms at the most, unless the alarm was set off since
+    /// it was last asked.
+    fn ask(&mut self, limit: u64) {
+        let rings = self.alarm.begin(limit > 0);
+        let limit = if rings == self.rings { limit } else { 0 };
+        self.rings = rings;
+        let limit = Duration::from_millis(limit);
+        let _waited = self.poll.poll(&mut self.events, Some(limit));
+        self.alarm.end();
     }
 
     /// Begins to connect. The socket is watched at once, so that its outcome is reported under its key.
@@ -87,14 +102,20 @@ impl<'a, R: Net> Dial for SocketDial<'a, R> {
     type Link = SocketLink;
 
     fn poll(&mut self, key: usize, to: &Endpoint) -> Dialled<SocketLink> {
-        let begun = match self.under_way.remove(&key) {
-            Some(link) => Some(link),
-            None => self.begin(key, to),
+        let (link, progress) = match self.under_way.remove(&key) {
+            Some(mut link) => {
+                let progress = link.progress();
+                (link, progress)
+            }
+            None => match self.begin(key, to) {
+                Some(mut link) => {
+                    let progress = link.first_progress();
+                    (link, progress)
+                }
+                None => return Dialled::Failed,
+            },
         };
-        let Some(mut link) = begun else {
-            return Dialled::Failed;
-        };
-        match link.progress() {
+        match progress {
             Progress::Connected => Dialled::Link(link),
             Progress::Failed => Dialled::Failed,
             Progress::UnderWay => match self.under_way.insert(key, link) {
@@ -116,8 +137,7 @@ impl<'a, R: Net> Dial for SocketDial<'a, R> {
         let from = match self.handed_out {
             Some(count) => count,
             None => {
-                let limit = Duration::from_millis(limit);
-                let _waited = self.poll.poll(&mut self.events, Some(limit));
+                self.ask(limit);
                 0
             }
         };

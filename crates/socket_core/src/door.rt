@@ -1,4 +1,5 @@
 //! The door: connections of the listeners, and the words of an operator.
+use crate::alarm::Alarm;
 use crate::link::SocketLink;
 use crate::listeners::{ListenFault, Listeners};
 use crate::pace::Pace;
@@ -32,8 +33,8 @@ pub struct SocketDoor<'a, R: Log, C: Clock> {
     words: Consumer<Word>,
     // Kept for as long as the ports: a wake is lost if its waker is dropped first.
     waker: Arc<Waker, Global>,
-    /// The wakers of the workers.
-    workers: Vec<Arc<Waker, Global>>,
+    /// What wakes the workers.
+    workers: Vec<Arc<Alarm, Global>>,
     /// How many connections were handed out.
     given: u64,
     /// Whether the worker of the last one is still to be woken.
@@ -83,8 +84,8 @@ impl<'a, R: Log + Net, C: Clock> SocketDoor<'a, R, C> {
 
 impl<'a, R: Log, C: Clock> SocketDoor<'a, R, C> {
     /// Has the door wake the next worker where a connection is for it. The workers are added in their order.
-    pub fn add_worker(&mut self, waker: Arc<Waker, Global>) -> Result<(), AllocError> {
-        Ok(self.workers.push(waker)?)
+    pub fn add_worker(&mut self, alarm: Arc<Alarm, Global>) -> Result<(), AllocError> {
+        Ok(self.workers.push(alarm)?)
     }
 
     /// Wakes the worker of the connection that was handed out last. Connection n goes to worker n modulo workers, and
@@ -94,14 +95,14 @@ impl<'a, R: Log, C: Clock> SocketDoor<'a, R, C> {
         if self.owes_wake && count != 0 {
             let last = self.given.saturating_sub(1);
             let place = (last % count as u64) as usize;
-            let _woken = self.workers[place].wake();
+            self.workers[place].set_off();
         }
         self.owes_wake = false;
     }
 
     fn wake_all(&self) {
         for worker in self.workers.iter() {
-            let _woken = worker.wake();
+            worker.set_off();
         }
     }
 

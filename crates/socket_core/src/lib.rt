@@ -3,6 +3,7 @@
 //! No other crate opens a socket. What is decided about a connection is not decided here.
 #![tactic(auto)]
 
+pub use alarm::Alarm;
 pub use clock::SystemClock;
 pub use dial::SocketDial;
 pub use door::SocketDoor;
@@ -15,6 +16,7 @@ pub use serving::{ServeFault, Served, make_dials, open_book, serve};
 pub use words::{Bell, Word};
 
 mod addresses;
+mod alarm;
 mod clock;
 mod dial;
 mod door;

@@ -66,7 +66,15 @@ impl SocketLink {
         registry.register(stream, token, both).is_ok()
     }
 
-    /// How far a connection is that was begun.
+    /// How far a connection is that was begun just now. A failure is reported by the poll, and not yet here.
+    pub fn first_progress(&mut self) -> Progress {
+        match self.device.get_mut().stream.peer_addr() {
+            Ok(_) => Progress::Connected,
+            Err(_) => Progress::UnderWay,
+        }
+    }
+
+    /// How far a connection is of which the poll reported something.
     pub fn progress(&mut self) -> Progress {
         let stream = &mut self.device.get_mut().stream;
         // The system tells an error once, and after that a connection that failed reads as one that ended. So this
@@ -74,10 +82,7 @@ impl SocketLink {
         if !matches!(stream.take_error(), Ok(None)) {
             return Progress::Failed;
         }
-        match stream.peer_addr() {
-            Ok(_) => Progress::Connected,
-            Err(_) => Progress::UnderWay,
-        }
+        self.first_progress()
     }
 }
 

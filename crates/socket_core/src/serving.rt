@@ -62,7 +62,7 @@ pub fn open_book(alloc: Global, text: &str) -> Result<Book, OpenFault>
     }
 }
 
-/// A dial for each of so many workers, whose waker the door has.
+/// A dial for each of so many workers, whose alarm the door has.
 pub fn make_dials<'a, R: Net + Log + rt::Clock>(
     rt: &'a R,
     alloc: Global,
@@ -74,8 +74,8 @@ pub fn make_dials<'a, R: Net + Log + rt::Clock>(
     let mut dials = Vec::new(alloc);
     for _worker in 0..workers {
         let dial = SocketDial::new(rt, alloc).map_err(ServeFault::System)?;
-        let waker = dial.waker().map_err(ServeFault::System)?;
-        door.add_worker(waker).map_err(|_| ServeFault::NoMemory)?;
+        let alarm = dial.alarm().map_err(ServeFault::System)?;
+        door.add_worker(alarm).map_err(|_| ServeFault::NoMemory)?;
         dials.push(dial).map_err(|_| ServeFault::NoMemory)?;
     }
     Ok(dials)

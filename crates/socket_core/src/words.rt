@@ -1,6 +1,6 @@
 //! What an operator asks for, on its way to the door.
 use mio::Waker;
-use rtrb::Producer;
+use rtrb::{Producer, PushError};
 use std::alloc::Global;
 use std::sync::Arc;
 
@@ -29,10 +29,13 @@ impl Bell {
         Bell { to_door, waker }
     }
 
-    /// Hands a word in and wakes the door; whether there was room for it. `MOST_WORDS` may be on their way.
-    pub fn ring(&mut self, word: Word) -> bool {
-        let is_in = self.to_door.push(word).is_ok();
+    /// Hands a word in and wakes the door. Where `MOST_WORDS` are on their way it comes back.
+    pub fn ring(&mut self, word: Word) -> Result<(), Word> {
+        let answer = match self.to_door.push(word) {
+            Ok(()) => Ok(()),
+            Err(PushError::Full(back)) => Err(back),
+        };
         let _woken = self.waker.wake();
-        is_in
+        answer
     }
 }
