@@ -3,7 +3,11 @@ use crew_core::Clock;
 use log::{Log, warn};
 use socket_core::{Bell, Pace, SystemClock, Word};
 use std::rt::Files;
-use std::{fs, io, rt};
+use std::time::Duration;
+use std::{fs, io, rt, thread};
+
+/// How often a word is handed in where the door has no room for it, 10 ms apart.
+const MOST_TRIES: u32 = 1_000;
 
 /// The reader of standard input, and when it last spoke of each cause.
 #[derive(Drop)]
@@ -26,9 +30,22 @@ impl<'a, R: Files + AllocGlobal + rt::Clock + Log> Ear<'a, R> {
             }
             return;
         };
-        if !self.bell.ring(Word::Reload(text)) && self.full.allows(self.clock.now()) {
+        if !self.hand_in(Word::Reload(text)) && self.full.allows(self.clock.now()) {
             warn!(self.rt; "nothing is reloaded: too many reloads wait");
         }
+    }
+
+    /// Hands a word to the door, and waits for room as long as need be, 10 s at the most; whether there was room.
+    fn hand_in(&mut self, word: Word) -> bool {
+        let mut word = word;
+        for _try in 0..MOST_TRIES {
+            match self.bell.ring(word) {
+                Ok(()) => return true,
+                Err(back) => word = back,
+            }
+            thread::sleep(self.rt, Duration::from_millis(10));
+        }
+        false
     }
 
     fn skip(&mut self) {

@@ -4,10 +4,11 @@ ghost use Rattle.book_core.specs.Open.{open_connections};
 
 use crate::{DEVICE, DONE, REFUSED, explain_refusal, unreadable};
 use addr_core::{Endpoint, write_endpoint};
-use book_core::Book;
+use book_core::{Book, Receipt};
 use clap::ArgMatches;
 use conn_core::OpenFault;
-use crew_core::{Clock, Dial, Door};
+use conn_model::reply::StepFault;
+use crew_core::{Clock, Dial, Door, Knock};
 use desk_core::SettleFault;
 use device_core::ToWrite;
 use log::Log;
@@ -227,6 +228,30 @@ fn say_unsettled(rt: &impl Eprint, fault: &SettleFault) {
     };
 }
 
+/// A door that says when it is asked for the first time, which is when all threads are there.
+#[derive(Drop)]
+struct ReadyDoor<'a, R: Eprint, D: Door<Link = SocketLink>> {
+    rt: &'a R,
+    door: &'a mut D,
+    is_ready: bool,
+}
+
+impl<'a, R: Eprint, D: Door<Link = SocketLink>> Door for ReadyDoor<'a, R, D> {
+    type Link = SocketLink;
+
+    fn next(&mut self) -> Knock<SocketLink> {
+        if !self.is_ready {
+            self.is_ready = true;
+            let _written = eprintln!(self.rt; "l4proxy: ready");
+        }
+        self.door.next()
+    }
+
+    fn report(&mut self, answer: &Result<Receipt, StepFault>) {
+        self.door.report(answer);
+    }
+}
+
 /// Serves until the door is closed; then writes the record on standard output, and says what was served.
 pub fn attend<
     R: Threads + Wait + AllocGlobal + Print + Eprint + Sync,
@@ -237,13 +262,17 @@ pub fn attend<
     requires fresh { (book.made ≡ 0) × (open_connections book.state ≡ 0) × (open_connections book.base ≡ 0) }
     requires workers { (vec_len dials ≡ workers) × (1 ≤ workers) × (workers ≤ 64) }
 {
-    let _written = eprintln!(rt; "l4proxy: ready");
+    let mut door = ReadyDoor {
+        rt,
+        door,
+        is_ready: false,
+    };
     let mut writer = ToWrite::of(io::writer(rt));
     match serve(
         rt,
         rt.alloc(),
         book,
-        door,
+        &mut door,
         dials,
         clock,
         workers,
