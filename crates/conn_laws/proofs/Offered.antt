@@ -30,12 +30,13 @@ use Rattle.conn_model.specs.declared.plain.Phase.TheVariants.{Waiting, Offered, 
 use Rattle.conn_model.specs.declared.plain.Plain.{Plain}
 use Rattle.conn_model.specs.Words.{or_fault, row_at}
 use Rattle.conn_model.specs.Servers.{cursor_at, pick_in}
-use Rattle.conn_model.specs.Rules.{backend_for, rejection, worth, Candidate, RuleView}
+use Rattle.conn_model.specs.Rules.{backend_for, rejection, scene_of, view_of, worth, Candidate, RuleView}
 use Rattle.conn_model.specs.Answer.{admission, answer_in, decision, entry_reply, entry_rules, header_reply, judged_pair, numbered_server, reply_of, reply_with, rest_in, said_of, server_for, server_unless, NumberedServer}
 use Rattle.conn_model.specs.History.{after, answer, joined, opening, Entry, IsLegal}
 use Rattle.conn_model.proofs.Joined.{decides_joined}
-use Rattle.conn_model.proofs.Replies.{bind-ok, expired, followed, or_fault-ok, server_answered}
-use Rattle.conn_laws.specs.Deciding.{choice_view, is_offer, may_offer, newcomer, session_rules, waiting, Arrival, HasServer, IsAdmitted, IsGiven, IsLetWait, IsOfferedAtAccept, IsOfferedAtPiece, Says, Waiter}
+use Rattle.conn_model.proofs.Replies.{accepted, bind-ok, expired, followed, or_fault-ok, received, server_answered, Accepted, Received}
+use Rattle.conn_laws.specs.Deciding.{choice_view, is_offer, is_wait, may_offer, newcomer, session_rules, waiting, Arrival, HasServer, IsAdmitted, IsGiven, IsLetWait, IsOfferedAtAccept, IsOfferedAtPiece, Says, Waiter}
+use Rattle.conn_laws.proofs.Rules.{no_rejection, not_rejected}
 
 -- A server that is picked.
 
@@ -85,7 +86,7 @@ decided candidate used judged made said offers is = by (rejection says) refl
     chosen : rejection says ≡ None → (r : Result NumberedServer Cause) → server_for view ≡ r → IsDecided candidate used judged made said
     chosen none (Ok given) found = record {
       given = given;
-      is_given = record { rules = none; server = server_given view given found };
+      is_given = record { rules = not_rejected (scene_of (view_of candidate judged.source.addr)) made candidate.frontend.session_rules none; server = server_given view given found };
       said_is = sym is ∙ ap (λ o. said_of candidate.id used judged (server_unless view o)) none ∙ ap (said_of candidate.id used judged) found;
     }
     chosen none (Err cause) found =
@@ -100,12 +101,45 @@ decision_is : (candidate : Candidate) (used : ℕ) (judged : PairValue) (made : 
     decision candidate used judged made ≡ reply_with (said_of candidate.id used judged (Ok given)) (session_rules candidate judged made).tracks
 decision_is candidate used judged made given is =
     let found : server_unless (choice_view candidate judged made) (rejection (session_rules candidate judged made)) ≡ Ok given =
-    ap (server_unless (choice_view candidate judged made)) is.rules ∙ server_found (choice_view candidate judged made) given is.server in
+    ap (server_unless (choice_view candidate judged made)) (no_rejection (scene_of (view_of candidate judged.source.addr)) made candidate.frontend.session_rules is.rules) ∙ server_found (choice_view candidate judged made) given is.server in
     ap (λ r. reply_with (said_of candidate.id used judged r) (session_rules candidate judged made).tracks) found
+
+-- The client or the connection that an answer is for.
+
+-- the client that came, by what the answer to an accept looked up
+abbrev pub arrival_of : (q : Plain) (clock listener : ℕ) (real : PairValue) (reply : Reply) → Accepted q clock listener real reply → Arrival q listener
+arrival_of q clock listener real reply got = record {
+  at = got.at;
+  own = got.own;
+  version = got.version;
+  frontend = got.frontend;
+  listens = got.listens;
+  there = got.there;
+  in_force = got.newest_is;
+  found = got.found;
+}
+
+-- the connection that waits, by what the answer to a piece looked up
+abbrev pub waiter_of : (q : Plain) (id : ConnId) (piece : List ℕ) (reply : Reply) → Received q id piece reply → Waiter q id
+waiter_of q id piece reply got = record {
+  row = got.row;
+  rest = got.rest;
+  own = got.own;
+  version = got.version;
+  frontend = got.frontend;
+  row_is = got.row_is;
+  waits = got.waits;
+  there = got.there;
+  of_accept = got.kept;
+  found = got.found;
+}
 
 -- At an accept.
 
-accept_is : (q : Plain) (moment listener : ℕ) (real : PairValue) (arrival : Arrival q listener) → arrival.own.serial < 2 ^ 64 - 1 →
+has_serial : (serial : ℕ) → nat_lt serial 0xFFFF_FFFF_FFFF_FFFF ≡ true → serial < 2 ^ 64 - 1
+has_serial serial fits = grind (arith, nat_tests, fits)
+
+pub accept_is : (q : Plain) (moment listener : ℕ) (real : PairValue) (arrival : Arrival q listener) → arrival.own.serial < 2 ^ 64 - 1 →
     answer_in q moment (Accept listener real) ≡ Ok (admission (newcomer q moment real listener arrival) arrival.at.accept_proxy real (length arrival.own.rows))
 accept_is q moment listener real arrival less =
     let fits : nat_lt arrival.own.serial 0xFFFF_FFFF_FFFF_FFFF ≡ true = grind (arith, nat_tests, less) in
@@ -132,7 +166,7 @@ let_in candidate accept_proxy real others said offers is = by (nat_le candidate.
     expects within none true proxied now = absurd (waits_none said candidate.id 0 offers (sym (ap (λ b. (entry_reply candidate b real says.tracks None).said) proxied) ∙ now))
     expects within none false proxied now = record {
       no_header = proxied;
-      admitted = record { limit = within_limit candidate.frontend.limit others within; rules = none };
+      admitted = record { limit = within_limit candidate.frontend.limit others within; rules = not_rejected (scene_of (view_of candidate real.source.addr)) no_tracks candidate.frontend.connection_rules none };
       is_decided = decided candidate 0 real says.tracks said offers (sym (ap (λ b. (entry_reply candidate b real says.tracks None).said) proxied) ∙ now);
     }
 
@@ -147,40 +181,40 @@ let_in candidate accept_proxy real others said offers is = by (nat_le candidate.
     by true over = absurd (refuses_none said candidate.id 0 (Line candidate.frontend.limit_line) offers (sym (ap (λ b. (limited b).said) over) ∙ is))
     by false within = ruled within (rejection says) refl (sym (ap (λ b. (limited b).said) within) ∙ is)
 
-said_by_accept : (q : Plain) (moment listener : ℕ) (real : PairValue) (arrival : Arrival q listener) → arrival.own.serial < 2 ^ 64 - 1 → (said : Said) → is_offer said ≡ true →
-    Says (answer_in q moment (Accept listener real)) said → IsOfferedAtAccept q moment real listener arrival said
-said_by_accept q moment listener real arrival less said offers says =
-    let same : Ok (admission (newcomer q moment real listener arrival) arrival.at.accept_proxy real (length arrival.own.rows)) ≡ Ok (reply_with said says.0) = sym (accept_is q moment listener real arrival less) ∙ says.1 in
-    let reply_is : admission (newcomer q moment real listener arrival) arrival.at.accept_proxy real (length arrival.own.rows) ≡ reply_with said says.0 = cc in
-    let got = let_in (newcomer q moment real listener arrival) arrival.at.accept_proxy real (length arrival.own.rows) said offers (ap (λ r. r.said) reply_is) in
-    record { given = got.is_decided.given; no_header = got.no_header; admitted = got.admitted; is_given = got.is_decided.is_given; said_is = got.is_decided.said_is }
+said_by_accept : (q : Plain) (moment listener : ℕ) (real : PairValue) (said : Said) → is_offer said ≡ true → Says (answer_in q moment (Accept listener real)) said →
+    (arrival : Arrival q listener) × IsOfferedAtAccept q moment real listener arrival said
+said_by_accept q moment listener real said offers says =
+    let got = accepted q (max q.clock moment) listener real (reply_with said says.0) says.1 in
+    let arrival : Arrival q listener = arrival_of q (max q.clock moment) listener real (reply_with said says.0) got in
+    let lets = let_in (newcomer q moment real listener arrival) arrival.at.accept_proxy real (length arrival.own.rows) said offers (ap (λ (r : Reply). r.said) got.reply_is) in (
+      arrival,
+      record {
+        given = lets.is_decided.given;
+        serial_left = has_serial arrival.own.serial got.fits;
+        no_header = lets.no_header;
+        admitted = lets.admitted;
+        is_given = lets.is_decided.is_given;
+        said_is = lets.is_decided.said_is;
+      },
+    )
 
-accept_says : (q : Plain) (moment listener : ℕ) (real : PairValue) (arrival : Arrival q listener) → arrival.own.serial < 2 ^ 64 - 1 → (said : Said) →
-    IsOfferedAtAccept q moment real listener arrival said → Says (answer_in q moment (Accept listener real)) said
-accept_says q moment listener real arrival less said offered =
+accept_says : (q : Plain) (moment listener : ℕ) (real : PairValue) (said : Said) (arrival : Arrival q listener) → IsOfferedAtAccept q moment real listener arrival said →
+    Says (answer_in q moment (Accept listener real)) said
+accept_says q moment listener real said arrival offered =
     let candidate : Candidate = newcomer q moment real listener arrival in
     let within : nat_le candidate.frontend.limit (length arrival.own.rows) ≡ false = below_limit candidate.frontend.limit (length arrival.own.rows) offered.admitted.limit in
-    let admitted : admission candidate arrival.at.accept_proxy real (length arrival.own.rows) ≡ decision candidate 0 real (entry_rules candidate real).tracks = rw (within, offered.admitted.rules, offered.no_header) refl in (
+    let admitted : admission candidate arrival.at.accept_proxy real (length arrival.own.rows) ≡ decision candidate 0 real (entry_rules candidate real).tracks = rw (within, no_rejection (scene_of (view_of candidate real.source.addr)) no_tracks candidate.frontend.connection_rules offered.admitted.rules, offered.no_header) refl in (
       (session_rules candidate real (entry_rules candidate real).tracks).tracks,
-      accept_is q moment listener real arrival less
+      accept_is q moment listener real arrival offered.serial_left
           ∙ ap Ok (admitted ∙ decision_is candidate 0 real (entry_rules candidate real).tracks offered.given offered.is_given)
           ∙ ap (λ s. Ok (reply_with s (session_rules candidate real (entry_rules candidate real).tracks).tracks)) (sym offered.said_is),
     )
 
-pub at_accept : (p : Plain) (h : List Entry) (moment listener : ℕ) (real : PairValue) (arrival : Arrival (after p h) listener) → arrival.own.serial < 2 ^ 64 - 1 → (said : Said) → is_offer said ≡ true →
-    Says (answer p h moment (Accept listener real)) said ↔ IsOfferedAtAccept (after p h) moment real listener arrival said
-at_accept p h moment listener real arrival less said offers =
-    (said_by_accept (after p h) moment listener real arrival less said offers, accept_says (after p h) moment listener real arrival less said)
+pub at_accept : (p : Plain) (h : List Entry) (moment listener : ℕ) (real : PairValue) (said : Said) → is_offer said ≡ true →
+    Says (answer p h moment (Accept listener real)) said ↔ ((arrival : Arrival (after p h) listener) × IsOfferedAtAccept (after p h) moment real listener arrival said)
+at_accept p h moment listener real said offers = (said_by_accept (after p h) moment listener real said offers, λ is. accept_says (after p h) moment listener real said is.0 is.1)
 
 -- It waits.
-
-abbrev is_wait : Said → Bool
-is_wait (saids.Wait id used) = true
-is_wait (saids.Offer id used line server to judged send) = false
-is_wait (saids.Refuse id used cause) = false
-is_wait (saids.Up id) = false
-is_wait (saids.Closed id why) = false
-is_wait (saids.Reloaded version) = false
 
 decides_no_wait : (id : ConnId) (used : ℕ) (judged : PairValue) (given : Result NumberedServer Cause) → is_wait (said_of id used judged given) ≡ false
 decides_no_wait id used judged (Ok given) = refl
@@ -193,7 +227,7 @@ let_wait candidate accept_proxy real others waits = by (nat_le candidate.fronten
     says = entry_rules candidate real
 
     expects : nat_le candidate.frontend.limit others ≡ false → rejection says ≡ None → (b : Bool) → accept_proxy ≡ b → is_wait (entry_reply candidate accept_proxy real says.tracks None).said ≡ true → (accept_proxy ≡ true) × IsAdmitted candidate real others
-    expects within none true proxied now = (proxied, record { limit = within_limit candidate.frontend.limit others within; rules = none })
+    expects within none true proxied now = (proxied, record { limit = within_limit candidate.frontend.limit others within; rules = not_rejected (scene_of (view_of candidate real.source.addr)) no_tracks candidate.frontend.connection_rules none })
     expects within none false proxied now =
         let judged_now : is_wait (decision candidate 0 real says.tracks).said ≡ true = sym (ap (λ b. is_wait (entry_reply candidate b real says.tracks None).said) proxied) ∙ now in
         absurd (false≢true (sym (decides_no_wait candidate.id 0 real (server_unless (choice_view candidate real says.tracks) (rejection (session_rules candidate real says.tracks)))) ∙ judged_now))
@@ -209,30 +243,46 @@ let_wait candidate accept_proxy real others waits = by (nat_le candidate.fronten
     by true over = absurd (false≢true (sym (ap (λ b. is_wait (limited b).said) over) ∙ waits))
     by false within = ruled within (rejection says) refl (sym (ap (λ b. is_wait (limited b).said) within) ∙ waits)
 
-waits_by_accept : (q : Plain) (moment listener : ℕ) (real : PairValue) (arrival : Arrival q listener) → arrival.own.serial < 2 ^ 64 - 1 →
-    Says (answer_in q moment (Accept listener real)) (saids.Wait (newcomer q moment real listener arrival).id 0) → IsLetWait q moment real listener arrival
-waits_by_accept q moment listener real arrival less says =
-    let said : Said = saids.Wait (newcomer q moment real listener arrival).id 0 in
-    let same : Ok (admission (newcomer q moment real listener arrival) arrival.at.accept_proxy real (length arrival.own.rows)) ≡ Ok (reply_with said says.0) = sym (accept_is q moment listener real arrival less) ∙ says.1 in
-    let reply_is : admission (newcomer q moment real listener arrival) arrival.at.accept_proxy real (length arrival.own.rows) ≡ reply_with said says.0 = cc in
-    let got = let_wait (newcomer q moment real listener arrival) arrival.at.accept_proxy real (length arrival.own.rows) (ap (λ r. is_wait r.said) reply_is) in
-    record { expects = got.0; admitted = got.1 }
+-- it says so of the connection that came
+wait_said : (candidate : Candidate) (accept_proxy : Bool) (real : PairValue) (others : ℕ) → accept_proxy ≡ true → IsAdmitted candidate real others →
+    admission candidate accept_proxy real others ≡ reply_with (saids.Wait candidate.id 0) (entry_rules candidate real).tracks
+wait_said candidate accept_proxy real others expects admitted =
+    let within : nat_le candidate.frontend.limit others ≡ false = below_limit candidate.frontend.limit others admitted.limit in
+    rw (within, no_rejection (scene_of (view_of candidate real.source.addr)) no_tracks candidate.frontend.connection_rules admitted.rules, expects) refl
 
-accept_waits : (q : Plain) (moment listener : ℕ) (real : PairValue) (arrival : Arrival q listener) → arrival.own.serial < 2 ^ 64 - 1 →
-    IsLetWait q moment real listener arrival → Says (answer_in q moment (Accept listener real)) (saids.Wait (newcomer q moment real listener arrival).id 0)
-accept_waits q moment listener real arrival less lets =
+waits_by_accept : (q : Plain) (moment listener : ℕ) (real : PairValue) (said : Said) → is_wait said ≡ true → Says (answer_in q moment (Accept listener real)) said →
+    (arrival : Arrival q listener) × IsLetWait q moment real listener arrival said
+waits_by_accept q moment listener real said waits says =
+    let got = accepted q (max q.clock moment) listener real (reply_with said says.0) says.1 in
+    let arrival : Arrival q listener = arrival_of q (max q.clock moment) listener real (reply_with said says.0) got in
     let candidate : Candidate = newcomer q moment real listener arrival in
-    let within : nat_le candidate.frontend.limit (length arrival.own.rows) ≡ false = below_limit candidate.frontend.limit (length arrival.own.rows) lets.admitted.limit in
-    let admitted : admission candidate arrival.at.accept_proxy real (length arrival.own.rows) ≡ reply_with (saids.Wait candidate.id 0) (entry_rules candidate real).tracks = rw (within, lets.admitted.rules, lets.expects) refl in
-    ((entry_rules candidate real).tracks, accept_is q moment listener real arrival less ∙ ap Ok admitted)
+    let lets = let_wait candidate arrival.at.accept_proxy real (length arrival.own.rows) (ap (λ (r : Reply). is_wait r.said) got.reply_is ∙ waits) in (
+      arrival,
+      record {
+        serial_left = has_serial arrival.own.serial got.fits;
+        expects = lets.0;
+        admitted = lets.1;
+        said_is = sym (ap (λ (r : Reply). r.said) got.reply_is) ∙ ap (λ (r : Reply). r.said) (wait_said candidate arrival.at.accept_proxy real (length arrival.own.rows) lets.0 lets.1);
+      },
+    )
 
-pub waits : (p : Plain) (h : List Entry) (moment listener : ℕ) (real : PairValue) (arrival : Arrival (after p h) listener) → arrival.own.serial < 2 ^ 64 - 1 →
-    Says (answer p h moment (Accept listener real)) (saids.Wait (newcomer (after p h) moment real listener arrival).id 0) ↔ IsLetWait (after p h) moment real listener arrival
-waits p h moment listener real arrival less = (waits_by_accept (after p h) moment listener real arrival less, accept_waits (after p h) moment listener real arrival less)
+accept_waits : (q : Plain) (moment listener : ℕ) (real : PairValue) (said : Said) (arrival : Arrival q listener) → IsLetWait q moment real listener arrival said →
+    Says (answer_in q moment (Accept listener real)) said
+accept_waits q moment listener real said arrival lets =
+    let candidate : Candidate = newcomer q moment real listener arrival in (
+      (entry_rules candidate real).tracks,
+      accept_is q moment listener real arrival lets.serial_left
+          ∙ ap Ok (wait_said candidate arrival.at.accept_proxy real (length arrival.own.rows) lets.expects lets.admitted)
+          ∙ ap (λ s. Ok (reply_with s (entry_rules candidate real).tracks)) (sym lets.said_is),
+    )
+
+pub waits : (p : Plain) (h : List Entry) (moment listener : ℕ) (real : PairValue) (said : Said) → is_wait said ≡ true →
+    Says (answer p h moment (Accept listener real)) said ↔ ((arrival : Arrival (after p h) listener) × IsLetWait (after p h) moment real listener arrival said)
+waits p h moment listener real said is_one = (waits_by_accept (after p h) moment listener real said is_one, λ is. accept_waits (after p h) moment listener real said is.0 is.1)
 
 -- At a piece.
 
-piece_is : (q : Plain) (moment : ℕ) (id : ConnId) (piece : List ℕ) (waiter : Waiter q id) →
+pub piece_is : (q : Plain) (moment : ℕ) (id : ConnId) (piece : List ℕ) (waiter : Waiter q id) →
     answer_in q moment (Piece id piece) ≡ Ok (header_reply (waiting q id waiter) waiter.row.real (length piece) (status_on waiter.rest piece))
 piece_is q moment id piece waiter = rw (waiter.row_is, waiter.waits, waiter.there, waiter.of_accept, waiter.found) refl
 
@@ -277,22 +327,24 @@ pub piece_status : (plan : Plan) (last : ℕ) (h : List Entry) → IsLegal (open
     status (joined id h ++ piece) ≡ shifted (length (joined id h)) (status_on waiter.rest piece)
 piece_status plan last h legal id piece waiter = decides_joined plan last h legal id waiter.row waiter.rest waiter.row_is (phase_waits waiter.row.phase waiter.rest waiter.waits) piece
 
-pub at_piece : (plan : Plan) (last : ℕ) (h : List Entry) → IsLegal (opening plan last) h → (moment : ℕ) (id : ConnId) (piece : List ℕ) (waiter : Waiter (after (opening plan last) h) id) (said : Said) → is_offer said ≡ true →
-    Says (answer (opening plan last) h moment (Piece id piece)) said ↔ IsOfferedAtPiece (after (opening plan last) h) id waiter (joined id h ++ piece) (length (joined id h)) said
-at_piece plan last h legal moment id piece waiter said offers = (there, back)
-  where
-    q : Plain
-    q = after (opening plan last) h
+said_at_piece : (plan : Plan) (last : ℕ) (h : List Entry) → IsLegal (opening plan last) h → (moment : ℕ) (id : ConnId) (piece : List ℕ) (said : Said) → is_offer said ≡ true →
+    Says (answer (opening plan last) h moment (Piece id piece)) said →
+    (waiter : Waiter (after (opening plan last) h) id) × IsOfferedAtPiece (after (opening plan last) h) id waiter (joined id h ++ piece) (length (joined id h)) said
+said_at_piece plan last h legal moment id piece said offers says =
+    let q : Plain = after (opening plan last) h in
+    let got = received q id piece (reply_with said says.0) says.1 in
+    let waiter : Waiter q id = waiter_of q id piece (reply_with said says.0) got in (
+      waiter,
+      said_by_piece q id waiter (joined id h ++ piece) piece (length (joined id h)) said offers (status_on waiter.rest piece) (piece_status plan last h legal id piece waiter) (ap (λ (r : Reply). r.said) got.reply_is),
+    )
 
-    there : Says (answer_in (after (opening plan last) h) moment (Piece id piece)) said → IsOfferedAtPiece (after (opening plan last) h) id waiter (joined id h ++ piece) (length (joined id h)) said
-    there says =
-        let same : Ok (header_reply (waiting (after (opening plan last) h) id waiter) waiter.row.real (length piece) (status_on waiter.rest piece)) ≡ Ok (reply_with said says.0) =
-        sym (piece_is (after (opening plan last) h) moment id piece waiter) ∙ says.1 in
-        let reply_is : header_reply (waiting (after (opening plan last) h) id waiter) waiter.row.real (length piece) (status_on waiter.rest piece) ≡ reply_with said says.0 = cc in
-        said_by_piece (after (opening plan last) h) id waiter (joined id h ++ piece) piece (length (joined id h)) said offers (status_on waiter.rest piece) (piece_status plan last h legal id piece waiter) (ap (λ r. r.said) reply_is)
-
-    back : IsOfferedAtPiece (after (opening plan last) h) id waiter (joined id h ++ piece) (length (joined id h)) said → Says (answer_in (after (opening plan last) h) moment (Piece id piece)) said
-    back = piece_says (after (opening plan last) h) moment id piece (joined id h ++ piece) (length (joined id h)) waiter said (piece_status plan last h legal id piece waiter)
+pub at_piece : (plan : Plan) (last : ℕ) (h : List Entry) → IsLegal (opening plan last) h → (moment : ℕ) (id : ConnId) (piece : List ℕ) (said : Said) → is_offer said ≡ true →
+    Says (answer (opening plan last) h moment (Piece id piece)) said
+    ↔ ((waiter : Waiter (after (opening plan last) h) id) × IsOfferedAtPiece (after (opening plan last) h) id waiter (joined id h ++ piece) (length (joined id h)) said)
+at_piece plan last h legal moment id piece said offers = (
+  said_at_piece plan last h legal moment id piece said offers,
+  λ is. piece_says (after (opening plan last) h) moment id piece (joined id h ++ piece) (length (joined id h)) is.0 said (piece_status plan last h legal id piece is.0) is.1,
+)
 
 -- Nothing else offers.
 

@@ -1,5 +1,5 @@
 -- Why a connection is refused.
-use Rattle.std.specs.Prelude.{ℕ, Bool, true, false, List, length, max, slice_get, Option, Some, None, option_and_then, Result, Ok, Err, refl, nat_le, ◌+◌, ◌<◌, ◌++◌, ◌≡◌, if◌then◌else◌}
+use Rattle.std.specs.Prelude.{ℕ, Bool, true, false, List, length, max, Option, Some, None, Result, Ok, Err, refl, nat_le, ◌+◌, ◌<◌, ◌++◌, ◌≡◌, if◌then◌else◌}
 use Rattle.std.proofs.Common.{sym, ap, ◌∙◌, subst, arith, inl, inr}
 use Rattle.std.proofs.lemmas.Bool.Decides.{nat_tests}
 use Rattle.addr_core.specs.PairValue.{PairValue}
@@ -8,15 +8,10 @@ use Rattle.pp_any.specs.Header.{shifted}
 use Rattle.pp_any.specs.NextPiece.{status_on}
 use Rattle.pp_any.specs.Status as statuses
 use Rattle.pp_any.specs.Status.{Status, status}
-use Rattle.proxy_types.specs.declared.balance.Place.{Place}
-use Rattle.rule_engine.specs.Meaning.{SceneMeaning}
-use Rattle.rule_engine.specs.Judging.{deciding_rule, judged_after, judged_by, no_tracks, verdict_of, Slots}
+use Rattle.rule_engine.specs.Judging.{no_tracks, Slots}
 use Rattle.rule_engine.specs.declared.judging.Judged.{Judged}
-use Rattle.plan_types.specs.declared.plan.Action.{Action}
-use Rattle.plan_types.specs.declared.plan.Action.TheVariants as actions
-use Rattle.plan_types.specs.declared.plan.Backend.{Backend}
 use Rattle.plan_types.specs.declared.plan.Plan.{Plan}
-use Rattle.plan_types.specs.declared.plan.Rule.{Rule}
+use Rattle.config_core.specs.Meaning.{meaning}
 use Rattle.conn_model.specs.declared.event.ConnId.{ConnId}
 use Rattle.conn_model.specs.declared.event.OwnedEvent.{OwnedEvent}
 use Rattle.conn_model.specs.declared.event.OwnedEvent.TheVariants.{Accept, Piece, Connected, ConnectFailed, Close, Expire, Reload}
@@ -30,65 +25,15 @@ use Rattle.conn_model.specs.declared.reply.Said.TheVariants.{Refuse}
 use Rattle.conn_model.specs.declared.reply.StepFault.TheVariants.{NoSuch}
 use Rattle.conn_model.specs.declared.plain.Plain.{Plain}
 use Rattle.conn_model.specs.Words.{or_fault, row_at}
-use Rattle.conn_model.specs.Servers.{cursor_at, pick_in}
-use Rattle.conn_model.specs.Rules.{backend_for, reject_line, rejection, scene_of, view_of, worth, Candidate, RuleView}
-use Rattle.conn_model.specs.Answer.{admission, decision, entry_reply, entry_rules, header_reply, judged_pair, numbered_server, reply_of, said_of, server_for, server_unless, NumberedServer}
+use Rattle.conn_model.specs.Rules.{rejection, scene_of, view_of, Candidate, RuleView}
+use Rattle.conn_model.specs.Answer.{admission, decision, entry_reply, entry_rules, header_reply, judged_pair, reply_of, said_of, server_for, server_unless, NumberedServer}
 use Rattle.conn_model.specs.History.{after, answer, joined, opening, Entry, IsLegal}
-use Rattle.conn_model.proofs.Replies.{accepted, bind-ok, expired, followed, received, server_answered, Accepted, Received}
-use Rattle.conn_laws.specs.Deciding.{choice_view, newcomer, session_rules, waiting, Arrival, IsCause, IsRefusedAtAccept, IsRefusedAtPiece, IsRejected, IsWithheld, LacksBackend, LacksServer, Waiter}
-use Rattle.conn_laws.proofs.Offered.{piece_status}
-
--- A list of rules rejects by the rule that decides.
-
-rejected : (scene : SceneMeaning) (made : Slots) (rules : List Rule) (line : ℕ) → rejection (judged_after scene made rules) ≡ Some line → IsRejected scene made rules line
-rejected scene made rules line is = by (deciding_rule scene made rules) refl is
-  where
-    acts : (place : ℕ) (rule : Rule) → deciding_rule scene made rules ≡ Some (place, rule) → (action : Action) → rule.action ≡ action → reject_line (verdict_of action) rule.line ≡ Some line → IsRejected scene made rules line
-    acts place rule decides actions.Accept action_is now = absurd (let wrong : None ≡ Some line = now in cc)
-    acts place rule decides actions.Reject action_is now = record { place = place; rule = rule; decides = decides; rejects = action_is; line_is = cc }
-    acts place rule decides (actions.Track counter table) action_is now = absurd (let wrong : None ≡ Some line = now in cc)
-
-    by : (o : Option (ℕ × Rule)) → deciding_rule scene made rules ≡ o → rejection (judged_by scene made rules (deciding_rule scene made rules)) ≡ Some line → IsRejected scene made rules line
-    by None none now = absurd (let wrong : None ≡ Some line = sym (ap (λ o. rejection (judged_by scene made rules o)) none) ∙ now in cc)
-    by (Some found) some now = acts found.0 found.1 some found.1.action refl (sym (ap (λ o. rejection (judged_by scene made rules o)) some) ∙ now)
-
--- No server.
-
-abbrev Lacks : RuleView → Cause → Type 0
-Lacks view (Line line) = ⊥
-Lacks view (Header fault) = ⊥
-Lacks view Expired = ⊥
-Lacks view (NoBackend line) = LacksBackend view line
-Lacks view (NoServer line) = LacksServer view line
-
-lacks : (view : RuleView) (cause : Cause) → server_for view ≡ Err cause → Lacks view cause
-lacks view cause is = by (backend_for (worth view) view.frontend) refl
-  where
-    same : (other : Cause) → server_for view ≡ Err other → Lacks view other → Lacks view cause
-    same other now has = let one : Err other ≡ Err cause = sym now ∙ is in let causes : other ≡ cause = cc in subst (Lacks view) causes has
-
-    placed : (number : ℕ) → backend_for (worth view) view.frontend ≡ Some number → (backend : Backend) → slice_get view.version.plan.backends number ≡ Some backend →
-        (place : Place) → pick_in view.served backend (cursor_at view.version.cursors number) view.source ≡ Some place → (o : Option NumberedServer) → numbered_server backend place.server ≡ o → Lacks view cause
-    placed number chosen backend backend_is place picked None none =
-        same (NoServer backend.line) (rw (chosen, backend_is, picked, none) refl)
-        (record { number = number; backend = backend; chosen = chosen; backend_is = backend_is; none = ap (option_and_then (λ place. numbered_server backend place.server)) picked ∙ none; line_is = refl })
-    placed number chosen backend backend_is place picked (Some given) some = absurd (let now : server_for view ≡ Ok given = rw (chosen, backend_is, picked, some) refl in let wrong : Ok given ≡ Err cause = sym now ∙ is in cc)
-
-    served : (number : ℕ) → backend_for (worth view) view.frontend ≡ Some number → (backend : Backend) → slice_get view.version.plan.backends number ≡ Some backend →
-        (o : Option Place) → pick_in view.served backend (cursor_at view.version.cursors number) view.source ≡ o → Lacks view cause
-    served number chosen backend backend_is None none =
-        same (NoServer backend.line) (rw (chosen, backend_is, none) refl)
-        (record { number = number; backend = backend; chosen = chosen; backend_is = backend_is; none = ap (option_and_then (λ place. numbered_server backend place.server)) none; line_is = refl })
-    served number chosen backend backend_is (Some place) picked = placed number chosen backend backend_is place picked (numbered_server backend place.server) refl
-
-    numbered : (number : ℕ) → backend_for (worth view) view.frontend ≡ Some number → (o : Option Backend) → slice_get view.version.plan.backends number ≡ o → Lacks view cause
-    numbered number chosen None none =
-        same (NoBackend view.frontend.line) (rw (chosen, none) refl) (record { none = ap (option_and_then (slice_get view.version.plan.backends)) chosen ∙ none; line_is = refl })
-    numbered number chosen (Some backend) backend_is = served number chosen backend backend_is (pick_in view.served backend (cursor_at view.version.cursors number) view.source) refl
-
-    by : (o : Option ℕ) → backend_for (worth view) view.frontend ≡ o → Lacks view cause
-    by None none = same (NoBackend view.frontend.line) (rw none refl) (record { none = ap (option_and_then (slice_get view.version.plan.backends)) none; line_is = refl })
-    by (Some number) chosen = numbered number chosen (slice_get view.version.plan.backends number) refl
+use Rattle.conn_model.proofs.Replies.{accepted, bind-ok, expired, followed, received, server_answered}
+use Rattle.conn_laws.specs.Deciding.{choice_view, newcomer, session_rules, waiting, Arrival, IsCause, IsNotRejected, IsRefusedAtAccept, IsRefusedAtPiece, IsWithheld, Waiter}
+use Rattle.conn_laws.proofs.Rules.{not_rejected, rejected}
+use Rattle.conn_laws.proofs.Named.{arrival_names, waiter_names, NamesBackends}
+use Rattle.conn_laws.proofs.Unserved.{lacks, Lacks}
+use Rattle.conn_laws.proofs.Offered.{arrival_of, piece_status, waiter_of}
 
 -- A decision that refuses.
 
@@ -99,16 +44,16 @@ record Refuses (candidate : Candidate) (judged : PairValue) (made : Slots) (used
 same_cause : (id other : ConnId) (used count : ℕ) (cause found : Cause) → Refuse id used cause ≡ Refuse other count found → (used ≡ count) × (cause ≡ found)
 same_cause id other used count cause found is = (cc, cc)
 
-withheld_for : (candidate : Candidate) (judged : PairValue) (made : Slots) (cause : Cause) → rejection (session_rules candidate judged made) ≡ None → Lacks (choice_view candidate judged made) cause → IsWithheld candidate judged made cause
+withheld_for : (candidate : Candidate) (judged : PairValue) (made : Slots) (cause : Cause) → IsNotRejected (scene_of (view_of candidate judged.source.addr)) made candidate.frontend.session_rules → Lacks (choice_view candidate judged made) cause → IsWithheld candidate judged made cause
 withheld_for candidate judged made (Line line) none has = absurd has
 withheld_for candidate judged made (Header fault) none has = absurd has
 withheld_for candidate judged made Expired none has = absurd has
 withheld_for candidate judged made (NoBackend line) none has = (none, has)
 withheld_for candidate judged made (NoServer line) none has = (none, has)
 
-refuses : (candidate : Candidate) (used : ℕ) (judged : PairValue) (made : Slots) (id : ConnId) (count : ℕ) (cause : Cause) → (decision candidate used judged made).said ≡ Refuse id count cause →
+refuses : (candidate : Candidate) (used : ℕ) (judged : PairValue) (made : Slots) (id : ConnId) (count : ℕ) (cause : Cause) → NamesBackends (length candidate.version.plan.backends) candidate.frontend → (decision candidate used judged made).said ≡ Refuse id count cause →
     Refuses candidate judged made used cause count
-refuses candidate used judged made id count cause is = by (rejection says) refl
+refuses candidate used judged made id count cause names is = by (rejection says) refl
   where
     says : Judged
     says = session_rules candidate judged made
@@ -123,7 +68,7 @@ refuses candidate used judged made id count cause is = by (rejection says) refl
     unserved none (Err found_cause) found =
         let now : Refuse candidate.id used found_cause ≡ Refuse id count cause = sym (ap (λ o. said_of candidate.id used judged (server_unless view o)) none ∙ ap (said_of candidate.id used judged) found) ∙ is in
         let both = same_cause candidate.id id used count found_cause cause now in
-        record { used_is = both.0; withheld = subst (IsWithheld candidate judged made) both.1 (withheld_for candidate judged made found_cause none (lacks view found_cause found)) }
+        record { used_is = both.0; withheld = subst (IsWithheld candidate judged made) both.1 (withheld_for candidate judged made found_cause (not_rejected (scene_of (view_of candidate judged.source.addr)) made candidate.frontend.session_rules none) (lacks view found_cause names found)) }
 
     by : (o : Option ℕ) → rejection says ≡ o → Refuses candidate judged made used cause count
     by None none = unserved none (server_for view) refl
@@ -137,9 +82,9 @@ refuses candidate used judged made id count cause is = by (rejection says) refl
 
 -- At an accept.
 
-refused_at_accept : (candidate : Candidate) (accept_proxy : Bool) (real : PairValue) (others : ℕ) (id : ConnId) (used : ℕ) (cause : Cause) → (admission candidate accept_proxy real others).said ≡ Refuse id used cause →
+refused_at_accept : (candidate : Candidate) (accept_proxy : Bool) (real : PairValue) (others : ℕ) (id : ConnId) (used : ℕ) (cause : Cause) → NamesBackends (length candidate.version.plan.backends) candidate.frontend → (admission candidate accept_proxy real others).said ≡ Refuse id used cause →
     (used ≡ 0) × IsRefusedAtAccept candidate accept_proxy real others cause
-refused_at_accept candidate accept_proxy real others id used cause is = by (nat_le candidate.frontend.limit others) refl
+refused_at_accept candidate accept_proxy real others id used cause names is = by (nat_le candidate.frontend.limit others) refl
   where
     says : Judged
     says = entry_rules candidate real
@@ -151,8 +96,8 @@ refused_at_accept candidate accept_proxy real others id used cause is = by (nat_
         (used ≡ 0) × IsRefusedAtAccept candidate accept_proxy real others cause
     expects within none true proxied now = absurd (let wrong : saids.Wait candidate.id 0 ≡ Refuse id used cause = sym (ap (λ b. (entry_reply candidate b real says.tracks None).said) proxied) ∙ now in cc)
     expects within none false proxied now =
-        let got = refuses candidate 0 real says.tracks id used cause (sym (ap (λ b. (entry_reply candidate b real says.tracks None).said) proxied) ∙ now) in
-        (sym got.used_is, inr (inr (record { no_header = proxied; admitted = record { limit = less within; rules = none }; withheld = got.withheld })))
+        let got = refuses candidate 0 real says.tracks id used cause names (sym (ap (λ b. (entry_reply candidate b real says.tracks None).said) proxied) ∙ now) in
+        (sym got.used_is, inr (inr (record { no_header = proxied; admitted = record { limit = less within; rules = not_rejected (scene_of (view_of candidate real.source.addr)) no_tracks candidate.frontend.connection_rules none }; withheld = got.withheld })))
 
     ruled : nat_le candidate.frontend.limit others ≡ false → (o : Option ℕ) → rejection says ≡ o → (entry_reply candidate accept_proxy real says.tracks (rejection says)).said ≡ Refuse id used cause →
         (used ≡ 0) × IsRefusedAtAccept candidate accept_proxy real others cause
@@ -172,33 +117,7 @@ refused_at_accept candidate accept_proxy real others id used cause is = by (nat_
         (sym both.0, inl (record { limit = grind (arith, nat_tests, over); cause_is = sym both.1 }))
     by false within = ruled within (rejection says) refl (sym (ap (λ b. (limited b).said) within) ∙ is)
 
-arrival_of : (q : Plain) (clock listener : ℕ) (real : PairValue) (reply : Reply) → Accepted q clock listener real reply → Arrival q listener
-arrival_of q clock listener real reply got = record {
-  at = got.at;
-  own = got.own;
-  version = got.version;
-  frontend = got.frontend;
-  listens = got.listens;
-  there = got.there;
-  in_force = got.newest_is;
-  found = got.found;
-}
-
 -- At a piece.
-
-waiter_of : (q : Plain) (id : ConnId) (piece : List ℕ) (reply : Reply) → Received q id piece reply → Waiter q id
-waiter_of q id piece reply got = record {
-  row = got.row;
-  rest = got.rest;
-  own = got.own;
-  version = got.version;
-  frontend = got.frontend;
-  row_is = got.row_is;
-  waits = got.waits;
-  there = got.there;
-  of_accept = got.kept;
-  found = got.found;
-}
 
 whole_refused : (q : Plain) (id : ConnId) (waiter : Waiter q id) (bytes : List ℕ) (count : ℕ) (meaning : Meaning) (cause : Cause) → status bytes ≡ statuses.Whole count meaning →
     IsWithheld (waiting q id waiter) (judged_pair waiter.row.real meaning) no_tracks cause → IsRefusedAtPiece q id waiter bytes count cause
@@ -208,14 +127,14 @@ whole_refused q id waiter bytes count meaning Expired is withheld = absurd withh
 whole_refused q id waiter bytes count meaning (NoBackend line) is withheld = (meaning, is, withheld)
 whole_refused q id waiter bytes count meaning (NoServer line) is withheld = (meaning, is, withheld)
 
-refused_at_piece : (q : Plain) (id : ConnId) (waiter : Waiter q id) (bytes piece : List ℕ) (before : ℕ) (other : ConnId) (used : ℕ) (cause : Cause) (state : Status) → status bytes ≡ shifted before state →
+refused_at_piece : (q : Plain) (id : ConnId) (waiter : Waiter q id) (bytes piece : List ℕ) (before : ℕ) (other : ConnId) (used : ℕ) (cause : Cause) (state : Status) → NamesBackends (length waiter.version.plan.backends) waiter.frontend → status bytes ≡ shifted before state →
     (header_reply (waiting q id waiter) waiter.row.real (length piece) state).said ≡ Refuse other used cause → IsRefusedAtPiece q id waiter bytes (used + before) cause
-refused_at_piece q id waiter bytes piece before other used cause statuses.Wait state_is is = absurd (let wrong : saids.Wait id (length piece) ≡ Refuse other used cause = is in cc)
-refused_at_piece q id waiter bytes piece before other used cause (statuses.Fault fault count) state_is is =
+refused_at_piece q id waiter bytes piece before other used cause statuses.Wait names state_is is = absurd (let wrong : saids.Wait id (length piece) ≡ Refuse other used cause = is in cc)
+refused_at_piece q id waiter bytes piece before other used cause (statuses.Fault fault count) names state_is is =
     let both = same_cause id other count used (Header fault) cause is in
     subst (IsRefusedAtPiece q id waiter bytes (used + before)) both.1 (state_is ∙ ap (λ n. statuses.Fault fault (n + before)) both.0)
-refused_at_piece q id waiter bytes piece before other used cause (statuses.Whole count meaning) state_is is =
-    let got = refuses (waiting q id waiter) count (judged_pair waiter.row.real meaning) no_tracks other used cause is in
+refused_at_piece q id waiter bytes piece before other used cause (statuses.Whole count meaning) names state_is is =
+    let got = refuses (waiting q id waiter) count (judged_pair waiter.row.real meaning) no_tracks other used cause names is in
     whole_refused q id waiter bytes (used + before) meaning cause (state_is ∙ ap (λ n. statuses.Whole (n + before) meaning) got.used_is) got.withheld
 
 -- Whole histories.
@@ -223,38 +142,37 @@ refused_at_piece q id waiter bytes piece before other used cause (statuses.Whole
 no_refusal : (reply : Reply) (said : Said) (id : ConnId) (used : ℕ) (cause : Cause) → reply_of said ≡ reply → reply.said ≡ Refuse id used cause → said ≡ Refuse id used cause
 no_refusal reply said id used cause is refused = ap (λ (r : Reply). r.said) is ∙ refused
 
-pub refused_for_cause : (plan : Plan) (last : ℕ) (h : List Entry) → IsLegal (opening plan last) h → (moment : ℕ) (event : OwnedEvent) (reply : Reply) (id : ConnId) (used : ℕ) (cause : Cause) →
+pub refused_for_cause : (text : List ℕ) (plan : Plan) (last : ℕ) (h : List Entry) → meaning text ≡ Ok plan → IsLegal (opening plan last) h → (moment : ℕ) (event : OwnedEvent) (reply : Reply) (id : ConnId) (used : ℕ) (cause : Cause) →
     answer (opening plan last) h moment event ≡ Ok reply → reply.said ≡ Refuse id used cause → IsCause (after (opening plan last) h) (λ id. joined id h) moment event used cause
-unfolding arrival_of waiter_of
-refused_for_cause plan last h legal moment (Accept listener real) reply id used cause is said_is =
+refused_for_cause text plan last h meant legal moment (Accept listener real) reply id used cause is said_is =
     let q : Plain = after (opening plan last) h in
     let got = accepted q (max q.clock moment) listener real reply is in
     let arrival : Arrival q listener = arrival_of q (max q.clock moment) listener real reply got in
-    let refused = refused_at_accept (newcomer q moment real listener arrival) got.at.accept_proxy real (length got.own.rows) id used cause (ap (λ (r : Reply). r.said) got.reply_is ∙ said_is) in
+    let refused = refused_at_accept (newcomer q moment real listener arrival) got.at.accept_proxy real (length got.own.rows) id used cause (arrival_names text plan last h meant legal listener arrival) (ap (λ (r : Reply). r.said) got.reply_is ∙ said_is) in
     (refused.0, (arrival, refused.1))
-refused_for_cause plan last h legal moment (Piece own piece) reply id used cause is said_is =
+refused_for_cause text plan last h meant legal moment (Piece own piece) reply id used cause is said_is =
     let q : Plain = after (opening plan last) h in
     let got = received q own piece reply is in
     let waiter : Waiter q own = waiter_of q own piece reply got in
-    (waiter, refused_at_piece q own waiter (joined own h ++ piece) piece (length (joined own h)) id used cause (status_on waiter.rest piece) (piece_status plan last h legal own piece waiter) (ap (λ (r : Reply). r.said) got.reply_is ∙ said_is))
-refused_for_cause plan last h legal moment (Connected own) reply id used cause is said_is =
+    (waiter, refused_at_piece q own waiter (joined own h ++ piece) piece (length (joined own h)) id used cause (status_on waiter.rest piece) (waiter_names text plan last h meant legal own waiter) (piece_status plan last h legal own piece waiter) (ap (λ (r : Reply). r.said) got.reply_is ∙ said_is))
+refused_for_cause text plan last h meant legal moment (Connected own) reply id used cause is said_is =
     let q : Plain = after (opening plan last) h in
     absurd (let wrong : saids.Up own ≡ Refuse id used cause = no_refusal reply (saids.Up own) id used cause (server_answered q own (saids.Up own) reply is).reply_is said_is in cc)
-refused_for_cause plan last h legal moment (ConnectFailed own) reply id used cause is said_is =
+refused_for_cause text plan last h meant legal moment (ConnectFailed own) reply id used cause is said_is =
     let q : Plain = after (opening plan last) h in
     absurd (let wrong : saids.Closed own Failed ≡ Refuse id used cause = no_refusal reply (saids.Closed own Failed) id used cause (server_answered q own (saids.Closed own Failed) reply is).reply_is said_is in cc)
-refused_for_cause plan last h legal moment (Close own why) reply id used cause is said_is =
+refused_for_cause text plan last h meant legal moment (Close own why) reply id used cause is said_is =
     let q : Plain = after (opening plan last) h in
     let one = bind-ok (or_fault NoSuch (row_at q.frontends own)) _ reply is in
     let same : reply_of (saids.Closed own why) ≡ reply = let it : Ok (reply_of (saids.Closed own why)) ≡ Ok reply = one.2 in cc in
     absurd (let wrong : saids.Closed own why ≡ Refuse id used cause = no_refusal reply (saids.Closed own why) id used cause same said_is in cc)
-refused_for_cause plan last h legal moment (Expire own) reply id used cause is said_is =
+refused_for_cause text plan last h meant legal moment (Expire own) reply id used cause is said_is =
     let q : Plain = after (opening plan last) h in
     let got = expired q (max q.clock moment) own reply is in
     let both = same_cause own id 0 used Expired cause (no_refusal reply (Refuse own 0 Expired) id used cause got.reply_is said_is) in
     let due = got.due in
     (sym both.0, record { waiter_row = got.row; row_is = got.row_is; rest = got.rest; waits = got.waits; late = grind (arith, nat_tests, due); cause_is = sym both.1 })
-refused_for_cause plan last h legal moment (Reload text) reply id used cause is said_is =
+refused_for_cause text plan last h meant legal moment (Reload config) reply id used cause is said_is =
     let q : Plain = after (opening plan last) h in
-    let got = followed q text reply is in
+    let got = followed q config reply is in
     absurd (let wrong : saids.Reloaded (got.version.number + 1) ≡ Refuse id used cause = no_refusal reply (saids.Reloaded (got.version.number + 1)) id used cause got.reply_is said_is in cc)

@@ -1,10 +1,18 @@
 -- Why a connection is offered a server, or refused.
-use Rattle.std.specs.Prelude.{ℕ, Bool, true, false, List, length, max, slice_get, Some, None, option_and_then, Result, Ok, ◌+◌, ◌++◌, ◌≤◌, ◌<◌, ◌≡◌, ◌⊎◌}
+use Rattle.std.specs.Prelude.{ℕ, Bool, true, false, List, length, max, slice_get, Some, None, IfSome, Result, Ok, ◌+◌, ◌-◌, ◌^◌, ◌%◌, ◌++◌, ◌≤◌, ◌<◌, ◌≡◌, ◌≢◌, ◌⊎◌}
+use Rattle.std.specs.List.{AllByRecursion}
+use Rattle.addr_core.specs.declared.addr.Addr.{Addr}
 use Rattle.addr_core.specs.PairValue.{PairValue}
 use Rattle.pp_v1.specs.declared.meaning.Meaning.{Meaning}
 use Rattle.pp_any.specs.declared.rest.Rest.{Rest}
 use Rattle.pp_any.specs.Status.{status, Whole, Fault}
+use Rattle.proxy_types.specs.declared.balance.Method.{Method}
+use Rattle.proxy_types.specs.declared.balance.Method.TheVariants.{RoundRobin, LeastConn, Source}
 use Rattle.proxy_types.specs.declared.balance.Place.{Place}
+use Rattle.proxy_types.specs.declared.server.ServerIdentity.{ServerIdentity}
+use Rattle.acl_core.specs.Truth.{applies}
+use Rattle.balance_core.specs.Loads.{total_weight}
+use Rattle.balance_core.specs.Source.{mixed, share_of}
 use Rattle.rule_engine.specs.Meaning.{present, SceneMeaning}
 use Rattle.rule_engine.specs.Judging.{deciding_rule, judged_after, no_tracks, Slots}
 use Rattle.rule_engine.specs.declared.judging.Judged.{Judged}
@@ -12,6 +20,7 @@ use Rattle.plan_types.specs.declared.plan.Action.TheVariants.{Reject}
 use Rattle.plan_types.specs.declared.plan.Backend.{Backend}
 use Rattle.plan_types.specs.declared.plan.Frontend.{Frontend}
 use Rattle.plan_types.specs.declared.plan.Rule.{Rule}
+use Rattle.plan_types.specs.declared.plan.Server.{Server}
 use Rattle.conn_model.specs.declared.event.ConnId.{ConnId}
 use Rattle.conn_model.specs.declared.event.OwnedEvent.{OwnedEvent}
 use Rattle.conn_model.specs.declared.event.OwnedEvent.TheVariants.{Accept, Piece, Connected, ConnectFailed, Close, Expire, Reload}
@@ -28,8 +37,8 @@ use Rattle.conn_model.specs.declared.plain.Plain.{Plain}
 use Rattle.conn_model.specs.declared.plain.Row.{Row}
 use Rattle.conn_model.specs.declared.plain.Version.{Version}
 use Rattle.conn_model.specs.Words.{newest, row_at}
-use Rattle.conn_model.specs.Servers.{cursor_at, pick_in}
-use Rattle.conn_model.specs.Rules.{backend_for, rejection, scene_of, view_of, worth, Candidate, RuleView}
+use Rattle.conn_model.specs.Servers.{cursor_at, identity_in, loads_of, pick_in}
+use Rattle.conn_model.specs.Rules.{backend_for, scene_of, view_of, worth, Candidate, RuleView}
 use Rattle.conn_model.specs.Answer.{candidate_at, candidate_of, entry_rules, frontend_in, judged_pair, numbered_server, reply_with, rest_in, said_of, version_at, NumberedServer}
 
 -- What judges a connection.
@@ -67,10 +76,14 @@ waiting p id waiter = candidate_of p id waiter.version waiter.frontend
 
 -- The rules.
 
+-- no rule of the list decides, or the one that does is not a reject
+abbrev pub IsNotRejected : SceneMeaning → Slots → List Rule → Type 0
+IsNotRejected scene made rules = IfSome (deciding_rule scene made rules) (λ found. found.1.action ≢ Reject)
+
 -- its frontend may have one connection more than so many others, and no connection rule rejects its real source
 pub record IsAdmitted (candidate : Candidate) (real : PairValue) (others : ℕ) : Type 0 where
   pub limit : others < candidate.frontend.limit
-  pub rules : rejection (entry_rules candidate real) ≡ None
+  pub rules : IsNotRejected (scene_of (view_of candidate real.source.addr)) no_tracks candidate.frontend.connection_rules
 
 -- what the session rules say of the judged source, where the step tracked those before
 abbrev pub session_rules : Candidate → PairValue → Slots → Judged
@@ -92,7 +105,7 @@ pub record HasServer (view : RuleView) (given : NumberedServer) : Type 0 where
 
 -- no session rule rejects its judged source, and its backend has that server for it
 pub record IsGiven (candidate : Candidate) (judged : PairValue) (made : Slots) (given : NumberedServer) : Type 0 where
-  pub rules : rejection (session_rules candidate judged made) ≡ None
+  pub rules : IsNotRejected (scene_of (view_of candidate judged.source.addr)) made candidate.frontend.session_rules
   pub server : HasServer (choice_view candidate judged made) given
 
 -- Offers.
@@ -101,19 +114,22 @@ pub record IsGiven (candidate : Candidate) (judged : PairValue) (made : Slots) (
 abbrev pub Says : Result Reply StepFault → Said → Type 0
 Says answer said = (made : Slots) × (answer ≡ Ok (reply_with said made))
 
--- A connection is offered a server at its accept: its listener expects no header. What is sent first states the judged
--- pair, which is the real one.
+-- A connection is offered a server at its accept: its frontend has a serial left, and its listener expects no header.
+-- What is sent first states the judged pair, which is the real one.
 pub record IsOfferedAtAccept (p : Plain) (moment : ℕ) (real : PairValue) (listener : ℕ) (arrival : Arrival p listener) (said : Said) : Type 0 where
   pub given : NumberedServer
+  pub serial_left : arrival.own.serial < 2 ^ 64 - 1
   pub no_header : arrival.at.accept_proxy ≡ false
   pub admitted : IsAdmitted (newcomer p moment real listener arrival) real (length arrival.own.rows)
   pub is_given : IsGiven (newcomer p moment real listener arrival) real (entry_rules (newcomer p moment real listener arrival) real).tracks given
   pub said_is : said ≡ said_of (newcomer p moment real listener arrival).id 0 real (Ok given)
 
 -- It is let in to wait for its header: its listener expects one.
-pub record IsLetWait (p : Plain) (moment : ℕ) (real : PairValue) (listener : ℕ) (arrival : Arrival p listener) : Type 0 where
+pub record IsLetWait (p : Plain) (moment : ℕ) (real : PairValue) (listener : ℕ) (arrival : Arrival p listener) (said : Said) : Type 0 where
+  pub serial_left : arrival.own.serial < 2 ^ 64 - 1
   pub expects : arrival.at.accept_proxy ≡ true
   pub admitted : IsAdmitted (newcomer p moment real listener arrival) real (length arrival.own.rows)
+  pub said_is : said ≡ saids.Wait (newcomer p moment real listener arrival).id 0
 
 -- At a piece, where so many of the bytes came before: they are a header, and maybe more bytes follow it. What is sent
 -- first states the judged pair, which is the one that the header declares.
@@ -125,6 +141,14 @@ pub record IsOfferedAtPiece (p : Plain) (id : ConnId) (waiter : Waiter p id) (by
   pub is_given : IsGiven (waiting p id waiter) (judged_pair waiter.row.real meaning) no_tracks given
   pub said_is : said ≡ said_of id used (judged_pair waiter.row.real meaning) (Ok given)
 
+abbrev pub is_wait : Said → Bool
+is_wait (saids.Wait id used) = true
+is_wait (saids.Offer id used line server to judged send) = false
+is_wait (saids.Refuse id used cause) = false
+is_wait (saids.Up id) = false
+is_wait (saids.Closed id why) = false
+is_wait (saids.Reloaded version) = false
+
 abbrev pub is_offer : Said → Bool
 is_offer (saids.Wait id used) = false
 is_offer (saids.Offer id used line server to judged send) = true
@@ -132,6 +156,19 @@ is_offer (saids.Refuse id used cause) = false
 is_offer (saids.Up id) = false
 is_offer (saids.Closed id why) = false
 is_offer (saids.Reloaded version) = false
+
+-- it waits, is offered a server, or is refused
+abbrev pub is_judgement : Said → Bool
+is_judgement (saids.Wait id used) = true
+is_judgement (saids.Offer id used line server to judged send) = true
+is_judgement (saids.Refuse id used cause) = true
+is_judgement (saids.Up id) = false
+is_judgement (saids.Closed id why) = false
+is_judgement (saids.Reloaded version) = false
+
+-- the answer is one of these
+abbrev pub IsJudged : Result Reply StepFault → Type 0
+IsJudged answer = (reply : Reply) × (answer ≡ Ok reply) × (is_judgement reply.said ≡ true)
 
 -- the event is an accept, or a piece of a header
 abbrev pub may_offer : OwnedEvent → Bool
@@ -153,18 +190,51 @@ pub record IsRejected (scene : SceneMeaning) (made : Slots) (rules : List Rule) 
   pub rejects : rule.action ≡ Reject
   pub line_is : rule.line ≡ line
 
--- the lines choose no backend
+-- no `use_backend` line applies, and there is no default
 pub record LacksBackend (view : RuleView) (line : ℕ) : Type 0 where
-  pub none : option_and_then (slice_get view.version.plan.backends) (backend_for (worth view) view.frontend) ≡ None
+  pub none_applies : AllByRecursion (λ choice. applies view.frontend.acls (worth view) choice.when ≡ false) view.frontend.choices
+  pub no_default : view.frontend.default ≡ None
   pub line_is : view.frontend.line ≡ line
 
--- the backend that they choose has no server for it
+-- a server may be used: it is not disabled, and has a weight
+pub record IsUsable (server : Server) : Type 0 where
+  pub enabled : server.disabled ≡ false
+  pub weighs : 0 < server.weight
+
+-- a server is full: it has a limit, and at least that many connections are open to it
+pub record IsFull (served : ServerIdentity → ℕ) (backend : Backend) (server : Server) : Type 0 where
+  pub limited : 0 < server.limit
+  pub reached : server.limit ≤ served (identity_in backend server)
+
+-- each server that may be used is full
+abbrev pub NoneHasRoom : (ServerIdentity → ℕ) → Backend → Type 0
+NoneHasRoom served backend = AllByRecursion (λ server. IsUsable server → IsFull served backend server) backend.servers
+
+-- no server may be used
+abbrev pub NoneIsUsable : Backend → Type 0
+NoneIsUsable backend = AllByRecursion (λ server. IsUsable server → ⊥) backend.servers
+
+-- the server of the source, into whose part of the weights it falls, is full
+pub record SourceIsFull (served : ServerIdentity → ℕ) (backend : Backend) (source : Addr) : Type 0 where
+  pub number : ℕ
+  pub server : Server
+  pub of_source : share_of (loads_of served backend) (mixed source % total_weight (loads_of served backend)) ≡ Some number
+  pub server_is : slice_get backend.servers number ≡ Some server
+  pub full : IsFull served backend server
+
+-- by that method the backend has no server for the source
+abbrev pub HasNoServer : (ServerIdentity → ℕ) → Backend → Addr → Method → Type 0
+HasNoServer served backend source RoundRobin = NoneHasRoom served backend
+HasNoServer served backend source LeastConn = NoneHasRoom served backend
+HasNoServer served backend source Source = NoneIsUsable backend ⊎ SourceIsFull served backend source
+
+-- the backend that the lines choose has no server for it, by the counts of the open connections
 pub record LacksServer (view : RuleView) (line : ℕ) : Type 0 where
   pub number : ℕ
   pub backend : Backend
   pub chosen : backend_for (worth view) view.frontend ≡ Some number
   pub backend_is : slice_get view.version.plan.backends number ≡ Some backend
-  pub none : option_and_then (λ place. numbered_server backend place.server) (pick_in view.served backend (cursor_at view.version.cursors number) view.source) ≡ None
+  pub none : HasNoServer view.served backend view.source backend.method
   pub line_is : backend.line ≡ line
 
 -- it is judged by that pair, and gets no server for that cause
@@ -172,8 +242,10 @@ abbrev pub IsWithheld : Candidate → PairValue → Slots → Cause → Type 0
 IsWithheld candidate judged made (Line line) = IsRejected (scene_of (view_of candidate judged.source.addr)) made candidate.frontend.session_rules line
 IsWithheld candidate judged made (Header fault) = ⊥
 IsWithheld candidate judged made Expired = ⊥
-IsWithheld candidate judged made (NoBackend line) = (rejection (session_rules candidate judged made) ≡ None) × LacksBackend (choice_view candidate judged made) line
-IsWithheld candidate judged made (NoServer line) = (rejection (session_rules candidate judged made) ≡ None) × LacksServer (choice_view candidate judged made) line
+IsWithheld candidate judged made (NoBackend line) =
+    IsNotRejected (scene_of (view_of candidate judged.source.addr)) made candidate.frontend.session_rules × LacksBackend (choice_view candidate judged made) line
+IsWithheld candidate judged made (NoServer line) =
+    IsNotRejected (scene_of (view_of candidate judged.source.addr)) made candidate.frontend.session_rules × LacksServer (choice_view candidate judged made) line
 
 -- at its accept the limit of its frontend is reached, or a connection rule rejects it; or it is admitted, its listener
 -- expects no header, and it gets no server

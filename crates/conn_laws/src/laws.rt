@@ -1,37 +1,59 @@
 //! Why a connection is offered a server, and why it is refused.
-ghost use Rattle.std.specs.Prelude.{◌≡◌, ◌<◌, ◌^◌, ◌-◌, ◌++◌, ◌↔◌, ℕ, true, List, length, Ok};
+ghost use Rattle.std.specs.Prelude.{◌≡◌, ◌<◌, ◌^◌, ◌-◌, ◌++◌, ◌↔◌, ℕ, true, List, length, slice_get, Some, Ok};
 ghost use Rattle.addr_core.specs.PairValue.{PairValue};
+ghost use Rattle.pp_any.specs.declared.rest.Rest.{Rest};
 ghost use Rattle.plan_types.specs.declared.plan.Plan.{Plan};
+ghost use Rattle.config_core.specs.Meaning.{meaning};
 ghost use Rattle.conn_model.specs.declared.event.ConnId.{ConnId};
 ghost use Rattle.conn_model.specs.declared.event.OwnedEvent.{OwnedEvent};
 ghost use Rattle.conn_model.specs.declared.event.OwnedEvent.TheVariants.{Accept, Piece};
+ghost use Rattle.conn_model.specs.declared.plain.Listener.{Listener};
 ghost use Rattle.conn_model.specs.declared.plain.Plain.{Plain};
+ghost use Rattle.conn_model.specs.declared.plain.Row.{Row};
 ghost use Rattle.conn_model.specs.declared.reply.Cause.{Cause};
 ghost use Rattle.conn_model.specs.declared.reply.Reply.{Reply};
 ghost use Rattle.conn_model.specs.declared.reply.Said.{Said};
-ghost use Rattle.conn_model.specs.declared.reply.Said.TheVariants.{Refuse, Wait};
+ghost use Rattle.conn_model.specs.declared.reply.Said.TheVariants.{Refuse};
+ghost use Rattle.conn_model.specs.Words.{row_at};
+ghost use Rattle.conn_model.specs.Answer.{rest_in};
 ghost use Rattle.conn_model.specs.History.{after, answer, joined, opening, Entry, IsLegal};
-ghost use Rattle.conn_laws.specs.Deciding.{is_offer, may_offer, newcomer, Arrival, IsCause, IsLetWait, IsOfferedAtAccept, IsOfferedAtPiece, Says, Waiter};
+ghost use Rattle.conn_laws.specs.Deciding.{is_offer, is_wait, may_offer, Arrival, IsCause, IsJudged, IsLetWait, IsOfferedAtAccept, IsOfferedAtPiece, Says, Waiter};
+
+/// After each legal history the version in force has the frontend of each listener, and the version of its accept that of
+/// each connection that waits. So while the frontend has a serial left each client that comes is let in to wait, offered a
+/// server or refused, and so is each connection that waits at each of its pieces.
+pub fn each_is_judged()
+    ensures arrivals { (plan : Plan) (last : ℕ) (h : List Entry) → IsLegal (opening plan last) h → (listener : ℕ) (at : Listener) →
+        slice_get (after (opening plan last) h).listeners listener ≡ Some at → Arrival (after (opening plan last) h) listener }
+    ensures waiters { (plan : Plan) (last : ℕ) (h : List Entry) → IsLegal (opening plan last) h → (id : ConnId) (row : Row) (rest : Rest) →
+        row_at (after (opening plan last) h).frontends id ≡ Some row → rest_in row.phase ≡ Some rest → Waiter (after (opening plan last) h) id }
+    ensures accepts { (p : Plain) (h : List Entry) (moment listener : ℕ) (real : PairValue) (arrival : Arrival (after p h) listener) → arrival.own.serial < 2 ^ 64 - 1 →
+        IsJudged (answer p h moment (Accept listener real)) }
+    ensures pieces { (p : Plain) (h : List Entry) (moment : ℕ) (id : ConnId) (piece : List ℕ) → Waiter (after p h) id → IsJudged (answer p h moment (Piece id piece)) }
+{}
 
 /// After each history a connection is offered a server exactly when the limit and the rules of its frontend admit it,
 /// its header is well formed, where one is expected, and the backend that the lines choose has that server for it. A
 /// connection is judged at its accept where its listener expects no header. Else the limit and the connection rules let
 /// it in there to wait for its header, and the piece that ends the header decides the rest.
 pub fn offered_exactly_when()
-    ensures at_accept { (p : Plain) (h : List Entry) (moment listener : ℕ) (real : PairValue) (arrival : Arrival (after p h) listener) → arrival.own.serial < 2 ^ 64 - 1 →
-        (said : Said) → is_offer said ≡ true →
-        Says (answer p h moment (Accept listener real)) said ↔ IsOfferedAtAccept (after p h) moment real listener arrival said }
-    ensures waits { (p : Plain) (h : List Entry) (moment listener : ℕ) (real : PairValue) (arrival : Arrival (after p h) listener) → arrival.own.serial < 2 ^ 64 - 1 →
-        Says (answer p h moment (Accept listener real)) (Wait (newcomer (after p h) moment real listener arrival).id 0) ↔ IsLetWait (after p h) moment real listener arrival }
+    ensures at_accept { (p : Plain) (h : List Entry) (moment listener : ℕ) (real : PairValue) (said : Said) → is_offer said ≡ true →
+        Says (answer p h moment (Accept listener real)) said
+        ↔ ((arrival : Arrival (after p h) listener) × IsOfferedAtAccept (after p h) moment real listener arrival said) }
+    ensures waits { (p : Plain) (h : List Entry) (moment listener : ℕ) (real : PairValue) (said : Said) → is_wait said ≡ true →
+        Says (answer p h moment (Accept listener real)) said
+        ↔ ((arrival : Arrival (after p h) listener) × IsLetWait (after p h) moment real listener arrival said) }
     ensures at_piece { (plan : Plan) (last : ℕ) (h : List Entry) → IsLegal (opening plan last) h →
-        (moment : ℕ) (id : ConnId) (piece : List ℕ) (waiter : Waiter (after (opening plan last) h) id) (said : Said) → is_offer said ≡ true →
+        (moment : ℕ) (id : ConnId) (piece : List ℕ) (said : Said) → is_offer said ≡ true →
         Says (answer (opening plan last) h moment (Piece id piece)) said
-        ↔ IsOfferedAtPiece (after (opening plan last) h) id waiter (joined id h ++ piece) (length (joined id h)) said }
+        ↔ ((waiter : Waiter (after (opening plan last) h) id) × IsOfferedAtPiece (after (opening plan last) h) id waiter (joined id h ++ piece) (length (joined id h)) said) }
     ensures nothing_else { (p : Plain) (h : List Entry) (moment : ℕ) (event : OwnedEvent) (reply : Reply) → answer p h moment event ≡ Ok reply → is_offer reply.said ≡ true → may_offer event ≡ true }
 {}
 
-/// Each refusal names the line that decided, or the fault of the header, or that no whole header came in time.
+/// Each refusal names the line that decided, or the fault of the header, or that no whole header came in time. It names
+/// a frontend for its backends only where its lines choose none, and a backend only where by its method no server is left.
 pub fn refused_for_its_cause()
-    ensures { (plan : Plan) (last : ℕ) (h : List Entry) → IsLegal (opening plan last) h → (moment : ℕ) (event : OwnedEvent) (reply : Reply) (id : ConnId) (used : ℕ) (cause : Cause) →
+    ensures { (text : List ℕ) (plan : Plan) (last : ℕ) (h : List Entry) → meaning text ≡ Ok plan → IsLegal (opening plan last) h →
+        (moment : ℕ) (event : OwnedEvent) (reply : Reply) (id : ConnId) (used : ℕ) (cause : Cause) →
         answer (opening plan last) h moment event ≡ Ok reply → reply.said ≡ Refuse id used cause → IsCause (after (opening plan last) h) (λ id. joined id h) moment event used cause }
 {}
