@@ -5,3 +5,4 @@ pub mod First
 pub mod KeptOf
 pub mod Closing
 pub mod Whole
+pub mod Moments

@@ -1,14 +1,21 @@
 -- What a contract sees of a pass, and what a call leaves of it.
-use Rattle.std.specs.Prelude.{◌≡◌, ◌≤◌, ◌+◌, ◌++◌, ◌∷◌, ℕ, Bool, true, List, [], length, map, sum_by, Option, None, if◌then◌else◌}
+use Rattle.std.specs.Prelude.{◌≡◌, ◌≤◌, ◌+◌, ◌++◌, ◌∷◌, ℕ, Bool, true, List, [], length, map, sum_by, Ok, Option, None, if◌then◌else◌}
 use Rattle.std.specs.List.{All}
+use Rattle.book_core.specs.Book.{book_answer, BookState, IsBookFault}
 use Rattle.book_core.specs.declared.book.Receipt.{Receipt}
+use Rattle.conn_model.specs.Counts.{counts_in}
+use Rattle.conn_model.specs.declared.ask.Ask.{Ask}
+use Rattle.conn_model.specs.declared.ask.Counts.{Counts}
 use Rattle.conn_model.specs.declared.event.ConnId.{ConnId}
 use Rattle.conn_model.specs.declared.event.OwnedEvent.{OwnedEvent}
+use Rattle.conn_model.specs.declared.plain.Plain.{Plain}
 use Rattle.conn_model.specs.declared.reply.Said.{Said}
 use Rattle.conn_model.specs.declared.reply.Said.TheVariants.{Reloaded}
-use Rattle.conn_model.specs.History.{entry, id_of, leaves_open}
+use Rattle.conn_model.specs.declared.reply.StepFault.{StepFault}
+use Rattle.conn_model.specs.History.{answer, entry, id_of, leaves_open}
+use Rattle.desk_core.specs.Books.{moment_in, IsDeskBook}
 use Rattle.record_core.specs.declared.record.Record.{Record}
-use Rattle.record_core.specs.Records.{record_of}
+use Rattle.record_core.specs.Records.{history_of, record_of}
 
 -- what a contract sees of a pass: how many of its calls were answered, whether it keeps their records, and those records
 pub record Calls : Type 0 where
@@ -20,11 +27,27 @@ pub record Calls : Type 0 where
 abbrev pub with_call : Calls → Record → Calls
 with_call p r = record p { calls = p.calls + 1; kept = if p.keeps then p.kept ++ r ∷ [] else p.kept }
 
--- The call was answered with that receipt: the pass has one call more, with the record of this event under the number of the
--- receipt, which is at least the number of its calls.
-abbrev pub IsAnswered : Calls → Calls → ℕ → OwnedEvent → Receipt → Type 0
-IsAnswered old new moment event receipt =
-    (new ≡ with_call old (record_of receipt.number (entry moment event receipt.reply))) × (new.calls ≤ receipt.number)
+-- The event was answered by a book of the desk: the receipt has its next number, and the answer after all its records. The pass
+-- has one call more, with the record of that under this number, which is at least the number of its calls.
+pub record IsAnswered (named : Option Plain) (old new : Calls) (moment : ℕ) (event : OwnedEvent) (receipt : Receipt) : Type 0 where
+  pub book : BookState
+  pub legal : IsDeskBook named book
+  pub number : receipt.number ≡ book.made + 1
+  pub reply : answer book.base (history_of book.journal) (moment_in book moment) event ≡ Ok receipt.reply
+  pub call : new ≡ with_call old (record_of receipt.number (entry (moment_in book moment) event receipt.reply))
+  pub calls : new.calls ≤ receipt.number
+
+-- A book of the desk has that fault for the event.
+pub record IsRefused (named : Option Plain) (moment : ℕ) (event : OwnedEvent) (fault : StepFault) : Type 0 where
+  pub book : BookState
+  pub legal : IsDeskBook named book
+  pub is : IsBookFault book (book_answer book (moment_in book moment) event) fault
+
+-- So many are counted of that in a book of the desk.
+pub record IsCounted (named : Option Plain) (ask : Ask) (counts : Option Counts) : Type 0 where
+  pub book : BookState
+  pub legal : IsDeskBook named book
+  pub is : counts ≡ counts_in book.state ask
 
 -- the connection that a reply to an accept leaves open
 abbrev pub open_id : Said → Option ConnId

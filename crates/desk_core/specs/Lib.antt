@@ -1,3 +1,4 @@
+pub mod Books
 pub mod Calls
 pub mod Driving
 pub mod Leased

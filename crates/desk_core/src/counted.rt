@@ -1,26 +1,45 @@
 //! A book whose records are the calls of passes.
-ghost use Rattle.std.specs.Prelude.{◌≡◌, ◌<◌, ◌≤◌, ◌+◌, ◌^◌, IfOk, MatchOption, Ok, OnErr, OnOk, false, true, vec_capacity, vec_len};
+ghost use Rattle.std.specs.Prelude.{◌≡◌, ◌<◌, ◌≤◌, ◌+◌, ◌^◌, IfErr, IfOk, MatchOption, Ok, OnErr, OnOk, false, true, vec_capacity, vec_len};
 ghost use Rattle.conn_model.specs.History.{owned_event};
 ghost use Rattle.conn_model.specs.declared.event.OwnedEvent.TheVariants as owned;
 ghost use Rattle.conn_model.specs.declared.reply.Said.TheVariants.{Closed};
-ghost use Rattle.book_core.specs.Book.{book_answer, IsBook};
+ghost use Rattle.book_core.specs.Book.{book_answer, MOST_RECORDS};
 ghost use Rattle.book_core.specs.Open.{connections_ended, connections_opened, open_connections};
-ghost use Rattle.desk_core.specs.Calls.{IsAnswered, IsReloaded};
+ghost use Rattle.desk_core.specs.Books.{moment_in, IsBase, IsDeskBook, MomentsRise};
+ghost use Rattle.desk_core.specs.Calls.{IsAnswered, IsRefused, IsReloaded};
 
+use crate::base::Base;
 use crate::pass::Pass;
 use book_core::{Book, Receipt};
 use conn_model::event::{ConnId, Event, OwnedEvent, Why};
 use conn_model::reply::StepFault;
 use record_core::{Record, copy_event, copy_reply};
 use std::alloc::{AllocError, Global};
+use std::marker::PhantomData;
 use std::sync::ledger;
 use std::sync::ledger::Ledger;
 
 /// A book that made as many records as the passes' calls come to.
-pub(crate) struct CountedBook<M: Ledger> {
+pub(crate) struct CountedBook<M: Ledger, B: Base> {
     pub(crate) book: Book,
     pub(crate) made: ledger::Book<M>,
+    /// The greatest moment so far.
+    pub(crate) latest: u64,
+    pub(crate) of: PhantomData<B>,
     pub ghost counted: { book.made ≡ made.total },
+    pub ghost base: { IsBase B.base book.base },
+    pub ghost greatest: { latest ≡ book.state.clock },
+    pub ghost rise: { MomentsRise book.journal },
+}
+
+/// The moment at which a book with no record begins.
+fn first_moment(book: &Book) -> u64
+    requires { book.now.made ≡ 0 }
+    ensures clock { result ≡ book.now.state.clock }
+    ensures rise { MomentsRise book.now.journal }
+{
+    prove!(book.journal().is_empty());
+    book.base().clock
 }
 
 /// A copy of an event whose record is kept, and room for that record.
@@ -41,34 +60,55 @@ fn copy_to_keep(
     }
 }
 
-impl<M: Ledger> CountedBook<M> {
-    pub(crate) fn new(book: Book, made: ledger::Book<M>) -> CountedBook<M>
-        requires { book.made ≡ made.total }
+impl<M: Ledger, B: Base> CountedBook<M, B> {
+    pub(crate) fn new(book: Book, made: ledger::Book<M>) -> CountedBook<M, B>
+        requires fresh { (book.made ≡ 0) × (made.total ≡ 0) }
+        requires base { IsBase B.base book.base }
         ensures { result.book ≡ book }
     {
-        CountedBook { book, made }
+        let latest = first_moment(&book);
+        CountedBook {
+            book,
+            made,
+            latest,
+            of: PhantomData,
+        }
     }
 
-    /// Answers one event for a pass. Of a record that a pass keeps, the event is copied and room is made before the book
-    /// answers.
+    /// Says of the book what is always true of it. It does nothing.
+    pub(crate) fn attest(&self)
+        ensures legal { IsDeskBook B.base self.now.book }
+        ensures few { self.now.book.made < MOST_RECORDS }
+    {
+        prove!(self.book.journal().len() < usize::MAX);
+    }
+
+    /// Answers one event for a pass, at the moment that was handed in or the greatest so far. Of a record that a pass
+    /// keeps, the event is copied and room is made before the book answers.
     pub(crate) fn step(
         &mut self,
         pass: &mut Pass<M>,
         moment: u64,
         event: &Event,
     ) -> Result<Receipt, StepFault>
-        ensures pass { IfOk result (λ r. IsAnswered pass.old pass.new moment (owned_event event.now) r) }
-        ensures number { IfOk result (λ r. r.number ≡ self.old.book.made + 1) }
-        ensures reply { IfOk result (λ r. book_answer self.old.book moment (owned_event event.now) ≡ Ok r.reply) }
+        ensures pass { IfOk result (λ r. IsAnswered B.base pass.old pass.new moment (owned_event event.now) r) }
+        ensures reply { IfOk result (λ r. book_answer self.old.book (moment_in self.old.book moment) (owned_event event.now) ≡ Ok r.reply) }
         ensures made { IfOk result (λ r. self.new.book.made ≡ self.old.book.made + 1) }
         ensures base { self.new.book.base ≡ self.old.book.base }
         ensures open_connections { IfOk result (λ r. open_connections self.new.book.state + connections_ended (owned_event event.now) r.reply.said
             ≡ open_connections self.old.book.state + connections_opened (owned_event event.now) r.reply.said) }
         ensures few { IfOk result (λ r. (r.number < 2 ^ 64) × (open_connections self.old.book.state < open_connections self.old.book.base + r.number)) }
+        ensures fault { IfErr result (IsRefused B.base moment (owned_event event.now)) }
         ensures err { OnErr result (self.new.book ≡ self.old.book) }
         ensures unchanged { OnErr result (pass.new ≡ pass.old) }
     {
-        let CountedBook { book, made } = self;
+        self.attest();
+        let CountedBook {
+            book,
+            made,
+            latest,
+            of: _,
+        } = self;
         let Pass {
             alloc,
             calls,
@@ -79,7 +119,9 @@ impl<M: Ledger> CountedBook<M> {
         let Ok(copy) = copy_to_keep(*alloc, *keeps, kept, event) else {
             return Err(StepFault::NoMemory);
         };
+        let moment = (*latest).max(moment);
         let receipt = book.step(moment, event)?;
+        *latest = moment;
         made.add(share, 1);
         made.audit(share);
         *calls += 1;
@@ -102,16 +144,18 @@ impl<M: Ledger> CountedBook<M> {
         id: ConnId,
         why: Why,
     ) -> Result<Receipt, StepFault>
-        ensures pass { IfOk result (λ r. IsAnswered pass.old pass.new moment (owned.Close id why) r) }
+        ensures pass { IfOk result (λ r. IsAnswered B.base pass.old pass.new moment (owned.Close id why) r) }
         ensures said { IfOk result (λ r. r.reply.said ≡ Closed id why) }
         ensures made { IfOk result (λ r. self.new.book.made ≡ self.old.book.made + 1) }
         ensures base { self.new.book.base ≡ self.old.book.base }
         ensures open_connections { IfOk result (λ r. open_connections self.new.book.state + 1 ≡ open_connections self.old.book.state) }
+        ensures fault { IfErr result (IsRefused B.base moment (owned.Close id why)) }
         ensures err { OnErr result (self.new.book ≡ self.old.book) }
         ensures unchanged { OnErr result (pass.new ≡ pass.old) }
     {
         self.step(pass, moment, &Event::Close(id, why))
     }
+
     /// Brings a new configuration into force for a pass.
     pub(crate) fn reload(
         &mut self,
@@ -119,10 +163,11 @@ impl<M: Ledger> CountedBook<M> {
         moment: u64,
         text: &str,
     ) -> Result<Receipt, StepFault>
-        ensures pass { IfOk result (λ r. IsAnswered pass.old pass.new moment (owned.Reload text.now) r) }
+        ensures pass { IfOk result (λ r. IsAnswered B.base pass.old pass.new moment (owned.Reload text.now) r) }
         ensures said { IfOk result (λ r. IsReloaded r.reply.said) }
         ensures base { self.new.book.base ≡ self.old.book.base }
         ensures open_connections { OnOk result (open_connections self.new.book.state ≡ open_connections self.old.book.state) }
+        ensures fault { IfErr result (IsRefused B.base moment (owned.Reload text.now)) }
         ensures err { OnErr result (self.new.book ≡ self.old.book) }
         ensures unchanged { OnErr result (pass.new ≡ pass.old) }
     {

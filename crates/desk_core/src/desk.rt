@@ -4,8 +4,10 @@ ghost use Rattle.std.specs.Option.{option_map};
 ghost use Rattle.conn_model.specs.declared.event.OwnedEvent.TheVariants as owned;
 ghost use Rattle.conn_model.specs.declared.reply.Said.TheVariants.{Closed};
 ghost use Rattle.book_core.specs.Open.{open_connections};
-ghost use Rattle.desk_core.specs.Calls.{open_id, IsAnswered, IsReloaded};
+ghost use Rattle.desk_core.specs.Books.{IsBase, MomentsRise};
+ghost use Rattle.desk_core.specs.Calls.{open_id, IsAnswered, IsCounted, IsRefused, IsReloaded};
 
+use crate::base::{AnyBase, Base};
 use crate::counted::CountedBook;
 use crate::lease::{Drive, Driven, Lease};
 use crate::locked::Locked;
@@ -16,19 +18,20 @@ use conn_model::ask::{Ask, Counts};
 use conn_model::event::Why;
 use conn_model::reply::StepFault;
 use std::alloc::Global;
+use std::marker::PhantomData;
 use std::sync::ledger::{Blank, Ledger, Share};
 use std::sync::{Mutex, Wait, ledger};
 
 /// The part of a desk that threads share: a book in a lock. Each call is one entry of the history of that book, or
 /// none.
-pub struct SharedDesk<M: Ledger, O: Ledger> {
-    locked: Mutex<Locked<M, O>>,
+pub struct SharedDesk<M: Ledger, O: Ledger, B: Base = AnyBase> {
+    locked: Mutex<Locked<M, O, B>>,
 }
 
-impl<M: Ledger, O: Ledger> SharedDesk<M, O> {
+impl<M: Ledger, O: Ledger, B: Base> SharedDesk<M, O, B> {
     ghost use Rattle.desk_core.specs.Driving.{driven_event, IsDriven};
 
-    fn into_locked(self) -> Locked<M, O> {
+    fn into_locked(self) -> Locked<M, O, B> {
         let SharedDesk { locked } = self;
         locked.into_inner()
     }
@@ -43,8 +46,9 @@ impl<M: Ledger, O: Ledger> SharedDesk<M, O> {
         listener: u16,
         real: &Pair,
     ) -> Result<(Receipt, Option<Lease<O>>), StepFault>
-        ensures pass { IfOk result (λ r. IsAnswered pass.old pass.new moment (owned.Accept listener real.now) r.0) }
+        ensures pass { IfOk result (λ r. IsAnswered B.base pass.old pass.new moment (owned.Accept listener real.now) r.0) }
         ensures lease { IfOk result (λ r. option_map (λ lease. lease.id) r.1 ≡ open_id r.0.reply.said) }
+        ensures fault { IfErr result (IsRefused B.base moment (owned.Accept listener real.now)) }
         ensures err { OnErr result (pass.new ≡ pass.old) }
     {
         self.locked.lock(rt).accept(pass, moment, listener, real)
@@ -59,7 +63,7 @@ impl<M: Ledger, O: Ledger> SharedDesk<M, O> {
         lease: Lease<O>,
         drive: &Drive<'_>,
     ) -> Driven<O>
-        ensures { IsDriven pass.old pass.new moment (driven_event lease.id drive.now) lease.id result }
+        ensures { IsDriven B.base pass.old pass.new moment (driven_event lease.id drive.now) lease.id result }
     {
         self.locked.lock(rt).drive(pass, moment, lease, drive)
     }
@@ -73,8 +77,9 @@ impl<M: Ledger, O: Ledger> SharedDesk<M, O> {
         lease: Lease<O>,
         why: Why,
     ) -> Result<Receipt, (StepFault, Lease<O>)>
-        ensures pass { IfOk result (λ r. IsAnswered pass.old pass.new moment (owned.Close lease.id why) r) }
+        ensures pass { IfOk result (λ r. IsAnswered B.base pass.old pass.new moment (owned.Close lease.id why) r) }
         ensures said { IfOk result (λ r. r.reply.said ≡ Closed lease.id why) }
+        ensures fault { IfErr result (λ failed. IsRefused B.base moment (owned.Close lease.id why) failed.0) }
         ensures err { IfErr result (λ failed. (pass.new ≡ pass.old) × (failed.1.id ≡ lease.id)) }
     {
         self.locked.lock(rt).close(pass, moment, lease, why)
@@ -88,23 +93,26 @@ impl<M: Ledger, O: Ledger> SharedDesk<M, O> {
         moment: u64,
         text: &str,
     ) -> Result<Receipt, StepFault>
-        ensures pass { IfOk result (λ r. IsAnswered pass.old pass.new moment (owned.Reload text.now) r) }
+        ensures pass { IfOk result (λ r. IsAnswered B.base pass.old pass.new moment (owned.Reload text.now) r) }
         ensures said { IfOk result (λ r. IsReloaded r.reply.said) }
+        ensures fault { IfErr result (IsRefused B.base moment (owned.Reload text.now)) }
         ensures err { OnErr result (pass.new ≡ pass.old) }
     {
         self.locked.lock(rt).reload(pass, moment, text)
     }
 
     /// What is open of that which is asked for, if there is such a thing.
-    pub fn ask<R: Wait>(&self, rt: &R, ask: &Ask) -> Option<Counts> {
+    pub fn ask<R: Wait>(&self, rt: &R, ask: &Ask) -> Option<Counts>
+        ensures { IsCounted B.base ask.now result }
+    {
         self.locked.lock(rt).counts(ask)
     }
 }
 
 /// A book that threads share, and its owner's means to give out passes.
-pub struct Desk<M: Ledger, O: Ledger> {
+pub struct Desk<M: Ledger, O: Ledger, B: Base = AnyBase> {
     alloc: Global,
-    shared: SharedDesk<M, O>,
+    shared: SharedDesk<M, O, B>,
     given: u64,
     pool: Share<M>,
     pub ghost parts: { pool.parts + given ≡ 65537 },
@@ -113,7 +121,7 @@ pub struct Desk<M: Ledger, O: Ledger> {
 
 /// What is left of a desk: its book, and the tokens by which the passes' calls are its records, and the leases its open
 /// connections.
-pub struct Shut<M: Ledger, O: Ledger> {
+pub struct Shut<M: Ledger, O: Ledger, B: Base = AnyBase> {
     pub(crate) book: Book,
     pub(crate) made: ledger::Book<M>,
     pub(crate) leases: ledger::Book<O>,
@@ -121,6 +129,9 @@ pub struct Shut<M: Ledger, O: Ledger> {
     pub(crate) live: u64,
     pub(crate) given: u64,
     pub(crate) pool: Share<M>,
+    pub(crate) of: PhantomData<B>,
+    pub ghost base: { IsBase B.base book.base },
+    pub ghost rise: { MomentsRise book.journal },
     pub ghost counted: { book.made ≡ made.total },
     pub ghost leased: { open_connections book.state ≡ leases.total },
     pub ghost lives: { live ≡ leases.total },
@@ -129,19 +140,22 @@ pub struct Shut<M: Ledger, O: Ledger> {
     pub ghost no_leases: { idle.amount ≡ 0 },
 }
 
-impl<M: Ledger, O: Ledger> Shut<M, O> {
+impl<M: Ledger, O: Ledger, B: Base> Shut<M, O, B> {
     /// The book with all records.
     pub fn book(&self) -> &Book
-        ensures { result.now ≡ self.now.book }
+        ensures book { result.now ≡ self.now.book }
+        ensures base { IsBase B.base result.now.base }
+        ensures rise { MomentsRise result.now.journal }
     {
         &self.book
     }
 }
 
-impl<M: Ledger, O: Ledger> Desk<M, O> {
+impl<M: Ledger, O: Ledger, B: Base> Desk<M, O, B> {
     /// A desk over a book with no record and no open connection. Of the blanks one becomes the ledger of calls, the
     /// other that of leases.
-    pub fn new(alloc: Global, book: Book, made: Blank, leases: Blank) -> Desk<M, O>
+    pub fn new(alloc: Global, book: Book, made: Blank, leases: Blank) -> Desk<M, O, B>
+        requires base { IsBase B.base book.base }
         requires fresh { (book.made ≡ 0) × (open_connections book.state ≡ 0) × (open_connections book.base ≡ 0) }
         requires made_name { made.name ≡ M.name }
         requires made_parts { (made.parts ≡ M.parts) × (made.parts ≡ 65537) }
@@ -191,13 +205,15 @@ impl<M: Ledger, O: Ledger> Desk<M, O> {
     }
 
     /// What threads share.
-    pub fn shared(&self) -> &SharedDesk<M, O> {
+    pub fn shared(&self) -> &SharedDesk<M, O, B> {
         &self.shared
     }
 
     /// Ends the calls.
-    pub fn into_book(self) -> Shut<M, O>
-        ensures { result.given ≡ self.given }
+    pub fn into_book(self) -> Shut<M, O, B>
+        ensures given { result.given ≡ self.given }
+        ensures base { IsBase B.base result.book.base }
+        ensures rise { MomentsRise result.book.journal }
     {
         let Desk {
             alloc: _,
@@ -211,7 +227,12 @@ impl<M: Ledger, O: Ledger> Desk<M, O> {
             idle,
             live,
         } = shared.into_locked();
-        let CountedBook { book, made } = counted;
+        let CountedBook {
+            book,
+            made,
+            latest: _,
+            of,
+        } = counted;
         Shut {
             book,
             made,
@@ -220,6 +241,7 @@ impl<M: Ledger, O: Ledger> Desk<M, O> {
             live,
             given,
             pool,
+            of,
         }
     }
 }

@@ -1,6 +1,7 @@
 //! A book that many threads share, so that all of them make one history.
 #![tactic(auto)]
 
+pub use base::{AnyBase, Base};
 pub use desk::{Desk, SharedDesk, Shut};
 pub use lease::{Drive, Driven, Lease};
 pub use lease_list::LeaseList;
@@ -8,6 +9,7 @@ pub use pass::Pass;
 pub use receipts::SettleFault;
 pub use settling::{Settled, settle};
 
+mod base;
 mod bounding;
 mod counted;
 mod desk;

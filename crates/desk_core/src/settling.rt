@@ -5,6 +5,7 @@ ghost use Rattle.desk_core.specs.Calls.{calls_of, kept_of, AllKeep, AreWhole};
 ghost use Rattle.desk_core.specs.Receipts.{record_under, AreReceipts, IsReceiptOfOneCall};
 ghost use Rattle.desk_core.specs.Settling.{AreAll, IsSettleFault};
 
+use crate::base::Base;
 use crate::desk::Shut;
 use crate::lease::Lease;
 use crate::pass::Pass;
@@ -71,8 +72,8 @@ fn gather<M: Ledger>(pool: &mut Share<M>, mut passes: Vec<Pass<M>>)
 }
 
 /// Whether the passes and the leases of a desk account for its book. It spends them, and ends the book.
-pub fn settle<M: Ledger, O: Ledger>(
-    shut: Shut<M, O>,
+pub fn settle<M: Ledger, O: Ledger, B: Base>(
+    shut: Shut<M, O, B>,
     passes: Vec<Pass<M>>,
     left: Vec<Vec<Lease<O>>>,
 ) -> Result<Settled, SettleFault>
@@ -100,6 +101,7 @@ pub fn settle<M: Ledger, O: Ledger>(
         live,
         given,
         mut pool,
+        of: _,
     } = shut;
     let all_passes = passes.len() as u64 == given;
     let all_leases = are_as_many(left, live);
