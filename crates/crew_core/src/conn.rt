@@ -1,11 +1,15 @@
 //! A connection of a worker.
+ghost use Rattle.std.specs.Prelude.{◌≡◌, ◌++◌, [], Some, None, IsTrue, IfOk, OnOk, OnErr, IsSomeAnd};
+ghost use Rattle.relay_core.specs.Relay.{flow_of, IsBegun, stream_of};
+ghost use Rattle.relay_core.specs.Law.{HasCarried};
+ghost use Rattle.crew_core.specs.Conns.{HasFlows, PassesOn};
 
 use crate::flags::Flags;
 use crate::spares::Spares;
-use crate::stream::{Progress, Stream, Way};
+use crate::stream::{Progress, pump};
 use crate::traits::{Link, Ready};
 use addr_core::Endpoint;
-use relay_core::Relay;
+use relay_core::{Relay, Way};
 use std::alloc::AllocError;
 
 /// What a connection waits for.
@@ -29,8 +33,13 @@ pub(crate) struct Conn<K: Link> {
     pub(crate) stage: Stage,
     pub(crate) client_flags: Flags,
     server_flags: Flags,
-    forth: Stream,
-    back: Stream,
+}
+
+/// Whether both directions are over.
+fn is_over(relay: &Relay) -> bool
+    ensures { IsTrue result → (relay.now.forth.bytes ≡ []) × (relay.now.back.bytes ≡ []) }
+{
+    relay.forth_done() && relay.back_done()
 }
 
 impl<K: Link> Conn<K> {
@@ -42,8 +51,6 @@ impl<K: Link> Conn<K> {
             stage: Stage::Header,
             client_flags: Flags::of_client(),
             server_flags: Flags::of_server(),
-            forth: Stream::new(Way::Forth, 0),
-            back: Stream::new(Way::Back, 0),
         }
     }
 
@@ -63,9 +70,11 @@ impl<K: Link> Conn<K> {
         to: Endpoint,
         send: &[u8],
         rest: &[u8],
-    ) -> Result<(), AllocError> {
+    ) -> Result<(), AllocError>
+        ensures lent { OnOk result (IsSomeAnd self.new.relay (λ relay. IsBegun relay (send.now ++ rest.now))) }
+        ensures stage { OnOk result (self.new.stage ≡ Stage.Server to) }
+    {
         self.relay = Some(spares.take(send, rest)?);
-        self.forth = Stream::new(Way::Forth, send.len() + rest.len());
         self.stage = Stage::Server(to);
         Ok(())
     }
@@ -76,42 +85,83 @@ impl<K: Link> Conn<K> {
         self.stage = Stage::Bytes;
     }
 
-    /// Passes bytes on in both directions, as far as its links are ready. `None` says that both directions are over.
-    pub(crate) fn relay(&mut self, spares: &mut Spares, buffer: &mut [u8]) -> Option<Progress> {
-        let relay = match self.relay.take() {
+    /// The relay of the connection, or a new one.
+    fn take_relay(&mut self, spares: &mut Spares) -> Result<Relay, AllocError>
+        ensures relay { IfOk result (λ relay. HasFlows self.old.relay relay) }
+        ensures failed { OnErr result (self.old.relay ≡ None) }
+        ensures rest { self.new ≡ record self.old { relay = None } }
+    {
+        match self.relay.take() {
             Some(relay) => Ok(relay),
             None => spares.take(&[], &[]),
-        };
-        let Ok(mut relay) = relay else {
-            return Some(Progress::Fault);
-        };
-        let progress = self.pump_both(&mut relay, buffer);
-        let is_over = self.forth.is_over() && self.back.is_over();
-        if is_over || relay.is_idle() {
+        }
+    }
+
+    /// Keeps the relay, unless it holds nothing that is still to be written.
+    fn keep_relay(&mut self, spares: &mut Spares, relay: Relay)
+        ensures relay { HasFlows self.new.relay relay }
+        ensures client { self.new.client ≡ self.old.client }
+        ensures server { self.new.server ≡ self.old.server }
+    {
+        if is_over(&relay) || relay.is_idle() {
             spares.give_back(relay);
+            self.relay = None;
         } else {
             self.relay = Some(relay);
         }
+    }
+
+    /// Passes bytes on in both directions, as far as its links are ready. `None` says that both directions are over.
+    pub(crate) fn relay(&mut self, spares: &mut Spares, buffer: &mut [u8]) -> Option<Progress>
+        ensures { (server : K) → self.old.server ≡ Some server → IsSomeAnd self.new.server (λ new_server.
+            PassesOn K.left K.held self.old.client server self.old.relay self.new.client new_server self.new.relay) }
+    {
+        match self.take_relay(spares) {
+            Ok(relay) => self.relay_by(spares, relay, buffer),
+            Err(_) => Some(Progress::Fault),
+        }
+    }
+
+    fn relay_by(
+        &mut self,
+        spares: &mut Spares,
+        mut relay: Relay,
+        buffer: &mut [u8],
+    ) -> Option<Progress>
+        ensures { (server : K) → self.old.server ≡ Some server → IsSomeAnd self.new.server (λ new_server.
+            PassesOn K.left K.held self.old.client server (Some relay) self.new.client new_server self.new.relay) }
+    {
+        let progress = self.pump_both(&mut relay, buffer);
+        let is_over = is_over(&relay);
+        self.keep_relay(spares, relay);
         if is_over { None } else { Some(progress) }
     }
 
-    fn pump_both(&mut self, relay: &mut Relay, buffer: &mut [u8]) -> Progress {
+    fn pump_both(&mut self, relay: &mut Relay, buffer: &mut [u8]) -> Progress
+        ensures passes { (server : K) → self.old.server ≡ Some server → IsSomeAnd self.new.server (λ new_server.
+            PassesOn K.left K.held self.old.client server (Some relay.old) self.new.client new_server (Some relay.new)) }
+        ensures relay { self.new.relay ≡ self.old.relay }
+    {
         let Some(server) = &mut self.server else {
             return Progress::Fault;
         };
-        let forth = self.forth.pump(
+        let forth = pump(
             relay,
-            (&mut self.client, server),
-            (&mut self.client_flags, &mut self.server_flags),
+            Way::Forth,
+            &mut self.client,
+            server,
+            &mut self.client_flags,
+            &mut self.server_flags,
             buffer,
-            self.back.is_over(),
         );
-        let back = self.back.pump(
+        let back = pump(
             relay,
-            (server, &mut self.client),
-            (&mut self.server_flags, &mut self.client_flags),
+            Way::Back,
+            server,
+            &mut self.client,
+            &mut self.server_flags,
+            &mut self.client_flags,
             buffer,
-            self.forth.is_over(),
         );
         forth.and(back)
     }

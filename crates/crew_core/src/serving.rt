@@ -1,4 +1,5 @@
 //! What a worker does with one of its connections.
+ghost use Rattle.std.specs.Prelude.{◌≡◌, ◌≤◌, length, take, drop};
 
 use crate::calls::{Hall, Outcome};
 use crate::conn::Stage;
@@ -28,7 +29,9 @@ enum Piece {
 }
 
 /// The bytes from the one place to the other.
-fn part(bytes: &[u8], from: usize, until: usize) -> &[u8] {
+fn part(bytes: &[u8], from: usize, until: usize) -> &[u8]
+    ensures { until ≤ length bytes.now → result.now ≡ drop from (take until bytes.now) }
+{
     bytes.get(from..until).unwrap_or(&[])
 }
 

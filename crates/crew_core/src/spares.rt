@@ -1,4 +1,6 @@
 //! Relays that no connection uses at the moment.
+ghost use Rattle.std.specs.Prelude.{◌++◌, IfOk};
+ghost use Rattle.relay_core.specs.Relay.{IsBegun};
 
 use crate::stream::FLOW;
 use relay_core::Relay;
@@ -23,8 +25,11 @@ impl Spares {
         })
     }
 
-    /// A relay that sends the server these bytes first, which are not more than a flow holds.
-    pub(crate) fn take(&mut self, send: &[u8], rest: &[u8]) -> Result<Relay, AllocError> {
+    /// A relay that sends the server these bytes first, which are not more than a flow holds. Nothing of the
+    /// connection that had it before is in it.
+    pub(crate) fn take(&mut self, send: &[u8], rest: &[u8]) -> Result<Relay, AllocError>
+        ensures { IfOk result (λ relay. IsBegun relay (send.now ++ rest.now)) }
+    {
         if send.len() > FLOW || rest.len() > FLOW - send.len() {
             return Err(AllocError);
         }

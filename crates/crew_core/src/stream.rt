@@ -1,9 +1,13 @@
-//! One direction of a relayed connection, as far as its readiness decides what is done next.
+//! The directions of a relayed connection, as far as its readiness decides what is done next.
+ghost use Rattle.std.specs.Prelude.{◌≡◌, ◌≤◌, ◌↔◌, IsTrue, length};
+ghost use Rattle.relay_core.specs.Flow.{IsDone};
+ghost use Rattle.relay_core.specs.Law.{HasCarried};
+ghost use Rattle.relay_core.specs.Relay.{flow_of, opposite, stream_of};
 
 use crate::flags::Flags;
 use crate::traits::Link;
 use crate::worker::PIECE;
-use relay_core::{Burst, Drained, FlowFault, Relay, Stop};
+use relay_core::{Burst, Drained, Relay, Stop, Way};
 
 /// How many bytes each direction of a connection holds at the most.
 pub(crate) const FLOW: usize = 65_536;
@@ -11,41 +15,7 @@ pub(crate) const FLOW: usize = 65_536;
 /// How many bursts a direction makes before other connections have their turn.
 const ROUNDS: u32 = 2;
 
-/// Which way bytes go.
-#[derive(Clone, Copy, Debug, PartialEq, Eq)]
-pub(crate) enum Way {
-    /// From the client to the server.
-    Forth,
-    /// From the server to the client.
-    Back,
-}
-
-impl Way {
-    fn burst<K: Link>(
-        self,
-        relay: &mut Relay,
-        input: &mut K,
-        output: &mut K,
-        buffer: &mut [u8],
-    ) -> Result<Burst, FlowFault> {
-        if buffer.len() < PIECE {
-            return Err(FlowFault::Read);
-        }
-        match self {
-            Way::Forth => relay.burst_forth(input, output, buffer, PIECE),
-            Way::Back => relay.burst_back(input, output, buffer, PIECE),
-        }
-    }
-
-    fn is_done(self, relay: &Relay) -> bool {
-        match self {
-            Way::Forth => relay.forth_done(),
-            Way::Back => relay.back_done(),
-        }
-    }
-}
-
-/// What came of some passes.
+/// What came of some bursts.
 #[derive(Clone, Copy, Debug, PartialEq, Eq)]
 pub(crate) enum Progress {
     /// Nothing more can be done until the dial reports something.
@@ -54,90 +24,6 @@ pub(crate) enum Progress {
     More,
     /// A link failed.
     Fault,
-}
-
-/// One direction.
-#[derive(Clone, Copy, Debug, PartialEq, Eq)]
-pub(crate) struct Stream {
-    way: Way,
-    /// How many bytes are held.
-    held: usize,
-    has_ended: bool,
-    /// Whether the end came, and all that came before it went out.
-    is_over: bool,
-}
-
-impl Stream {
-    pub(crate) fn new(way: Way, held: usize) -> Stream {
-        Stream {
-            way,
-            held,
-            has_ended: false,
-            is_over: false,
-        }
-    }
-
-    pub(crate) fn is_over(&self) -> bool {
-        self.is_over
-    }
-
-    fn room(&self) -> usize {
-        FLOW.saturating_sub(self.held)
-    }
-
-    fn can_move(&self, input: &Flags, output: &Flags) -> bool {
-        let reads = input.reads && !self.has_ended && self.room() > 0;
-        reads || output.writes && self.held > 0
-    }
-
-    fn note(&mut self, burst: &Burst, input: &mut Flags, output: &mut Flags) {
-        self.held = self.held.saturating_add(burst.read);
-        match burst.stop {
-            Stop::Full | Stop::NoRoom => {}
-            Stop::Short => input.note_short_read(),
-            Stop::Blocked => input.reads = false,
-            Stop::End => {
-                self.has_ended = true;
-                input.reads = false;
-            }
-        }
-        match burst.drained {
-            Drained::Bytes(count) => self.held = self.held.saturating_sub(count),
-            Drained::Blocked => output.writes = false,
-            Drained::Empty => {}
-        }
-    }
-
-    /// Some bursts, as far as both links are ready, and at the end of the reader the end of the writing. Where the other
-    /// direction is over, the writer is not shut: the connection ends, and with it both links.
-    pub(crate) fn pump<K: Link>(
-        &mut self,
-        relay: &mut Relay,
-        links: (&mut K, &mut K),
-        flags: (&mut Flags, &mut Flags),
-        buffer: &mut [u8],
-        is_last: bool,
-    ) -> Progress {
-        let (input, output) = links;
-        let (input_flags, output_flags) = flags;
-        for _round in 0..ROUNDS {
-            if !self.can_move(input_flags, output_flags) {
-                return Progress::Idle;
-            }
-            let Ok(burst) = self.way.burst(relay, input, output, buffer) else {
-                return Progress::Fault;
-            };
-            self.note(&burst, input_flags, output_flags);
-            if self.way.is_done(relay) && !self.is_over {
-                self.is_over = true;
-                if !is_last && !output.shut() {
-                    return Progress::Fault;
-                }
-                return Progress::Idle;
-            }
-        }
-        Progress::More
-    }
 }
 
 impl Progress {
@@ -149,4 +35,68 @@ impl Progress {
             (Progress::Idle, Progress::Idle) => Progress::Idle,
         }
     }
+}
+
+/// Whether a burst of a direction would move bytes, as far as both links are ready.
+fn can_move(relay: &Relay, way: Way, input: &Flags, output: &Flags) -> bool {
+    let reads = input.reads && relay.asks(way);
+    reads || output.writes && relay.holds(way)
+}
+
+/// Lowers what a burst found not to be ready.
+fn note(burst: &Burst, input: &mut Flags, output: &mut Flags) {
+    match burst.stop {
+        Stop::Full | Stop::NoRoom => {}
+        Stop::Short => input.note_short_read(),
+        Stop::Blocked | Stop::End => input.reads = false,
+    }
+    if burst.drained == Drained::Blocked {
+        output.writes = false;
+    }
+}
+
+/// Ends the writing of a direction that is over; whether that went well. Where the other direction is over too, the
+/// connection ends, and with it both links.
+fn end_writing<K: Link>(relay: &Relay, way: Way, output: &mut K) -> bool
+    requires { IsDone (flow_of way relay.now) }
+    ensures { K.held output.new ≡ K.held output.old }
+{
+    if relay.forth_done() && relay.back_done() {
+        return true;
+    }
+    output.shut()
+}
+
+/// Some bursts of a direction, as far as both links are ready, and at the end of the reader the end of the writing.
+pub(crate) fn pump<K: Link>(
+    relay: &mut Relay,
+    way: Way,
+    input: &mut K,
+    output: &mut K,
+    input_flags: &mut Flags,
+    output_flags: &mut Flags,
+    buffer: &mut [u8],
+) -> Progress
+    ensures carries { HasCarried (stream_of (K.left input.old) (flow_of way relay.old) (K.held output.old)) (stream_of (K.left input.new) (flow_of way relay.new) (K.held output.new)) }
+    ensures other { flow_of (opposite way) relay.new ≡ flow_of (opposite way) relay.old }
+{
+    if buffer.len() < PIECE {
+        return Progress::Fault;
+    }
+    for _round in 0..ROUNDS {
+        if !can_move(relay, way, input_flags, output_flags) {
+            return Progress::Idle;
+        }
+        let Ok(burst) = relay.burst(way, input, output, buffer, PIECE) else {
+            return Progress::Fault;
+        };
+        note(&burst, input_flags, output_flags);
+        if relay.is_done(way) {
+            if !end_writing(relay, way, output) {
+                return Progress::Fault;
+            }
+            return Progress::Idle;
+        }
+    }
+    Progress::More
 }

@@ -1,5 +1,7 @@
 //! What a crew works on: connections of bytes, a door that they come through, and the way out to servers.
 
+ghost use Rattle.std.specs.Prelude.{◌≡◌};
+
 use addr_core::{Endpoint, Pair};
 use book_core::Receipt;
 use conn_model::reply::StepFault;
@@ -9,7 +11,8 @@ use device_core::{Input, Output};
 /// Dropping it ends it.
 pub trait Link: Input + Output + Drop {
     /// Ends the writing, so that the other side reads to its end; whether that went well. The crew calls it once.
-    fn shut(&mut self) -> bool;
+    fn shut(&mut self) -> bool
+        ensures { Self.held self.new ≡ Self.held self.old };
 }
 
 /// What came to the door.

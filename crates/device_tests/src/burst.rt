@@ -24,7 +24,7 @@ fn make_ends(
     make_devices(alloc, b"abcdefghij", 10, &plan)
 }
 
-fn told(read: usize, stop: Stop, drained: Drained) -> Result<Burst, FlowFault> {
+fn answer(read: usize, stop: Stop, drained: Drained) -> Result<Burst, FlowFault> {
     Ok(Burst {
         read,
         stop,
@@ -38,7 +38,7 @@ fn three_full_reads_and_a_short_one_are_one_write(rt: HostRuntime) -> Result<(),
     let mut flow = Flow::new(rt.alloc(), 32)?;
     let mut piece = [0u8; 16];
     let moved = flow.burst(&mut ends.input, &mut ends.output, &mut piece, 3);
-    assert!(rt; moved == told(10, Stop::Short, Drained::Bytes(10)));
+    assert!(rt; moved == answer(10, Stop::Short, Drained::Bytes(10)));
     assert_eq!(rt; ends.output.as_slice(), b"abcdefghij".as_slice());
     assert!(rt; flow.is_idle());
     Ok(())
@@ -51,16 +51,19 @@ fn what_the_writer_does_not_take_goes_first(rt: HostRuntime) -> Result<(), Fail>
     let mut flow = Flow::new(rt.alloc(), 32)?;
     let mut piece = [0u8; 7];
     for (expected, written) in [
-        (told(7, Stop::Full, Drained::Bytes(4)), b"abcd".as_slice()),
+        (answer(7, Stop::Full, Drained::Bytes(4)), b"abcd".as_slice()),
         (
-            told(3, Stop::Full, Drained::Bytes(4)),
+            answer(3, Stop::Full, Drained::Bytes(4)),
             b"abcdefgh".as_slice(),
         ),
         (
-            told(0, Stop::End, Drained::Bytes(2)),
+            answer(0, Stop::End, Drained::Bytes(2)),
             b"abcdefghij".as_slice(),
         ),
-        (told(0, Stop::End, Drained::Empty), b"abcdefghij".as_slice()),
+        (
+            answer(0, Stop::End, Drained::Empty),
+            b"abcdefghij".as_slice(),
+        ),
     ] {
         let moved = flow.burst(&mut ends.input, &mut ends.output, &mut piece, 3);
         assert!(rt; moved == expected);
@@ -81,12 +84,12 @@ fn bytes_before_a_failed_read_are_held(rt: HostRuntime) -> Result<(), Fail> {
     assert!(rt; ends.output.as_slice().is_empty());
     assert!(rt; flow.room() == 28);
     let moved = flow.burst(&mut ends.input, &mut ends.output, &mut piece, 4);
-    assert!(rt; moved == told(4, Stop::Full, Drained::Bytes(8)));
+    assert!(rt; moved == answer(4, Stop::Full, Drained::Bytes(8)));
     let moved = flow.burst(&mut ends.input, &mut ends.output, &mut piece, 4);
     assert!(rt; moved == Err(FlowFault::Write));
     assert!(rt; flow.room() == 30);
     let moved = flow.burst(&mut ends.input, &mut ends.output, &mut piece, 4);
-    assert!(rt; moved == told(0, Stop::End, Drained::Bytes(2)));
+    assert!(rt; moved == answer(0, Stop::End, Drained::Bytes(2)));
     assert_eq!(rt; ends.output.as_slice(), b"abcdefghij".as_slice());
     Ok(())
 }
@@ -98,9 +101,9 @@ fn a_burst_ends_where_the_reader_gives_no_more(rt: HostRuntime) -> Result<(), Fa
     let mut flow = Flow::new(rt.alloc(), 9)?;
     let mut piece = [0u8; 16];
     for expected in [
-        told(8, Stop::Blocked, Drained::Bytes(8)),
-        told(2, Stop::Short, Drained::Bytes(2)),
-        told(0, Stop::End, Drained::Empty),
+        answer(8, Stop::Blocked, Drained::Bytes(8)),
+        answer(2, Stop::Short, Drained::Bytes(2)),
+        answer(0, Stop::End, Drained::Empty),
     ] {
         let moved = flow.burst(&mut ends.input, &mut ends.output, &mut piece, 4);
         assert!(rt; moved == expected);
@@ -115,8 +118,8 @@ fn a_relay_begins_anew_after_an_end(rt: HostRuntime) -> Result<(), Fail> {
     let mut back = make_ends(rt.alloc(), ALL, &NONE, &NONE)?;
     let mut piece = [0u8; 16];
     for expected in [
-        told(10, Stop::Short, Drained::Bytes(10)),
-        told(0, Stop::End, Drained::Empty),
+        answer(10, Stop::Short, Drained::Bytes(10)),
+        answer(0, Stop::End, Drained::Empty),
     ] {
         let moved = relay.burst_back(&mut back.input, &mut back.output, &mut piece, 16);
         assert!(rt; moved == expected);
@@ -125,7 +128,7 @@ fn a_relay_begins_anew_after_an_end(rt: HostRuntime) -> Result<(), Fail> {
     relay.reset(b"", b"");
     assert!(rt; !relay.back_done() && relay.is_idle());
     let moved = relay.burst_forth(&mut forth.input, &mut forth.output, &mut piece, 4);
-    assert!(rt; moved == told(10, Stop::Short, Drained::Bytes(10)));
+    assert!(rt; moved == answer(10, Stop::Short, Drained::Bytes(10)));
     assert_eq!(rt; forth.output.as_slice(), b"abcdefghij".as_slice());
     Ok(())
 }

@@ -1,7 +1,7 @@
 -- Any list of calls does together what one call does.
 use Rattle.std.proofs.Common.{ℕ, List, [], ◌∷◌, ◌++◌, Option, Some, None, refl, sym, ap, ◌∙◌, append_assoc, append-nil}
 use Rattle.std.specs.Io.KnownBytes.{Consumes, Appends}
-use Rattle.relay_core.specs.Law.{Moves, Stream, Carries, Step, Follows, all_read, all_written}
+use Rattle.relay_core.specs.Law.{Moves, Stream, Carries, HasCarried, Step, Follows, all_read, all_written}
 
 pub Consumes-nil : (left : Option (List ℕ)) → Consumes left left []
 Consumes-nil None = tt
@@ -27,13 +27,21 @@ Moves-both : (a b c r s w v : List ℕ) → Moves a r w b → Moves b s v c → 
 Moves-both a b c r s w v p q =
     sym (append_assoc a r s) ∙ ap (λ zs. zs ++ s) p ∙ append_assoc w b s ∙ ap (λ zs. w ++ zs) q ∙ sym (append_assoc w v c)
 
+pub carries_both : (a b c : Stream) (r w s v : List ℕ) → Carries a r w b → Carries b s v c → Carries a (r ++ s) (w ++ v) c
+carries_both a b c r w s v first next = (
+  Consumes-both a.left b.left c.left r s first.0 next.0,
+  Moves-both a.held b.held c.held r s w v first.1 next.1,
+  Appends-both a.written b.written c.written w v first.2 next.2,
+)
+
+-- nothing was read or written
+pub carries_nothing : (a : Stream) → Carries a [] [] a
+carries_nothing a = (Consumes-nil a.left, append-nil a.held, Appends-nil a.written)
+
+pub has_carried_both : (a b c : Stream) → HasCarried a b → HasCarried b c → HasCarried a c
+has_carried_both a b c first next = (first.0 ++ next.0, first.1 ++ next.1, carries_both a b c first.0 first.1 next.0 next.1 first.2 next.2)
+
 pub run_carries_lem : (first last : Stream) (steps : List Step) → Follows first steps last → Carries first (all_read steps) (all_written steps) last
-run_carries_lem first last [] follows =
-    rw follows (Consumes-nil first.left, append-nil first.held, Appends-nil first.written)
+run_carries_lem first last [] follows = rw follows (carries_nothing first)
 run_carries_lem first last (step ∷ rest) follows =
-    let more = run_carries_lem step.after last rest follows.1 in
-    let here = follows.0 in (
-      Consumes-both first.left step.after.left last.left step.read (all_read rest) here.0 more.0,
-      Moves-both first.held step.after.held last.held step.read (all_read rest) step.written (all_written rest) here.1 more.1,
-      Appends-both first.written step.after.written last.written step.written (all_written rest) here.2 more.2,
-    )
+    carries_both first step.after last step.read step.written (all_read rest) (all_written rest) follows.0 (run_carries_lem step.after last rest follows.1)

@@ -16,6 +16,10 @@ pub record Stream : Type 0 where
 abbrev pub Carries : Stream → List ℕ → List ℕ → Stream → Type 0
 Carries old read written new = Consumes old.left new.left read × Moves old.held read written new.held × Appends old.written new.written written
 
+-- Some bytes were.
+abbrev pub HasCarried : Stream → Stream → Type 0
+HasCarried old new = (read : List ℕ) × (written : List ℕ) × Carries old read written new
+
 -- one call of a flow, of whichever kind: what it read, what it wrote, and what it left
 pub record Step : Type 0 where
   pub read : List ℕ

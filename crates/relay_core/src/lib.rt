@@ -6,6 +6,7 @@ pub use flow::{Drained, Filled, Flow, FlowFault};
 pub use law::run_carries;
 pub use pass::Moved;
 pub use relay::Relay;
+pub use way::Way;
 
 mod burst;
 mod flow;
@@ -14,3 +15,4 @@ mod law;
 mod once;
 mod pass;
 mod relay;
+mod way;

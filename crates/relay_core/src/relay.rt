@@ -1,5 +1,5 @@
 //! Both directions of a connection.
-ghost use Rattle.std.specs.Prelude.{◌≡◌, true, ℕ, ◌<◌, ◌≤◌, ◌+◌, ◌++◌, ◌↔◌, [], IfOk, IsTrue, length, take};
+ghost use Rattle.std.specs.Prelude.{◌≡◌, ◌≢◌, true, ℕ, ◌<◌, ◌≤◌, ◌+◌, ◌++◌, ◌↔◌, [], IfOk, IsTrue, length, take};
 ghost use Rattle.std.specs.Io.KnownBytes.{Consumes, Appends};
 ghost use Rattle.relay_core.specs.Flow.{room, IsDone, IsIdle, asks_reader, IsFillAnswer, after_fill, fill_calls, fill_stalls, IsDrainAnswer, after_drain};
 ghost use Rattle.relay_core.specs.Burst.{burst_limit, IsBurstStop, after_reads, HasAsked, stop_stalls, burst_read, burst_count, burst_written, burst_read_failures, burst_write_failures, burst_write_calls, burst_write_stalls, HasGathered, HasStopped};
@@ -221,5 +221,29 @@ impl Relay {
         ensures { IsTrue result ↔ IsDone self.now.back }
     {
         self.back.is_done()
+    }
+
+    pub(crate) fn forth_asks(&self) -> bool
+        ensures { result ≡ asks_reader self.now.forth }
+    {
+        self.forth.asks_reader()
+    }
+
+    pub(crate) fn back_asks(&self) -> bool
+        ensures { result ≡ asks_reader self.now.back }
+    {
+        self.back.asks_reader()
+    }
+
+    pub(crate) fn forth_holds(&self) -> bool
+        ensures { IsTrue result ↔ (self.now.forth.bytes ≢ []) }
+    {
+        !self.forth.is_empty()
+    }
+
+    pub(crate) fn back_holds(&self) -> bool
+        ensures { IsTrue result ↔ (self.now.back.bytes ≢ []) }
+    {
+        !self.back.is_empty()
     }
 }
