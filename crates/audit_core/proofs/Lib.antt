@@ -6,3 +6,8 @@ pub mod ReachLemmas
 pub mod EndLemmas
 pub mod PassLemmas
 pub mod WrittenLemmas
+pub mod NotedLemmas
+pub mod WriteLemmas
+pub mod OutputLemmas
+pub mod RecordingLemmas
+pub mod SpentLemmas

@@ -138,7 +138,7 @@ passes plan text h legal is within =
     ap (counts_from (opening plan 0))
     (ap (history_on (opening plan 0) [] 0 Next.between) (sym (append-nil (parts is_line_feed text))) ∙ complete (opening plan 0) h (parts is_line_feed text) [] legal is within)
 
-same_plan : (config : List ℕ) (a b : Plan) → meaning config ≡ Ok a → meaning config ≡ Ok b → a ≡ b
+pub same_plan : (config : List ℕ) (a b : Plan) → meaning config ≡ Ok a → meaning config ≡ Ok b → a ≡ b
 same_plan config a b first second = let both = sym first ∙ second in cc
 
 no_fault : (config text : List ℕ) (a b : Plan) (h : List Entry) (fault : CheckFault) → meaning config ≡ Ok a → meaning config ≡ Ok b → verdict a text ≡ Ok (counts_of (opening a 0) h)

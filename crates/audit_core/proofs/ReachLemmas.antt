@@ -28,7 +28,7 @@ consumed : (rest : List ℕ) (new : Option (List ℕ)) (bytes : List ℕ) → Co
 consumed rest None bytes moved = absurd moved
 consumed rest (Some less) bytes moved = (less, refl, moved)
 
-given : (rest : List ℕ) (left new : Option (List ℕ)) (bytes : List ℕ) → left ≡ Some rest → Consumes left new bytes → (less : List ℕ) × (new ≡ Some less) × (rest ≡ bytes ++ less)
+pub given : (rest : List ℕ) (left new : Option (List ℕ)) (bytes : List ℕ) → left ≡ Some rest → Consumes left new bytes → (less : List ℕ) × (new ≡ Some less) × (rest ≡ bytes ++ less)
 given rest left new bytes is moved = consumed rest new bytes (subst (λ l. Consumes l new bytes) is moved)
 
 -- more bytes
@@ -90,17 +90,21 @@ without_memory s text fault is =
     let none : Stops s text (fault_at 0 NoMemory).kind (fault_at 0 NoMemory).line = refl in
     subst (λ f. Stops s text f.kind f.line) (sym is) none
 
+pub wrong_line : (s : Standing) (text : List ℕ) (left : Option (List ℕ)) (t : Standing) (old new : LineState) (less : Option (List ℕ)) (fault : CheckFault)
+    → Reaches s text left t old.kept → GivesLine old new left less → on_line t new.line ≡ Err fault → verdict_in s (parts is_line_feed text) ≡ Err fault
+wrong_line s text left t old new less fault reaches gives wrong =
+    let more : Reaches s text less t (old.kept ++ gives.bytes) = reaches_more s text left t old.kept gives.bytes less reaches gives.moved in
+    whole s text less t (old.kept ++ gives.bytes) more ∙ ap (verdict_in t) (gives.begins more.rest)
+    ∙ goes_wrong t new.line (parts is_line_feed (new.kept ++ more.rest)) fault wrong
+
 -- a line that is wrong
 pub stops_line : (s : Standing) (text : List ℕ) (left : Option (List ℕ)) (t : Standing) (old new : LineState) (less : Option (List ℕ)) (fault : CheckFault)
     → Reaches s text left t old.kept → GivesLine old new left less → IsWrong (on_line t new.line) fault → Stops s text fault.kind fault.line
 stops_line s text left t old new less fault reaches gives (inl is) = without_memory s text fault is
 stops_line s text left t old new less fault reaches gives (inr wrong) =
-    let more : Reaches s text less t (old.kept ++ gives.bytes) = reaches_more s text left t old.kept gives.bytes less reaches gives.moved in
-    stops_by s text fault.kind fault.line wrong.0
-    (whole s text less t (old.kept ++ gives.bytes) more ∙ ap (verdict_in t) (gives.begins more.rest)
-    ∙ goes_wrong t new.line (parts is_line_feed (new.kept ++ more.rest)) fault wrong.1)
+    stops_by s text fault.kind fault.line wrong.0 (wrong_line s text left t old new less fault reaches gives wrong.1)
 
-all_left : (rest : List ℕ) (left less : Option (List ℕ)) (bytes : List ℕ) → left ≡ Some rest → ConsumesAll left less bytes → rest ≡ bytes
+pub all_left : (rest : List ℕ) (left less : Option (List ℕ)) (bytes : List ℕ) → left ≡ Some rest → ConsumesAll left less bytes → rest ≡ bytes
 all_left rest None less bytes is moved = absurd (cc)
 all_left rest (Some xs) less bytes is moved = let same : xs ≡ rest = cc in sym same ∙ moved.0
 
@@ -126,12 +130,16 @@ pub done_last : (s : Standing) (text : List ℕ) (left : Option (List ℕ)) (t u
     → Reaches s text left t old.kept → GivesLastLine old new left less → on_line t new.line ≡ Ok u → verdict_in s (parts is_line_feed text) ≡ at_end u
 done_last s text left t u old new less reaches gives step = last_read s text left t old new less reaches gives ∙ goes_on t u new.line [] step
 
+pub wrong_last : (s : Standing) (text : List ℕ) (left : Option (List ℕ)) (t : Standing) (old new : LineState) (less : Option (List ℕ)) (fault : CheckFault)
+    → Reaches s text left t old.kept → GivesLastLine old new left less → on_line t new.line ≡ Err fault → verdict_in s (parts is_line_feed text) ≡ Err fault
+wrong_last s text left t old new less fault reaches gives wrong = last_read s text left t old new less reaches gives ∙ goes_wrong t new.line [] fault wrong
+
 -- a fault in the last line
 pub stops_last : (s : Standing) (text : List ℕ) (left : Option (List ℕ)) (t : Standing) (old new : LineState) (less : Option (List ℕ)) (fault : CheckFault)
     → Reaches s text left t old.kept → GivesLastLine old new left less → IsWrong (on_line t new.line) fault → Stops s text fault.kind fault.line
 stops_last s text left t old new less fault reaches gives (inl is) = without_memory s text fault is
 stops_last s text left t old new less fault reaches gives (inr wrong) =
-    stops_by s text fault.kind fault.line wrong.0 (last_read s text left t old new less reaches gives ∙ goes_wrong t new.line [] fault wrong.1)
+    stops_by s text fault.kind fault.line wrong.0 (wrong_last s text left t old new less fault reaches gives wrong.1)
 
 -- the text ends where a reply has to be
 pub stops_end : (s : Standing) (text : List ℕ) (t : Standing) (fault : CheckFault) → verdict_in s (parts is_line_feed text) ≡ at_end t → IsLineFault fault.kind → at_end t ≡ Err fault
@@ -147,7 +155,7 @@ too_long t line long = by t.due
     by : (due : Due) → on_due t due line ≡ Err (fault_at (t.lines + 1) TooLong)
     by dues.Event = rw long refl
     by (dues.Text pending) = rw long refl
-    by (dues.Reply answered) = rw long refl
+    by (dues.Reply peer answered) = rw long refl
 
 -- no next line
 pub stops_reading : (s : Standing) (text : List ℕ) (left : Option (List ℕ)) (t : Standing) (old new : LineState) (less : Option (List ℕ)) (fault : LineFault)

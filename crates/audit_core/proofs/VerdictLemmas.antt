@@ -18,6 +18,7 @@ use Rattle.conn_model.proofs.Well.{after-nil}
 use Rattle.replay_core.specs.Turns.{plain_after}
 use Rattle.audit_core.specs.Record.{recorded_reply, reply_mark}
 use Rattle.event_text.specs.Script.{ended_lines, pending_reload, with_text, Head, Pending}
+use Rattle.audit_core.specs.Line.{event_peer}
 use Rattle.audit_core.specs.Verdict.{counts_from, head_at, history_on, is_too_long, next_of, next_of_text, reply_at, right_reply, text_at, verdict, Next}
 use Rattle.audit_core.specs.Standing.{Standing, after_head, after_line, after_reply, standing_counts, start, verdict_in}
 use Rattle.audit_core.specs.declared.due.Due.TheVariants as dues
@@ -94,7 +95,7 @@ standing p h before (Next.awaiting timed) = record {
   plain = plain_after (after p h) timed.0 timed.1 (answer p h timed.0 timed.1);
   lines = before;
   records = length h;
-  due = dues.Reply (answer p h timed.0 timed.1);
+  due = dues.Reply (event_peer timed.1) (answer p h timed.0 timed.1);
 }
 
 -- a line of a text leaves the check before the next one, or before the reply
@@ -109,7 +110,7 @@ after_text p h before s moment missing texts plain lines records = by (missing =
     by false some = rw (some, plain, lines, records) refl
 
 -- a right reply leaves the check after one entry more
-same_standing : (p : Plain) (h : List Entry) (before : ℕ) (timed : ℕ × OwnedEvent) (reply : Reply) → IsWell p → IsLegal p h → answer p h timed.0 timed.1 ≡ Ok reply
+pub same_standing : (p : Plain) (h : List Entry) (before : ℕ) (timed : ℕ × OwnedEvent) (reply : Reply) → IsWell p → IsLegal p h → answer p h timed.0 timed.1 ≡ Ok reply
     → standing p (entry timed.0 timed.1 reply ∷ h) (before + 1) Next.between ≡ after_reply (standing p h before (Next.awaiting timed)) reply
 same_standing p h before timed reply well legal is =
     let plain : after p (entry timed.0 timed.1 reply ∷ h) ≡ plain_after (after p h) timed.0 timed.1 (answer p h timed.0 timed.1) =
@@ -118,17 +119,25 @@ same_standing p h before timed reply well legal is =
     ap (λ q. record { plain = q; lines = before + 1; records = length (entry timed.0 timed.1 reply ∷ h); due = dues.Event }) plain
     ∙ ap (λ n. record { plain = plain_after (after p h) timed.0 timed.1 (answer p h timed.0 timed.1); lines = before + 1; records = n; due = dues.Event }) longer
 
-same_head : (p : Plain) (h : List Entry) (before : ℕ) (lines : List (List ℕ)) (read : Result Head CheckFault)
-    → ((next : Next) → counts_from p (history_on p h (before + 1) next lines) ≡ standing_counts (verdict_in (standing p h (before + 1) next) lines))
-    → counts_from p (read >>= λ head. history_on p h (before + 1) (next_of head) lines)
-    ≡ standing_counts ((read >>= λ head. Ok (after_head (standing p h before Next.between) head)) >>= λ t. verdict_in t lines)
-same_head p h before lines (Ok (Head.whole timed)) goes_on = goes_on (Next.awaiting timed)
-same_head p h before lines (Ok (Head.reload moment count)) goes_on =
-    goes_on (next_of_text moment count []) ∙ ap (λ s. standing_counts (verdict_in s lines)) (begins (count == 0) refl)
+pub head_standing : (p : Plain) (h : List Entry) (before : ℕ) (head : Head) → standing p h (before + 1) (next_of head) ≡ after_head (standing p h before Next.between) head
+head_standing p h before (Head.whole timed) = refl
+head_standing p h before (Head.reload moment count) = begins (count == 0) refl
   where
     begins : (b : Bool) → (count == 0) ≡ b → standing p h (before + 1) (next_of_text moment count []) ≡ after_line (standing p h before Next.between) (pending_reload moment count)
     begins true none = rw none refl
     begins false some = rw some refl
+
+pub text_standing : (p : Plain) (h : List Entry) (before moment missing : ℕ) (texts : List (List ℕ)) (text : List ℕ)
+    → standing p h (before + 1) (next_of_text moment (missing - 1) (texts ++ text ∷ [])) ≡ after_line (standing p h before (Next.within moment missing texts)) (with_text (pending_with moment missing texts) text)
+text_standing p h before moment missing texts text =
+    after_text p h before (standing p h before (Next.within moment missing texts)) moment (missing - 1) (texts ++ text ∷ []) refl refl refl
+    ∙ ap (after_line (standing p h before (Next.within moment missing texts))) (sym (line_more moment missing texts text))
+
+same_head : (p : Plain) (h : List Entry) (before : ℕ) (lines : List (List ℕ)) (read : Result Head CheckFault)
+    → ((next : Next) → counts_from p (history_on p h (before + 1) next lines) ≡ standing_counts (verdict_in (standing p h (before + 1) next) lines))
+    → counts_from p (read >>= λ head. history_on p h (before + 1) (next_of head) lines)
+    ≡ standing_counts ((read >>= λ head. Ok (after_head (standing p h before Next.between) head)) >>= λ t. verdict_in t lines)
+same_head p h before lines (Ok head) goes_on = goes_on (next_of head) ∙ ap (λ s. standing_counts (verdict_in s lines)) (head_standing p h before head)
 same_head p h before lines (Err fault) goes_on = refl
 
 same_text : (p : Plain) (h : List Entry) (before moment missing : ℕ) (texts lines : List (List ℕ)) (read : Result (List ℕ) CheckFault)
@@ -136,10 +145,7 @@ same_text : (p : Plain) (h : List Entry) (before moment missing : ℕ) (texts li
     → counts_from p (read >>= λ text. history_on p h (before + 1) (next_of_text moment (missing - 1) (texts ++ text ∷ [])) lines)
     ≡ standing_counts ((read >>= λ text. Ok (after_line (standing p h before (Next.within moment missing texts)) (with_text (pending_with moment missing texts) text))) >>= λ t. verdict_in t lines)
 same_text p h before moment missing texts lines (Ok text) goes_on =
-    goes_on (next_of_text moment (missing - 1) (texts ++ text ∷ []))
-    ∙ ap (λ s. standing_counts (verdict_in s lines))
-    (after_text p h before (standing p h before (Next.within moment missing texts)) moment (missing - 1) (texts ++ text ∷ []) refl refl refl
-    ∙ ap (after_line (standing p h before (Next.within moment missing texts))) (sym (line_more moment missing texts text)))
+    goes_on (next_of_text moment (missing - 1) (texts ++ text ∷ [])) ∙ ap (λ s. standing_counts (verdict_in s lines)) (text_standing p h before moment missing texts text)
 same_text p h before moment missing texts lines (Err fault) goes_on = refl
 
 same_reply : (p : Plain) (h : List Entry) (before : ℕ) (timed : ℕ × OwnedEvent) (lines : List (List ℕ)) (read : Result Reply CheckFault) → IsWell p → IsLegal p h

@@ -4,3 +4,6 @@ pub mod Standing
 pub mod Check
 pub mod Line
 pub mod Audit
+pub mod Ended
+pub mod Printing
+pub mod Recording

@@ -13,6 +13,7 @@ use Rattle.conn_model.specs.Answer.{answer_in}
 use Rattle.replay_core.specs.Turns.{plain_after}
 use Rattle.event_text.specs.Script.{pending_reload, text_with, with_text, Head, Pending}
 use Rattle.audit_core.specs.Record.{open_connections}
+use Rattle.audit_core.specs.Line.{event_peer}
 use Rattle.audit_core.specs.Verdict.{fault_at, head_at, reply_at, text_at}
 use Rattle.audit_core.specs.declared.due.Due.{Due}
 use Rattle.audit_core.specs.declared.due.Due.TheVariants as dues
@@ -31,7 +32,7 @@ pub record Standing : Type 0 where
 abbrev pub IsDue : Due → Type 0
 IsDue dues.Event = Unit {0}
 IsDue (dues.Text pending) = 0 < pending.missing
-IsDue (dues.Reply answered) = Unit {0}
+IsDue (dues.Reply peer answered) = Unit {0}
 
 -- after all lines of an event
 abbrev pub after_event : Standing → ℕ × OwnedEvent → Standing
@@ -39,7 +40,7 @@ after_event s timed = record {
   plain = plain_after s.plain timed.0 timed.1 (answer_in s.plain timed.0 timed.1);
   lines = s.lines + 1;
   records = s.records;
-  due = dues.Reply (answer_in s.plain timed.0 timed.1);
+  due = dues.Reply (event_peer timed.1) (answer_in s.plain timed.0 timed.1);
 }
 
 -- after a line of a reload
@@ -60,7 +61,7 @@ after_reply s reply = record { plain = s.plain; lines = s.lines + 1; records = s
 abbrev pub on_due : Standing → Due → List ℕ → Result Standing CheckFault
 on_due s dues.Event line = head_at (s.lines + 1) (s.records + 1) line >>= λ head. Ok (after_head s head)
 on_due s (dues.Text pending) line = text_at (s.lines + 1) line >>= λ text. Ok (after_line s (with_text pending text))
-on_due s (dues.Reply answered) line = reply_at (s.lines + 1) answered line >>= λ reply. Ok (after_reply s reply)
+on_due s (dues.Reply peer answered) line = reply_at (s.lines + 1) answered line >>= λ reply. Ok (after_reply s reply)
 
 -- after a line
 abbrev pub on_line : Standing → List ℕ → Result Standing CheckFault
@@ -70,7 +71,7 @@ on_line s line = on_due s s.due line
 abbrev pub unless_due : Standing → Due → Result Standing CheckFault
 unless_due s dues.Event = Ok s
 unless_due s (dues.Text pending) = Err (fault_at (s.lines + 1) Format)
-unless_due s (dues.Reply answered) = Err (fault_at (s.lines + 1) Format)
+unless_due s (dues.Reply peer answered) = Err (fault_at (s.lines + 1) Format)
 
 -- after all lines
 abbrev pub at_end : Standing → Result Standing CheckFault

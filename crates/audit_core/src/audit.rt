@@ -1,22 +1,26 @@
 //! What an operator reads of a record.
-ghost use Rattle.std.specs.Prelude.{◌≡◌, ◌++◌, ◌+◌, ◌≤◌, ℕ, List, length, Some, None, IfOk, OnOk};
+ghost use Rattle.std.specs.Prelude.{◌≡◌, ◌≢◌, ◌⊎◌, ◌++◌, ◌≤◌, ℕ, List, Some, None, Ok, Err, IfSome, IfNone, IfOk, OnOk, OnErr};
+ghost use Rattle.device_core.specs.Device.{raised_by};
+ghost use Rattle.device_core.specs.declared.patience.TheConstants.{MOST_READS};
+ghost use Rattle.plan_types.specs.declared.plan.Plan.{Plan};
+ghost use Rattle.config_core.specs.Meaning.{meaning};
+ghost use Rattle.replay_core.specs.Progress.{GaveUp};
+ghost use Rattle.replay_core.specs.Reading.{IsSpent};
+ghost use Rattle.replay_core.specs.Replay.{IsFront};
 ghost use Rattle.audit_core.specs.Audit.{fault_text, kind_name, Finds};
+ghost use Rattle.audit_core.specs.Check.{IsOutside, IsRead};
+ghost use Rattle.audit_core.specs.Ended.{audit_output, IsAudited};
+ghost use Rattle.audit_core.specs.Verdict.{verdict};
+ghost use Rattle.audit_core.specs.declared.fault.Checked.{Checked};
 ghost use Rattle.audit_core.specs.declared.fault.CheckFault as faults;
-ghost use Rattle.audit_core.specs.declared.fault.TheConstants.{MOST_RECORD_LINES};
-ghost use Rattle.line_reader.specs.declared.lines.TheConstants.{MOST_LINE_BYTES};
 
-use crate::auditor::Auditor;
 use crate::check::{check_record, open_auditor};
 use crate::fault::{CheckFault, CheckKind};
-use crate::journal::Journal;
-use device_core::{Failed, Input, Output, write_all};
-use line_reader::{LineFault, LineReader, Next};
+use crate::printing::{again, print_all, write_bytes};
+use device_core::{Input, Output};
 use replay_core::PrintFault;
 use std::alloc::{AllocError, Global};
 use text_core::decimal::append_decimal;
-
-/// How many bytes of lines are collected before they are written.
-const MOST_UNSENT: usize = 65_536;
 
 fn write_kind(out: &mut Vec<u8>, kind: &CheckKind) -> Result<(), AllocError>
     ensures { OnOk result (out.new.items ≡ out.old.items ++ kind_name kind.now) }
@@ -44,114 +48,68 @@ fn fault_line(alloc: Global, fault: &CheckFault) -> Result<Vec<u8>, AllocError>
     Ok(out)
 }
 
-fn write_line<O: Output>(line: &[u8], writer: &mut O) -> Result<(), PrintFault>
-    ensures ok { OnOk result ((sent : List ℕ) → O.held writer.old ≡ Some sent → O.held writer.new ≡ Some (sent ++ line.now)) }
+/// Writes the line of a fault.
+fn write_fault<O: Output>(
+    alloc: Global,
+    fault: &CheckFault,
+    writer: &mut O,
+) -> Result<(), PrintFault>
+    ensures ok { OnOk result ((sent : List ℕ) → O.held writer.old ≡ Some sent → O.held writer.new ≡ Some (sent ++ fault_text fault.now)) }
+    ensures front { OnErr result ((sent : List ℕ) → O.held writer.old ≡ Some sent → IsFront (O.held writer.new) (sent ++ fault_text fault.now)) }
+    ensures not_read { result ≢ Err PrintFault.Read }
+    ensures gave_up { result ≡ Err PrintFault.Write → GaveUp (O.failures writer.old) (O.failures writer.new) (O.stalls writer.old) (O.stalls writer.new) }
 {
-    match write_all(writer, line) {
-        Ok(()) => Ok(()),
-        Err(Failed) => Err(PrintFault::Write),
+    match fault_line(alloc, fault) {
+        Ok(line) => write_bytes(line.as_slice(), writer),
+        Err(_) => Err(PrintFault::NoMemory),
+    }
+}
+
+/// The fault of a device or of memory, which has no line.
+fn outside(kind: &CheckKind) -> Option<PrintFault>
+    ensures inside { IfNone result (¬ IsOutside kind.now) }
+    ensures read { result ≡ Some PrintFault.Read → IsRead kind.now }
+    ensures not_write { result ≢ Some PrintFault.Write }
+{
+    match kind {
+        CheckKind::Read => Some(PrintFault::Read),
+        CheckKind::NoMemory => Some(PrintFault::NoMemory),
+        CheckKind::Format | CheckKind::WrongReply | CheckKind::TooLong | CheckKind::Config(_) => {
+            None
+        }
     }
 }
 
 /// Writes the line of a fault, unless the device or memory failed.
 fn report<O: Output>(alloc: Global, fault: &CheckFault, writer: &mut O) -> Result<(), PrintFault>
     ensures ok { OnOk result ((sent : List ℕ) → O.held writer.old ≡ Some sent → O.held writer.new ≡ Some (sent ++ fault_text fault.now)) }
+    ensures inside { OnOk result (¬ IsOutside fault.now.kind) }
+    ensures front { OnErr result ((sent text : List ℕ) → O.held writer.old ≡ Some sent → (¬ IsOutside fault.now.kind → text ≡ fault_text fault.now) → IsFront (O.held writer.new) (sent ++ text)) }
+    ensures read { result ≡ Err PrintFault.Read → IsRead fault.now.kind }
+    ensures gave_up { result ≡ Err PrintFault.Write → GaveUp (O.failures writer.old) (O.failures writer.new) (O.stalls writer.old) (O.stalls writer.new) }
 {
-    match &fault.kind {
-        CheckKind::Read => return Err(PrintFault::Read),
-        CheckKind::NoMemory => return Err(PrintFault::NoMemory),
-        CheckKind::Format | CheckKind::WrongReply | CheckKind::TooLong | CheckKind::Config(_) => {}
-    }
-    let Ok(line) = fault_line(alloc, fault) else {
-        return Err(PrintFault::NoMemory);
-    };
-    write_line(line.as_slice(), writer)
-}
-
-/// A record that was right the first time cannot be read where it is wrong now.
-fn again(fault: &CheckFault) -> PrintFault {
-    match &fault.kind {
-        CheckKind::NoMemory => PrintFault::NoMemory,
-        _ => PrintFault::Read,
+    match outside(&fault.kind) {
+        Some(stop) => Err(stop),
+        None => write_fault(alloc, fault, writer),
     }
 }
 
-/// Checks a line once more, and takes note of the reply to its event.
-fn take_line(auditor: &mut Auditor, journal: &mut Journal, line: &[u8]) -> Result<(), PrintFault>
-    requires { length line.now ≤ MOST_LINE_BYTES }
-    ensures { OnOk result ((auditor.new.lines ≡ auditor.old.lines + 1) × (auditor.new.lines ≤ MOST_RECORD_LINES)) }
-{
-    match auditor.check_line(line) {
-        Ok(()) => {}
-        Err(fault) => return Err(again(&fault)),
-    }
-    let Some(reply) = auditor.answer() else {
-        return Ok(());
-    };
-    if journal.note(auditor.peer(), reply).is_err() {
-        return Err(PrintFault::NoMemory);
-    }
-    Ok(())
-}
-
-fn send<O: Output>(journal: &mut Journal, writer: &mut O) -> Result<(), PrintFault> {
-    write_line(journal.unsent(), writer)?;
-    journal.clear();
-    Ok(())
-}
-
-/// Reads a record that is right once more, and writes the line of each connection that ended.
-fn print_lines<I: Input, O: Output>(
-    auditor: &mut Auditor,
-    journal: &mut Journal,
-    lines: &mut LineReader,
-    reader: &mut I,
-    writer: &mut O,
-) -> Result<(), PrintFault> {
-    loop {
-        match lines.advance(reader) {
-            Ok(Next::Line) => take_line(auditor, journal, lines.line())?,
-            Ok(Next::LastLine) => return take_line(auditor, journal, lines.line()),
-            Ok(Next::End) => return Ok(()),
-            Err(LineFault::NoMemory) => return Err(PrintFault::NoMemory),
-            Err(LineFault::TooLong | LineFault::Read) => return Err(PrintFault::Read),
-        }
-        if journal.unsent().len() >= MOST_UNSENT {
-            send(journal, writer)?;
-        }
-    }
-}
-
-/// Writes the lines of a record, and then how many entries it has and how many connections are open.
-fn print_all<I: Input, O: Output>(
-    alloc: Global,
-    auditor: &mut Auditor,
-    reader: &mut I,
-    writer: &mut O,
-) -> Result<(), PrintFault> {
-    let mut journal = Journal::new(alloc);
-    let Ok(mut lines) = LineReader::new(alloc) else {
-        return Err(PrintFault::NoMemory);
-    };
-    print_lines(auditor, &mut journal, &mut lines, reader, writer)?;
-    if let Err(fault) = auditor.finish() {
-        return Err(again(&fault));
-    }
-    let Ok(live) = auditor.live() else {
-        return Err(PrintFault::NoMemory);
-    };
-    if journal.add_counts(auditor.records(), live).is_err() {
-        return Err(PrintFault::NoMemory);
-    }
-    send(&mut journal, writer)
-}
-
+/// Writes what is to be written of a record that is right.
 fn print_record<I: Input, O: Output>(
     alloc: Global,
     config: &str,
     reader: &mut I,
     writer: &mut O,
-) -> Result<(), PrintFault> {
+) -> Result<(), PrintFault>
+    ensures wrote { OnOk result ((text sent : List ℕ) (plan : Plan) (checked : Checked) → I.left reader.old ≡ Some text → O.held writer.old ≡ Some sent → meaning config.now ≡ Ok plan → verdict plan text ≡ Ok checked →
+        O.held writer.new ≡ Some (sent ++ audit_output config.now text)) }
+    ensures front { OnErr result ((text sent : List ℕ) (plan : Plan) (checked : Checked) → I.left reader.old ≡ Some text → O.held writer.old ≡ Some sent → meaning config.now ≡ Ok plan → verdict plan text ≡ Ok checked →
+        IsFront (O.held writer.new) (sent ++ audit_output config.now text)) }
+    ensures calls { (n : ℕ) × (n ≤ MOST_READS) × (I.calls reader.new ≡ raised_by n (I.calls reader.old)) }
+    ensures spent { result ≡ Err PrintFault.Read → (text : List ℕ) (plan : Plan) (checked : Checked) → I.left reader.old ≡ Some text → meaning config.now ≡ Ok plan → verdict plan text ≡ Ok checked →
+        IsSpent (I.failures reader.old) (I.failures reader.new) (I.stalls reader.old) (I.stalls reader.new) (I.calls reader.old) (I.calls reader.new) }
+    ensures gave_up { result ≡ Err PrintFault.Write → GaveUp (O.failures writer.old) (O.failures writer.new) (O.stalls writer.old) (O.stalls writer.new) }
+{
     match open_auditor(alloc, config) {
         Ok(mut auditor) => {
             let printed = print_all(alloc, &mut auditor, reader, writer);
@@ -165,7 +123,7 @@ fn print_record<I: Input, O: Output>(
 /// Checks a record by its first reader, to its end. Where it is right, the second reader of the same record is read,
 /// and a line is written for each connection that ended, and at the end how many entries the record has and how many
 /// connections are open after them; else the line of the fault is written, which is also answered. What the second
-/// reader gives is checked too: a fault there is `Read`.
+/// reader gives is checked too: a fault there is `Read`. At most `device_core::MOST_READS` reads are made of each.
 pub fn run_audit<I: Input, J: Input, O: Output>(
     alloc: Global,
     config: &str,
@@ -178,15 +136,38 @@ pub fn run_audit<I: Input, J: Input, O: Output>(
     // A fault is all that is written.
     ensures fault { IfOk result (λ found. (fault : faults.CheckFault) (sent : List ℕ) → found ≡ Some fault → O.held writer.old ≡ Some sent →
         O.held writer.new ≡ Some (sent ++ fault_text fault)) }
+    ensures inside { IfOk result (λ found. IfSome found (λ fault. ¬ IsOutside fault.kind)) }
+
+    // Where the second reader gives the same text, the lines of a record that is right are those of its history.
+    ensures lines { result ≡ Ok None → (text sent : List ℕ) → I.left reader.old ≡ Some text → J.left second.old ≡ Some text → O.held writer.old ≡ Some sent →
+        IsAudited config.now text sent (O.held writer.new) }
+
+    // The same by the definition of what an audit writes, and after a fault the front of it.
+    ensures wrote { OnOk result ((text sent : List ℕ) → I.left reader.old ≡ Some text → J.left second.old ≡ Some text → O.held writer.old ≡ Some sent →
+        O.held writer.new ≡ Some (sent ++ audit_output config.now text)) }
+    ensures front { OnErr result ((text sent : List ℕ) → I.left reader.old ≡ Some text → J.left second.old ≡ Some text → O.held writer.old ≡ Some sent →
+        IsFront (O.held writer.new) (sent ++ audit_output config.now text)) }
+
+    // The devices give up before the audit does.
+    ensures calls { (n : ℕ) × (n ≤ MOST_READS) × (I.calls reader.new ≡ raised_by n (I.calls reader.old)) }
+    ensures second_calls { (n : ℕ) × (n ≤ MOST_READS) × (J.calls second.new ≡ raised_by n (J.calls second.old)) }
+    ensures spent { result ≡ Err PrintFault.Read → (text : List ℕ) → I.left reader.old ≡ Some text → J.left second.old ≡ Some text →
+        IsSpent (I.failures reader.old) (I.failures reader.new) (I.stalls reader.old) (I.stalls reader.new) (I.calls reader.old) (I.calls reader.new)
+        ⊎ IsSpent (J.failures second.old) (J.failures second.new) (J.stalls second.old) (J.stalls second.new) (J.calls second.old) (J.calls second.new) }
+    ensures gave_up { result ≡ Err PrintFault.Write → GaveUp (O.failures writer.old) (O.failures writer.new) (O.stalls writer.old) (O.stalls writer.new) }
 {
     match check_record(alloc, config, reader) {
         Ok(_checked) => {
-            print_record(alloc, config, second, writer)?;
-            Ok(None)
+            match print_record(alloc, config, second, writer) {
+                Ok(()) => Ok(None),
+                Err(fault) => Err(fault),
+            }
         }
         Err(fault) => {
-            report(alloc, &fault, writer)?;
-            Ok(Some(fault))
+            match report(alloc, &fault, writer) {
+                Ok(()) => Ok(Some(fault)),
+                Err(stop) => Err(stop),
+            }
         }
     }
 }

@@ -12,6 +12,8 @@ ghost use Rattle.replay_core.specs.Turns.{plain_after};
 ghost use Rattle.audit_core.specs.Record.{numbered_head, open_connections};
 ghost use Rattle.audit_core.specs.Verdict.{fault_at, reply_at, text_at};
 ghost use Rattle.audit_core.specs.Standing.{at_end, on_due, on_line};
+ghost use Rattle.audit_core.specs.Line.{event_peer};
+ghost use Rattle.audit_core.specs.Printing.{due_reply};
 ghost use Rattle.audit_core.specs.Check.{reading_fault, IsLineFault};
 ghost use Rattle.audit_core.specs.declared.due.Due.TheVariants as dues;
 ghost use Rattle.audit_core.specs.declared.fault.TheConstants.{MOST_RECORD_LINES};
@@ -24,7 +26,7 @@ use conn_core::Core;
 use conn_model::event::Event;
 use conn_model::plain::FrontendRows;
 use conn_model::reply::{Reply, StepFault};
-use event_text::{EventRequest, FirstLine, PendingReload, read_bar, read_event};
+use event_text::{FirstLine, PendingReload, read_bar, read_event};
 use line_reader::LineFault;
 use std::alloc::{AllocError, Global};
 use std::marker::Model;
@@ -40,8 +42,6 @@ pub struct Auditor {
     records: u64,
     /// What the next line has to be.
     due: Due,
-    /// The peer of the last event, if it is an accept.
-    peer: Option<Endpoint>,
     /// The bytes of the piece of a line.
     piece: Vec<u8>,
     /// The line of a reply.
@@ -107,14 +107,18 @@ fn add_line(at: u64, pending: &mut PendingReload, line: &[u8]) -> Result<(), Che
     }
 }
 
-fn peer_of(request: &EventRequest) -> Option<Endpoint> {
-    match request {
-        EventRequest::Accept(_, real) => Some(real.source()),
-        EventRequest::Piece(..)
-        | EventRequest::Connected(_)
-        | EventRequest::ConnectFailed(_)
-        | EventRequest::Close(..)
-        | EventRequest::Expire(_) => None,
+/// The peer of an event that is an accept.
+fn peer_of(event: &Event<'_>) -> Option<Endpoint>
+    ensures { result ≡ event_peer (owned_event event.now) }
+{
+    match event {
+        Event::Accept(_, real) => Some(real.source()),
+        Event::Piece(..)
+        | Event::Connected(_)
+        | Event::ConnectFailed(_)
+        | Event::Close(..)
+        | Event::Expire(_)
+        | Event::Reload(_) => None,
     }
 }
 
@@ -203,7 +207,6 @@ impl Auditor {
             lines: 0,
             records: 0,
             due: Due::Event,
-            peer: None,
             piece,
             reply: Vec::new(alloc),
         }
@@ -220,17 +223,14 @@ impl Auditor {
         }
     }
 
-    /// The reply to the last event, until its line comes.
-    pub fn answer(&self) -> Option<&Reply> {
+    /// The reply to the last event, until its line comes, with the peer of that event, if it is an accept.
+    pub fn answered(&self) -> Option<(Option<Endpoint>, &Reply)>
+        ensures { option_map (λ a. (a.0, a.1.now)) result ≡ due_reply self.now.due }
+    {
         match &self.due {
-            Due::Reply(Ok(reply)) => Some(reply),
-            Due::Event | Due::Text(_) | Due::Reply(Err(_)) => None,
+            Due::Reply(peer, Ok(reply)) => Some((*peer, reply)),
+            Due::Event | Due::Text(_) | Due::Reply(_, Err(_)) => None,
         }
-    }
-
-    /// The peer of the last event, if it is an accept.
-    pub fn peer(&self) -> Option<Endpoint> {
-        self.peer
     }
 
     /// How many entries came.
@@ -256,7 +256,6 @@ impl Auditor {
             lines: _,
             records: _,
             due: _due,
-            peer: _,
             piece: _piece,
             reply: _reply,
         } = self;
@@ -270,7 +269,7 @@ impl Auditor {
     {
         match &self.due {
             Due::Event => Ok(()),
-            Due::Text(_) | Due::Reply(_) => Err(fault_at(self.lines + 1, CheckKind::Format)),
+            Due::Text(_) | Due::Reply(..) => Err(fault_at(self.lines + 1, CheckKind::Format)),
         }
     }
 
@@ -289,8 +288,7 @@ impl Auditor {
                 let Ok(answered) = answer(&mut self.core, moment, &event) else {
                     return Err(fault_at(0, CheckKind::NoMemory));
                 };
-                self.due = Due::Reply(answered);
-                self.peer = peer_of(&request);
+                self.due = Due::Reply(peer_of(&event), answered);
             }
             Some(FirstLine::Reload(moment, lines)) => {
                 self.due = Due::Text(PendingReload::new(self.alloc, moment, lines));
@@ -321,23 +319,23 @@ impl Auditor {
         let Ok(answered) = answer(&mut self.core, pending.moment(), &event) else {
             return Err(fault_at(0, CheckKind::NoMemory));
         };
-        self.due = Due::Reply(answered);
-        self.peer = None;
+        self.due = Due::Reply(None, answered);
         Ok(())
     }
 
     /// Checks a line in the place of a reply.
     fn check_reply(
         &mut self,
+        peer: Option<Endpoint>,
         answered: &Result<Reply, StepFault>,
         line: &[u8],
     ) -> Result<(), CheckFault>
         requires short { length line.now ≤ MOST_LINE_BYTES }
         requires few { self.old.lines < MOST_RECORD_LINES }
         requires none { self.old.due ≡ dues.Event }
-        ensures ok { OnOk result (on_due self.old (dues.Reply answered.now) line.now ≡ Ok self.new) }
+        ensures ok { OnOk result (on_due self.old (dues.Reply peer answered.now) line.now ≡ Ok self.new) }
         ensures next { OnOk result ((self.new.lines ≡ self.old.lines + 1) × (self.new.lines ≤ MOST_RECORD_LINES)) }
-        ensures err { IfErr result (λ f. (f ≡ fault_at 0 CheckKind.NoMemory) ⊎ (IsLineFault f.kind × (on_due self.old (dues.Reply answered.now) line.now ≡ Err f))) }
+        ensures err { IfErr result (λ f. (f ≡ fault_at 0 CheckKind.NoMemory) ⊎ (IsLineFault f.kind × (on_due self.old (dues.Reply peer answered.now) line.now ≡ Err f))) }
     {
         let at = self.lines + 1;
         judge_reply(at, answered, line, &mut self.reply)?;
@@ -359,7 +357,7 @@ impl Auditor {
         match mem::replace(&mut self.due, Due::Event) {
             Due::Event => self.check_event(line),
             Due::Text(pending) => self.check_text(pending, line),
-            Due::Reply(answered) => self.check_reply(&answered, line),
+            Due::Reply(peer, answered) => self.check_reply(peer, &answered, line),
         }
     }
 }

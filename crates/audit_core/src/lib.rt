@@ -5,6 +5,7 @@ pub use audit::run_audit;
 pub use check::check_record;
 pub use fault::{CheckFault, CheckKind, Checked, MOST_RECORD_LINES};
 pub use line::audit_line;
+pub use recording::{RecordFault, write_journal};
 pub use writing::write_record;
 
 mod audit;
@@ -14,5 +15,7 @@ mod due;
 mod fault;
 mod journal;
 mod line;
+mod printing;
 mod reading;
+mod recording;
 mod writing;

@@ -47,7 +47,7 @@ pub fn words(alloc: Global, given: &ArgMatches<'_>) -> Result<ServeWords, AllocE
     Ok(ServeWords { file, workers })
 }
 
-/// What stands ready before the first connection is taken.
+/// What is ready before the first connection is taken.
 pub struct Stand<'a, R: Net + Log + rt::Clock> {
     pub book: Book,
     pub door: SocketDoor<'a, R, SystemClock<'a, R>>,

@@ -12,12 +12,12 @@ const REST: u64 = 1;
 pub struct SystemClock<'a, R: rt::Clock> {
     rt: &'a R,
     start: Instant,
-    // The greatest moment that was told.
+    // The greatest moment that was given.
     latest: AtomicU64,
 }
 
 impl<'a, R: rt::Clock> SystemClock<'a, R> {
-    /// Fails where the system tells no time.
+    /// Fails where the system gives no time.
     pub fn start(rt: &'a R) -> io::Result<SystemClock<'a, R>> {
         Ok(SystemClock {
             rt,
@@ -28,7 +28,7 @@ impl<'a, R: rt::Clock> SystemClock<'a, R> {
 }
 
 impl<'a, R: rt::Clock> Clock for SystemClock<'a, R> {
-    /// In ms. Where the system tells no time, it is the greatest moment that was told.
+    /// In ms. Where the system gives no time, it is the greatest moment that was given.
     fn now(&self) -> u64 {
         let latest = self.latest.load(Ordering::SeqCst);
         let Ok(since) = self.start.elapsed(self.rt) else {

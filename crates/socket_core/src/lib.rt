@@ -11,7 +11,6 @@ pub use gate::NoGate;
 pub use link::{Socket, SocketLink};
 pub use listeners::{ListenFault, Listeners, listen};
 pub use pace::Pace;
-pub use record::{RecordFault, write_journal};
 pub use serving::{ServeFault, Served, make_dials, open_book, serve};
 pub use words::{Bell, Word};
 
@@ -25,7 +24,6 @@ mod link;
 mod listeners;
 mod pace;
 mod ports;
-mod record;
 mod seats;
 mod serving;
 mod words;

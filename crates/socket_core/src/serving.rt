@@ -1,5 +1,8 @@
 //! The engine of `serve`: a crew over sockets, from the first connection to the record.
-ghost use Rattle.std.specs.Prelude.{◌≡◌, ◌≤◌, ◌-◌, ◌^◌, IfOk, vec_len};
+ghost use Rattle.std.specs.Prelude.{◌≡◌, ◌⊎◌, ◌≤◌, ◌-◌, ◌^◌, Err, IfOk, IfErr, vec_len};
+ghost use Rattle.config_core.specs.Meaning.{meaning};
+ghost use Rattle.conn_core.specs.Machine.{IsOpened};
+ghost use Rattle.book_core.specs.Book.{new_book};
 ghost use Rattle.book_core.specs.Open.{open_connections};
 
 use crate::clock::SystemClock;
@@ -7,7 +10,7 @@ use crate::dial::SocketDial;
 use crate::door::SocketDoor;
 use crate::gate::NoGate;
 use crate::link::SocketLink;
-use crate::record::{RecordFault, write_journal};
+use audit_core::{RecordFault, write_journal};
 use book_core::Book;
 use book_core::laws::open_connections_change;
 use conn_core::{Core, OpenFault};
@@ -51,6 +54,8 @@ pub fn open_book(alloc: Global, text: &str) -> Result<Book, OpenFault>
     ensures made { IfOk result (λ book. book.made ≡ 0) }
     ensures state { IfOk result (λ book. open_connections book.state ≡ 0) }
     ensures base { IfOk result (λ book. open_connections book.base ≡ 0) }
+    ensures opened { IfOk result (λ book. IsOpened text.now 0 book.base × (book ≡ new_book book.base)) }
+    ensures fault { IfErr result (λ f. (f ≡ OpenFault.NoMemory) ⊎ (meaning text.now ≡ Err f)) }
 {
     open_connections_change();
     match Book::open(alloc, Core::open(alloc, text)?) {
