@@ -46,19 +46,20 @@ impl fmt::Display for ConfKind {
     ghost output = { λ kind. Some (conf_name kind) };
 
     fn fmt<W: fmt::Write>(&self, f: &mut fmt::Formatter<W>) -> fmt::Result {
-        match self {
-            ConfKind::Text(kind) => write!(f, "Text {kind}"),
-            ConfKind::NoSection => f.write_str("NoSection"),
-            ConfKind::UnknownKeyword => f.write_str("UnknownKeyword"),
-            ConfKind::Unsupported => f.write_str("Unsupported"),
-            ConfKind::MissingWord => f.write_str("MissingWord"),
-            ConfKind::ExtraWord => f.write_str("ExtraWord"),
-            ConfKind::BadNumber => f.write_str("BadNumber"),
-            ConfKind::BadAddress => f.write_str("BadAddress"),
-            ConfKind::Duplicate => f.write_str("Duplicate"),
-            ConfKind::Acl(fault) => write!(f, "Acl {fault}"),
-            ConfKind::Limit => f.write_str("Limit"),
-            ConfKind::NoMemory => f.write_str("NoMemory"),
-        }
+        let name = match self {
+            ConfKind::Text(kind) => return write!(f, "Text {kind}"),
+            ConfKind::NoSection => "NoSection",
+            ConfKind::UnknownKeyword => "UnknownKeyword",
+            ConfKind::Unsupported => "Unsupported",
+            ConfKind::MissingWord => "MissingWord",
+            ConfKind::ExtraWord => "ExtraWord",
+            ConfKind::BadNumber => "BadNumber",
+            ConfKind::BadAddress => "BadAddress",
+            ConfKind::Duplicate => "Duplicate",
+            ConfKind::Acl(fault) => return write!(f, "Acl {fault}"),
+            ConfKind::Limit => "Limit",
+            ConfKind::NoMemory => "NoMemory",
+        };
+        f.write_str(name)
     }
 }

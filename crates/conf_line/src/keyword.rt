@@ -36,60 +36,43 @@ pub enum Keyword {
     Unknown,
 }
 
+/// The keywords by their words.
+static KEYWORDS: [(&[u8], Keyword); 24] = [
+    (b"global", Keyword::Global),
+    (b"defaults", Keyword::Defaults),
+    (b"frontend", Keyword::Frontend),
+    (b"backend", Keyword::Backend),
+    (b"listen", Keyword::Listen),
+    (b"mode", Keyword::Mode),
+    (b"maxconn", Keyword::MaxConn),
+    (b"default_backend", Keyword::DefaultBackend),
+    (b"balance", Keyword::Balance),
+    (b"bind", Keyword::Bind),
+    (b"acl", Keyword::Acl),
+    (b"tcp-request", Keyword::TcpRequest),
+    (b"use_backend", Keyword::UseBackend),
+    (b"stick-table", Keyword::StickTable),
+    (b"server", Keyword::Server),
+    (b"log", Keyword::Log),
+    (b"option", Keyword::Option),
+    (b"timeout", Keyword::Timeout),
+    (b"daemon", Keyword::Daemon),
+    (b"user", Keyword::User),
+    (b"group", Keyword::Group),
+    (b"chroot", Keyword::Chroot),
+    (b"pidfile", Keyword::Pidfile),
+    (b"nbthread", Keyword::Nbthread),
+];
+
 pub fn keyword_of(word: &Word) -> Keyword
     ensures { result ≡ keyword_of word.now }
 {
-    if word.is(b"global") {
-        Keyword::Global
-    } else if word.is(b"defaults") {
-        Keyword::Defaults
-    } else if word.is(b"frontend") {
-        Keyword::Frontend
-    } else if word.is(b"backend") {
-        Keyword::Backend
-    } else if word.is(b"listen") {
-        Keyword::Listen
-    } else if word.is(b"mode") {
-        Keyword::Mode
-    } else if word.is(b"maxconn") {
-        Keyword::MaxConn
-    } else if word.is(b"default_backend") {
-        Keyword::DefaultBackend
-    } else if word.is(b"balance") {
-        Keyword::Balance
-    } else if word.is(b"bind") {
-        Keyword::Bind
-    } else if word.is(b"acl") {
-        Keyword::Acl
-    } else if word.is(b"tcp-request") {
-        Keyword::TcpRequest
-    } else if word.is(b"use_backend") {
-        Keyword::UseBackend
-    } else if word.is(b"stick-table") {
-        Keyword::StickTable
-    } else if word.is(b"server") {
-        Keyword::Server
-    } else if word.is(b"log") {
-        Keyword::Log
-    } else if word.is(b"option") {
-        Keyword::Option
-    } else if word.is(b"timeout") {
-        Keyword::Timeout
-    } else if word.is(b"daemon") {
-        Keyword::Daemon
-    } else if word.is(b"user") {
-        Keyword::User
-    } else if word.is(b"group") {
-        Keyword::Group
-    } else if word.is(b"chroot") {
-        Keyword::Chroot
-    } else if word.is(b"pidfile") {
-        Keyword::Pidfile
-    } else if word.is(b"nbthread") {
-        Keyword::Nbthread
-    } else {
-        Keyword::Unknown
+    for (text, keyword) in &KEYWORDS {
+        if word.is(text) {
+            return *keyword;
+        }
     }
+    Keyword::Unknown
 }
 
 /// Whether the keyword is one of a section of this kind.

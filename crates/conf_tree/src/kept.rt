@@ -127,9 +127,11 @@ impl<'a> Kept<'a> {
             claims,
             known,
         } = self;
-        let claims = claims_with(claims, &item)?;
-        let known = names_after(alloc, known, &item.statement)?;
+        let claims = claims_with(claims, &item);
+        let known = names_after(alloc, known, &item.statement);
         items.push(item)?;
+        let claims = claims?;
+        let known = known?;
         Ok(Kept {
             items,
             claims,

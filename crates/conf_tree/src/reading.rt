@@ -257,13 +257,18 @@ fn read_line_after<'a>(
     let before = place_after(kept.items());
     let reading = read_line(alloc, before.kind, kept.known(), line.words.as_slice())?;
     let place = place_of(before, kept.items().len(), &reading.statement);
-    match check_line(kept, &place, &reading) {
-        Ok(()) => Ok(ConfigLine {
-            line: line.number,
-            place,
-            statement: reading.statement,
-        }),
-        Err(kind) => Err(Stop::Fault(kind)),
+    let check = check_line(kept, &place, &reading);
+    let item = ConfigLine {
+        line: line.number,
+        place,
+        statement: reading.statement,
+    };
+    match check {
+        Ok(()) => Ok(item),
+        Err(kind) => {
+            drop(item);
+            Err(Stop::Fault(kind))
+        }
     }
 }
 
@@ -320,10 +325,10 @@ fn kept_with<'a>(
     ensures { IfOk result (λ more. more ≡ kept.entry ++ with_effect (item.entry ∷ [])) }
 {
     if has_effect(&item.statement) {
-        kept.with(alloc, item)
-    } else {
-        Ok(kept)
+        return kept.with(alloc, item);
     }
+    drop(item);
+    Ok(kept)
 }
 
 /// The items of the lines that have an effect.
