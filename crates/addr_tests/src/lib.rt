@@ -1,4 +1,4 @@
-//! Tests of `list_core`, `text_core`, `addr_core`, `pp_v1`, `pp_v2` and `pp_any` with outside values: those of RFC
+//! Tests of `text_core`, `addr_core`, `pp_v1`, `pp_v2` and `pp_any` with outside values: those of RFC
 //! 4291, RFC 5952 and proxy-protocol.txt where a test names them.
 #![tactic(auto)]
 

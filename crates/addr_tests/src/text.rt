@@ -1,5 +1,4 @@
-//! Words, cuts, numbers and lists.
-use list_core::{Duplicate, Seq};
+//! Words, cuts and numbers.
 use std::test::Fail;
 use text_core::decimal::{append_decimal, read_decimal, read_number, write_decimal};
 use text_core::{Word, cut, cut_at, cut_line};
@@ -65,33 +64,5 @@ fn decimal_numbers(rt: HostRuntime) -> Result<(), Fail> {
     assert_eq!(rt; read_decimal(b"255", 255), Some(255));
     assert_eq!(rt; read_decimal(b"256", 255), None);
     assert_eq!(rt; read_number(b"007", 7), Some(7));
-    Ok(())
-}
-
-#[test]
-fn lists_and_their_copies(rt: HostRuntime) -> Result<(), Fail> {
-    let mut list = Seq::new(rt.alloc());
-    assert!(rt; list.is_empty());
-    for (item, len) in [(3u8, 1usize), (1, 2), (3, 3), (0, 4)] {
-        list.push(item)?;
-        assert_eq!(rt; list.len(), len);
-    }
-    let mut copy = list.duplicate(rt.alloc())?;
-    copy.push(1)?;
-    assert_eq!(rt; list.as_slice(), [3, 1, 3, 0].as_slice());
-    assert_eq!(rt; copy.as_slice(), [3, 1, 3, 0, 1].as_slice());
-    let none: Seq<u8> = Seq::duplicate_of(rt.alloc(), &[])?;
-    assert!(rt; none.is_empty());
-    let mut lists = Seq::new(rt.alloc());
-    for item in [4u8, 2] {
-        lists.push(Seq::of(vec![in rt.alloc(); item, 9]?))?;
-    }
-    let copies = lists.duplicate(rt.alloc())?.into_vec();
-    assert_eq!(rt; copies.len(), 2);
-    assert_eq!(rt; copies[0].as_slice(), [4, 9].as_slice());
-    assert_eq!(rt; copies[1].as_slice(), [2, 9].as_slice());
-    for value in [None, Some(0u8), Some(255)] {
-        assert_eq!(rt; value.duplicate(rt.alloc())?, value);
-    }
     Ok(())
 }

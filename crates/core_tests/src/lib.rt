@@ -2,8 +2,6 @@
 #![tactic(auto)]
 
 #[cfg(test)]
-mod entries;
-#[cfg(test)]
 mod states;
 #[cfg(test)]
 mod steps;

@@ -1,5 +1,5 @@
 //! The state of a core after some events, and serials that come to an end.
-use crate::steps::{close, id_of, offer, pair_from, server_answer};
+use crate::steps::{close, offer, pair_from};
 use addr_core::Pair;
 use conn_core::Core;
 use conn_model::ask::{Ask, Counts};
@@ -58,40 +58,6 @@ fn state_of_a_core(rt: HostRuntime) -> Result<(), Fail> {
             "the row has a server that did not take it"
         ),
     }
-    Ok(())
-}
-
-#[test]
-fn servers_take_connections(rt: HostRuntime) -> Result<(), Fail> {
-    let (first, second) = (pair_from(4000)?, pair_from(4001)?);
-    let (taken, lost) = (Event::Connected(id_of(1)), Event::ConnectFailed(id_of(2)));
-    let one = Some(Counts { cur: 1, cnt: 0 });
-    let mut core = Core::open(rt.alloc(), EXAMPLE).expect(&rt, "the example opens");
-    assert_eq!(rt; offer(&mut core, 0, first), Some(1));
-    assert_eq!(rt; server_answer(&mut core, 1, &taken), Ok("up"));
-    assert_eq!(rt;
-        server_answer(&mut core, 2, &taken),
-        Err(StepFault::NotOffered)
-    );
-    assert_eq!(rt; server_answer(&mut core, 2, &lost), Err(StepFault::NoSuch));
-    assert_eq!(rt; offer(&mut core, 3, second), Some(2));
-    assert_eq!(rt;
-        core.counts(&Ask::Server(0, 0)),
-        Some(Counts { cur: 2, cnt: 0 })
-    );
-    assert_eq!(rt; server_answer(&mut core, 4, &lost), Ok("failed"));
-    assert_eq!(rt; core.counts(&Ask::Server(0, 0)), one);
-    assert_eq!(rt; core.counts(&Ask::Backend(0)), one);
-    assert_eq!(rt; core.counts(&Ask::Server(0, 1)), None);
-    assert_eq!(rt; core.counts(&Ask::Backend(1)), None);
-    let plain = core.plain();
-    core.end();
-    let plain = plain?;
-    assert_eq!(rt; plain.frontends.len(), 1);
-    let own = &plain.frontends.as_slice()[0];
-    assert_eq!(rt; own.rows.len(), 1);
-    let row = &own.rows.as_slice()[0];
-    assert!(rt; matches!(&row.phase, Phase::Up(assignment) if assignment.line == 6));
     Ok(())
 }
 

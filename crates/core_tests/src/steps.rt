@@ -2,7 +2,7 @@
 use addr_core::{Addr, Endpoint, Pair};
 use conn_core::Core;
 use conn_model::event::{ConnId, Event, Why};
-use conn_model::reply::{Said, StepFault};
+use conn_model::reply::Said;
 use std::test::Fail;
 
 /// The addresses of a connection from a port of 192.0.2.5 to 127.0.0.1:9000.
@@ -41,21 +41,4 @@ pub fn id_of(serial: u64) -> ConnId {
         frontend: 0,
         serial,
     }
-}
-
-/// What a server's answer does to a connection, as a word.
-pub fn server_answer(
-    core: &mut Core,
-    moment: u64,
-    event: &Event,
-) -> Result<&'static str, StepFault> {
-    let reply = core.step(moment, event)?;
-    Ok(match &reply.said {
-        Said::Up { .. } => "up",
-        Said::Closed {
-            why: Why::Failed,
-            ..
-        } => "failed",
-        _ => "another reply",
-    })
 }
