@@ -6,3 +6,4 @@ pub mod SixLemmas
 pub mod SixReading
 pub mod SixSteps
 pub mod SixWritten
+pub mod SameLemmas

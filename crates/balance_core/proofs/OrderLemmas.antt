@@ -2,6 +2,7 @@
 use Rattle.std.proofs.Common.{◌≡◌, ℕ, zero, suc, ◌<◌, Bool, true, false, List, [], ◌∷◌, length, drop, get_or, Option, Some, None, refl, sym, ap, ◌∙◌, arith, filter, subst, if◌then◌else◌, ◌⊎◌, inl, inr}
 use Rattle.std.specs.Prelude.{find, slice_get, ◌&&◌}
 use Rattle.std.specs.List.{AllByRecursion, Contains}
+use Rattle.list_core.proofs.PlaceLemmas.{find-passes}
 use Rattle.balance_core.specs.Orders.{lesser, least, IsInOrder}
 
 -- an item that comes before another does not come after it
@@ -75,14 +76,6 @@ none_found {X} p (x ∷ xs) e = by (p x) refl e (none_found p xs)
     by : (b : Bool) → p x ≡ b → find p (x ∷ xs) ≡ None → (find p xs ≡ None → AllByRecursion (λ y. p y ≡ false) xs) → AllByRecursion (λ y. p y ≡ false) (x ∷ xs)
     by true is e more = absurd (let wrong : Some x ≡ None = rw is at e in cc)
     by false is e more = (is, more (rw is at e))
-
-pub find-passes : {X : Type 0} (p : X → Bool) (xs : List X) (y : X) → find p xs ≡ Some y → p y ≡ true
-find-passes p [] y e = absurd (cc)
-find-passes {X} p (x ∷ xs) y e = by (p x) refl e (find-passes p xs y)
-  where
-    by : (b : Bool) → p x ≡ b → find p (x ∷ xs) ≡ Some y → (find p xs ≡ Some y → p y ≡ true) → p y ≡ true
-    by true is e more = let same : Some x ≡ Some y = rw is at e in let it : x ≡ y = cc in ap p (sym it) ∙ is
-    by false is e more = more (rw is at e)
 
 -- what passes is the item, or comes after it
 abbrev IsLater : {X : Type 0} → (X → X → Bool) → (X → Bool) → X → X → Type 0

@@ -20,7 +20,8 @@ use Rattle.proxy_types.specs.declared.balance.Method.{Method}
 use Rattle.proxy_types.specs.declared.balance.Method.TheVariants.{RoundRobin, LeastConn, Source}
 use Rattle.balance_core.specs.Rounds.{turn_of, turns_from, weights_of, weight_in, comes_before, is_after, next_of, can_take, next_turn}
 use Rattle.balance_core.specs.Cycles.{IsRound, turn_at, server_at, placed_at, passes_at, next_place}
-use Rattle.balance_core.proofs.OrderLemmas.{IsOneWay, least_sorted, after_is_drop, filter_both, find_both, find-passes}
+use Rattle.list_core.proofs.PlaceLemmas.{find-passes}
+use Rattle.balance_core.proofs.OrderLemmas.{IsOneWay, least_sorted, after_is_drop, filter_both, find_both}
 
 -- a turn that comes before another does not come after it
 pub one_way : (weights : List ℕ) → IsOneWay (comes_before weights)

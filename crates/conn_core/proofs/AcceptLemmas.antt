@@ -20,7 +20,7 @@ use Rattle.conn_model.specs.Answer.{accept_answer, admission, candidate_at, fron
 use Rattle.conn_model.specs.History.{by_counter, entry, id_of, identity_of, newest_number, tables_by, with_said}
 use Rattle.conn_model.specs.Words.{newest}
 use Rattle.conn_model.proofs.Steps.{after-accept, rows_left}
-use Rattle.conn_rows.specs.Changes.{with_item}
+use Rattle.conn_model.specs.Changes.{with_item}
 use Rattle.conn_rows.specs.Stored.{plan_at}
 use Rattle.conn_core.specs.declared.entering.Arrival.{Arrival}
 use Rattle.conn_core.specs.declared.outcome.Decision.{Decision}

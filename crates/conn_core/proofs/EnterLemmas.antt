@@ -20,11 +20,12 @@ use Rattle.conn_model.specs.History.{tables_by, with_offer}
 use Rattle.conn_model.specs.Tables.{by_counter, open_tracks, tracks_at, tracks_in, with_tracks, without_tracks}
 use Rattle.conn_model.specs.Words.{row_at, row_in}
 use Rattle.conn_model.proofs.Trackings.{none_tracked}
-use Rattle.conn_rows.specs.Changes.{rest_at, row_offered, with_arrival, with_conn, with_item, with_refusal, with_row, without_conn, without_row}
+use Rattle.conn_model.specs.Changes.{rest_at, with_arrival, with_conn, with_item, with_refusal, with_row, without_conn, without_row}
+use Rattle.conn_rows.specs.Changes.{row_offered}
 use Rattle.conn_rows.specs.declared.rows.RowsState.{RowsState}
 use Rattle.conn_rows.specs.Value.{state_of, RowsValue}
-use Rattle.conn_tables.proofs.PlaceLemmas.{get-set}
-use Rattle.conn_rows.proofs.Changes.{item_twice}
+use Rattle.list_core.proofs.PlaceLemmas.{get-set}
+use Rattle.conn_model.proofs.Changes.{item_twice}
 use Rattle.conn_core.specs.declared.entering.Arrival.{Arrival}
 use Rattle.conn_core.specs.declared.outcome.Decision.{Decision}
 use Rattle.conn_core.specs.declared.outcome.Offer.{Offer}

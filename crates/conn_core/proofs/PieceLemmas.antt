@@ -37,10 +37,11 @@ use Rattle.conn_model.proofs.Lists.{all-found}
 use Rattle.conn_model.proofs.Replies.{waiting, IsWaiting}
 use Rattle.conn_rows.specs.declared.row.RowSummary.{RowSummary}
 use Rattle.conn_rows.specs.declared.rows.RowsState.{RowsState}
-use Rattle.conn_rows.specs.Changes.{phase_fed, rest_at, row_fed, row_offered, with_conn, with_row, without_conn}
+use Rattle.conn_model.specs.Changes.{phase_fed, rest_at, row_fed, with_conn, with_row, without_conn}
+use Rattle.conn_rows.specs.Changes.{row_offered}
 use Rattle.conn_rows.specs.Summaries.{summary_of}
 use Rattle.conn_rows.specs.Value.{state_of, RowsValue}
-use Rattle.conn_rows.proofs.Changes.{changed_gone, changed_twice, own_changed, row_changed}
+use Rattle.conn_model.proofs.Changes.{changed_gone, changed_twice, own_changed, row_changed}
 use Rattle.conn_core.specs.Changes.{row_by, settled, settled_tables, settled_versions, spoken, IsJudged, Judge}
 use Rattle.conn_core.specs.Counts.{IsSorted, IsStateOf}
 use Rattle.conn_core.specs.Outcome.{reply_by, said_by}

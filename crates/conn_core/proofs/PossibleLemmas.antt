@@ -16,7 +16,7 @@ use Rattle.conn_model.specs.Tables.{same_id, table_at, table_with, trackers, wit
 use Rattle.conn_model.proofs.Entries.{in-tracked}
 use Rattle.conn_model.proofs.OneTable.{same_id-is, table_at-map, table_found, table_with-entries, tracked_is, trackers_besides}
 use Rattle.conn_tables.specs.Tables.{key_at, table_key}
-use Rattle.conn_tables.proofs.CounterLemmas.{trackers-append}
+use Rattle.conn_model.proofs.Trackers.{trackers-append}
 
 -- Keys.
 

@@ -28,11 +28,11 @@ use Rattle.conn_model.specs.Tables.{open_tracks, tracks_at, tracks_in}
 use Rattle.conn_model.specs.Words.{row_at, row_in}
 use Rattle.conn_model.specs.Answer.{candidate_at, candidate_of, new_row}
 use Rattle.conn_model.proofs.Offers.{served_with}
-use Rattle.conn_rows.specs.Changes.{phase_fed, row_fed, with_conn, with_item, with_row}
+use Rattle.conn_model.specs.Changes.{phase_fed, row_fed, with_conn, with_item, with_row}
 use Rattle.conn_rows.specs.Value.{RowsValue}
-use Rattle.conn_tables.proofs.PlaceLemmas.{get-set}
-use Rattle.conn_rows.proofs.Changes.{own_changed, row_changed}
-use Rattle.conn_rows.proofs.Totals.{total-set}
+use Rattle.list_core.proofs.PlaceLemmas.{get-set}
+use Rattle.conn_model.proofs.Changes.{own_changed, row_changed}
+use Rattle.conn_model.proofs.Totals.{total-set}
 use Rattle.conn_core.specs.declared.facts.RuleFacts.{RuleFacts}
 use Rattle.conn_core.specs.Counts.{IsSeen}
 use Rattle.conn_core.specs.Judging.{arrival_in, facts_view}

@@ -32,7 +32,7 @@ use Rattle.conn_model.proofs.Well.{after-nil, well_after}
 use Rattle.conn_model.proofs.Steps.{after-change, after-end, after-reload, judging-old, last_no_offer, row_said, versions_kept, IsOfOpen}
 use Rattle.conn_model.proofs.Versions.{newest-end}
 use Rattle.conn_model.proofs.VersionSteps.{plans_stay}
-use Rattle.conn_rows.specs.Changes.{row_up, with_conn, without_conn}
+use Rattle.conn_model.specs.Changes.{row_up, with_conn, without_conn}
 use Rattle.conn_rows.specs.Needed.{versions_needed}
 use Rattle.conn_rows.specs.Stored.{plan_at}
 use Rattle.conn_rows.specs.Value.{RowsValue}

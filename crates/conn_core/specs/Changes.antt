@@ -14,7 +14,8 @@ use Rattle.conn_model.specs.declared.plain.Version.{Version}
 use Rattle.conn_model.specs.Answer.{frontend_in, new_row, rest_in, row_at, version_at}
 use Rattle.conn_model.specs.History.{is_last, phase_by, with_offer}
 use Rattle.conn_model.specs.Tables.{by_counter, is_listed_by, tracks_at, without_tracks}
-use Rattle.conn_rows.specs.Changes.{row_offered, with_conn, without_conn}
+use Rattle.conn_model.specs.Changes.{with_conn, without_conn}
+use Rattle.conn_rows.specs.Changes.{row_offered}
 use Rattle.conn_rows.specs.Needed.{versions_needed}
 use Rattle.conn_rows.specs.Stored.{plan_at}
 use Rattle.conn_rows.specs.Value.{RowsValue}

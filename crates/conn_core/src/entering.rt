@@ -5,7 +5,7 @@ ghost use Rattle.rule_engine.specs.Meaning.{present};
 ghost use Rattle.conn_model.specs.declared.plain.FrontendRows.{FrontendRows};
 ghost use Rattle.conn_model.specs.History.{tables_by};
 ghost use Rattle.conn_model.specs.Tables.{open_tracks, with_tracks};
-ghost use Rattle.conn_rows.specs.Changes.{with_item};
+ghost use Rattle.conn_model.specs.Changes.{with_item};
 ghost use Rattle.conn_rows.specs.Value.{state_of};
 ghost use Rattle.conn_core.specs.Changes.{entered, settled_versions, with_newcomer, CanOffer, IsComing};
 ghost use Rattle.conn_core.specs.Outcome.{reply_by};

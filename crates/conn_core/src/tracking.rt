@@ -4,7 +4,7 @@ ghost use Rattle.addr_core.specs.declared.addr.Addr.{Addr};
 ghost use Rattle.rule_engine.specs.Meaning.{present};
 ghost use Rattle.conn_model.specs.Tables.{is_of, open_tracks, trackers, tracks_at, with_tracks};
 ghost use Rattle.conn_model.specs.Words.{row_at};
-ghost use Rattle.conn_rows.specs.Changes.{with_conn};
+ghost use Rattle.conn_model.specs.Changes.{with_conn};
 ghost use Rattle.conn_core.specs.Tracking.{row_with, ArePossible, AreSorted};
 
 use addr_core::Addr;

@@ -1,5 +1,5 @@
 -- How the open connections of a server change with a reply.
-use Rattle.std.specs.Prelude.{ℕ, zero, suc, Bool, true, false, not, List, [], length, map, max, filter, find, slice_get, slice_set, Option, Some, None, option_map, option_and_then, Ok, refl, ◌+◌, ◌≤◌, ◌<◌, ◌≡◌, ◌==◌, ◌∷◌, ◌++◌, if◌then◌else◌}
+use Rattle.std.specs.Prelude.{ℕ, Bool, true, false, not, List, [], length, map, max, filter, find, slice_get, slice_set, Option, Some, None, option_map, option_and_then, Ok, refl, ◌+◌, ◌≤◌, ◌<◌, ◌≡◌, ◌==◌, ◌∷◌, ◌++◌, if◌then◌else◌}
 use Rattle.std.specs.List.{AllByRecursion}
 use Rattle.std.proofs.Common.{sym, ap, ◌∙◌, subst, arith}
 use Rattle.std.proofs.lemmas.Bool.{false≢true, eqb-true}
@@ -37,17 +37,13 @@ use Rattle.conn_model.proofs.Well.{opening_well, well_after}
 use Rattle.conn_model.proofs.Trackings.{row_unused}
 use Rattle.conn_model.proofs.Versions.{is_offer}
 use Rattle.conn_model.proofs.VersionSteps.{judging-new, judging-old}
+use Rattle.conn_model.proofs.Totals.{total-set}
 use Rattle.conn_model.proofs.Steps.{after-accept, after-change, after-end, after-reload, row_said, rows_left, IsOfOpen}
 
 -- Sums.
 
 abbrev one_if : Bool → ℕ
 one_if b = if b then 1 else 0
-
-total-change : {X : Type 0} (worth : X → ℕ) (xs : List X) (n : ℕ) (x new' : X) → slice_get xs n ≡ Some x → total worth (slice_set xs n new') + worth x ≡ total worth xs + worth new'
-total-change worth [] n x new' there = absurd (let wrong : None ≡ Some x = there in cc)
-total-change worth (y ∷ xs) zero x new' there = let same : y ≡ x = cc in let own : worth y ≡ worth x = ap worth same in omega (arith, own)
-total-change worth (y ∷ xs) (suc n) x new' there = let rest : total worth (slice_set xs n new') + worth x ≡ total worth xs + worth new' = total-change worth xs n x new' there in omega (arith, rest)
 
 -- how many rows pass
 abbrev passing : (Row → Bool) → List Row → ℕ
@@ -183,7 +179,7 @@ accept_counts q well moment listener real reply new server =
     let state : (after q (entry moment (Accept listener real) reply ∷ [])).frontends ≡ slice_set q.frontends new.id.frontend own' =
     ap (λ s. s.frontends) (after-accept q well moment listener real reply new.id new.own new.there new.speaks new.next) in
     let counts : total (served_in server) (slice_set q.frontends new.id.frontend own') + served_in server new.own ≡ total (served_in server) q.frontends + served_in server own' =
-    total-change (served_in server) q.frontends new.id.frontend new.own own' new.there in
+    total-set (served_in server) q.frontends new.id.frontend new.own own' new.there in
     let rows : served_in server own' ≡ served_in server new.own + passing (λ row. is_served_by server row.phase) left = passing-append (λ row. is_served_by server row.phase) new.own.rows left in
     let none : option_and_then (row_at q.frontends) (id_of reply.said) ≡ None =
     ap (λ o. option_and_then (row_at q.frontends) o) new.speaks ∙ row_unused q.frontends new.id new.own new.there given new.next in
@@ -292,7 +288,7 @@ open_counts q well moment event reply id old answer is server = by (is_last repl
     state : (own' : FrontendRows) → (after q (entry moment event reply ∷ [])).frontends ≡ slice_set q.frontends id.frontend own' →
         served_by (after q (entry moment event reply ∷ [])).frontends server + served_in server at.own ≡ served_by q.frontends server + served_in server own'
     state own' same =
-        ap (λ fs. served_by fs server + served_in server at.own) same ∙ total-change (served_in server) q.frontends id.frontend at.own own' at.there
+        ap (λ fs. served_by fs server + served_in server at.own) same ∙ total-set (served_in server) q.frontends id.frontend at.own own' at.there
 
     by : (b : Bool) → is_last reply.said ≡ b →
         served_by (after q (entry moment event reply ∷ [])).frontends server + served_less q reply.said server ≡ served_by q.frontends server + served_more q reply.said server

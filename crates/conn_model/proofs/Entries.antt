@@ -9,9 +9,9 @@ use Rattle.std.proofs.lemmas.List.Filters.{length-filter_both}
 use Rattle.std.proofs.lemmas.List.Folds.{list_any-append}
 use Rattle.addr_core.specs.declared.addr.Addr.{Addr}
 use Rattle.stick_core.specs.declared.entries.TableEntry.{TableEntry}
-use Rattle.stick_core.specs.Key.{same_key}
+use Rattle.addr_core.specs.Same.{same_addr}
 use Rattle.stick_core.specs.PlainEntries.{can_track, counted, has_key, is_idle, is_in, touched, with_tracking, without_first, KeysDiffer}
-use Rattle.stick_core.proofs.KeyLemmas.{same_key-is, same_key-refl, same_key-sym}
+use Rattle.addr_core.proofs.SameLemmas.{same_addr-is, same_addr-refl, same_addr-sym}
 use Rattle.conn_model.proofs.Lists.{or_true, or_left, or_right, all-append, all-each, all-filter, all-filter_if, all-more}
 
 -- Keys that differ.
@@ -21,7 +21,7 @@ differ-filter test [] differ = tt
 differ-filter test (x ∷ entries) differ = by (test x) refl (differ-filter test entries differ.1)
   where
     by : (b : Bool) → test x ≡ b → KeysDiffer (filter test entries) → KeysDiffer (filter test (x ∷ entries))
-    by true e rest = rw e (all-filter (λ other. same_key other.key x.key ≡ false) test entries differ.0, rest)
+    by true e rest = rw e (all-filter (λ other. same_addr other.key x.key ≡ false) test entries differ.0, rest)
     by false e rest = rw e rest
 
 -- those of other keys, and then some of this one
@@ -33,9 +33,9 @@ differ-parted key (x ∷ entries) ys differ two keys = by (has_key key x) refl (
     by : (b : Bool) → has_key key x ≡ b → KeysDiffer (filter (λ entry. not (has_key key entry)) entries ++ ys) → KeysDiffer (filter (λ entry. not (has_key key entry)) (x ∷ entries) ++ ys)
     by true e rest = rw e rest
     by false e rest = rw e (
-      all-append (λ other. same_key other.key x.key ≡ false) (filter (λ entry. not (has_key key entry)) entries) ys
-          (all-filter (λ other. same_key other.key x.key ≡ false) (λ entry. not (has_key key entry)) entries differ.0)
-          (all-more (λ y. y.key ≡ key) (λ other. same_key other.key x.key ≡ false) ys (λ y same. ap (λ k. same_key k x.key) same ∙ same_key-sym x.key key e) keys),
+      all-append (λ other. same_addr other.key x.key ≡ false) (filter (λ entry. not (has_key key entry)) entries) ys
+          (all-filter (λ other. same_addr other.key x.key ≡ false) (λ entry. not (has_key key entry)) entries differ.0)
+          (all-more (λ y. y.key ≡ key) (λ other. same_addr other.key x.key ≡ false) ys (λ y same. ap (λ k. same_addr k x.key) same ∙ same_addr-sym x.key key e) keys),
       rest,
     )
 
@@ -45,7 +45,7 @@ counted-differ key entries differ = differ-parted key entries _ differ (tt, tt) 
 pub touched-differ : (key : Addr) (entries : List TableEntry) → KeysDiffer entries → KeysDiffer (touched key entries)
 touched-differ key entries differ =
     differ-parted key entries (filter (has_key key) entries) differ (differ-filter (has_key key) entries differ)
-    (all-filter_if (λ y. y.key ≡ key) (has_key key) entries (all-each (λ y. has_key key y ≡ true → y.key ≡ key) entries (λ y is. same_key-is y.key key is)))
+    (all-filter_if (λ y. y.key ≡ key) (has_key key) entries (all-each (λ y. has_key key y ≡ true → y.key ≡ key) entries (λ y is. same_addr-is y.key key is)))
 
 all-without : {X : Type 0} (P : X → Type 0) (test : X → Bool) (xs : List X) → AllByRecursion P xs → AllByRecursion P (without_first test xs)
 all-without P test [] all = tt
@@ -61,7 +61,7 @@ without-differ test (x ∷ entries) differ = by (test x) refl (without-differ te
   where
     by : (b : Bool) → test x ≡ b → KeysDiffer (without_first test entries) → KeysDiffer (without_first test (x ∷ entries))
     by true e rest = rw e differ.1
-    by false e rest = rw e (all-without (λ other. same_key other.key x.key ≡ false) test entries differ.0, rest)
+    by false e rest = rw e (all-without (λ other. same_addr other.key x.key ≡ false) test entries differ.0, rest)
 
 pub tracking-differ : (trackers : Addr → ℕ) (size : ℕ) (key : Addr) (entries : List TableEntry) → KeysDiffer entries → KeysDiffer (with_tracking trackers size key entries)
 tracking-differ trackers size key entries differ = by (is_in key entries || nat_lt (length entries) size)
@@ -133,7 +133,7 @@ tracking-fits trackers size key entries can fits = by (is_in key entries) (nat_l
 
 -- Keys that stay.
 
-in-parted : (k key : Addr) (entries ys : List TableEntry) → (same_key key k ≡ true → is_in k ys ≡ true) → is_in k entries ≡ true →
+in-parted : (k key : Addr) (entries ys : List TableEntry) → (same_addr key k ≡ true → is_in k ys ≡ true) → is_in k entries ≡ true →
     is_in k (filter (λ entry. not (has_key key entry)) entries ++ ys) ≡ true
 in-parted k key [] ys stays is = absurd (false≢true is)
 in-parted k key (x ∷ entries) ys stays is = by (has_key key x) refl (in-parted k key entries ys stays) (or_true (has_key k x) (is_in k entries) is)
@@ -141,7 +141,7 @@ in-parted k key (x ∷ entries) ys stays is = by (has_key key x) refl (in-parted
     by : (b : Bool) → has_key key x ≡ b → (is_in k entries ≡ true → is_in k (filter (λ entry. not (has_key key entry)) entries ++ ys) ≡ true) →
         (has_key k x ≡ true) ⊎ (is_in k entries ≡ true) → is_in k (filter (λ entry. not (has_key key entry)) (x ∷ entries) ++ ys) ≡ true
     by true e later (inl here) =
-        let same : same_key key k ≡ true = ap (λ a. same_key a k) (sym (same_key-is x.key key e)) ∙ here in
+        let same : same_addr key k ≡ true = ap (λ a. same_addr a k) (sym (same_addr-is x.key key e)) ∙ here in
         rw e (list_any-append (has_key k) (filter (λ entry. not (has_key key entry)) entries) ys
         ∙ or_right (list_any (has_key k) (filter (λ entry. not (has_key key entry)) entries)) (list_any (has_key k) ys) (stays same))
     by true e later (inr there) = rw e (later there)
@@ -149,12 +149,12 @@ in-parted k key (x ∷ entries) ys stays is = by (has_key key x) refl (in-parted
     by false e later (inr there) = rw e (or_right (has_key k x) (list_any (has_key k) (filter (λ entry. not (has_key key entry)) entries ++ ys)) (later there))
 
 in-counted : (k key : Addr) (entries : List TableEntry) → is_in k entries ≡ true → is_in k (counted key entries) ≡ true
-in-counted k key entries is = in-parted k key entries _ (λ same. or_left (same_key key k) false same) is
+in-counted k key entries is = in-parted k key entries _ (λ same. or_left (same_addr key k) false same) is
 
 in-new : (key : Addr) (entries : List TableEntry) → is_in key (counted key entries) ≡ true
 in-new key entries =
     list_any-append (has_key key) (filter (λ entry. not (has_key key entry)) entries) _
-    ∙ or_right (list_any (has_key key) (filter (λ entry. not (has_key key entry)) entries)) (same_key key key || false) (or_left (same_key key key) false (same_key-refl key))
+    ∙ or_right (list_any (has_key key) (filter (λ entry. not (has_key key entry)) entries)) (same_addr key key || false) (or_left (same_addr key key) false (same_addr-refl key))
 
 in-own : (key : Addr) (entries : List TableEntry) → is_in key entries ≡ true → is_in key (filter (has_key key) entries) ≡ true
 in-own key [] is = is
@@ -167,7 +167,7 @@ in-own key (x ∷ entries) is = by (has_key key x) refl (in-own key entries)
 pub in-touched : (k key : Addr) (entries : List TableEntry) → is_in k entries ≡ true → is_in k (touched key entries) ≡ true
 in-touched k key entries is =
     in-parted k key entries (filter (has_key key) entries)
-    (λ same. let it : key ≡ k = same_key-is key k same in subst (λ a. is_in a (filter (has_key key) entries) ≡ true) it (in-own key entries (subst (λ a. is_in a entries ≡ true) (sym it) is))) is
+    (λ same. let it : key ≡ k = same_addr-is key k same in subst (λ a. is_in a (filter (has_key key) entries) ≡ true) it (in-own key entries (subst (λ a. is_in a entries ≡ true) (sym it) is))) is
 
 in-without : (k : Addr) (test : TableEntry → Bool) (entries : List TableEntry) → ((entry : TableEntry) → has_key k entry ≡ true → test entry ≡ false) → is_in k entries ≡ true →
     is_in k (without_first test entries) ≡ true

@@ -1,4 +1,7 @@
 pub mod Lists
+pub mod Totals
+pub mod Trackers
+pub mod Changes
 pub mod Versions
 pub mod Replies
 pub mod Parts

@@ -7,7 +7,7 @@ use Rattle.std.proofs.lemmas.Bool.Decides.{nat_tests}
 use Rattle.std.proofs.lemmas.List.Folds.{list_any-append}
 use Rattle.stick_core.specs.declared.entries.TableEntry.{TableEntry}
 use Rattle.stick_core.specs.PlainEntries.{has_key, is_idle, is_in}
-use Rattle.stick_core.proofs.KeyLemmas.{same_key-is, same_key-refl}
+use Rattle.addr_core.proofs.SameLemmas.{same_addr-is, same_addr-refl}
 use Rattle.plan_types.specs.declared.track.TableId.{TableId}
 use Rattle.plan_types.specs.declared.track.Track.{Track}
 use Rattle.conn_model.specs.declared.reply.Reply.{Reply}
@@ -51,9 +51,9 @@ any-length {X} test (x ∷ xs) is = by (test x) refl (any-length test xs)
 busy : (tracks : List Track) (track : Track) (id : TableId) (entry : TableEntry) → IsIn tracks track → same_id id track.table ≡ true → has_key track.key entry ≡ true → is_idle (trackers tracks id) entry ≡ false
 busy tracks track id entry found on is =
     let ids : id ≡ track.table = same_id-is id track.table on in
-    let keys : entry.key ≡ track.key = same_key-is entry.key track.key is in
+    let keys : entry.key ≡ track.key = same_addr-is entry.key track.key is in
     any-length (is_of id entry.key) tracks
-    (found (is_of id entry.key) (ap (λ i. is_of i entry.key track) ids ∙ ap (λ k. is_of track.table k track) keys ∙ rw (same_id-refl track.table, same_key-refl track.key) refl))
+    (found (is_of id entry.key) (ap (λ i. is_of i entry.key track) ids ∙ ap (λ k. is_of track.table k track) keys ∙ rw (same_id-refl track.table, same_addr-refl track.key) refl))
 
 table_with-stays : (tracks : List Track) (new' track : Track) (table : TableState) → IsIn tracks track → same_id table.id track.table ≡ true → is_in track.key table.entries ≡ true →
     is_in track.key (table_with tracks new' table).entries ≡ true

@@ -1,5 +1,5 @@
 -- A server that is offered is usable and has room.
-use Rattle.std.specs.Prelude.{ℕ, zero, suc, Bool, true, false, List, [], length, max, filter, find, slice_get, slice_set, Option, Some, None, option_map, Result, Ok, Err, refl, ◌+◌, ◌<◌, ◌≡◌, ◌⊎◌, ◌==◌, ◌&&◌, ◌∷◌, nat_lt, nat_le}
+use Rattle.std.specs.Prelude.{ℕ, zero, suc, Bool, true, false, List, [], length, max, filter, find, slice_get, Option, Some, None, option_map, Result, Ok, Err, refl, ◌+◌, ◌<◌, ◌≡◌, ◌⊎◌, ◌==◌, ◌&&◌, ◌∷◌, nat_lt, nat_le}
 use Rattle.std.specs.Option.{option_map_or}
 use Rattle.std.proofs.Common.{sym, ap, ◌∙◌, subst, arith, inl, inr, append-nil}
 use Rattle.std.proofs.Math.Path.{fun_ext}
@@ -44,10 +44,11 @@ use Rattle.conn_model.specs.declared.plain.Plain.{Plain}
 use Rattle.conn_model.specs.declared.plain.Version.{Version}
 use Rattle.conn_model.specs.Words.{or_fault, row_at}
 use Rattle.conn_model.specs.Servers.{cursor_at, has_room, identity_in, load_of, loads_of, pick_in, weight_of, MayOffer}
-use Rattle.conn_model.specs.Counts.{is_served_by, served_by, served_in, total}
+use Rattle.conn_model.specs.Counts.{is_served_by, served_by, served_in}
 use Rattle.conn_model.specs.Rules.{backend_for, rejection, scene_of, view_of, worth, Candidate, RuleView}
 use Rattle.conn_model.specs.Answer.{admission, answer_in, awaits_server, candidate_at, candidate_of, decision, entry_reply, entry_rules, header_reply, judged_pair, new_row, numbered_server, reply_of, said_of, server_answer, server_for, server_unless, version_at, NumberedServer}
 use Rattle.conn_model.specs.History.{after, answer, identity_at, identity_of, id_of, judging_version, newest_number, nobody, opening, version_for, Entry, IsLegal, IsWell}
+use Rattle.conn_model.proofs.Totals.{total-kept}
 use Rattle.conn_model.proofs.Lists.{or_true}
 use Rattle.conn_model.proofs.Versions.{is_offer, newest-at}
 use Rattle.conn_model.proofs.VersionSteps.{judging-new, judging-old}
@@ -187,16 +188,11 @@ header-offers candidate real count (statuses.Whole used meaning) = decision-offe
 
 -- A connection that comes in was offered nothing yet.
 
-total-set : {X : Type 0} (worth : X → ℕ) (xs : List X) (n : ℕ) (x new' : X) → slice_get xs n ≡ Some x → worth new' ≡ worth x → total worth (slice_set xs n new') ≡ total worth xs
-total-set worth [] n x new' there same = refl
-total-set worth (y ∷ xs) zero x new' there same = let it : y ≡ x = cc in ap (λ m. m + total worth xs) (same ∙ ap worth (sym it))
-total-set worth (y ∷ xs) (suc n) x new' there same = ap (λ m. worth y + m) (total-set worth xs n x new' there same)
-
 pub served_with : (q : Plain) (clock number : ℕ) (real : PairValue) (own : FrontendRows) (version : Version) (frontend : Frontend) → slice_get q.frontends number ≡ Some own →
     served_by (candidate_at q clock number real own version frontend).state.frontends ≡ served_by q.frontends
 served_with q clock number real own version frontend there = fun_ext (λ identity.
     let test : Row → Bool = λ row. is_served_by identity row.phase in
-    total-set (served_in identity) q.frontends number own _ there
+    total-kept (served_in identity) q.frontends number own _ there
     (ap length (filter-append test own.rows (new_row (own.serial + 1) version.number real clock ∷ []) ∙ append-nil (filter test own.rows))))
 
 -- Answers.

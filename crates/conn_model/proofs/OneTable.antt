@@ -12,7 +12,7 @@ use Rattle.proxy_types.specs.declared.table.KeyType.{KeyType}
 use Rattle.stick_core.specs.declared.entries.TableEntry.{TableEntry}
 use Rattle.stick_core.specs.Key.{key_in}
 use Rattle.stick_core.specs.PlainEntries.{can_track, is_in, touched, tracked_key, with_tracking, KeysDiffer}
-use Rattle.stick_core.proofs.TouchLemmas.{find-passes}
+use Rattle.list_core.proofs.PlaceLemmas.{find-passes}
 use Rattle.plan_types.specs.declared.track.TableId.{TableId}
 use Rattle.plan_types.specs.declared.track.Track.{Track}
 use Rattle.conn_model.specs.declared.reply.Reply.{Reply}

@@ -5,3 +5,4 @@ pub mod Counts
 pub mod Rules
 pub mod Answer
 pub mod History
+pub mod Changes

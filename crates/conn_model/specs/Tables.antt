@@ -7,7 +7,7 @@ use Rattle.addr_core.specs.declared.addr.Addr.{Addr}
 use Rattle.proxy_types.specs.declared.table.KeyType.{KeyType}
 use Rattle.proxy_types.specs.declared.table.KeyType.TheVariants.{Ip, Ipv6}
 use Rattle.proxy_types.specs.declared.table.Stores.{Stores}
-use Rattle.stick_core.specs.Key.{same_key}
+use Rattle.addr_core.specs.Same.{same_addr}
 use Rattle.stick_core.specs.PlainEntries.{with_tracking, touched, count_at, is_in, trackers_at, KeysDiffer}
 use Rattle.plan_types.specs.declared.plan.Section.{Section}
 use Rattle.plan_types.specs.declared.plan.Table.{Table}
@@ -49,7 +49,7 @@ by_counter tracks = filter (λ track. track.counter == 0) tracks ++ filter (λ t
 
 -- the track is of that key of the table
 abbrev pub is_of : TableId → Addr → Track → Bool
-is_of id key track = same_id track.table id && same_key track.key key
+is_of id key track = same_id track.table id && same_addr track.key key
 
 -- how many of the tracks are of that key of the table
 abbrev pub trackers : List Track → TableId → Addr → ℕ

@@ -21,9 +21,10 @@ use Rattle.conn_rows.specs.declared.row.StoredRow.{StoredRow}
 use Rattle.conn_tables.specs.declared.tables.StoredTable.{StoredTable}
 use Rattle.conn_rows.specs.Stored.{StoredFrontend, with_stored}
 use Rattle.conn_rows.specs.Value.{AreRows, row_on, rows_total}
-use Rattle.conn_rows.proofs.Totals.{total-push, total-set}
+use Rattle.conn_model.proofs.Totals.{total-push, total-set}
 use Rattle.conn_model.proofs.Lists.{all-at}
-use Rattle.conn_tables.proofs.CounterLemmas.{counter_few, trackers-append, trackers_on, tracks_trackers}
+use Rattle.conn_model.proofs.Trackers.{trackers-append}
+use Rattle.conn_tables.proofs.CounterLemmas.{counter_few, trackers_on, tracks_trackers}
 use Rattle.conn_tables.proofs.PlaceLemmas.{all_set}
 
 -- a frontend is changed, and its rows track what they did

@@ -11,7 +11,8 @@ use Rattle.conn_rows.specs.declared.row.Stage.{Stage}
 use Rattle.conn_rows.specs.declared.row.Stage.TheVariants.{Waiting, Offered}
 use Rattle.conn_rows.specs.declared.row.StoredRow.{StoredRow}
 use Rattle.conn_rows.specs.Stored.{IsHeld, has_serial, rest_kept, rest_within}
-use Rattle.conn_rows.specs.Changes.{held_under, stage_fed, stage_up}
+use Rattle.conn_model.specs.Changes.{held_under}
+use Rattle.conn_rows.specs.Changes.{stage_fed, stage_up}
 
 -- nothing is held of nothing
 pub none_held : (rest : Rest) → IsRest [] rest → rest ≡ Read (record { items = [] })

@@ -5,6 +5,5 @@ pub mod Fed
 pub mod Plain
 pub mod Totals
 pub mod Counted
-pub mod Changes
 pub mod Kept
 pub mod Reloaded

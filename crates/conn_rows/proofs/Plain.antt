@@ -35,7 +35,8 @@ use Rattle.conn_rows.specs.declared.row.Stage.TheVariants.{Waiting, Offered}
 use Rattle.conn_rows.specs.declared.row.StoredRow.{StoredRow}
 use Rattle.conn_rows.specs.Stored.{StoredFrontend, assignment_in, at_stage, awaits, has_serial, phase_of, phase_with, plan_at, plain_frontend, plain_row, rest_kept, rest_within, stored_arrival, stored_in, waits, with_stored}
 use Rattle.conn_rows.proofs.Served.{version-offer}
-use Rattle.conn_rows.specs.Changes.{rest_at, row_fed, row_offered, row_tracking, row_up, stored_fed, stored_up, phase_fed, stage_fed, stage_offered, stage_up, with_arrival, with_item, with_conn, with_row, without_conn, without_row}
+use Rattle.conn_model.specs.Changes.{rest_at, row_fed, row_tracking, row_up, phase_fed, with_arrival, with_item, with_conn, with_row, without_conn, without_row}
+use Rattle.conn_rows.specs.Changes.{row_offered, stored_fed, stored_up, stage_fed, stage_offered, stage_up}
 
 pub get-map : {X Y : Type 0} (f : X → Y) (xs : List X) (n : ℕ) → slice_get (map f xs) n ≡ option_map f (slice_get xs n)
 get-map f [] n = refl

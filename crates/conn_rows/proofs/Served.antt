@@ -25,7 +25,7 @@ use Rattle.conn_rows.specs.declared.row.StoredRow.{StoredRow}
 use Rattle.conn_rows.specs.Changes.{stage_fed, stage_offered, stage_up, stored_fed, stored_up}
 use Rattle.conn_rows.specs.Stored.{StoredFrontend, at_stage, has_serial, phase_of, plan_at, rest_kept, rest_within, slot_of, with_stored}
 use Rattle.conn_rows.specs.Value.{AllRows, AreServed, CountsFor, HasSlot, row_slots, rows_total}
-use Rattle.conn_rows.proofs.Totals.{total-set}
+use Rattle.conn_model.proofs.Totals.{total-set}
 
 -- a frontend is changed, whose rows are as many open connections of each server as they were
 pub still_served : (frontends : List StoredFrontend) (kept : VersionsValue) (n : ℕ) (own next : StoredFrontend) → slice_get frontends n ≡ Some own →

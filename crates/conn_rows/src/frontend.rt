@@ -16,8 +16,11 @@ ghost use Rattle.slot_core.specs.Counts.{open_at, slots_at};
 ghost use Rattle.conn_tables.specs.Tables.{cur_in};
 ghost use Rattle.conn_tables.specs.Tracks.{counter_on, on_counter, track_by};
 ghost use Rattle.conn_versions.specs.Versions.{VersionsValue};
+ghost use Rattle.conn_rows.specs.Counts.{seated_stored};
+ghost use Rattle.conn_rows.specs.Needed.{has_stored};
 ghost use Rattle.conn_rows.specs.Value.{row_on, row_slots, rows_total, HasSlot};
-ghost use Rattle.conn_rows.specs.Changes.{held_after, row_tracking, with_row, stage_fed, stage_offered, stage_up, status_of, stored_fed, stored_up, used_by};
+ghost use Rattle.conn_model.specs.Changes.{held_after, row_tracking, with_row};
+ghost use Rattle.conn_rows.specs.Changes.{stage_fed, stage_offered, stage_up, status_of, stored_fed, stored_up, used_by};
 
 use crate::row::{HeldSeat, Holdings, Seat, Stage, StoredRow};
 use crate::slots::give_back;
@@ -93,10 +96,23 @@ impl FrontendState {
         self.rows.as_slice().len() as u64
     }
 
-    pub fn rows(&self) -> &[StoredRow]
-        ensures { result.now ≡ self.now.rows }
+    /// How many connections were offered a server of a backend of that name, by the plans of these versions.
+    pub fn offered_to(&self, versions: &[Version], name: &[u8]) -> u64
+        ensures value { result ≡ seated_stored versions.now name.now self.now }
+        ensures few { result < 2 ^ 56 }
     {
-        self.rows.as_slice()
+        let _few = self.count();
+        self.rows
+            .iter()
+            .filter(|row| row.is_offered_to(versions, name))
+            .count() as u64
+    }
+
+    /// Whether a connection is of the version of that number.
+    pub fn has_version(&self, number: u64) -> bool
+        ensures { result ≡ has_stored number self.now }
+    {
+        self.rows.iter().any(|row| row.version == number)
     }
 
     /// The row of that serial.

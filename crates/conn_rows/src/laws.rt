@@ -3,7 +3,7 @@ ghost use Rattle.std.specs.Prelude.{◌≡◌, List};
 ghost use Rattle.conn_model.specs.declared.event.ConnId.{ConnId};
 ghost use Rattle.conn_model.specs.declared.plain.Row.{Row};
 ghost use Rattle.conn_model.specs.declared.plain.FrontendRows.{FrontendRows};
-ghost use Rattle.conn_rows.specs.Changes.{with_conn, without_conn};
+ghost use Rattle.conn_model.specs.Changes.{with_conn, without_conn};
 
 /// Two changes of one connection are one, and nothing is left of a change once the connection ended.
 pub fn changes_join()

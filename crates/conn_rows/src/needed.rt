@@ -10,18 +10,11 @@ use conn_model::plain::Version;
 use conn_versions::Versions;
 use list_core::newest;
 
-/// Whether a connection of the frontend is of the version of that number.
-fn has_version(own: &FrontendState, number: u64) -> bool
-    ensures { result ≡ has_stored number own.now }
-{
-    own.rows().iter().any(|row| row.version == number)
-}
-
 /// Whether an open connection is of the version of that number.
 fn is_of_any(frontends: &[FrontendState], number: u64) -> bool
     ensures { result ≡ list_any (has_stored number) frontends.now }
 {
-    frontends.iter().any(|own| has_version(own, number))
+    frontends.iter().any(|own| own.has_version(number))
 }
 
 /// Whether the version of that number is in force, or an open connection is of it.

@@ -1,25 +1,21 @@
 -- What the counters of a connection track.
-use Rattle.std.proofs.Common.{◌≡◌, ℕ, zero, suc, ◌+◌, Bool, true, false, List, [], ◌∷◌, ◌++◌, length, Option, Some, None, refl, ap, ◌∙◌, arith}
-use Rattle.std.specs.Prelude.{filter, ◌<◌, ◌≤◌, ◌&&◌, if◌then◌else◌}
-use Rattle.std.proofs.lemmas.List.{length-append}
-use Rattle.std.proofs.lemmas.List.Elements.{filter-append}
+use Rattle.std.proofs.Common.{◌≡◌, ℕ, zero, suc, ◌+◌, Bool, true, false, [], ◌∷◌, ◌++◌, length, Option, Some, None, refl, ap, arith}
+use Rattle.std.specs.Prelude.{◌<◌, ◌≤◌, ◌&&◌, if◌then◌else◌}
 use Rattle.addr_core.specs.declared.addr.Addr.{Addr}
-use Rattle.stick_core.specs.Key.{same_key}
+use Rattle.addr_core.specs.Same.{same_addr}
 use Rattle.plan_types.specs.declared.track.TableId.{TableId}
 use Rattle.plan_types.specs.declared.track.Track.{Track}
-use Rattle.conn_model.specs.Tables.{by_counter, is_of, same_id, trackers}
+use Rattle.conn_model.proofs.Trackers.{trackers-append}
+use Rattle.conn_model.specs.Tables.{by_counter, same_id, trackers}
 use Rattle.conn_tables.specs.declared.tracking.Tracking.{Tracking}
 use Rattle.conn_tables.specs.declared.tracking.Trackings.{Trackings}
 use Rattle.conn_tables.specs.Tracks.{at_counter, counter_on, on_counter, plain_tracks, track_by, track_of, track_on, tracks_on}
 
 -- As tracks.
 
-pub trackers-append : (a b : List Track) (id : TableId) (key : Addr) → trackers (a ++ b) id key ≡ trackers a id key + trackers b id key
-trackers-append a b id key = ap length (filter-append (is_of id key) a b) ∙ length-append (filter (is_of id key) a) (filter (is_of id key) b)
-
 pub trackers_on : (counter : ℕ) (tracking : Option Tracking) (id : TableId) (key : Addr) → trackers (track_on counter tracking) id key ≡ counter_on id key tracking
 trackers_on counter None id key = refl
-trackers_on counter (Some tracking) id key = by (same_id tracking.table id && same_key tracking.token key)
+trackers_on counter (Some tracking) id key = by (same_id tracking.table id && same_addr tracking.token key)
   where
     by : (b : Bool) → length {A = Track} (if b then track_by counter tracking ∷ [] else []) ≡ (if b then 1 else 0)
     by true = refl
@@ -36,7 +32,7 @@ tracks_trackers tracks id key =
 
 pub counter_few : (id : TableId) (key : Addr) (tracking : Option Tracking) → counter_on id key tracking ≤ 1
 counter_few id key None = omega arith
-counter_few id key (Some tracking) = by (same_id tracking.table id && same_key tracking.token key)
+counter_few id key (Some tracking) = by (same_id tracking.table id && same_addr tracking.token key)
   where
     by : (b : Bool) → (if b then 1 else 0) ≤ 1
     by true = omega arith

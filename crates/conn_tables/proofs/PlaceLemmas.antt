@@ -1,14 +1,6 @@
 -- Items at their places in a list.
-use Rattle.std.proofs.Common.{◌≡◌, ℕ, zero, suc, ◌+◌, ◌<◌, List, [], ◌∷◌, length, set, take, Some, refl, arith}
-use Rattle.std.specs.Prelude.{slice_get, slice_set}
+use Rattle.std.proofs.Common.{◌≡◌, ℕ, zero, suc, ◌+◌, ◌<◌, List, [], ◌∷◌, length, set, take, arith}
 use Rattle.std.specs.List.{AllByRecursion}
-
--- An item changed.
-
-pub get-set : {X : Type 0} (xs : List X) (n : ℕ) (x y : X) → slice_get xs n ≡ Some x → slice_get (slice_set xs n y) n ≡ Some y
-get-set [] n x y there = absurd (cc)
-get-set (z ∷ xs) zero x y there = refl
-get-set (z ∷ xs) (suc n) x y there = get-set xs n x y there
 
 -- what is true of each is so still
 pub all_set : {X : Type 0} (P : X → Type 0) (xs : List X) (n : ℕ) (next : X) → AllByRecursion P xs → P next → AllByRecursion P (set xs n next)

@@ -7,13 +7,13 @@ use Rattle.std.proofs.lemmas.Bool.Decides.{nat_tests}
 use Rattle.std.proofs.lemmas.List.Folds.{find-set, find_past}
 use Rattle.std.proofs.lemmas.Option.{get_or_from_slice_get, slice_get_read}
 use Rattle.addr_core.specs.declared.addr.Addr.{Addr}
-use Rattle.stick_core.specs.Key.{same_key}
+use Rattle.addr_core.specs.Same.{same_addr}
 use Rattle.stick_core.specs.declared.entries.Entry.{Entry}
 use Rattle.stick_core.specs.declared.entries.TableEntry.{TableEntry}
 use Rattle.stick_core.specs.Entries.{cur_of}
 use Rattle.stick_core.specs.PlainEntries.{AreTrackers, plain, touched, tracked_key, trackings_of, with_tracking}
-use Rattle.stick_core.proofs.TouchLemmas.{find-passes}
-use Rattle.stick_core.proofs.KeyLemmas.{same_key-refl}
+use Rattle.list_core.proofs.PlaceLemmas.{find-passes}
+use Rattle.addr_core.proofs.SameLemmas.{same_addr-refl}
 use Rattle.plan_types.specs.declared.plan.Table.{Table}
 use Rattle.plan_types.specs.declared.track.TableId.{TableId}
 use Rattle.plan_types.specs.declared.track.Track.{Track}
@@ -62,7 +62,7 @@ and_false false b is = refl
 -- A table found by its place.
 
 pub on_itself : (tracking : Tracking) → counter_on tracking.table tracking.token (Some tracking) ≡ 1
-on_itself tracking = rw (same_id-refl tracking.table, same_key-refl tracking.token) refl
+on_itself tracking = rw (same_id-refl tracking.table, same_addr-refl tracking.token) refl
 
 -- the table at the place of its incarnation
 pub record Found (id : TableId) (tables : List StoredTable) (n : ℕ) (stored : StoredTable) : Type 0 where
@@ -112,7 +112,7 @@ pub counts_left : (tracking : Tracking) (tables : List StoredTable) (n : ℕ) (s
     (other : TableId) (key : Addr) → cur_in other key (set tables n next) + counter_on other key (Some tracking) ≡ cur_in other key tables
 counts_left tracking tables n stored next at same counts other key = by (same_id tracking.table other) refl
   where
-    by : (b : Bool) → same_id tracking.table other ≡ b → cur_in other key (set tables n next) + cond (b && same_key tracking.token key) 1 0 ≡ cur_in other key tables
+    by : (b : Bool) → same_id tracking.table other ≡ b → cur_in other key (set tables n next) + cond (b && same_addr tracking.token key) 1 0 ≡ cur_in other key tables
     by false differ = let past = cur_elsewhere tracking.table other key tables n stored next at same differ in omega (arith, past)
     by true one =
         let is = cur_here tracking.table key tables n stored next at same in
@@ -177,7 +177,7 @@ pub counts_more : (tracking : Tracking) (tables : List StoredTable) (n : ℕ) (s
     (other : TableId) (key : Addr) → cur_in other key (set tables n next) ≡ cur_in other key tables + counter_on other key (Some tracking)
 counts_more tracking tables n stored next at same counts other key = by (same_id tracking.table other) refl
   where
-    by : (b : Bool) → same_id tracking.table other ≡ b → cur_in other key (set tables n next) ≡ cur_in other key tables + cond (b && same_key tracking.token key) 1 0
+    by : (b : Bool) → same_id tracking.table other ≡ b → cur_in other key (set tables n next) ≡ cur_in other key tables + cond (b && same_addr tracking.token key) 1 0
     by false differ = let past = cur_elsewhere tracking.table other key tables n stored next at same differ in omega (arith, past)
     by true one =
         let is = cur_here tracking.table key tables n stored next at same in

@@ -1,7 +1,7 @@
 -- What open connections track.
 use Rattle.std.specs.Prelude.{ℕ, List, [], ◌∷◌, ◌++◌, Option, Some, None, ◌+◌, ◌==◌, ◌&&◌, if◌then◌else◌, find}
 use Rattle.addr_core.specs.declared.addr.Addr.{Addr}
-use Rattle.stick_core.specs.Key.{same_key}
+use Rattle.addr_core.specs.Same.{same_addr}
 use Rattle.plan_types.specs.declared.track.TableId.{TableId}
 use Rattle.plan_types.specs.declared.track.Track.{Track}
 use Rattle.conn_model.specs.Tables.{same_id}
@@ -26,7 +26,7 @@ plain_tracks tracks = track_on 0 tracks.sc0 ++ track_on 1 tracks.sc1 ++ track_on
 -- 1 if it is a tracking of that key of the table
 abbrev pub counter_on : TableId → Addr → Option Tracking → ℕ
 counter_on id key None = 0
-counter_on id key (Some tracking) = if same_id tracking.table id && same_key tracking.token key then 1 else 0
+counter_on id key (Some tracking) = if same_id tracking.table id && same_addr tracking.token key then 1 else 0
 
 -- how many counters track that key of the table
 abbrev pub tracks_on : TableId → Addr → Trackings → ℕ

@@ -7,7 +7,7 @@ use Rattle.std.proofs.lemmas.Bool.Decides.{nat_tests}
 use Rattle.std.proofs.lemmas.List.Edits.{length-remove}
 use Rattle.std.proofs.lemmas.Option.{slice_get_within}
 use Rattle.slot_core.specs.declared.slots.Count.{Count}
-use Rattle.balance_core.proofs.OrderLemmas.{find-passes}
+use Rattle.list_core.proofs.PlaceLemmas.{find-passes}
 use Rattle.plan_types.specs.Sound.{IsSoundPlan}
 use Rattle.conn_model.specs.declared.plain.Version.{Version}
 use Rattle.conn_model.specs.Words.{Rise}

@@ -19,7 +19,7 @@ use Rattle.conn_versions.specs.Slots.{AreSlots, IsServed}
 use Rattle.conn_versions.specs.Picks.{IsTied}
 use Rattle.conn_versions.specs.Kept.{AreKept, IsKept}
 use Rattle.conn_versions.proofs.Places.{one_item}
-use Rattle.balance_core.proofs.OrderLemmas.{find-passes}
+use Rattle.list_core.proofs.PlaceLemmas.{find-passes}
 use Rattle.std.proofs.lemmas.Bool.{eqb-true}
 
 pub version_there : (versions : List Version) (number place : ℕ) (kept : Version) → position (has_number number) versions ≡ Some place → kept ≡ get_or versions place kept → version_at versions number ≡ Some kept

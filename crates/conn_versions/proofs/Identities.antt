@@ -6,16 +6,16 @@ use Rattle.std.specs.Str.{bytes_eq}
 use Rattle.std.proofs.lemmas.Bool.Decides.{nat_tests}
 use Rattle.std.proofs.lemmas.Slice.Eq.{bytes_eq-Decides}
 use Rattle.addr_core.specs.declared.addr.Addr.{Addr}
-use Rattle.addr_core.specs.declared.addr.Addr.TheVariants.{V4, V6}
 use Rattle.addr_core.specs.declared.addr.Endpoint.{Endpoint}
 use Rattle.addr_core.specs.Same.{same_addr, same_endpoint}
+use Rattle.addr_core.proofs.SameLemmas.{same_addr-is}
 use Rattle.proxy_types.specs.declared.server.ServerIdentity.{ServerIdentity}
 use Rattle.proxy_types.specs.ServerIdentity.{same_server}
 use Rattle.slot_core.specs.declared.slots.Count.{Count}
 use Rattle.slot_core.specs.declared.slots.SlotIx.{SlotIx}
 use Rattle.slot_core.specs.Counts.{is_of, place_of, identity_at, open_at, with_identity, with_open, IdentitiesDiffer}
 use Rattle.slot_core.proofs.CountLemmas.{differ-added, same_server-refl, with_open-past}
-use Rattle.balance_core.proofs.OrderLemmas.{find-passes}
+use Rattle.list_core.proofs.PlaceLemmas.{find-passes}
 use Rattle.plan_types.specs.declared.plan.Backend.{Backend}
 use Rattle.plan_types.specs.declared.plan.Server.{Server}
 use Rattle.conn_model.specs.Servers.{identity_in}
@@ -29,12 +29,6 @@ use Rattle.conn_versions.proofs.Places.{one_item, push-cases, within}
 number_is : (m n : ℕ) → (m == n) ≡ true → m ≡ n
 number_is m n e = grind (arith, nat_tests)
 
-addr_is : (a b : Addr) → same_addr a b ≡ true → a ≡ b
-addr_is (V4 a) (V4 b) is = ap (λ n. V4 n) (number_is a b is)
-addr_is (V4 a) (V6 b) is = absurd cc
-addr_is (V6 a) (V4 b) is = absurd cc
-addr_is (V6 a) (V6 b) is = ap (λ n. V6 n) (number_is a b is)
-
 pub server_is : (a b : ServerIdentity) → same_server a b ≡ true → a ≡ b
 server_is a b is =
     let parts = and_true (bytes_eq a.backend b.backend && bytes_eq a.name b.name) (same_endpoint a.to b.to) is in
@@ -42,7 +36,7 @@ server_is a b is =
     let at = and_true (same_addr a.to.addr b.to.addr) (a.to.port == b.to.port) parts.1 in
     let backend : a.backend ≡ b.backend = (bytes_eq-Decides a.backend b.backend).0 names.0 in
     let name : a.name ≡ b.name = (bytes_eq-Decides a.name b.name).0 names.1 in
-    let addr : a.to.addr ≡ b.to.addr = addr_is a.to.addr b.to.addr at.0 in
+    let addr : a.to.addr ≡ b.to.addr = same_addr-is a.to.addr b.to.addr at.0 in
     let port : a.to.port ≡ b.to.port = number_is a.to.port b.to.port at.1 in
     let to : a.to ≡ b.to = ap (λ x. endpoint x a.to.port) addr ∙ ap (λ n. endpoint b.to.addr n) port in
     ap (λ x. server x a.name a.to) backend ∙ ap (λ x. server b.backend x a.to) name ∙ ap (λ x. server b.backend b.name x) to

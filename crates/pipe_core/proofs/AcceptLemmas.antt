@@ -27,7 +27,7 @@ use Rattle.conn_model.specs.History.{after, by_counter, entry, id_of, new_versio
 use Rattle.conn_model.proofs.Replies.{accepted, admission-id, Accepted}
 use Rattle.conn_model.proofs.Steps.{after-accept, rows_left}
 use Rattle.conn_model.proofs.Well.{opening_well}
-use Rattle.conn_tables.proofs.PlaceLemmas.{get-set}
+use Rattle.list_core.proofs.PlaceLemmas.{get-set}
 use Rattle.pipe_core.specs.Waiting.{Holds}
 use Rattle.pipe_core.proofs.PieceLemmas.{reply_said}
 

@@ -31,8 +31,8 @@ use Rattle.conn_model.specs.Tables.{open_tracks, tracks_in}
 use Rattle.conn_model.proofs.Lists.{all-at, all-more}
 use Rattle.conn_model.proofs.Steps.{after-change, row_said}
 use Rattle.conn_model.proofs.Well.{after-nil, well_after}
-use Rattle.conn_tables.proofs.PlaceLemmas.{get-set}
-use Rattle.conn_rows.proofs.Totals.{total-set}
+use Rattle.list_core.proofs.PlaceLemmas.{get-set}
+use Rattle.conn_model.proofs.Totals.{total-set}
 use Rattle.pipe_core.specs.Waiting.{Holds}
 
 -- the answer to a piece of a connection that waits

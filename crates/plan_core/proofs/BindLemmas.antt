@@ -7,9 +7,8 @@ use Rattle.std.specs.Str.{bytes_eq}
 use Rattle.std.proofs.lemmas.Bool.Decides.{nat_tests}
 use Rattle.std.proofs.lemmas.List.Elements.{Contains-append_left, Contains-append_right, Contains-append_cases}
 use Rattle.std.proofs.lemmas.Slice.Eq.{bytes_eq-Decides}
-use Rattle.addr_core.specs.declared.addr.Addr.{Addr}
-use Rattle.addr_core.specs.declared.addr.Addr.TheVariants.{V4, V6}
 use Rattle.addr_core.specs.Same.{same_addr, same_endpoint}
+use Rattle.addr_core.proofs.SameLemmas.{same_addr-is, same_addr-refl}
 use Rattle.plan_types.specs.declared.plan.Bind.{Bind}
 use Rattle.plan_types.specs.declared.plan.Frontend.{Frontend}
 use Rattle.plan_types.specs.declared.plan.Plan.{Plan}
@@ -27,16 +26,6 @@ eqb_same a b is = grind (arith, nat_tests)
 same_eqb : (a : ℕ) → eqb a a ≡ true
 same_eqb a = grind (arith, nat_tests)
 
-addr_same : (a b : Addr) → same_addr a b ≡ true → a ≡ b
-addr_same (V4 a) (V4 b) is = ap (λ n. V4 n) (eqb_same a b is)
-addr_same (V4 a) (V6 b) is = absurd cc
-addr_same (V6 a) (V4 b) is = absurd cc
-addr_same (V6 a) (V6 b) is = ap (λ n. V6 n) (eqb_same a b is)
-
-same_addr_itself : (a : Addr) → same_addr a a ≡ true
-same_addr_itself (V4 a) = same_eqb a
-same_addr_itself (V6 a) = same_eqb a
-
 flag_same : (a b : Bool) → same_flag a b ≡ true → a ≡ b
 flag_same true b is = sym is
 flag_same false true is = absurd cc
@@ -50,7 +39,7 @@ bind_same : (name : List ℕ) (a b : Bind) → same_bind a b ≡ true → bind_k
 bind_same name a b is =
     let parts = both_true (same_endpoint a.at b.at) (same_flag a.accept_proxy b.accept_proxy) is in
     let ends = both_true (same_addr a.at.addr b.at.addr) (a.at.port == b.at.port) parts.0 in
-    let addr : a.at.addr ≡ b.at.addr = addr_same a.at.addr b.at.addr ends.0 in
+    let addr : a.at.addr ≡ b.at.addr = same_addr-is a.at.addr b.at.addr ends.0 in
     let port : a.at.port ≡ b.at.port = eqb_same a.at.port b.at.port ends.1 in
     let flag : a.accept_proxy ≡ b.accept_proxy = flag_same a.accept_proxy b.accept_proxy parts.1 in
     sym (rw (addr, port, flag) refl)
@@ -60,7 +49,7 @@ same_bind_of name other a b is =
     let addr : a.at.addr ≡ b.at.addr = ap (λ bound. bound.addr) is in
     let port : a.at.port ≡ b.at.port = ap (λ bound. bound.port) is in
     let flag : a.accept_proxy ≡ b.accept_proxy = ap (λ bound. bound.accept_proxy) is in
-    rw (addr, port, flag) (rw (same_addr_itself b.at.addr, same_eqb b.at.port, same_flag_itself b.accept_proxy) refl)
+    rw (addr, port, flag) (rw (same_addr-refl b.at.addr, same_eqb b.at.port, same_flag_itself b.accept_proxy) refl)
 
 name_of : (name other : List ℕ) (a b : Bind) → bind_key name a ≡ bind_key other b → name ≡ other
 name_of name other a b is = ap (λ bound. bound.frontend) is

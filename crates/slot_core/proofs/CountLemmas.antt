@@ -8,13 +8,11 @@ use Rattle.std.proofs.lemmas.Option.{slice_get-get_or}
 use Rattle.std.proofs.lemmas.List.Folds.{position_or_len_push}
 use Rattle.std.proofs.lemmas.List.Sums.{prefix_len-le-length}
 use Rattle.std.proofs.lemmas.Slice.Eq.{bytes_eq-Decides}
-use Rattle.addr_core.specs.declared.addr.Addr.{Addr}
-use Rattle.addr_core.specs.declared.addr.Addr.TheVariants.{V4, V6}
 use Rattle.proxy_types.specs.declared.server.ServerIdentity.{ServerIdentity}
 use Rattle.slot_core.specs.declared.slots.Count.{Count}
 use Rattle.slot_core.specs.declared.slots.SlotIx.{SlotIx}
 use Rattle.slot_core.specs.Counts.{is_of, open_at, identity_at, changed, with_open, slots_at, IdentitiesDiffer}
-use Rattle.addr_core.specs.Same.{same_addr}
+use Rattle.addr_core.proofs.SameLemmas.{same_addr-refl}
 use Rattle.proxy_types.specs.ServerIdentity.{same_server}
 
 same_number : (n : ℕ) → (n == n) ≡ true
@@ -36,12 +34,8 @@ position-new p xs y none passes =
 same_text : (xs : List ℕ) → bytes_eq xs xs ≡ true
 same_text xs = (bytes_eq-Decides xs xs).1 refl
 
-itself : (a : Addr) → same_addr a a ≡ true
-itself (V4 n) = same_number n
-itself (V6 n) = same_number n
-
 pub same_server-refl : (i : ServerIdentity) → same_server i i ≡ true
-same_server-refl i = rw (same_text i.backend, same_text i.name, itself i.to.addr, same_number i.to.port) refl
+same_server-refl i = rw (same_text i.backend, same_text i.name, same_addr-refl i.to.addr, same_number i.to.port) refl
 
 -- Changes of one count.
 

@@ -1,5 +1,4 @@
 pub mod EntryLemmas
-pub mod KeyLemmas
 pub mod TouchLemmas
 pub mod TrackLemmas
 pub mod PlainLemmas

@@ -5,13 +5,15 @@ use Rattle.std.specs.Option.{option_map_or, is_some}
 use Rattle.std.specs.List.{list_any, AllByRecursion}
 use Rattle.addr_core.specs.declared.addr.Addr.{Addr}
 use Rattle.stick_core.specs.declared.entries.Entry.{Entry}
-use Rattle.stick_core.specs.Key.{same_key, key_in}
+use Rattle.addr_core.specs.Same.{same_addr}
+use Rattle.stick_core.specs.Key.{key_in}
 use Rattle.stick_core.specs.Entries.{is_of, is_free, is_listed, others, once_more, once_less, tracked, released, added, without_first_free, cur_of, cnt_of, HasKeysOnce}
 use Rattle.stick_core.specs.Listing.{Listing, IsSound, can_list, entries_with, key_taken, entries_after, cur_at, cnt_at}
 use Rattle.stick_core.specs.PlainEntries as plains
 use Rattle.stick_core.specs.PlainEntries.{has_key, is_in, count_in, count_at, trackers_at, is_idle, can_track, tracked_key, without_first, counted, with_tracking, with_trackings, KeysDiffer, plain_entry, plain, AreTrackers, trackings_of}
-use Rattle.stick_core.proofs.KeyLemmas.{same_key-is, same_key-refl, same_key-sym}
-use Rattle.stick_core.proofs.TouchLemmas.{find-passes, find-gone, gone-here, gone-past, cur_of-released, cur_of-released-other}
+use Rattle.addr_core.proofs.SameLemmas.{same_addr-is, same_addr-refl, same_addr-sym}
+use Rattle.list_core.proofs.PlaceLemmas.{find-passes}
+use Rattle.stick_core.proofs.TouchLemmas.{find-gone, gone-here, gone-past, cur_of-released, cur_of-released-other}
 use Rattle.stick_core.proofs.TrackLemmas.{own_after, others_after}
 
 -- Look-ups.
@@ -58,14 +60,14 @@ other_listed k e es none listed = by (is_of k e) refl
     by : (b : Bool) → is_of k e ≡ b → is_of k e ≡ false
     by false is = is
     by true is =
-        let same : e.key ≡ k = same_key-is e.key k is in
+        let same : e.key ≡ k = same_addr-is e.key k is in
         let nowhere : is_listed k es ≡ false = ap (λ a. is_some (find (is_of a) es)) (sym same) ∙ ap is_some none in
         absurd (let wrong : true ≡ false = sym listed ∙ nowhere in cc)
 
 pub have_trackers : (trackers : Addr → ℕ) (es : List Entry) → HasKeysOnce es → ((k : Addr) → is_listed k es ≡ true → cur_of k es ≡ trackers k) → HaveTrackers trackers es
 have_trackers trackers [] once agree = tt
 have_trackers trackers (e ∷ es) once agree =
-    let own : is_of e.key e ≡ true = same_key-refl e.key in
+    let own : is_of e.key e ≡ true = same_addr-refl e.key in
     let here : e.cur ≡ trackers e.key = rw own at (agree e.key (rw own refl)) in (
       here,
       have_trackers trackers es once.1 (λ k listed.
@@ -125,7 +127,7 @@ own_is key (e ∷ es) once = by (is_of key e) refl (own_is key es once.1)
     by : (b : Bool) → is_of key e ≡ b → plain (option_to_list (option_map once_less (find (is_of key) es))) ≡ filter (has_key key) (plain es)
         → plain (option_to_list (option_map once_less (find (is_of key) (e ∷ es)))) ≡ filter (has_key key) (plain (e ∷ es))
     by true is more =
-        let none : filter (has_key key) (plain es) ≡ [] = own_none key es (ap (λ a. find (is_of a) es) (sym (same_key-is e.key key is)) ∙ once.0) in
+        let none : filter (has_key key) (plain es) ≡ [] = own_none key es (ap (λ a. find (is_of a) es) (sym (same_addr-is e.key key is)) ∙ once.0) in
         rw (is, none) refl
     by false is more = rw is more
 
@@ -143,7 +145,7 @@ tracked_plain key es listed = by (find (is_of key) es) refl listed
     by : (o : Option Entry) → find (is_of key) es ≡ o → is_some o ≡ true → plain (tracked key es) ≡ counted key (plain es)
     by None is some = absurd (cc)
     by (Some e) is some =
-        let own : e.key ≡ key = same_key-is e.key key (find-passes (is_of key) es e is) in
+        let own : e.key ≡ key = same_addr-is e.key key (find-passes (is_of key) es e is) in
         let count : e.cnt ≡ count_in key (plain es) = sym (ap (λ o. option_map_or (λ e. e.cnt) o 0) is) ∙ count_is key es in
         plain-append (others key es) (option_to_list (option_map once_more (find (is_of key) es)))
         ∙ ap (λ l. l ++ plain (option_to_list (option_map once_more (find (is_of key) es)))) (others_is key es)
@@ -226,13 +228,13 @@ pub counts_after : (table : Listing) (addr : Addr) → IsSound table.size table.
     → cur_of key (entries_after table addr) ≡ cur_of key table.entries + trackings_of key (key_taken table addr)
 counts_after table addr sound key = by (key_taken table addr) refl
   where
-    some : (k : Addr) → key_taken table addr ≡ Some k → (b : Bool) → same_key k key ≡ b → cur_of key (entries_after table addr) ≡ cur_of key table.entries + trackings_of key (Some k)
+    some : (k : Addr) → key_taken table addr ≡ Some k → (b : Bool) → same_addr k key ≡ b → cur_of key (entries_after table addr) ≡ cur_of key table.entries + trackings_of key (Some k)
     some k is true same =
-        let it : key ≡ k = sym (same_key-is k key same) in
+        let it : key ≡ k = sym (same_addr-is k key same) in
         let own : cur_of k (entries_after table addr) ≡ cur_of k table.entries + 1 = own_after table addr k is in
         rw same (ap (λ a. cur_of a (entries_after table addr)) it ∙ own ∙ ap (λ a. cur_of a table.entries + 1) (sym it))
     some k is false same =
-        let kept : cur_of key (entries_after table addr) ≡ cur_of key table.entries = others_after table addr k key sound is (same_key-sym k key same) in
+        let kept : cur_of key (entries_after table addr) ≡ cur_of key table.entries = others_after table addr k key sound is (same_addr-sym k key same) in
         rw same (omega (arith, kept))
 
     by : (o : Option Addr) → key_taken table addr ≡ o → cur_of key (entries_after table addr) ≡ cur_of key table.entries + trackings_of key o
@@ -240,27 +242,27 @@ counts_after table addr sound key = by (key_taken table addr) refl
         let kept : entries_after table addr ≡ table.entries = ap (λ o. option_map_or (entries_with table.size table.entries) o table.entries) is in
         let n : cur_of key (entries_after table addr) ≡ cur_of key table.entries = ap (cur_of key) kept in
         omega (arith, n)
-    by (Some k) is = some k is (same_key k key) refl
+    by (Some k) is = some k is (same_addr k key) refl
 
 pub counts_released : (tracked : Addr) (es : List Entry) → 0 < cur_of tracked es → (key : Addr) → cur_of key (released tracked es) + trackings_of key (Some tracked) ≡ cur_of key es
-counts_released tracked es some key = by (same_key tracked key) refl
+counts_released tracked es some key = by (same_addr tracked key) refl
   where
-    by : (b : Bool) → same_key tracked key ≡ b → cur_of key (released tracked es) + trackings_of key (Some tracked) ≡ cur_of key es
+    by : (b : Bool) → same_addr tracked key ≡ b → cur_of key (released tracked es) + trackings_of key (Some tracked) ≡ cur_of key es
     by true same =
-        let it : tracked ≡ key = same_key-is tracked key same in
+        let it : tracked ≡ key = same_addr-is tracked key same in
         rw same (ap (λ a. cur_of a (released tracked es) + 1) (sym it) ∙ cur_of-released tracked es some ∙ ap (λ a. cur_of a es) it)
     by false same =
-        let kept : cur_of key (released tracked es) ≡ cur_of key es = cur_of-released-other key tracked es (same_key-sym tracked key same) in
+        let kept : cur_of key (released tracked es) ≡ cur_of key es = cur_of-released-other key tracked es (same_addr-sym tracked key same) in
         rw same (omega (arith, kept))
 
 -- Keys differ.
 
-absent_all : (key : Addr) (es : List Entry) → find (is_of key) es ≡ None → AllByRecursion (λ other. same_key other.key key ≡ false) (plain es)
+absent_all : (key : Addr) (es : List Entry) → find (is_of key) es ≡ None → AllByRecursion (λ other. same_addr other.key key ≡ false) (plain es)
 absent_all key [] none = tt
 absent_all key (e ∷ es) none = by (is_of key e) refl none (absent_all key es)
   where
-    by : (b : Bool) → is_of key e ≡ b → find (is_of key) (e ∷ es) ≡ None → (find (is_of key) es ≡ None → AllByRecursion (λ other. same_key other.key key ≡ false) (plain es))
-        → AllByRecursion (λ other. same_key other.key key ≡ false) (plain (e ∷ es))
+    by : (b : Bool) → is_of key e ≡ b → find (is_of key) (e ∷ es) ≡ None → (find (is_of key) es ≡ None → AllByRecursion (λ other. same_addr other.key key ≡ false) (plain es))
+        → AllByRecursion (λ other. same_addr other.key key ≡ false) (plain (e ∷ es))
     by true is none more = absurd (let wrong : Some e ≡ None = rw is at none in cc)
     by false is none more = (is, more (rw is at none))
 

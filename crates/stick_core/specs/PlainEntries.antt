@@ -7,13 +7,14 @@ use Rattle.addr_core.specs.declared.addr.Addr.{Addr}
 use Rattle.proxy_types.specs.declared.table.KeyType.{KeyType}
 use Rattle.stick_core.specs.declared.entries.Entry.{Entry}
 use Rattle.stick_core.specs.declared.entries.TableEntry.{TableEntry}
-use Rattle.stick_core.specs.Key.{key_in, same_key}
+use Rattle.addr_core.specs.Same.{same_addr}
+use Rattle.stick_core.specs.Key.{key_in}
 use Rattle.stick_core.specs.Entries.{cur_of}
 
 -- Keys.
 
 abbrev pub has_key : Addr → TableEntry → Bool
-has_key key entry = same_key entry.key key
+has_key key entry = same_addr entry.key key
 
 abbrev pub is_in : Addr → List TableEntry → Bool
 is_in key entries = list_any (has_key key) entries
@@ -71,7 +72,7 @@ touched key entries = filter (λ entry. not (has_key key entry)) entries ++ filt
 -- no two entries have one key
 abbrev pub KeysDiffer : List TableEntry → Type 0
 KeysDiffer [] = Unit {0}
-KeysDiffer (entry ∷ entries) = AllByRecursion (λ other. same_key other.key entry.key ≡ false) entries × KeysDiffer entries
+KeysDiffer (entry ∷ entries) = AllByRecursion (λ other. same_addr other.key entry.key ≡ false) entries × KeysDiffer entries
 
 -- The entries that a table keeps, as plain data.
 
@@ -88,4 +89,4 @@ AreTrackers trackers entries = (key : Addr) → cur_of key entries ≡ trackers 
 -- by how many the trackings of a key rise
 abbrev pub trackings_of : Addr → Option Addr → ℕ
 trackings_of key None = 0
-trackings_of key (Some tracked) = if same_key tracked key then 1 else 0
+trackings_of key (Some tracked) = if same_addr tracked key then 1 else 0

@@ -1,11 +1,10 @@
 -- What is the part's is counted over the part's frontends alone.
-use Rattle.std.specs.Prelude.{ℕ, suc, Bool, true, false, List, [], length, filter, flat_map, slice_get, Option, Some, None, IfSome, refl, ◌+◌, ◌≡◌, ◌&&◌, ◌∷◌, ◌++◌}
+use Rattle.std.specs.Prelude.{ℕ, suc, Bool, true, false, List, [], length, filter, flat_map, slice_get, Option, Some, None, IfSome, refl, ◌+◌, ◌≡◌, ◌&&◌, ◌∷◌}
 use Rattle.std.specs.List.{AllByRecursion}
 use Rattle.std.specs.Str.{bytes_eq}
 use Rattle.std.specs.Option.{option_map_or}
-use Rattle.std.proofs.Common.{sym, ap, subst, ◌∙◌, arith, length-append}
+use Rattle.std.proofs.Common.{sym, ap, subst, ◌∙◌, arith}
 use Rattle.std.proofs.lemmas.Slice.Eq.{bytes_eq-Decides}
-use Rattle.std.proofs.lemmas.List.Elements.{filter-append}
 use Rattle.std.proofs.lemmas.List.Concat.{flat_map-cons}
 use Rattle.addr_core.specs.declared.addr.Addr.{Addr}
 use Rattle.addr_core.specs.Same.{same_endpoint}
@@ -19,6 +18,7 @@ use Rattle.conn_model.specs.declared.plain.Row.{Row}
 use Rattle.conn_model.specs.declared.plain.TableState.{TableState}
 use Rattle.conn_model.specs.declared.plain.Version.{Version}
 use Rattle.conn_model.specs.Counts.{is_offered_to, is_served_by, offered_to, open_if, open_named, served_by, server_of, total}
+use Rattle.conn_model.proofs.Trackers.{trackers-append}
 use Rattle.conn_model.specs.Tables.{is_of, open_tracks, same_id, table_at, trackers, tracks_in, written_tables}
 use Rattle.conn_model.proofs.OneTable.{same_id-is}
 use Rattle.tenant_laws.specs.Parts.{owns_table, Part}
@@ -49,9 +49,6 @@ total-same F (x ∷ xs) (y ∷ ys) same =
 none_pass : {X : Type 0} (test : X → Bool) (xs : List X) → AllByRecursion (λ x. test x ≡ false) xs → length (filter test xs) ≡ 0
 none_pass test [] all = refl
 none_pass test (x ∷ xs) all = rw all.0 (none_pass test xs all.1)
-
-pub trackers-append : (a b : List Track) (id : TableId) (key : Addr) → trackers (a ++ b) id key ≡ trackers a id key + trackers b id key
-trackers-append a b id key = ap length (filter-append (is_of id key) a b) ∙ length-append (filter (is_of id key) a) (filter (is_of id key) b)
 
 trackers-total : (frontends : List FrontendRows) (id : TableId) (key : Addr) → trackers (open_tracks frontends) id key ≡ total (λ own. trackers (tracks_in own) id key) frontends
 trackers-total [] id key = refl

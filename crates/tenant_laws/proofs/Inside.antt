@@ -40,7 +40,8 @@ use Rattle.tenant_laws.specs.Parts.{owns_backend_at, owns_table, Part}
 use Rattle.tenant_laws.specs.Agreement.{is_own_id, owns_id, Agree, IsAlike, IsApart, IsInside, IsMeant, IsOutside, IsSound}
 use Rattle.tenant_laws.specs.Runs.{frontend_of}
 use Rattle.tenant_laws.proofs.Lists.{any-of, contrary, nothing, slice_get-other, slice_get-set, some_same}
-use Rattle.tenant_laws.proofs.Counts.{own-is, trackers-append, tracks-same}
+use Rattle.conn_model.proofs.Trackers.{trackers-append}
+use Rattle.tenant_laws.proofs.Counts.{own-is, tracks-same}
 use Rattle.tenant_laws.proofs.Same.{answers-same, apart-of, newest-there, row_at-same}
 use Rattle.tenant_laws.proofs.PartReplies.{part_reply, PartReply}
 use Rattle.tenant_laws.proofs.Step.{all-by_counter, frontend-at, inside-apart, names-after, named-apart, number-after, outside-apart, own-there, plan-kept, plans-apart, rows-after, sound-step, step-own, step-plan, table-stays, version-before}

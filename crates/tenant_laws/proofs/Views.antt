@@ -44,7 +44,7 @@ use Rattle.tenant_laws.specs.Parts.{choice_passes, choices_pass, keeps_backend, 
 use Rattle.tenant_laws.specs.Agreement.{is_own_id}
 use Rattle.tenant_laws.proofs.Lists.{both, contrary, nothing, some_same}
 use Rattle.tenant_laws.proofs.Truth.{applies-kept, find-kept}
-use Rattle.tenant_laws.proofs.Counts.{trackers-append}
+use Rattle.conn_model.proofs.Trackers.{trackers-append}
 
 -- the incarnation at a number that the part owns is the part's
 pub own-at : (part : Part) (version : Version) (number : ℕ) (id : TableId) → owns_table_at part version.plan number ≡ true → slice_get version.tables number ≡ Some id →

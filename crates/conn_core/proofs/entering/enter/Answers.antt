@@ -3,7 +3,7 @@ use Rattle.std.specs.Prelude.{IfSome, IsSome}
 use Rattle.rule_engine.specs.Meaning.{present}
 use Rattle.conn_model.specs.Answer.{row_at}
 use Rattle.conn_rows.specs.declared.rows.RowsState.{RowsState}
-use Rattle.conn_rows.specs.Changes.{rest_at}
+use Rattle.conn_model.specs.Changes.{rest_at}
 use Rattle.conn_core.specs.declared.outcome.Outcome.TheVariants.{Offer}
 use Rattle.conn_core.specs.Changes.{CanOffer}
 use Rattle.conn_core.proofs.EnterLemmas.{newcomer_judged, newcomer_waits, offered_once, removed_once, skipped_once}

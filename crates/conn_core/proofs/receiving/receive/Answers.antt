@@ -8,7 +8,8 @@ use Rattle.conn_model.specs.declared.reply.Cause.TheVariants.{Header}
 use Rattle.conn_model.specs.Answer.{candidate_of, decision, header_reply, judged_pair}
 use Rattle.conn_rows.specs.declared.row.RowSummary.{RowSummary}
 use Rattle.conn_rows.specs.Value.{RowsValue}
-use Rattle.conn_rows.specs.Changes.{row_fed, status_of}
+use Rattle.conn_model.specs.Changes.{row_fed}
+use Rattle.conn_rows.specs.Changes.{status_of}
 use Rattle.conn_core.specs.Changes.{IsJudged, Judge}
 use Rattle.conn_core.specs.Counts.{IsSeen}
 use Rattle.conn_core.specs.Machine.{AreSound}

@@ -1,7 +1,7 @@
 use Rattle.std.proofs.Common.{◌≡◌, ◌+◌, get_or, take, sym, ap, ◌∙◌, arith}
 use Rattle.conn_model.specs.Counts.{total}
 use Rattle.conn_rows.specs.Counts.{open_stored}
-use Rattle.conn_rows.proofs.Totals.{total-all, total-more}
+use Rattle.conn_model.proofs.Totals.{total-all, total-more}
 use Rattle.conn_rows.proofs.counts.open_named.Goals as goal
 
 pub loop-own-preserved : goal.loop-own-preserved

@@ -1,4 +1,4 @@
-use Rattle.conn_rows.proofs.Totals.{popped}
+use Rattle.conn_model.proofs.Totals.{popped}
 use Rattle.conn_rows.proofs.frontend.last_frontend.Goals as goal
 
 pub returns-clause-counts : goal.returns-clause-counts

@@ -1,5 +1,5 @@
 use Rattle.std.proofs.Common.{arith, vec_len}
-use Rattle.conn_rows.proofs.Totals.{popped, popped_none}
+use Rattle.conn_model.proofs.Totals.{popped, popped_none}
 use Rattle.conn_rows.proofs.frontend.last_row.Goals as goal
 
 pub returns-clause-counts : goal.returns-clause-counts

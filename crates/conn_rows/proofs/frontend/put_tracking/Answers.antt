@@ -2,13 +2,13 @@ use Rattle.std.proofs.Common.{◌≡◌, Some, None, ap, sym, ◌∙◌, arith}
 use Rattle.std.specs.List.{position}
 use Rattle.conn_rows.specs.declared.row.StoredRow.{StoredRow}
 use Rattle.conn_rows.specs.Stored.{has_serial, plain_row, stored_tracking}
-use Rattle.conn_rows.specs.Changes.{row_tracking}
+use Rattle.conn_model.specs.Changes.{row_tracking}
 use Rattle.conn_tables.specs.Tracks.{on_counter, track_by}
 use Rattle.conn_rows.specs.Value.{row_on}
 use Rattle.conn_tables.proofs.CounterLemmas.{counters_more, plain_tracking}
 use Rattle.conn_rows.proofs.Plain.{set-plain}
 use Rattle.conn_rows.proofs.Serials.{At, at, set_is}
-use Rattle.conn_rows.proofs.Totals.{total-set}
+use Rattle.conn_model.proofs.Totals.{total-set}
 use Rattle.conn_rows.proofs.frontend.put_tracking.Goals as goal
 
 same_row : (a b : StoredRow) → Some a ≡ Some b → a ≡ b

@@ -3,7 +3,7 @@ use Rattle.std.specs.Prelude.{slice_get}
 use Rattle.std.specs.List.{position}
 use Rattle.std.proofs.lemmas.Option.{slice_get_read}
 use Rattle.conn_rows.specs.Stored.{has_serial}
-use Rattle.conn_rows.proofs.Totals.{total-remove}
+use Rattle.conn_model.proofs.Totals.{total-remove}
 use Rattle.conn_model.proofs.Lists.{found_there, nowhere, position_within}
 use Rattle.conn_rows.proofs.Serials.{not_placed, placed}
 use Rattle.conn_rows.proofs.frontend.take_row.Goals as goal

@@ -1,4 +1,4 @@
-use Rattle.conn_rows.proofs.Changes.{changed_gone, changed_twice}
+use Rattle.conn_model.proofs.Changes.{changed_gone, changed_twice}
 use Rattle.conn_rows.proofs.laws.changes_join.Goals as goal
 
 pub returns-clause-twice : goal.returns-clause-twice

@@ -1,7 +1,7 @@
 use Rattle.std.proofs.Common.{◌≡◌, Some, not, arith, ap, ◌∙◌, length}
 use Rattle.std.specs.Prelude.{filter, slice_get}
 use Rattle.conn_rows.specs.Stored.{StoredFrontend, has_serial, plain_frontend}
-use Rattle.conn_rows.specs.Changes.{without_row}
+use Rattle.conn_model.specs.Changes.{without_row}
 use Rattle.conn_rows.proofs.Counted.{fewer, gone_if, none_if, still_small}
 use Rattle.conn_rows.proofs.Plain.{others_plain, own_below, set-map}
 use Rattle.conn_rows.specs.Value.{HasSlot}

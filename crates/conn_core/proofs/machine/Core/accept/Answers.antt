@@ -8,7 +8,7 @@ use Rattle.conn_model.specs.History.{after, entry, tables_by}
 use Rattle.conn_rows.specs.declared.rows.RowsState.{RowsState}
 use Rattle.conn_core.specs.declared.entering.Arrival.{Arrival}
 use Rattle.conn_core.specs.declared.outcome.Decision.{Decision}
-use Rattle.conn_rows.specs.Changes.{with_item}
+use Rattle.conn_model.specs.Changes.{with_item}
 use Rattle.conn_core.specs.Changes.{entered, settled_versions, CanOffer}
 use Rattle.conn_core.specs.Machine.{state_of, IsNext}
 use Rattle.conn_core.specs.Outcome.{reply_by}

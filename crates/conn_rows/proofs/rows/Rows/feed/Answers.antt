@@ -1,7 +1,8 @@
 use Rattle.std.proofs.Common.{◌≡◌, Some, sym, subst, ◌∙◌, ap, refl}
 use Rattle.std.specs.Prelude.{slice_get, IsSome}
 use Rattle.conn_rows.specs.Stored.{with_stored}
-use Rattle.conn_rows.specs.Changes.{row_fed, stored_fed, with_row}
+use Rattle.conn_model.specs.Changes.{row_fed, with_row}
+use Rattle.conn_rows.specs.Changes.{stored_fed}
 use Rattle.conn_rows.proofs.Plain.{changed, fed_plain, own_there, rest_of_state, rest_there}
 use Rattle.conn_model.specs.Counts.{total}
 use Rattle.std.specs.List.{AllByRecursion}

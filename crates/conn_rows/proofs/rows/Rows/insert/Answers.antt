@@ -1,7 +1,7 @@
 use Rattle.std.proofs.Common.{◌≡◌, ◌+◌, ◌∙◌, ◌++◌, ◌∷◌, [], Some, ap, refl}
 use Rattle.std.specs.Prelude.{slice_get}
 use Rattle.conn_rows.specs.Stored.{stored_arrival}
-use Rattle.conn_rows.specs.Changes.{with_arrival}
+use Rattle.conn_model.specs.Changes.{with_arrival}
 use Rattle.conn_rows.specs.Value.{HasSlot, row_on, row_slots}
 use Rattle.conn_rows.proofs.Served.{all-arrival, still_served}
 use Rattle.conn_rows.proofs.Counted.{still_rows, total-arrival}

@@ -1,7 +1,7 @@
 use Rattle.std.proofs.Common.{◌≡◌, ◌+◌, ◌∙◌, Some, ap, sym, subst, refl}
 use Rattle.std.specs.Prelude.{slice_get}
 use Rattle.conn_model.specs.Counts.{total}
-use Rattle.conn_rows.specs.Changes.{with_refusal}
+use Rattle.conn_model.specs.Changes.{with_refusal}
 use Rattle.conn_rows.specs.Stored.{StoredFrontend}
 use Rattle.conn_rows.specs.Value.{row_on}
 use Rattle.std.specs.List.{AllByRecursion}

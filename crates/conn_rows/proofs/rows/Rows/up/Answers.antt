@@ -2,7 +2,8 @@ use Rattle.std.proofs.Common.{◌≡◌, Some, ap, ◌∙◌, refl, sym, subst}
 use Rattle.std.specs.Prelude.{slice_get}
 use Rattle.std.specs.List.{AllByRecursion}
 use Rattle.conn_model.specs.Counts.{total}
-use Rattle.conn_rows.specs.Changes.{row_up, stored_up, with_row}
+use Rattle.conn_model.specs.Changes.{row_up, with_row}
+use Rattle.conn_rows.specs.Changes.{stored_up}
 use Rattle.conn_rows.specs.Stored.{StoredFrontend, with_stored}
 use Rattle.conn_rows.specs.Value.{HasSlot, row_on, row_slots}
 use Rattle.conn_rows.proofs.Counted.{still_rows, total-with}

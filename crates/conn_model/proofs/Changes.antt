@@ -8,8 +8,8 @@ use Rattle.conn_model.specs.declared.plain.Row.{Row}
 use Rattle.conn_model.specs.declared.plain.FrontendRows.{FrontendRows}
 use Rattle.conn_model.specs.Counts.{change_row}
 use Rattle.conn_model.specs.Words.{row_at, row_in}
-use Rattle.conn_tables.proofs.PlaceLemmas.{get-set}
-use Rattle.conn_rows.specs.Changes.{with_conn, with_item, with_row, without_conn, without_row}
+use Rattle.conn_model.specs.Changes.{with_conn, with_item, with_row, without_conn, without_row}
+use Rattle.list_core.proofs.PlaceLemmas.{get-set}
 
 -- an item changed twice
 pub item_twice : {X : Type 0} (n : ℕ) (f g : X → X) (xs : List X) → with_item n g (with_item n f xs) ≡ with_item n (λ x. g (f x)) xs
