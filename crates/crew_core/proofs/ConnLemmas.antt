@@ -4,7 +4,7 @@ use Rattle.std.specs.Prelude.{IsSomeAnd}
 use Rattle.relay_core.specs.Law.{HasCarried}
 use Rattle.relay_core.specs.Relay.{Ways}
 use Rattle.crew_core.specs.Conns.{back_bytes, between, forth_bytes, HasFlows, PassesOn}
-use Rattle.crew_core.proofs.StreamLemmas.{carried_nothing}
+use Rattle.link_core.proofs.StreamLemmas.{carried_nothing}
 
 -- what was on its way is in the relay, and what is on its way was
 pub passes_from : {K : Type 0} (left held : K → Option (List ℕ)) (client server : K) (old mid : Option Ways) (new_client new_server : K) (new' : Option Ways)

@@ -1,2 +1,2 @@
-pub mod StreamLemmas
 pub mod ConnLemmas
+pub mod RecordLemmas

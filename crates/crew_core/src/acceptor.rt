@@ -1,9 +1,12 @@
 //! The acceptor: what comes to the door goes to the workers in turn, and reloads to the desk.
+ghost use Rattle.std.specs.Prelude.{◌≡◌, Err, IfErr, IfOk, Ok};
 
 use crate::calls::Hall;
-use crate::traits::{Clock, Door, Gate, Knock, Link};
 use crate::worker::Arrival;
-use desk_core::Pass;
+use book_core::Receipt;
+use conn_model::reply::{Reply, StepFault};
+use desk_core::{Base, Pass};
+use link_core::{Clock, Door, Gate, Knock, Link};
 use rtrb::{Producer, PushError};
 use std::sync::Wait;
 use std::sync::ledger::Ledger;
@@ -20,13 +23,24 @@ pub(crate) struct Front<'a, M: Ledger, K: Link, D: Door<Link = K>> {
     pub(crate) pass: &'a mut Pass<M>,
 }
 
+/// The reply of a call that was answered.
+fn reply_to(answer: Result<Receipt, StepFault>) -> Result<Reply, StepFault>
+    ensures reply { IfOk answer (λ receipt. result ≡ Ok receipt.reply) }
+    ensures fault { IfErr answer (λ fault. result ≡ Err fault) }
+{
+    match answer {
+        Ok(Receipt { number: _, reply }) => Ok(reply),
+        Err(fault) => Err(fault),
+    }
+}
+
 impl<'a, M: Ledger, K: Link, D: Door<Link = K>> Front<'a, M, K, D> {
     /// Takes what comes until the door is closed or the turns are used up, and says how many connections came, and how
     /// many of them no lane had room for. The lanes are given up then, by which the workers learn of it.
-    pub(crate) fn accept_all<O: Ledger, G: Gate, C: Clock, R: Wait>(
+    pub(crate) fn accept_all<O: Ledger, B: Base, G: Gate, C: Clock, R: Wait>(
         self,
         rt: &R,
-        hall: &Hall<'_, M, O, G, C>,
+        hall: &Hall<'_, M, O, B, G, C>,
     ) -> (u64, u64) {
         let Front { door, lanes, pass } = self;
         let mut lanes = lanes;
@@ -53,7 +67,7 @@ impl<'a, M: Ledger, K: Link, D: Door<Link = K>> Front<'a, M, K, D> {
                 Knock::Reload(text) => {
                     let moment = hall.clock.now();
                     let answer = hall.desk.reload(rt, pass, moment, text.as_str());
-                    door.report(&answer);
+                    door.report(&reply_to(answer));
                 }
                 Knock::Idle => hall.clock.rest(),
                 Knock::Closed => break,

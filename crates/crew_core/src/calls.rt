@@ -2,21 +2,21 @@
 ghost use Rattle.std.specs.Prelude.{◌≡◌, ◌≤◌};
 
 use crate::leases::Leases;
-use crate::traits::{Clock, Gate};
 use addr_core::Pair;
 use book_core::Receipt;
 use conn_model::event::Why;
 use conn_model::reply::{Reply, Said, StepFault};
-use desk_core::{Drive, Driven, LeaseList, Pass, SharedDesk};
+use desk_core::{Base, Drive, Driven, LeaseList, Pass, SharedDesk};
+use link_core::{Clock, Gate};
 use std::alloc::Global;
 use std::sync::Wait;
 use std::sync::ledger::Ledger;
 
 /// What all workers share.
 #[derive(Drop)]
-pub(crate) struct Hall<'a, M: Ledger, O: Ledger, G, C> {
+pub(crate) struct Hall<'a, M: Ledger, O: Ledger, B: Base, G, C> {
     pub(crate) alloc: Global,
-    pub(crate) desk: &'a SharedDesk<M, O>,
+    pub(crate) desk: &'a SharedDesk<M, O, B>,
     pub(crate) gate: &'a G,
     pub(crate) clock: &'a C,
     /// How many turns a worker and the acceptor make at the most.
@@ -99,10 +99,10 @@ impl<M: Ledger, O: Ledger> Calls<M, O> {
     }
 
     /// A connection came to a listener. Its lease is kept under the key, for which room is made first.
-    pub(crate) fn accept<G: Gate, C: Clock, R: Wait>(
+    pub(crate) fn accept<B: Base, G: Gate, C: Clock, R: Wait>(
         &mut self,
         rt: &R,
-        hall: &Hall<'_, M, O, G, C>,
+        hall: &Hall<'_, M, O, B, G, C>,
         key: usize,
         listener: u16,
         real: &Pair,
@@ -115,10 +115,10 @@ impl<M: Ledger, O: Ledger> Calls<M, O> {
         outcome
     }
 
-    fn ask_accept<G: Gate, C: Clock, R: Wait>(
+    fn ask_accept<B: Base, G: Gate, C: Clock, R: Wait>(
         &mut self,
         rt: &R,
-        hall: &Hall<'_, M, O, G, C>,
+        hall: &Hall<'_, M, O, B, G, C>,
         key: usize,
         listener: u16,
         real: &Pair,
@@ -140,10 +140,10 @@ impl<M: Ledger, O: Ledger> Calls<M, O> {
     }
 
     /// Something is driven on the connection of a key.
-    pub(crate) fn drive<G: Gate, C: Clock, R: Wait>(
+    pub(crate) fn drive<B: Base, G: Gate, C: Clock, R: Wait>(
         &mut self,
         rt: &R,
-        hall: &Hall<'_, M, O, G, C>,
+        hall: &Hall<'_, M, O, B, G, C>,
         key: usize,
         drive: &Drive<'_>,
     ) -> Outcome {
@@ -155,10 +155,10 @@ impl<M: Ledger, O: Ledger> Calls<M, O> {
         outcome
     }
 
-    fn ask_drive<G: Gate, C: Clock, R: Wait>(
+    fn ask_drive<B: Base, G: Gate, C: Clock, R: Wait>(
         &mut self,
         rt: &R,
-        hall: &Hall<'_, M, O, G, C>,
+        hall: &Hall<'_, M, O, B, G, C>,
         key: usize,
         drive: &Drive<'_>,
     ) -> Outcome {
@@ -185,10 +185,10 @@ impl<M: Ledger, O: Ledger> Calls<M, O> {
     }
 
     /// The connection of a key ended.
-    pub(crate) fn close<G: Gate, C: Clock, R: Wait>(
+    pub(crate) fn close<B: Base, G: Gate, C: Clock, R: Wait>(
         &mut self,
         rt: &R,
-        hall: &Hall<'_, M, O, G, C>,
+        hall: &Hall<'_, M, O, B, G, C>,
         key: usize,
         why: Why,
     ) -> Outcome {
@@ -201,10 +201,10 @@ impl<M: Ledger, O: Ledger> Calls<M, O> {
     }
 
     /// The connection of a key ended, and the gate is not asked.
-    pub(crate) fn close_at_once<G: Gate, C: Clock, R: Wait>(
+    pub(crate) fn close_at_once<B: Base, G: Gate, C: Clock, R: Wait>(
         &mut self,
         rt: &R,
-        hall: &Hall<'_, M, O, G, C>,
+        hall: &Hall<'_, M, O, B, G, C>,
         key: usize,
         why: Why,
     ) -> Outcome {

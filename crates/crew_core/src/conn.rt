@@ -1,14 +1,10 @@
 //! A connection of a worker.
 ghost use Rattle.std.specs.Prelude.{◌≡◌, ◌++◌, [], Some, None, IsTrue, IfOk, OnOk, OnErr, IsSomeAnd};
-ghost use Rattle.relay_core.specs.Relay.{flow_of, IsBegun, stream_of};
-ghost use Rattle.relay_core.specs.Law.{HasCarried};
+ghost use Rattle.relay_core.specs.Relay.{IsBegun};
 ghost use Rattle.crew_core.specs.Conns.{HasFlows, PassesOn};
 
-use crate::flags::Flags;
-use crate::spares::Spares;
-use crate::stream::{Progress, pump};
-use crate::traits::{Link, Ready};
 use addr_core::Endpoint;
+use link_core::{Flags, Link, Progress, Ready, Spares, pump};
 use relay_core::{Relay, Way};
 use std::alloc::AllocError;
 

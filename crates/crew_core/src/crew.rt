@@ -1,31 +1,32 @@
 //! The crew: the workers, each in a thread of its own, and the acceptor in the caller's.
-ghost use Rattle.std.specs.Prelude.{◌≡◌, ◌<◌, ◌≤◌, ◌+◌, ◌-◌, ◌^◌, [], IfErr, IfOk, OnErr, OnOk, sum_by, vec_capacity, vec_len};
+ghost use Rattle.std.specs.Prelude.{◌≡◌, ◌<◌, ◌≤◌, ◌+◌, ◌-◌, ◌^◌, [], IfErr, IfOk, sum_by, vec_capacity, vec_len};
 ghost use Rattle.book_core.specs.Open.{open_connections};
+ghost use Rattle.desk_core.specs.Books.{IsBase};
 ghost use Rattle.desk_core.specs.Calls.{calls_of};
 ghost use Rattle.desk_core.specs.Leased.{leases_in};
 ghost use Rattle.crew_core.specs.Crew.{IsIdle};
 
 use crate::acceptor::{Front, LANE};
 use crate::calls::Hall;
-use crate::spares::Spares;
-use crate::stream::FLOW;
 use crate::table::Table;
-use crate::traits::{Clock, Dial, Door, Gate, Link};
 use crate::worker::{Arrival, Bench, REPORTS, Worker};
 use book_core::Book;
-use desk_core::{Desk, Lease, LeaseList, Pass, Shut};
+use desk_core::{Base, Desk, Lease, LeaseList, Pass, Shut};
+use link_core::{Clock, Dial, Door, FLOW, Gate, Link, Spares};
 use rtrb::{Producer, RingBuffer};
 use std::alloc::{AllocError, Global};
 use std::sync::Wait;
 use std::sync::ledger::{Blank, Ledger};
 use std::thread;
 use std::thread::Threads;
+use thiserror::Error;
 
 /// Why a crew did nothing.
-#[derive(Clone, Copy, Debug, PartialEq, Eq)]
+#[derive(Clone, Copy, Debug, PartialEq, Eq, Error)]
 pub enum CrewFault {
-    /// A thread cannot be started.
+    #[error("a thread cannot be started")]
     Spawn,
+    #[error("no memory")]
     NoMemory,
 }
 
@@ -54,9 +55,9 @@ pub struct Summary {
 }
 
 /// What is left of a crew.
-pub struct Crew<M: Ledger, O: Ledger, L> {
+pub struct Crew<M: Ledger, O: Ledger, B: Base, L> {
     pub summary: Summary,
-    pub shut: Shut<M, O>,
+    pub shut: Shut<M, O, B>,
     /// That of the acceptor first, and then those of the workers.
     pub passes: Vec<Pass<M>>,
     /// For each worker, the last one first, the leases whose connections could not be closed for want of memory.
@@ -177,12 +178,13 @@ fn can_spawn<R: Threads>(rt: &R, alloc: Global, workers: usize) -> Result<(), Cr
 fn attend_each<
     M: Ledger + Send + Sync,
     O: Ledger + Send + Sync,
+    B: Base + Send + Sync,
     K: Link + Send,
     L: Dial<Link = K> + Send,
     G: Gate + Sync,
     C: Clock + Sync,
     R: Threads + Wait + Sync,
->(rt: &R, hall: &Hall<'_, M, O, G, C>, workers: &mut [Worker<M, O, K, L>]) {
+>(rt: &R, hall: &Hall<'_, M, O, B, G, C>, workers: &mut [Worker<M, O, K, L>]) {
     let threads = workers.len().max(1);
     thread::for_each_mut(rt, workers, threads, &|_, worker| worker.work(rt, hall));
 }
@@ -192,6 +194,7 @@ fn attend_each<
 fn work_beside<
     M: Ledger + Send + Sync,
     O: Ledger + Send + Sync,
+    B: Base + Send + Sync,
     K: Link + Send,
     L: Dial<Link = K> + Send,
     D: Door<Link = K>,
@@ -200,7 +203,7 @@ fn work_beside<
     R: Threads + Wait + Sync,
 >(
     rt: &R,
-    hall: &Hall<'_, M, O, G, C>,
+    hall: &Hall<'_, M, O, B, G, C>,
     workers: &mut [Worker<M, O, K, L>],
     front: Front<'_, M, K, D>,
 ) -> (u64, u64) {
@@ -213,10 +216,15 @@ fn work_beside<
 }
 
 /// A crew that did nothing.
-fn idle<M: Ledger, O: Ledger, L>(alloc: Global, desk: Desk<M, O>, dials: Vec<L>) -> Crew<M, O, L>
+fn idle<M: Ledger, O: Ledger, B: Base, L>(
+    alloc: Global,
+    desk: Desk<M, O, B>,
+    dials: Vec<L>,
+) -> Crew<M, O, B, L>
     requires { (desk.given ≡ 0) × (M.parts ≡ 65537) }
     ensures idle { IsIdle result.summary }
     ensures nothing { (result.passes.items ≡ []) × (result.left.items ≡ []) × (result.shut.book.made ≡ 0) }
+    ensures base { IsBase B.base result.shut.book.base }
     ensures dials { result.dials ≡ dials }
 {
     let mut shut = desk.into_book();
@@ -237,9 +245,9 @@ fn idle<M: Ledger, O: Ledger, L>(alloc: Global, desk: Desk<M, O>, dials: Vec<L>)
 }
 
 /// Gives each dial its worker. The last worker is the first of the list.
-fn man<M: Ledger, O: Ledger, K: Link, L: Dial<Link = K> + Drop>(
+fn man<M: Ledger, O: Ledger, B: Base, K: Link, L: Dial<Link = K> + Drop>(
     alloc: Global,
-    desk: &mut Desk<M, O>,
+    desk: &mut Desk<M, O, B>,
     keeps: bool,
     benches: Vec<Bench<K>>,
     dials: Vec<L>,
@@ -307,8 +315,8 @@ fn leases_alone<O: Ledger>(lists: Vec<LeaseList<O>>, left: Vec<Vec<Lease<O>>>) -
 }
 
 /// Hands on the leases that were not spent, of which each is an open connection's.
-fn hand_on<M: Ledger, O: Ledger>(
-    shut: &mut Shut<M, O>,
+fn hand_on<M: Ledger, O: Ledger, B: Base>(
+    shut: &mut Shut<M, O, B>,
     lists: Vec<LeaseList<O>>,
     left: Vec<Vec<Lease<O>>>,
 ) -> Vec<Vec<Lease<O>>>
@@ -336,6 +344,7 @@ pub fn run_crew<
     R: Threads + Wait + Sync,
     M: Ledger + Send + Sync,
     O: Ledger + Send + Sync,
+    B: Base + Send + Sync,
     K: Link + Send,
     L: Dial<Link = K> + Send + Drop,
     D: Door<Link = K>,
@@ -352,7 +361,8 @@ pub fn run_crew<
     gate: &G,
     clock: &C,
     setup: Setup,
-) -> Result<Crew<M, O, L>, (CrewFault, Crew<M, O, L>)>
+) -> Result<Crew<M, O, B, L>, (CrewFault, Crew<M, O, B, L>)>
+    requires base { IsBase B.base book.base }
     requires fresh { (book.made ≡ 0) × (open_connections book.state ≡ 0) × (open_connections book.base ≡ 0) }
     requires made_name { made.name ≡ M.name }
     requires made_parts { (made.parts ≡ M.parts) × (made.parts ≡ 65537) }
@@ -364,14 +374,17 @@ pub fn run_crew<
     ensures recorded { IfOk result (λ crew. (crew.summary.recorded ≡ calls_of crew.passes.items) × (crew.summary.recorded ≡ crew.shut.book.made)) }
     ensures closed { IfOk result (λ crew. crew.summary.closed ≤ crew.summary.recorded) }
     ensures taken { IfOk result (λ crew. crew.summary.taken ≤ crew.summary.accepted) }
+    // The book is over the base of the one that went in.
+    ensures base { IfOk result (λ crew. IsBase B.base crew.shut.book.base) }
     // No more leases are left than connections are open.
     ensures left { IfOk result (λ crew. sum_by (λ leases. vec_len leases) crew.left.items ≤ open_connections crew.shut.book.state) }
     // After a fault nothing was done.
     ensures idle { IfErr result (λ fault. IsIdle fault.1.summary) }
     ensures nothing { IfErr result (λ fault. (fault.1.passes.items ≡ []) × (fault.1.left.items ≡ []) × (fault.1.shut.book.made ≡ 0)) }
+    ensures base_kept { IfErr result (λ fault. IsBase B.base fault.1.shut.book.base) }
     ensures dials { IfErr result (λ fault. fault.1.dials ≡ dials) }
 {
-    let mut desk = Desk::<M, O>::new(alloc, book, made, leases);
+    let mut desk = Desk::<M, O, B>::new(alloc, book, made, leases);
     if let Err(fault) = can_spawn(rt, alloc, dials.len()) {
         return Err((fault, idle(alloc, desk, dials)));
     }

@@ -2,17 +2,15 @@
 #![tactic(auto)]
 
 pub use crew::{Crew, CrewFault, Setup, Summary, run_crew};
-pub use traits::{Clock, Dial, Dialled, Door, Gate, Knock, Link, Ready};
+pub use engine::{Served, open_book, serve};
+pub use link_core::{Clock, Dial, Dialled, Door, Gate, Knock, Link, Ready};
 
 mod acceptor;
 mod calls;
 mod conn;
 mod crew;
-mod flags;
+mod engine;
 mod leases;
 mod serving;
-mod spares;
-mod stream;
 mod table;
-mod traits;
 mod worker;

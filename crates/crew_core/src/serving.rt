@@ -3,14 +3,13 @@ ghost use Rattle.std.specs.Prelude.{◌≡◌, ◌≤◌, length, take, drop};
 
 use crate::calls::{Hall, Outcome};
 use crate::conn::Stage;
-use crate::stream::Progress;
-use crate::traits::{Clock, Dial, Dialled, Gate, Link};
-use crate::worker::{Bench, PIECE, Worker};
+use crate::worker::{Bench, Worker};
 use addr_core::Endpoint;
 use conn_model::event::Why;
 use conn_model::reply::{Said, StepFault};
-use desk_core::Drive;
+use desk_core::{Base, Drive};
 use device_core::{Failed, Got};
+use link_core::{Clock, Dial, Dialled, Gate, Link, PIECE, Progress};
 use std::sync::Wait;
 use std::sync::ledger::Ledger;
 
@@ -45,10 +44,10 @@ fn read_piece<K: Link>(link: &mut K, buffer: &mut [u8]) -> Result<Got, Failed> {
 
 impl<M: Ledger, O: Ledger, K: Link, L: Dial<Link = K>> Worker<M, O, K, L> {
     /// The next connection of the queue has its turn.
-    pub(crate) fn serve<G: Gate, C: Clock, R: Wait>(
+    pub(crate) fn serve<B: Base, G: Gate, C: Clock, R: Wait>(
         &mut self,
         rt: &R,
-        hall: &Hall<'_, M, O, G, C>,
+        hall: &Hall<'_, M, O, B, G, C>,
         key: usize,
     ) {
         if let Some(why) = self.bench.table.ended(key) {
@@ -86,10 +85,10 @@ impl<M: Ledger, O: Ledger, K: Link, L: Dial<Link = K>> Worker<M, O, K, L> {
     }
 
     /// Hands the bytes that came to the desk, until the header is whole.
-    fn receive<G: Gate, C: Clock, R: Wait>(
+    fn receive<B: Base, G: Gate, C: Clock, R: Wait>(
         &mut self,
         rt: &R,
-        hall: &Hall<'_, M, O, G, C>,
+        hall: &Hall<'_, M, O, B, G, C>,
         key: usize,
     ) {
         for _piece in 0..PIECES {
@@ -114,10 +113,10 @@ impl<M: Ledger, O: Ledger, K: Link, L: Dial<Link = K>> Worker<M, O, K, L> {
     }
 
     /// A connection was offered a server. What is in the buffer from the one place to the other follows its header.
-    pub(crate) fn offer<G: Gate, C: Clock, R: Wait>(
+    pub(crate) fn offer<B: Base, G: Gate, C: Clock, R: Wait>(
         &mut self,
         rt: &R,
-        hall: &Hall<'_, M, O, G, C>,
+        hall: &Hall<'_, M, O, B, G, C>,
         key: usize,
         to: Endpoint,
         send: &[u8],
@@ -141,10 +140,10 @@ impl<M: Ledger, O: Ledger, K: Link, L: Dial<Link = K>> Worker<M, O, K, L> {
     }
 
     /// Asks for the link to the server of a connection.
-    fn dial_server<G: Gate, C: Clock, R: Wait>(
+    fn dial_server<B: Base, G: Gate, C: Clock, R: Wait>(
         &mut self,
         rt: &R,
-        hall: &Hall<'_, M, O, G, C>,
+        hall: &Hall<'_, M, O, B, G, C>,
         key: usize,
         to: &Endpoint,
     ) {
@@ -167,10 +166,10 @@ impl<M: Ledger, O: Ledger, K: Link, L: Dial<Link = K>> Worker<M, O, K, L> {
     }
 
     /// Passes bytes on.
-    fn relay<G: Gate, C: Clock, R: Wait>(
+    fn relay<B: Base, G: Gate, C: Clock, R: Wait>(
         &mut self,
         rt: &R,
-        hall: &Hall<'_, M, O, G, C>,
+        hall: &Hall<'_, M, O, B, G, C>,
         key: usize,
     ) {
         let Bench {
@@ -191,10 +190,10 @@ impl<M: Ledger, O: Ledger, K: Link, L: Dial<Link = K>> Worker<M, O, K, L> {
     }
 
     /// Connections that have waited for their header for too long.
-    pub(crate) fn expire<G: Gate, C: Clock, R: Wait>(
+    pub(crate) fn expire<B: Base, G: Gate, C: Clock, R: Wait>(
         &mut self,
         rt: &R,
-        hall: &Hall<'_, M, O, G, C>,
+        hall: &Hall<'_, M, O, B, G, C>,
     ) {
         let now = hall.clock.now();
         for _wait in 0..self.bench.table.waiting() {
@@ -223,10 +222,10 @@ impl<M: Ledger, O: Ledger, K: Link, L: Dial<Link = K>> Worker<M, O, K, L> {
     }
 
     /// Ends a connection. Where there is no memory to record that, it is tried again in a later turn.
-    pub(crate) fn close<G: Gate, C: Clock, R: Wait>(
+    pub(crate) fn close<B: Base, G: Gate, C: Clock, R: Wait>(
         &mut self,
         rt: &R,
-        hall: &Hall<'_, M, O, G, C>,
+        hall: &Hall<'_, M, O, B, G, C>,
         key: usize,
         why: Why,
     ) {
@@ -241,7 +240,11 @@ impl<M: Ledger, O: Ledger, K: Link, L: Dial<Link = K>> Worker<M, O, K, L> {
     }
 
     /// Closes what is open, and the gate is not asked. A lease whose close is refused is left.
-    pub(crate) fn stop<G: Gate, C: Clock, R: Wait>(&mut self, rt: &R, hall: &Hall<'_, M, O, G, C>) {
+    pub(crate) fn stop<B: Base, G: Gate, C: Clock, R: Wait>(
+        &mut self,
+        rt: &R,
+        hall: &Hall<'_, M, O, B, G, C>,
+    ) {
         for key in 0..self.calls.leases.len() {
             let why = self.bench.table.ended(key).unwrap_or(Why::Stopped);
             let _ = self.calls.close_at_once(rt, hall, key, why);

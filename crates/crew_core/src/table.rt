@@ -1,8 +1,8 @@
 //! The connections of one worker.
 
 use crate::conn::{Conn, Stage};
-use crate::traits::{Link, Ready};
 use conn_model::event::Why;
+use link_core::{Link, Ready};
 use slab::Slab;
 use std::alloc::{AllocError, Global};
 use std::collections::VecDeque;

@@ -4,20 +4,16 @@ ghost use Rattle.std.specs.Prelude.{◌≡◌};
 
 use crate::calls::{Calls, Hall, Outcome};
 use crate::conn::Conn;
-use crate::spares::Spares;
 use crate::table::Table;
-use crate::traits::{Clock, Dial, Gate, Link, Ready};
 use addr_core::Pair;
 use conn_model::event::{HEADER_WAIT, Why};
 use conn_model::reply::Said;
-use desk_core::Pass;
+use desk_core::{Base, Pass};
+use link_core::{Clock, Dial, Gate, Link, Ready, Spares};
 use rtrb::Consumer;
 use std::alloc::Global;
 use std::sync::Wait;
 use std::sync::ledger::Ledger;
-
-/// The most bytes that a worker reads in one call. Its buffer holds as many as a flow does.
-pub(crate) const PIECE: usize = 16_384;
 
 /// How many links a dial reports in one turn at the most.
 pub(crate) const REPORTS: usize = 256;
@@ -68,7 +64,11 @@ impl<M: Ledger, O: Ledger, K: Link, L: Dial<Link = K>> Worker<M, O, K, L> {
     }
 
     /// Works until the door is closed, the gate stops it, or its turns are used up. Then what is open is closed.
-    pub(crate) fn work<G: Gate, C: Clock, R: Wait>(&mut self, rt: &R, hall: &Hall<'_, M, O, G, C>) {
+    pub(crate) fn work<B: Base, G: Gate, C: Clock, R: Wait>(
+        &mut self,
+        rt: &R,
+        hall: &Hall<'_, M, O, B, G, C>,
+    ) {
         for _turn in 0..hall.turns {
             self.turn(rt, hall);
             let has_ended = self.bench.arrivals.is_abandoned() && self.bench.arrivals.is_empty();
@@ -80,7 +80,11 @@ impl<M: Ledger, O: Ledger, K: Link, L: Dial<Link = K>> Worker<M, O, K, L> {
     }
 
     /// One turn. It costs what is ready, and not what is open.
-    fn turn<G: Gate, C: Clock, R: Wait>(&mut self, rt: &R, hall: &Hall<'_, M, O, G, C>) {
+    fn turn<B: Base, G: Gate, C: Clock, R: Wait>(
+        &mut self,
+        rt: &R,
+        hall: &Hall<'_, M, O, B, G, C>,
+    ) {
         let limit = self.bench.table.limit(hall.clock.now(), LONGEST_WAIT);
         self.bench.ready.clear();
         self.dial.wait(limit, &mut self.bench.ready);
@@ -99,7 +103,11 @@ impl<M: Ledger, O: Ledger, K: Link, L: Dial<Link = K>> Worker<M, O, K, L> {
         }
     }
 
-    fn take_arrivals<G: Gate, C: Clock, R: Wait>(&mut self, rt: &R, hall: &Hall<'_, M, O, G, C>) {
+    fn take_arrivals<B: Base, G: Gate, C: Clock, R: Wait>(
+        &mut self,
+        rt: &R,
+        hall: &Hall<'_, M, O, B, G, C>,
+    ) {
         for _place in 0..self.bench.arrivals.slots() {
             if self.calls.is_stopped {
                 return;
@@ -111,10 +119,10 @@ impl<M: Ledger, O: Ledger, K: Link, L: Dial<Link = K>> Worker<M, O, K, L> {
     }
 
     /// A connection came. Where it cannot be kept, it is shut.
-    fn accept<G: Gate, C: Clock, R: Wait>(
+    fn accept<B: Base, G: Gate, C: Clock, R: Wait>(
         &mut self,
         rt: &R,
-        hall: &Hall<'_, M, O, G, C>,
+        hall: &Hall<'_, M, O, B, G, C>,
         arrival: Arrival<K>,
     ) {
         let Arrival {
@@ -133,10 +141,10 @@ impl<M: Ledger, O: Ledger, K: Link, L: Dial<Link = K>> Worker<M, O, K, L> {
     }
 
     /// Keeps an accepted connection under its key.
-    fn keep<G: Gate, C: Clock, R: Wait>(
+    fn keep<B: Base, G: Gate, C: Clock, R: Wait>(
         &mut self,
         rt: &R,
-        hall: &Hall<'_, M, O, G, C>,
+        hall: &Hall<'_, M, O, B, G, C>,
         key: usize,
         link: K,
         said: &Said,

@@ -2,8 +2,7 @@
 
 use crate::link::FakeLink;
 use crate::stage::{Mark, Stage};
-use book_core::Receipt;
-use conn_model::reply::StepFault;
+use conn_model::reply::{Reply, StepFault};
 use crew_core::{Door, Knock};
 use std::sync::Arc;
 
@@ -28,7 +27,7 @@ impl Door for FakeDoor {
         }
     }
 
-    fn report(&mut self, answer: &Result<Receipt, StepFault>) {
+    fn report(&mut self, answer: &Result<Reply, StepFault>) {
         let (well, badly) = self.reloads;
         self.reloads = match answer {
             Ok(_) => (well.saturating_add(1), badly),

@@ -12,7 +12,7 @@ use conn_core::Core;
 use conn_model::event::Why;
 use conn_model::reply::{Cause, Said};
 use crew_core::{Crew, CrewFault, Knock, Setup, Summary, run_crew};
-use desk_core::{Pass, SettleFault, Settled, settle};
+use desk_core::{AnyBase, Pass, SettleFault, Settled, settle};
 use record_core::Record;
 use std::alloc::Global;
 use std::marker::Brand;
@@ -179,7 +179,7 @@ fn end<M: Ledger, O: Ledger, L: Drop>(
     alloc: Global,
     stage: &Stage,
     fault: Option<CrewFault>,
-    crew: Crew<M, O, L>,
+    crew: Crew<M, O, AnyBase, L>,
     reloads: (u32, u32),
 ) -> Ended
     requires { M.parts ≡ 65537 }
@@ -242,7 +242,17 @@ fn act<
         gate,
         clock,
     } = fakes;
-    let ended = run_crew::<R, M, O, FakeLink, FakeDial<H>, FakeDoor, FakeGate<H>, FakeClock<H>>(
+    let ended = run_crew::<
+        R,
+        M,
+        O,
+        AnyBase,
+        FakeLink,
+        FakeDial<H>,
+        FakeDoor,
+        FakeGate<H>,
+        FakeClock<H>,
+    >(
         rt, alloc, book, made, units, &mut door, dials, &gate, &clock, setup,
     );
     let (fault, crew) = match ended {

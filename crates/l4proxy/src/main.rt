@@ -11,25 +11,23 @@
 #![tactic(auto)]
 
 use crate::command::commands;
-use crate::message::refusal;
 use crate::serve::{ServeWords, Stand};
 use clap::ArgMatches;
 use clap::error::ErrorKind;
 use conn_core::OpenFault;
+use crew_core::CrewFault;
 use device_core::{FromRead, ToWrite};
+use refusal_text::refusal;
 use replay_core::{PrintFault, ReplayFault, run_check, run_replay};
-use socket_core::{ServeFault, SystemClock};
+use socket_core::SystemClock;
 use std::process::ExitCode;
 use std::rt::Files;
 use std::{env, fs, io, thread};
 
-mod advice;
 mod audit;
 mod command;
 mod input;
-mod message;
 mod pipe;
-mod quote;
 mod serve;
 
 /// All was done.
@@ -210,7 +208,7 @@ fn main(rt: HostRuntime) -> ExitCode {
     };
     if !reader {
         book.end();
-        return ExitCode::from(serve::fail(&rt, &ServeFault::Spawn));
+        return ExitCode::from(serve::fail(&rt, &CrewFault::Spawn));
     }
     ExitCode::from(serve::attend(&rt, &clock, book, &mut door, dials, workers))
 }

@@ -1,20 +1,19 @@
 //! `l4proxy serve`: connections of sockets, until standard input says `quit` or ends.
-ghost use Rattle.std.specs.Prelude.{◌≡◌, ◌≤◌, IfOk, IfSome, vec_len};
+ghost use Rattle.std.specs.Prelude.{◌≡◌, ◌≤◌, IfOk, vec_len};
 ghost use Rattle.book_core.specs.Open.{open_connections};
 
 use crate::{DEVICE, DONE, REFUSED, explain_refusal, unreadable};
 use addr_core::{Endpoint, write_endpoint};
-use book_core::{Book, Receipt};
+use book_core::Book;
 use clap::ArgMatches;
 use conn_core::OpenFault;
-use conn_model::reply::StepFault;
-use crew_core::{Clock, Dial, Door, Knock};
+use conn_model::reply::{Reply, StepFault};
+use crew_core::{Clock, Dial, Door, Knock, Served, open_book, serve};
 use desk_core::SettleFault;
 use device_core::ToWrite;
 use log::Log;
 use socket_core::{
-    Bell, Listeners, ServeFault, Served, SocketDial, SocketDoor, SocketLink, SystemClock, listen,
-    make_dials, open_book, serve,
+    Bell, DialFault, Listeners, SocketDial, SocketDoor, SocketLink, SystemClock, listen, make_dials,
 };
 use std::alloc::{AllocError, Global};
 use std::net::Net;
@@ -148,7 +147,7 @@ fn open_sockets<'a, R: Files + Net + Log + rt::Clock + AllocGlobal + Eprint>(
     let alloc = rt.alloc();
     let addresses = match addresses(alloc, book) {
         Ok(addresses) => addresses,
-        Err(_) => return Err(fail(rt, &ServeFault::NoMemory)),
+        Err(_) => return Err(fail(rt, &DialFault::NoMemory)),
     };
     let listeners = match listen(rt, alloc, addresses.as_slice()) {
         Ok(listeners) => listeners,
@@ -247,7 +246,7 @@ impl<'a, R: Eprint, D: Door<Link = SocketLink>> Door for ReadyDoor<'a, R, D> {
         self.door.next()
     }
 
-    fn report(&mut self, answer: &Result<Receipt, StepFault>) {
+    fn report(&mut self, answer: &Result<Reply, StepFault>) {
         self.door.report(answer);
     }
 }

@@ -1,5 +1,5 @@
 //! The time of the system.
-use crew_core::Clock;
+use link_core::Clock;
 use std::sync::atomic::{AtomicU64, Ordering};
 use std::time::{Duration, Instant};
 use std::{io, rt, thread};

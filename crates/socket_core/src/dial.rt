@@ -4,7 +4,7 @@ use crate::addresses::socket_address;
 use crate::alarm::Alarm;
 use crate::link::{Progress, SocketLink};
 use addr_core::Endpoint;
-use crew_core::{Dial, Dialled, Ready};
+use link_core::{Dial, Dialled, Ready};
 use mio::event::Event;
 use mio::net::TcpStream;
 use mio::{Events, Poll, Token, Waker};

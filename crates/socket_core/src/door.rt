@@ -6,9 +6,8 @@ use crate::pace::Pace;
 use crate::ports::{Arrival, Ports};
 use crate::seats::{Seat, Seats};
 use crate::words::{Bell, MOST_WORDS, Word};
-use book_core::Receipt;
-use conn_model::reply::{Said, StepFault};
-use crew_core::{Clock, Door, Knock};
+use conn_model::reply::{Reply, Said, StepFault};
+use link_core::{Clock, Door, Knock};
 use log::{Log, info, warn};
 use mio::Waker;
 use rtrb::{Consumer, RingBuffer};
@@ -212,10 +211,10 @@ impl<'a, R: Log, C: Clock> Door for SocketDoor<'a, R, C> {
     }
 
     /// Says what became of a reload, in one line for each.
-    fn report(&mut self, answer: &Result<Receipt, StepFault>) {
+    fn report(&mut self, answer: &Result<Reply, StepFault>) {
         match answer {
-            Ok(receipt) => {
-                if let Said::Reloaded { version } = &receipt.reply.said {
+            Ok(reply) => {
+                if let Said::Reloaded { version } = &reply.said {
                     info!(self.rt; "reloaded as version {version}");
                 }
             }

@@ -6,26 +6,24 @@
 pub use alarm::Alarm;
 pub use clock::SystemClock;
 pub use dial::SocketDial;
+pub use dials::{DialFault, make_dials};
 pub use door::SocketDoor;
-pub use gate::NoGate;
 pub use link::{Socket, SocketLink};
 pub use listeners::{ListenFault, Listeners, listen};
 pub use pace::Pace;
-pub use serving::{ServeFault, Served, make_dials, open_book, serve};
 pub use words::{Bell, Word};
 
 mod addresses;
 mod alarm;
 mod clock;
 mod dial;
+mod dials;
 mod door;
-mod gate;
 mod link;
 mod listeners;
 mod pace;
 mod ports;
 mod seats;
-mod serving;
 mod words;
 
 use mio::Token;

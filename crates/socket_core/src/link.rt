@@ -2,8 +2,8 @@
 ghost use Rattle.std.specs.Prelude.{◌<◌, length};
 
 use crate::seats::Seat;
-use crew_core::Link;
 use device_core::{Failed, Got, Input, Output, Put, StdDevice};
+use link_core::Link;
 use mio::net::TcpStream;
 use mio::{Interest, Registry, Token};
 use std::io;

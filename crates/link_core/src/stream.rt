@@ -1,23 +1,25 @@
 //! The directions of a relayed connection, as far as its readiness decides what is done next.
-ghost use Rattle.std.specs.Prelude.{◌≡◌, ◌≤◌, ◌↔◌, IsTrue, length};
+ghost use Rattle.std.specs.Prelude.{◌≡◌};
 ghost use Rattle.relay_core.specs.Flow.{IsDone};
 ghost use Rattle.relay_core.specs.Law.{HasCarried};
 ghost use Rattle.relay_core.specs.Relay.{flow_of, opposite, stream_of};
 
 use crate::flags::Flags;
 use crate::traits::Link;
-use crate::worker::PIECE;
 use relay_core::{Burst, Drained, Relay, Stop, Way};
 
 /// How many bytes each direction of a connection holds at the most.
-pub(crate) const FLOW: usize = 65_536;
+pub const FLOW: usize = 65_536;
+
+/// How many bytes are read in one call at the most. The buffer of a worker holds as many as a flow does.
+pub const PIECE: usize = 16_384;
 
 /// How many bursts a direction makes before other connections have their turn.
 const ROUNDS: u32 = 2;
 
 /// What came of some bursts.
 #[derive(Clone, Copy, Debug, PartialEq, Eq)]
-pub(crate) enum Progress {
+pub enum Progress {
     /// Nothing more can be done until the dial reports something.
     Idle,
     /// More can be done.
@@ -28,7 +30,7 @@ pub(crate) enum Progress {
 
 impl Progress {
     /// What came of both directions.
-    pub(crate) fn and(self, other: Progress) -> Progress {
+    pub fn and(self, other: Progress) -> Progress {
         match (self, other) {
             (Progress::Fault, _) | (_, Progress::Fault) => Progress::Fault,
             (Progress::More, _) | (_, Progress::More) => Progress::More,
@@ -68,7 +70,7 @@ fn end_writing<K: Link>(relay: &Relay, way: Way, output: &mut K) -> bool
 }
 
 /// Some bursts of a direction, as far as both links are ready, and at the end of the reader the end of the writing.
-pub(crate) fn pump<K: Link>(
+pub fn pump<K: Link>(
     relay: &mut Relay,
     way: Way,
     input: &mut K,

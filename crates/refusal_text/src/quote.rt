@@ -1,7 +1,7 @@
 //! The line of a configuration that a fault names, and the word of it that is wrong.
 use conf_text::LineKind;
 use conf_tree::{ConfKind, read_config};
-use conn_core::OpenFault;
+use config_core::OpenFault;
 use plan_core::PlanKind;
 use std::alloc::{AllocError, Global};
 

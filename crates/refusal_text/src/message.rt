@@ -3,7 +3,7 @@ use crate::advice::sentence;
 use crate::quote::{Quote, find_quote, text_of, words_of};
 use acl_core::AclFault;
 use conf_tree::ConfKind;
-use conn_core::OpenFault;
+use config_core::OpenFault;
 use plan_core::PlanKind;
 use std::alloc::{AllocError, Global};
 

@@ -1,31 +1,24 @@
-//! The engine of `serve`: a crew over sockets, from the first connection to the record.
-ghost use Rattle.std.specs.Prelude.{◌≡◌, ◌⊎◌, ◌≤◌, ◌-◌, ◌^◌, Err, IfOk, IfErr, vec_len};
+//! The engine of `serve`: a crew, from the configuration's text to the record.
+ghost use Rattle.std.specs.Prelude.{◌≡◌, ◌⊎◌, ◌≤◌, ◌-◌, ◌^◌, Err, IfOk, IfErr, OnErr, OnOk, Some, vec_len};
 ghost use Rattle.config_core.specs.Meaning.{meaning};
 ghost use Rattle.conn_core.specs.Machine.{IsOpened};
 ghost use Rattle.book_core.specs.Book.{new_book};
 ghost use Rattle.book_core.specs.Open.{open_connections};
+ghost use Rattle.audit_core.specs.Recording.{IsCutOff, IsRecorded};
 
-use crate::clock::SystemClock;
-use crate::dial::SocketDial;
-use crate::door::SocketDoor;
-use crate::gate::NoGate;
-use crate::link::SocketLink;
+use crate::crew::{Crew, CrewFault, Setup, Summary, run_crew};
 use audit_core::{RecordFault, write_journal};
 use book_core::Book;
 use book_core::laws::open_connections_change;
 use conn_core::{Core, OpenFault};
-use crew_core::{Clock, Crew, CrewFault, Dial, Door, Setup, Summary, run_crew};
-use desk_core::{SettleFault, Settled, settle};
+use desk_core::{Base, SettleFault, Settled, settle};
 use device_core::Output;
-use log::Log;
+use link_core::{Clock, Dial, Door, Gate, Link};
 use std::alloc::Global;
 use std::marker::Brand;
-use std::net::Net;
 use std::sync::Wait;
 use std::sync::ledger::{Blank, Ledger};
 use std::thread::Threads;
-use std::{io, rt};
-use thiserror::Error;
 
 /// What was served.
 #[derive(Debug, Drop)]
@@ -37,16 +30,16 @@ pub struct Served {
     pub settled: Result<Settled, SettleFault>,
 }
 
-/// Why nothing was served.
-#[derive(Debug, Drop, Error)]
-pub enum ServeFault {
-    #[error("a thread cannot be started")]
-    Spawn,
-    #[error("no memory")]
-    NoMemory,
-    /// The system gives no poll to a worker, for that reason.
-    #[error("{0}")]
-    System(io::Error),
+/// A gate that lets every call of every worker pass.
+#[derive(Clone, Copy, Debug)]
+struct NoGate;
+
+impl Gate for NoGate {
+    fn enter(&self, _worker: u16, _nth: u64) -> bool {
+        true
+    }
+
+    fn leave(&self, _worker: u16, _nth: u64) {}
 }
 
 /// A book with no record, over the configuration of that text.
@@ -67,32 +60,23 @@ pub fn open_book(alloc: Global, text: &str) -> Result<Book, OpenFault>
     }
 }
 
-/// A dial for each of so many workers, whose alarm the door has.
-pub fn make_dials<'a, R: Net + Log + rt::Clock>(
-    rt: &'a R,
-    alloc: Global,
-    door: &mut SocketDoor<'a, R, SystemClock<'a, R>>,
-    workers: u16,
-) -> Result<Vec<SocketDial<'a, R>>, ServeFault>
-    ensures { IfOk result (λ dials. vec_len dials ≡ workers) }
+/// Writes the record of a book.
+fn write_book<W: Output>(alloc: Global, book: &Book, writer: &mut W) -> Result<(), RecordFault>
+    ensures record { OnOk result (IsRecorded book.now.base (W.held writer.old) (W.held writer.new)) }
+    ensures front { OnErr result (IsCutOff book.now.base (W.held writer.old) (W.held writer.new)) }
 {
-    let mut dials = Vec::new(alloc);
-    for _worker in 0..workers {
-        let dial = SocketDial::new(rt, alloc).map_err(ServeFault::System)?;
-        let alarm = dial.alarm().map_err(ServeFault::System)?;
-        door.add_worker(alarm).map_err(|_| ServeFault::NoMemory)?;
-        dials.push(dial).map_err(|_| ServeFault::NoMemory)?;
-    }
-    Ok(dials)
+    write_journal(alloc, book.journal(), writer)
 }
 
 /// Runs the crew. When it ended the record is written, and its accounts are settled.
 fn run<
     M: Ledger + Send + Sync,
     O: Ledger + Send + Sync,
+    B: Base + Send + Sync,
     R: Threads + Wait + Sync,
-    L: Dial<Link = SocketLink> + Send + Drop,
-    D: Door<Link = SocketLink>,
+    K: Link + Send,
+    L: Dial<Link = K> + Send + Drop,
+    D: Door<Link = K>,
     C: Clock + Sync,
     W: Output,
 >(
@@ -106,20 +90,23 @@ fn run<
     clock: &C,
     workers: u16,
     writer: &mut W,
-) -> Result<Served, ServeFault>
+) -> Result<Served, CrewFault>
     requires fresh { (book.made ≡ 0) × (open_connections book.state ≡ 0) × (open_connections book.base ≡ 0) }
     requires made_name { made.name ≡ M.name }
     requires made_parts { (made.parts ≡ M.parts) × (made.parts ≡ 65537) }
     requires leases_name { leases.name ≡ O.name }
     requires leases_parts { (leases.parts ≡ O.parts) × (leases.parts ≡ 2 ^ 64 - 1) }
+    requires base { B.base ≡ Some book.base }
     requires workers { (vec_len dials ≡ workers) × (1 ≤ workers) × (workers ≤ 64) }
+    ensures record { IfOk result (λ served. OnOk served.written (IsRecorded book.base (W.held writer.old) (W.held writer.new))) }
+    ensures front { IfOk result (λ served. OnErr served.written (IsCutOff book.base (W.held writer.old) (W.held writer.new))) }
 {
     let setup = Setup {
         workers,
         turns: u64::MAX,
         keeps: false,
     };
-    let ran = run_crew::<R, M, O, SocketLink, L, D, NoGate, C>(
+    let ran = run_crew::<R, M, O, B, K, L, D, NoGate, C>(
         rt, alloc, book, made, leases, door, dials, &NoGate, clock, setup,
     );
     let (crew, fault) = match ran {
@@ -133,7 +120,7 @@ fn run<
         left,
         dials: _dials,
     } = crew;
-    let written = write_journal(alloc, shut.book().journal(), writer);
+    let written = write_book(alloc, shut.book(), writer);
     let settled = settle(shut, passes, left);
     match fault {
         None => Ok(Served {
@@ -141,8 +128,7 @@ fn run<
             written,
             settled,
         }),
-        Some(CrewFault::Spawn) => Err(ServeFault::Spawn),
-        Some(CrewFault::NoMemory) => Err(ServeFault::NoMemory),
+        Some(fault) => Err(fault),
     }
 }
 
@@ -150,8 +136,9 @@ fn run<
 /// closed, and the record is written. After a fault nothing was served.
 pub fn serve<
     R: Threads + Wait + Sync,
-    L: Dial<Link = SocketLink> + Send + Drop,
-    D: Door<Link = SocketLink>,
+    K: Link + Send,
+    L: Dial<Link = K> + Send + Drop,
+    D: Door<Link = K>,
     C: Clock + Sync,
     W: Output,
 >(
@@ -163,11 +150,15 @@ pub fn serve<
     clock: &C,
     workers: u16,
     writer: &mut W,
-) -> Result<Served, ServeFault>
+) -> Result<Served, CrewFault>
     requires fresh { (book.made ≡ 0) × (open_connections book.state ≡ 0) × (open_connections book.base ≡ 0) }
     requires workers { (vec_len dials ≡ workers) × (1 ≤ workers) × (workers ≤ 64) }
+    // What is written is the record of a legal history from the base of the book on.
+    ensures record { IfOk result (λ served. OnOk served.written (IsRecorded book.base (W.held writer.old) (W.held writer.new))) }
+    // Where the writer fails, it has a front of such a record.
+    ensures front { IfOk result (λ served. OnErr served.written (IsCutOff book.base (W.held writer.old) (W.held writer.new))) }
 {
-    run::<Brand, Brand, R, L, D, C, W>(
+    run::<Brand, Brand, Brand, R, K, L, D, C, W>(
         rt,
         alloc,
         book,

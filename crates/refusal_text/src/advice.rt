@@ -2,7 +2,7 @@
 use acl_core::AclFault;
 use conf_text::LineKind;
 use conf_tree::ConfKind;
-use conn_core::OpenFault;
+use config_core::OpenFault;
 use plan_core::PlanKind;
 
 const NO_MEMORY: &str = "memory ran out, which says nothing about the file";

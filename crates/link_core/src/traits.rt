@@ -3,8 +3,7 @@
 ghost use Rattle.std.specs.Prelude.{◌≡◌};
 
 use addr_core::{Endpoint, Pair};
-use book_core::Receipt;
-use conn_model::reply::StepFault;
+use conn_model::reply::{Reply, StepFault};
 use device_core::{Input, Output};
 
 /// A connection of bytes that does not wait: where nothing can be read or written at this moment, a call is blocked.
@@ -36,7 +35,7 @@ pub trait Door {
     fn next(&mut self) -> Knock<Self::Link>;
 
     /// What became of the reload that was last handed out.
-    fn report(&mut self, answer: &Result<Receipt, StepFault>);
+    fn report(&mut self, answer: &Result<Reply, StepFault>);
 }
 
 /// What became of a connection to a server.

@@ -1,5 +1,5 @@
 use Rattle.std.proofs.Common.{◌≡◌, vec_len}
-use Rattle.socket_core.proofs.serving.make_dials.Given as goal
+use Rattle.socket_core.proofs.dials.make_dials.Given as goal
 
 abbrev pub invariant-loop-worker : goal.invariant-loop-worker
 invariant-loop-worker g l = vec_len l.dials ≡ l._worker

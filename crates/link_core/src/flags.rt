@@ -5,15 +5,15 @@ use crate::traits::Ready;
 /// Whether a link can be read and written now. A flag that is down is raised by what the dial reports; one that is up is
 /// lowered by a call that was blocked.
 #[derive(Clone, Copy, Debug, PartialEq, Eq)]
-pub(crate) struct Flags {
-    pub(crate) reads: bool,
-    pub(crate) writes: bool,
-    pub(crate) is_closed: bool,
+pub struct Flags {
+    pub reads: bool,
+    pub writes: bool,
+    pub is_closed: bool,
 }
 
 impl Flags {
     /// Of the link of a client, which may have sent something already.
-    pub(crate) fn of_client() -> Flags {
+    pub fn of_client() -> Flags {
         Flags {
             reads: true,
             writes: true,
@@ -22,7 +22,7 @@ impl Flags {
     }
 
     /// Of the link to a server: it has sent nothing yet, and what is written to it fits into its buffers.
-    pub(crate) fn of_server() -> Flags {
+    pub fn of_server() -> Flags {
         Flags {
             reads: false,
             writes: true,
@@ -30,14 +30,14 @@ impl Flags {
         }
     }
 
-    pub(crate) fn raise(&mut self, ready: &Ready) {
+    pub fn raise(&mut self, ready: &Ready) {
         self.reads |= ready.reads;
         self.writes |= ready.writes;
         self.is_closed |= ready.is_closed;
     }
 
     /// So many bytes were read where so many were asked for.
-    pub(crate) fn note_read(&mut self, count: usize, asked: usize) {
+    pub fn note_read(&mut self, count: usize, asked: usize) {
         if count < asked {
             self.note_short_read();
         }
@@ -45,7 +45,7 @@ impl Flags {
 
     /// Fewer bytes were read than were asked for. No more are there until the dial reports it, unless the other side has
     /// ended: then the end is still to be read.
-    pub(crate) fn note_short_read(&mut self) {
+    pub fn note_short_read(&mut self) {
         if !self.is_closed {
             self.reads = false;
         }

@@ -12,13 +12,13 @@ const MOST_SPARES: usize = 16;
 /// The relays of a worker that no connection uses. A connection whose relay holds nothing needs none, so that a
 /// connection without traffic takes no memory for one.
 #[derive(Drop)]
-pub(crate) struct Spares {
+pub struct Spares {
     alloc: Global,
     relays: Vec<Relay>,
 }
 
 impl Spares {
-    pub(crate) fn new(alloc: Global) -> Result<Spares, AllocError> {
+    pub fn new(alloc: Global) -> Result<Spares, AllocError> {
         Ok(Spares {
             alloc,
             relays: Vec::with_capacity(alloc, MOST_SPARES)?,
@@ -27,7 +27,7 @@ impl Spares {
 
     /// A relay that sends the server these bytes first, which are not more than a flow holds. Nothing of the
     /// connection that had it before is in it.
-    pub(crate) fn take(&mut self, send: &[u8], rest: &[u8]) -> Result<Relay, AllocError>
+    pub fn take(&mut self, send: &[u8], rest: &[u8]) -> Result<Relay, AllocError>
         ensures { IfOk result (λ relay. IsBegun relay (send.now ++ rest.now)) }
     {
         if send.len() > FLOW || rest.len() > FLOW - send.len() {
@@ -44,7 +44,7 @@ impl Spares {
     }
 
     /// Keeps a relay that a connection does not need any more, unless there are enough of them.
-    pub(crate) fn give_back(&mut self, relay: Relay) {
+    pub fn give_back(&mut self, relay: Relay) {
         if self.relays.len() < MOST_SPARES {
             let _full = self.relays.push(relay);
         }

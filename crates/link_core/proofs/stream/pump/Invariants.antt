@@ -1,7 +1,7 @@
 use Rattle.std.proofs.Common.{◌≡◌}
 use Rattle.relay_core.specs.Law.{HasCarried}
 use Rattle.relay_core.specs.Relay.{flow_of, opposite, stream_of}
-use Rattle.crew_core.proofs.stream.pump.Given as goal
+use Rattle.link_core.proofs.stream.pump.Given as goal
 
 abbrev pub invariant-loop-round : goal.invariant-loop-round
 invariant-loop-round g l = record {

@@ -1,0 +1,12 @@
+//! Connections of bytes: what a crew works on, and how bytes go from one link to another.
+#![tactic(auto)]
+
+pub use flags::Flags;
+pub use spares::Spares;
+pub use stream::{FLOW, PIECE, Progress, pump};
+pub use traits::{Clock, Dial, Dialled, Door, Gate, Knock, Link, Ready};
+
+mod flags;
+mod spares;
+mod stream;
+mod traits;
