@@ -104,7 +104,7 @@ def stamp_libraries(rt, tree):
 
 def run_parts(tree, tried, costs):
     """Runs the parts of the gate in turn up to the first that fails: what passed, and whether all did."""
-    passed = passed_by([str(tree / 'tools' / 'rt'), 'ci'], tree)
+    passed = passed_by(['rt', 'ci'], tree)
     if passed is None:
         return 0, False
     prover.keep_program(tree)
@@ -136,7 +136,7 @@ def show_costs(costs, wall):
 
 def gate(tries_all):
     begun = time.monotonic()
-    kit = subprocess.run([str(prover.RT), 'version'], capture_output=True, text=True, check=True).stdout.strip()
+    kit = subprocess.run(['rt', 'version'], capture_output=True, text=True, check=True).stdout.strip()
     refused, sizes = Refused(LIST.read_text()), edit_counts()
     made = {crate: hash_of(crate, kit) for crate in sizes}
     gone = sorted(set(refused.crates) - set(sizes))

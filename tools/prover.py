@@ -1,5 +1,4 @@
-"""What the gate, the build and the launcher of `rt` share: the toolchain's command, copies of the tree, and what the
-prover's processes cost."""
+"""What the gate and the build share: the toolchain's command, copies of the tree, and what the prover's processes cost."""
 import collections
 import importlib.machinery
 import importlib.util
@@ -11,49 +10,16 @@ import threading
 import time
 
 ROOT = pathlib.Path(__file__).resolve().parent.parent
-RT = ROOT / 'tools' / 'rt'
 PROGRAM = 'l4proxy'
 TICKS = os.sysconf('SC_CLK_TCK')
-# The seconds for which the files of a crate are not looked at again.
-TRUST = 2
-
-
-def state_of(crate, files_of):
-    """What the stamp of a crate depends on: the times and sizes of its files, and the stamps of its libraries."""
-    looks = [(file, os.stat(file)) for file in files_of(crate.folder)]
-    return [(file, look.st_mtime_ns, look.st_size) for file, look in looks], [it.stamp() for it in crate.deps]
-
-
-def with_memory(make, files_of):
-    """The function that makes a stamp, with a memory of what it made.
-
-    `rt` tells by its stamp whether a library has to be built again. It makes the stamp from the files of the crate and the
-    stamps of its libraries, and remembers none, so it makes one for each path in the graph of libraries: 60,758 of them for
-    `l4proxy`, which takes one core some four minutes before the prover begins. Here a stamp is made again only where a file
-    that it is made from has another time or size.
-    """
-    memory = {}
-
-    def stamp(crate):
-        looked, state, made = memory.get(crate.folder, (-TRUST, None, None))
-        if time.monotonic() - looked < TRUST:
-            return made
-        now = state_of(crate, files_of)
-        if now != state:
-            made = make(crate)
-        memory[crate.folder] = time.monotonic(), now, made
-        return made
-
-    return stamp
 
 
 def toolchain():
-    """The toolchain's command `rt` as a module, which remembers the stamps that it made."""
+    """The toolchain's command `rt` as a module."""
     path = shutil.which('rt') or sys.exit('rt, the command of the Rattle toolchain, is not on the PATH')
     loader = importlib.machinery.SourceFileLoader('rt', os.path.realpath(path))
     rt = importlib.util.module_from_spec(importlib.util.spec_from_loader('rt', loader))
     loader.exec_module(rt)
-    rt.rtlib.Crate.stamp = with_memory(rt.rtlib.Crate.stamp, rt.rtlib.files_of)
     return rt
 
 
