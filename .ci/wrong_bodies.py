@@ -72,10 +72,11 @@ def by_function(check):
 def try_crate(rt, crate, edits):
     """Tries the edits of a crate in turn, each over what the checks before it proved: of each whether it was refused, and a
     line that says so."""
-    flags = ['--jobs', '1']
+    flags, refused = ['--jobs', '1'], (rt.REFUSED, rt.AT_LIMIT)
     with tempfile.TemporaryDirectory(prefix='rt-edits-') as kept:
         tried = [rt.must_fail(crate, it, flags, kept) for it in edits]
-    return [it if it[0] else rt.must_fail(crate, edit, flags) for edit, it in zip(edits, tried)]
+    tried = [it if it[0] in refused else rt.must_fail(crate, edit, flags) for edit, it in zip(edits, tried)]
+    return [(kind in refused, line) for kind, line in tried]
 
 
 def try_all(rt, tree, folders):
