@@ -8,7 +8,7 @@ ghost use Rattle.addr_core.specs.Prefix.{width_of};
 /// order, so that 127.0.0.1 is 0x7F00_0001 (RFC 791, section 3.2). The number of an IPv6 address is
 /// that of its sixteen octets, so that ::1 is 1 (RFC 4291, section 2). An IPv4 address and the IPv6
 /// address ::ffff:a.b.c.d that maps it are two addresses.
-#[derive(Clone, Copy, Debug, PartialEq, Eq)]
+#[derive(Clone, Copy, Debug, PartialEq, Eq, Hash)]
 pub enum Addr {
     V4(u32),
     V6(u128),
@@ -50,7 +50,7 @@ impl Addr {
 }
 
 /// An address with a port of TCP.
-#[derive(Clone, Copy, Debug, PartialEq, Eq)]
+#[derive(Clone, Copy, Debug, PartialEq, Eq, Hash)]
 pub struct Endpoint {
     pub addr: Addr,
     pub port: u16,
