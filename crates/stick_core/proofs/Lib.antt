@@ -2,3 +2,5 @@ pub mod EntryLemmas
 pub mod TouchLemmas
 pub mod TrackLemmas
 pub mod PlainLemmas
+pub mod RingLemmas
+pub mod PlaceLemmas

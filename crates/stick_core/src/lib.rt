@@ -9,4 +9,7 @@ pub use table::{Table, Tracked};
 
 mod entries;
 mod key;
+mod links;
+mod order;
 mod table;
+mod touch_list;

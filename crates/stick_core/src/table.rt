@@ -5,10 +5,9 @@ ghost use Rattle.stick_core.specs.Entries.{cur_of, released};
 ghost use Rattle.stick_core.specs.Listing.{IsSound, can_list, key_taken, entries_after, cur_at, cnt_at};
 ghost use Rattle.stick_core.specs.PlainEntries.{plain, AreTrackers, count_at, trackers_at, KeysDiffer, tracked_key, with_trackings, touched, trackings_of};
 
-use crate::entries::{
-    Entry, TableEntry, cnt_in, cur_in, entry_of, has_free, listed, purge, put_last,
-};
+use crate::entries::{TableEntry, cnt_in, cur_in};
 use crate::key::key_of;
+use crate::touch_list::TouchList;
 use addr_core::Addr;
 use list_core::Seq;
 use proxy_types::{KeyType, Stores};
@@ -43,18 +42,17 @@ pub struct Table {
     kind: KeyType,
     size: u64,
     stores: Stores,
-    entries: Vec<Entry>,
+    touched: TouchList,
 }
 
 impl Model for Table {
-    ghost use Rattle.std.specs.Prelude.{◌-◌, vec_len, vec_capacity};
     ghost use Rattle.stick_core.specs.Listing.{Listing, IsSound};
 
     ghost Value = { Listing };
 
-    ghost view = { λ t. record { kind = t.kind; size = t.size; stores = t.stores; entries = t.entries.items; spare = vec_capacity t.entries - vec_len t.entries } };
+    ghost view = { λ t. record { kind = t.kind; size = t.size; stores = t.stores; entries = t.touched.entries; spare = t.touched.spare } };
 
-    ghost invariant = { λ t. IsSound t.size t.entries.items };
+    ghost invariant = { λ t. IsSound t.size t.touched.entries };
 }
 
 impl Table {
@@ -69,7 +67,7 @@ impl Table {
             kind,
             size,
             stores,
-            entries: Vec::new(alloc),
+            touched: TouchList::new(alloc),
         }
     }
 
@@ -106,7 +104,7 @@ impl Table {
         ensures { result ≡ cur_at self.now addr.now }
     {
         match key_of(self.kind, addr) {
-            Some(key) => cur_in(entry_of(self.entries.as_slice(), &key)),
+            Some(key) => cur_in(self.touched.entry(&key)),
             None => 0,
         }
     }
@@ -123,7 +121,7 @@ impl Table {
         ensures { result ≡ cnt_at self.now addr.now }
     {
         match key_of(self.kind, addr) {
-            Some(key) => cnt_in(entry_of(self.entries.as_slice(), &key)),
+            Some(key) => cnt_in(self.touched.entry(&key)),
             None => 0,
         }
     }
@@ -132,7 +130,7 @@ impl Table {
     pub fn trackers(&self, tracked: &Tracked) -> u64
         ensures { result ≡ cur_of tracked.now self.now.entries }
     {
-        cur_in(entry_of(self.entries.as_slice(), &tracked.key))
+        cur_in(self.touched.entry(&tracked.key))
     }
 
     /// Whether the address could be tracked.
@@ -166,16 +164,14 @@ impl Table {
     fn can_list(&self, key: &Addr) -> bool
         ensures { result ≡ can_list self.now.size self.now.entries key.now }
     {
-        entry_of(self.entries.as_slice(), key).is_some()
-            || self.has_room()
-            || has_free(self.entries.as_slice())
+        self.touched.entry(key).is_some() || self.has_room() || self.touched.has_free()
     }
 
     /// The keys in the order of their last touch, each with how often it was tracked.
     pub fn entries(&self, alloc: Global) -> Result<Seq<TableEntry>, AllocError>
         ensures { IfOk result (λ list. list ≡ plain self.now.entries) }
     {
-        listed(alloc, self.entries.as_slice())
+        self.touched.listed(alloc)
     }
 
     /// Makes room so that the next so many trackings do not lack memory. It may have made some also where it lacks
@@ -185,7 +181,7 @@ impl Table {
         ensures same { self.new ≡ record self.old { spare = self.new.spare } }
         ensures spare { self.old.spare ≤ self.new.spare }
     {
-        self.entries.reserve(more)
+        self.touched.reserve(more)
     }
 
     /// Tracks an address, if it is a key that can be listed. A new key in a full table removes the
@@ -226,19 +222,14 @@ impl Table {
         let Some(key) = key_of(self.kind, addr) else {
             return Ok(None);
         };
-        match entry_of(self.entries.as_slice(), &key) {
-            Some(entry) => put_last(&mut self.entries, &key, entry.raised()),
+        match self.touched.entry(&key) {
+            Some(entry) => self.touched.put_last(&key, entry.raised()),
             None => {
                 if self.has_room() {
-                    self.entries.reserve(1)?;
-                } else if !purge(&mut self.entries) {
+                    self.touched.add(key)?;
+                } else if !self.touched.replace_first_free(key)? {
                     return Ok(None);
                 }
-                self.entries.push_reserved(Entry {
-                    key,
-                    cur: 1,
-                    cnt: 1,
-                });
             }
         }
         Ok(Some(Tracked { key }))
@@ -262,14 +253,14 @@ impl Table {
         ensures sound { IsSound self.old.size self.old.entries }
     {
         let Tracked { key } = tracked;
-        if let Some(entry) = entry_of(self.entries.as_slice(), &key) {
-            put_last(&mut self.entries, &key, entry.lowered());
+        if let Some(entry) = self.touched.entry(&key) {
+            self.touched.put_last(&key, entry.lowered());
         }
     }
 
     fn has_room(&self) -> bool
         ensures { result ≡ nat_lt (length self.now.entries) self.now.size }
     {
-        (self.entries.len() as u64) < self.size
+        (self.touched.len() as u64) < self.size
     }
 }

@@ -3,4 +3,4 @@ use Rattle.stick_core.proofs.PlainLemmas.{keys_differ}
 use Rattle.stick_core.proofs.table.Table.size.Goals as goal
 
 pub returns-clause-keys : goal.returns-clause-keys
-returns-clause-keys c = rw (ap (λ t. t.entries) c.self.view_is) at (keys_differ c.self.inside.entries.items c.self.invariant.once)
+returns-clause-keys c = rw (ap (λ t. t.entries) c.self.view_is) at (keys_differ c.self.inside.touched.entries c.self.invariant.once)

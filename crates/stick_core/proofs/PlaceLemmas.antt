@@ -1,0 +1,616 @@
+-- Entries by their places, and the orders of places.
+use Rattle.std.proofs.Common.{◌≡◌, ◌≢◌, ◌<◌, ◌+◌, ◌-◌, ◌⊎◌, ℕ, zero, suc, Bool, true, false, cond, eqb, ltb, List, [], ◌∷◌, ◌++◌, length, map, get_or, set, take, Option, Some, None, inl, inr, refl, sym, ap, subst, ◌∙◌, arith, length-append}
+use Rattle.std.specs.Prelude.{filter, find, position, slice_get, IfSome}
+use Rattle.std.specs.List.{IsDistinct, list_any, swap_remove}
+use Rattle.std.specs.Option.{is_some}
+use Rattle.std.specs.Map.{keys_of, lookup}
+use Rattle.std.proofs.lemmas.List.{get_or-map, append-nil, get_or_append_left}
+use Rattle.std.proofs.lemmas.List.Quantifiers.{position-Some}
+use Rattle.std.proofs.lemmas.Option.{slice_get-get_or}
+use Rattle.std.proofs.lemmas.Map.Keys.{apart_from_distinct}
+use Rattle.std.proofs.lemmas.Bool.Decides.{nat_tests}
+use Rattle.addr_core.specs.declared.addr.Addr.{Addr}
+use Rattle.addr_core.specs.declared.addr.Addr.TheVariants.{V4, V6}
+use Rattle.addr_core.specs.Same.{same_addr}
+use Rattle.addr_core.specs.contracts.addr.AddrPartialEq.TheImpl.{eq-value}
+use Rattle.addr_core.proofs.SameLemmas.{same_addr-is, same_addr-sym}
+use Rattle.indexmap.specs.IndexMap.{set_value_at, insert_entry}
+use Rattle.indexmap.proofs.MapLemmas.{absent_from_lookup, insert_entry-absent, some_index}
+use Rattle.indexmap.specs.Layout.{length-set_value_at}
+use Rattle.stick_core.specs.declared.entries.Entry.{Entry}
+use Rattle.stick_core.specs.declared.touch_list.Counts.{Counts}
+use Rattle.stick_core.specs.Entries.{is_of, is_free, others, without_first_free}
+use Rattle.stick_core.specs.Places.{entry_at, entry_of_pair, free_at, nothing, ranked, IsKept}
+use Rattle.stick_core.specs.Ring.{Ranking, Has, Lacks, Distinct, Below, without, first_of, next_of}
+use Rattle.stick_core.specs.PlainEntries.{plain, plain_entry}
+use Rattle.stick_core.proofs.EntryLemmas.{is_some-position}
+use Rattle.stick_core.proofs.TouchLemmas.{gone-here, gone-past}
+use Rattle.stick_core.proofs.RingLemmas.{eqb-self, eqb-is, eqb-apart, eqb-differ, lacks-itself, without-lacks, length-without, below-lacks, below-push, below-more, below-without, has-before, has-below, has-moved, has-push, once-push, once-without}
+
+-- by what places are told apart
+abbrev pub IsAt : (ℕ → Bool) → ℕ → ℕ → Type 0
+IsAt test n p = (q : ℕ) → q < n → test q ≡ eqb q p
+
+pub others-map : (f : ℕ → Entry) (key : Addr) (n p : ℕ) → IsAt (λ q. is_of key (f q)) n p → (xs : List ℕ) → Below n xs → others key (map f xs) ≡ map f (without p xs)
+others-map f key n p at [] below = refl
+others-map f key n p at (x ∷ xs) below = by (eqb x p) refl (others-map f key n p at xs below.1)
+  where
+    by : (t : Bool) → eqb x p ≡ t → others key (map f xs) ≡ map f (without p xs) → others key (map f (x ∷ xs)) ≡ map f (without p (x ∷ xs))
+    by true is more = let of : is_of key (f x) ≡ true = at x below.0 ∙ is in rw (of, is) more
+    by false is more = let of : is_of key (f x) ≡ false = at x below.0 ∙ is in rw (of, is) (ap (λ l. f x ∷ l) more)
+
+pub find-map : (f : ℕ → Entry) (key : Addr) (n p : ℕ) → IsAt (λ q. is_of key (f q)) n p → (xs : List ℕ) → Below n xs → Has p xs → ((x : ℕ) → eqb x p ≡ true → x ≡ p) → ((x : ℕ) → eqb x p ≡ false → x ≢ p)
+    → find (is_of key) (map f xs) ≡ Some (f p)
+find-map f key n p at [] below has same apart = absurd has
+find-map f key n p at (x ∷ xs) below has same apart = by (eqb x p) refl has (λ more. find-map f key n p at xs below.1 more same apart)
+  where
+    by : (t : Bool) → eqb x p ≡ t → Has p (x ∷ xs) → (Has p xs → find (is_of key) (map f xs) ≡ Some (f p)) → find (is_of key) (map f (x ∷ xs)) ≡ Some (f p)
+    by true is has more = let of : is_of key (f x) ≡ true = at x below.0 ∙ is in rw of (ap (λ k. Some (f k)) (same x is))
+    by false is (inl here) more = absurd (apart x is (sym here))
+    by false is (inr there) more = let of : is_of key (f x) ≡ false = at x below.0 ∙ is in rw of (more there)
+
+pub find-none : (f : ℕ → Entry) (key : Addr) (n : ℕ) → ((q : ℕ) → q < n → is_of key (f q) ≡ false) → (xs : List ℕ) → Below n xs → find (is_of key) (map f xs) ≡ None
+find-none f key n at [] below = refl
+find-none f key n at (x ∷ xs) below = let of : is_of key (f x) ≡ false = at x below.0 in rw of (find-none f key n at xs below.1)
+
+-- entries that change only at a place
+pub map-apart : (f g : ℕ → Entry) (p : ℕ) → ((q : ℕ) → q ≢ p → g q ≡ f q) → (xs : List ℕ) → Lacks p xs → map g xs ≡ map f xs
+map-apart f g p same [] lacks = refl
+map-apart f g p same (x ∷ xs) lacks =
+    let here : g x ≡ f x = same x (λ is. lacks.0 (sym is)) in
+    rw here (ap (λ l. f x ∷ l) (map-apart f g p same xs lacks.1))
+
+pub filter-apart : (f g : ℕ → Bool) (p : ℕ) → ((q : ℕ) → q ≢ p → g q ≡ f q) → (xs : List ℕ) → Lacks p xs → filter g xs ≡ filter f xs
+filter-apart f g p same [] lacks = refl
+filter-apart f g p same (x ∷ xs) lacks =
+    let here : g x ≡ f x = same x (λ is. lacks.0 (sym is)) in
+    rw here (ap (λ l. cond (f x) (x ∷ l) l) (filter-apart f g p same xs lacks.1))
+
+-- a place that does not pass is not among those that do
+pub lacks-filter : (f : ℕ → Bool) (p : ℕ) → f p ≡ false → (xs : List ℕ) → Lacks p (filter f xs)
+lacks-filter f p fails [] = tt
+lacks-filter f p fails (x ∷ xs) = by (f x) refl (lacks-filter f p fails xs)
+  where
+    by : (t : Bool) → f x ≡ t → Lacks p (filter f xs) → Lacks p (filter f (x ∷ xs))
+    by true is more = rw is ((λ same. absurd (let wrong : true ≡ false = sym is ∙ ap f (sym same) ∙ fails in cc)), more)
+    by false is more = rw is more
+
+pub has-filter : (f : ℕ → Bool) (p : ℕ) → f p ≡ true → (xs : List ℕ) → Has p xs → Has p (filter f xs)
+has-filter f p passes [] has = absurd has
+has-filter f p passes (x ∷ xs) has = by (f x) refl has (has-filter f p passes xs)
+  where
+    by : (t : Bool) → f x ≡ t → Has p (x ∷ xs) → (Has p xs → Has p (filter f xs)) → Has p (filter f (x ∷ xs))
+    by true is (inl here) more = rw is (inl here)
+    by true is (inr there) more = rw is (inr (more there))
+    by false is (inl here) more = absurd (let wrong : true ≡ false = sym passes ∙ ap f here ∙ is in cc)
+    by false is (inr there) more = rw is (more there)
+
+-- filters that commute
+pub filter-without : (f : ℕ → Bool) (p : ℕ) (xs : List ℕ) → filter f (without p xs) ≡ without p (filter f xs)
+filter-without f p [] = refl
+filter-without f p (x ∷ xs) = by (eqb x p) refl (f x) refl (filter-without f p xs)
+  where
+    by : (t : Bool) → eqb x p ≡ t → (u : Bool) → f x ≡ u → filter f (without p xs) ≡ without p (filter f xs) → filter f (without p (x ∷ xs)) ≡ without p (filter f (x ∷ xs))
+    by true is true passes more = simp (is, passes) more
+    by true is false passes more = simp (is, passes) more
+    by false is true passes more = simp (is, passes) (ap (λ l. x ∷ l) more)
+    by false is false passes more = simp (is, passes) more
+
+pub filter-push : (f : ℕ → Bool) (xs : List ℕ) (p : ℕ) → filter f (xs ++ p ∷ []) ≡ filter f xs ++ cond (f p) (p ∷ []) []
+filter-push f [] p = refl
+filter-push f (x ∷ xs) p = by (f x) refl (filter-push f xs p)
+  where
+    by : (t : Bool) → f x ≡ t → filter f (xs ++ p ∷ []) ≡ filter f xs ++ cond (f p) (p ∷ []) [] → filter f (x ∷ (xs ++ p ∷ [])) ≡ filter f (x ∷ xs) ++ cond (f p) (p ∷ []) []
+    by true is more = rw is (ap (λ l. x ∷ l) more)
+    by false is more = rw is more
+
+pub map-push : (f : ℕ → Entry) (xs : List ℕ) (p : ℕ) → map f (xs ++ p ∷ []) ≡ map f xs ++ f p ∷ []
+map-push f [] p = refl
+map-push f (x ∷ xs) p = ap (λ l. f x ∷ l) (map-push f xs p)
+
+-- Places by the keys of an index.
+
+-- an equality of keys that is theirs
+abbrev pub IsKeyEq : (Addr → Addr → Bool) → Type 0
+IsKeyEq eq = (a b : Addr) → eq a b ≡ same_addr b a
+
+key-at : (es : List (Addr × Counts)) (q : ℕ) → q < length es → get_or (keys_of es) q (V4 0) ≡ (entry_at es q).key
+key-at es q less = get_or-map (λ e. e.0) es q nothing (V4 0) less
+
+length-keys : (es : List (Addr × Counts)) → length (keys_of es) ≡ length es
+length-keys [] = refl
+length-keys (e ∷ es) = ap suc (length-keys es)
+
+pub is_at : (eq : Addr → Addr → Bool) → IsKeyEq eq → (es : List (Addr × Counts)) (key : Addr) (p : ℕ) → IsDistinct eq (keys_of es) → position (eq key) (keys_of es) ≡ Some p
+    → (p < length es) × IsAt (λ q. is_of key (entry_at es q)) (length es) p × (is_of key (entry_at es p) ≡ true)
+is_at eq tied es key p once found = (within, at, own)
+  where
+    place : (p < length (keys_of es)) × (eq key (get_or (keys_of es) p (V4 0)) ≡ true) × ((k : ℕ) → k < p → eq key (get_or (keys_of es) k (V4 0)) ≡ false)
+    place = position-Some (eq key) (keys_of es) p (V4 0) found
+
+    within : p < length es
+    within = omega (arith, place.0, length-keys es)
+
+    own : is_of key (entry_at es p) ≡ true
+    own = ap (λ k. same_addr k key) (sym (key-at es p within)) ∙ sym (tied key (get_or (keys_of es) p (V4 0))) ∙ place.1
+
+    its : (entry_at es p).key ≡ key
+    its = same_addr-is (entry_at es p).key key own
+
+    differ : (i j : ℕ) → i < j → j < length es → same_addr (entry_at es j).key (entry_at es i).key ≡ false
+    differ i j less in_es =
+        let i_in : i < length es = omega (arith, less, in_es) in
+        let j_in : j < length (keys_of es) = omega (arith, in_es, length-keys es) in
+        ap (λ k. same_addr k (entry_at es i).key) (sym (key-at es j in_es)) ∙ ap (λ k. same_addr (get_or (keys_of es) j (V4 0)) k) (sym (key-at es i i_in))
+        ∙ sym (tied (get_or (keys_of es) i (V4 0)) (get_or (keys_of es) j (V4 0))) ∙ apart_from_distinct eq (keys_of es) i j (V4 0) once less j_in
+
+    at : (q : ℕ) → q < length es → is_of key (entry_at es q) ≡ eqb q p
+    at q less = by (eqb q p) refl
+      where
+        by : (t : Bool) → eqb q p ≡ t → is_of key (entry_at es q) ≡ eqb q p
+        by true is = ap (λ k. is_of key (entry_at es k)) (eqb-is q p is) ∙ own ∙ sym is
+        by false is = ap (λ k. same_addr (entry_at es q).key k) (sym its) ∙ side (ltb q p) refl ∙ sym is
+          where
+            side : (u : Bool) → ltb q p ≡ u → same_addr (entry_at es q).key (entry_at es p).key ≡ false
+            side true lt = same_addr-sym (entry_at es p).key (entry_at es q).key (differ q p (grind (arith, nat_tests)) within)
+            side false ge = let apart : q ≢ p = eqb-differ q p is in differ p q (grind (arith, nat_tests)) less
+
+pub found-entry : (eq : Addr → Addr → Bool) → IsKeyEq eq → (es : List (Addr × Counts)) (touched free : Ranking) (key : Addr) (p : ℕ) → IsKept es touched free
+    → IsDistinct eq (keys_of es) → position (eq key) (keys_of es) ≡ Some p → find (is_of key) (ranked es touched.order) ≡ Some (entry_at es p)
+found-entry eq tied es touched free key p kept once found =
+    let at : (p < length es) × IsAt (λ q. is_of key (entry_at es q)) (length es) p × (is_of key (entry_at es p) ≡ true) = is_at eq tied es key p once found in
+    find-map (entry_at es) key (length es) p at.1 touched.order kept.below (kept.each p at.0) (λ x e. eqb-is x p e) (λ x e. eqb-differ x p e)
+
+any-none : {X : Type 0} (p : X → Bool) (xs : List X) (k : ℕ) (d : X) → list_any p xs ≡ false → k < length xs → p (get_or xs k d) ≡ false
+any-none p [] k d none less = absurd (omega (arith, less))
+any-none {X} p (x ∷ xs) k d none less = by (p x) refl none (λ j rest in_xs. any-none p xs j d rest in_xs)
+  where
+    by : (t : Bool) → p x ≡ t → list_any p (x ∷ xs) ≡ false → ((j : ℕ) → list_any p xs ≡ false → j < length xs → p (get_or xs j d) ≡ false) → p (get_or (x ∷ xs) k d) ≡ false
+    by true is none more = absurd (let wrong : true ≡ false = rw is at none in cc)
+    by false is none more = at k less
+      where
+        at : (j : ℕ) → j < length (x ∷ xs) → p (get_or (x ∷ xs) j d) ≡ false
+        at zero less = is
+        at (suc j) less = more j (rw is at none) (omega (arith, less))
+
+pub missing-entry : (eq : Addr → Addr → Bool) → IsKeyEq eq → (es : List (Addr × Counts)) (touched free : Ranking) (key : Addr) → IsKept es touched free
+    → position (eq key) (keys_of es) ≡ None → find (is_of key) (ranked es touched.order) ≡ None
+missing-entry eq tied es touched free key kept missing =
+    let none : list_any (eq key) (keys_of es) ≡ false = sym (is_some-position (eq key) (keys_of es)) ∙ ap (λ o. is_some o) missing in
+    find-none (entry_at es) key (length es)
+    (λ q less. ap (λ k. same_addr k key) (sym (key-at es q less)) ∙ sym (tied key (get_or (keys_of es) q (V4 0))) ∙ any-none (eq key) (keys_of es) q (V4 0) none (omega (arith, less, length-keys es)))
+    touched.order kept.below
+
+pub tied : IsKeyEq eq-value.it
+tied (V4 a) (V4 b) = grind (arith, nat_tests)
+tied (V4 a) (V6 b) = refl
+tied (V6 a) (V4 b) = refl
+tied (V6 a) (V6 b) = grind (arith, nat_tests)
+
+-- what is not found has no place
+none-has : (f : ℕ → Entry) (key : Addr) (xs : List ℕ) (q : ℕ) → find (is_of key) (map f xs) ≡ None → Has q xs → is_of key (f q) ≡ false
+none-has f key [] q none has = absurd has
+none-has f key (x ∷ xs) q none has = by (is_of key (f x)) refl none has (none-has f key xs q)
+  where
+    by : (b : Bool) → is_of key (f x) ≡ b → find (is_of key) (map f (x ∷ xs)) ≡ None → Has q (x ∷ xs) → (find (is_of key) (map f xs) ≡ None → Has q xs → is_of key (f q) ≡ false) → is_of key (f q) ≡ false
+    by true is none has more = absurd (let wrong : Some (f x) ≡ None = rw is at none in cc)
+    by false is none (inl here) more = ap (λ k. is_of key (f k)) here ∙ is
+    by false is none (inr there) more = more (rw is at none) there
+
+no-place : (es : List (Addr × Counts)) (touched free : Ranking) (key : Addr) → IsKept es touched free
+    → find (is_of key) (ranked es touched.order) ≡ None → position (eq-value.it key) (keys_of es) ≡ None
+no-place es touched free key kept none = by (position (eq-value.it key) (keys_of es)) refl
+  where
+    by : (o : Option ℕ) → position (eq-value.it key) (keys_of es) ≡ o → o ≡ None
+    by None is = refl
+    by (Some p) is =
+        let place : (p < length (keys_of es)) × (eq-value.it key (get_or (keys_of es) p (V4 0)) ≡ true) × ((k : ℕ) → k < p → eq-value.it key (get_or (keys_of es) k (V4 0)) ≡ false) =
+        position-Some (eq-value.it key) (keys_of es) p (V4 0) is in
+        let within : p < length es = omega (arith, place.0, length-keys es) in
+        let own : is_of key (entry_at es p) ≡ true =
+        ap (λ k. same_addr k key) (sym (key-at es p within)) ∙ sym (tied key (get_or (keys_of es) p (V4 0))) ∙ place.1 in
+        absurd (let wrong : true ≡ false = sym own ∙ none-has (entry_at es) key touched.order p none (kept.each p within) in cc)
+
+-- a key that is not found goes last into the index
+pub inserted : (es : List (Addr × Counts)) (touched free : Ranking) (key : Addr) (counts : Counts) → IsKept es touched free
+    → find (is_of key) (ranked es touched.order) ≡ None → insert_entry eq-value.it es key counts ≡ es ++ (key, counts) ∷ []
+inserted es touched free key counts kept none =
+    let no_index : position (eq-value.it key) (keys_of es) ≡ None = no-place es touched free key kept none in
+    let gone : is_some (lookup (eq-value.it key) es) ≡ false = sym (some_index (eq-value.it key) es) ∙ ap (λ o. is_some o) no_index in
+    insert_entry-absent eq-value.it key counts es (absent_from_lookup (eq-value.it key) es (no-value (lookup (eq-value.it key) es) gone))
+  where
+    no-value : (o : Option Counts) → is_some o ≡ false → o ≡ None
+    no-value None is = refl
+    no-value (Some counts) is = absurd (cc)
+
+-- more room changes nothing else
+pub kept-same : (es es' : List (Addr × Counts)) (t t' f f' : Ranking) → IsKept es t f → es' ≡ es → t' ≡ record t { spare = t'.spare } → f' ≡ record f { spare = f'.spare }
+    → IsKept es' t' f'
+kept-same es es' t t' f f' kept same to fo =
+    let order : t'.order ≡ t.order = ap (λ r. r.order) to in
+    let free_order : f'.order ≡ f.order = ap (λ r. r.order) fo in
+    record {
+      touched_places = ap (λ r. r.places) to ∙ kept.touched_places ∙ ap length (sym same);
+      free_places = ap (λ r. r.places) fo ∙ kept.free_places ∙ ap length (sym same);
+      count = rw (same, order) kept.count;
+      each = rw (same, order) kept.each;
+      once = rw order kept.once;
+      below = rw (same, order) kept.below;
+      free_ones = rw (same, free_order, order) kept.free_ones;
+    }
+
+-- Writes at a place.
+pub at-set : (es : List (Addr × Counts)) (p : ℕ) (counts : Counts) → p < length es → get_or (set_value_at es p counts) p nothing ≡ ((get_or es p nothing).0, counts)
+at-set [] p counts less = absurd (omega (arith, less))
+at-set (e ∷ es) zero counts less = refl
+at-set (e ∷ es) (suc p) counts less = at-set es p counts (omega (arith, less))
+
+pub at-set-apart : (es : List (Addr × Counts)) (p : ℕ) (counts : Counts) (q : ℕ) → q ≢ p → get_or (set_value_at es p counts) q nothing ≡ get_or es q nothing
+at-set-apart [] p counts q apart = refl
+at-set-apart (e ∷ es) zero counts zero apart = absurd (apart refl)
+at-set-apart (e ∷ es) zero counts (suc q) apart = refl
+at-set-apart (e ∷ es) (suc p) counts zero apart = refl
+at-set-apart (e ∷ es) (suc p) counts (suc q) apart = at-set-apart es p counts q (λ is. apart (ap suc is))
+
+length-map : (f : ℕ → Entry) (xs : List ℕ) → length (map f xs) ≡ length xs
+length-map f [] = refl
+length-map f (x ∷ xs) = ap suc (length-map f xs)
+
+pub set-entry : (es : List (Addr × Counts)) (p : ℕ) (counts : Counts) (e : Entry) → p < length es → e.key ≡ (entry_at es p).key → counts.cur ≡ e.cur → counts.cnt ≡ e.cnt → entry_at (set_value_at es p counts) p ≡ e
+set-entry es p counts e less key cur cnt = ap entry_of_pair (at-set es p counts less) ∙ rw (← key, cur, cnt) refl
+
+pub set-entry-apart : (es : List (Addr × Counts)) (p : ℕ) (counts : Counts) (q : ℕ) → q ≢ p → entry_at (set_value_at es p counts) q ≡ entry_at es q
+set-entry-apart es p counts q apart = ap entry_of_pair (at-set-apart es p counts q apart)
+
+-- the free places once a place is moved to the end
+pub free-moved : (es es' : List (Addr × Counts)) (p : ℕ) (xs : List ℕ) → ((q : ℕ) → q ≢ p → entry_at es' q ≡ entry_at es q)
+    → filter (free_at es') (without p xs ++ p ∷ []) ≡ without p (filter (free_at es) xs) ++ cond (free_at es' p) (p ∷ []) []
+free-moved es es' p xs apart =
+    filter-push (free_at es') (without p xs) p
+    ∙ ap (λ l. l ++ cond (free_at es' p) (p ∷ []) [])
+    (filter-apart (free_at es) (free_at es') p (λ q differ. ap is_free (apart q differ)) (without p xs) (lacks-itself p xs) ∙ filter-without (free_at es) p xs)
+
+length-ranked : (es : List (Addr × Counts)) (xs : List ℕ) → length (ranked es xs) ≡ length xs
+length-ranked es xs = length-map (entry_at es) xs
+
+-- there are as many entries as places
+pub length-kept : (es : List (Addr × Counts)) (t f : Ranking) → IsKept es t f → length (ranked es t.order) ≡ length es
+length-kept es t f kept = length-ranked es t.order ∙ kept.count
+
+-- a place whose entry is changed is moved to the end
+pub kept-moved : (es es' : List (Addr × Counts)) (p : ℕ) (t t' f f' : Ranking) → IsKept es t f → p < length es → length es' ≡ length es
+    → ((q : ℕ) → q ≢ p → entry_at es' q ≡ entry_at es q)
+    → t' ≡ record t { order = without p t.order ++ p ∷ [] }
+    → f'.places ≡ f.places → f'.order ≡ without p f.order ++ cond (free_at es' p) (p ∷ []) []
+    → IsKept es' t' f'
+kept-moved es es' p t t' f f' kept less len apart moved fp fo =
+    let order : List ℕ = without p t.order ++ p ∷ [] in
+    let to : t'.order ≡ order = ap (λ r. r.order) moved in
+    let tp : t'.places ≡ t.places = ap (λ r. r.places) moved in
+    let has : Has p t.order = kept.each p less in
+    let count : length order ≡ length t.order = omega (arith, length-append (without p t.order) (p ∷ []), length-without p t.order kept.once has) in
+    let B : ℕ → Type 0 = λ n. Below n order in
+    let is_below : Below (length es') order = subst B (sym len) (below-push (length es) p (without p t.order) (below-without (length es) p t.order kept.below) less) in
+    record {
+      touched_places = tp ∙ kept.touched_places ∙ sym len;
+      free_places = fp ∙ kept.free_places ∙ sym len;
+      count = ap length to ∙ count ∙ kept.count ∙ sym len;
+      each = λ q q_in. rw to (has-moved q p t.order (kept.each q (omega (arith, q_in, len))));
+      once = rw to (once-push p (without p t.order) (once-without p t.order kept.once) (lacks-itself p t.order));
+      below = rw to is_below;
+      free_ones = rw to (fo ∙ ap (λ l. without p l ++ cond (free_at es' p) (p ∷ []) []) kept.free_ones ∙ sym (free-moved es es' p t.order apart));
+    }
+
+-- the entries then
+ranked-moved : (es es' : List (Addr × Counts)) (p : ℕ) (xs : List ℕ) → ((q : ℕ) → q ≢ p → entry_at es' q ≡ entry_at es q)
+    → ranked es' (without p xs ++ p ∷ []) ≡ ranked es (without p xs) ++ entry_at es' p ∷ []
+ranked-moved es es' p xs apart =
+    map-push (entry_at es') (without p xs) p ∙ ap (λ l. l ++ entry_at es' p ∷ []) (map-apart (entry_at es) (entry_at es') p apart (without p xs) (lacks-itself p xs))
+
+-- The entry of a key is changed.
+
+-- what the writes then come to
+pub record IsPut (es es' : List (Addr × Counts)) (t t' f f' : Ranking) (key : Addr) (e : Entry) : Type 0 where
+  pub kept : IsKept es' t' f'
+  pub entries : ranked es' t'.order ≡ others key (ranked es t.order) ++ e ∷ []
+  pub len : length (ranked es' t'.order) ≡ length (ranked es t.order)
+
+pub put : (es es' : List (Addr × Counts)) (t t' f f' : Ranking) (key : Addr) (e : Entry) (counts : Counts) (p : ℕ) → IsKept es t f
+    → IsDistinct eq-value.it (keys_of es) → position (eq-value.it key) (keys_of es) ≡ Some p → e.key ≡ key
+    → counts.cur ≡ e.cur → counts.cnt ≡ e.cnt → es' ≡ set_value_at es p counts
+    → t' ≡ record t { order = without p t.order ++ p ∷ [] }
+    → f' ≡ record f { order = without p f.order ++ cond (is_free e) (p ∷ []) [] }
+    → IsPut es es' t t' f f' key e
+put es es' t t' f f' key e counts p kept once found own cur cnt written moved freed =
+    let at : (p < length es) × IsAt (λ q. is_of key (entry_at es q)) (length es) p × (is_of key (entry_at es p) ≡ true) = is_at eq-value.it tied es key p once found in
+    let its_key : e.key ≡ (entry_at es p).key = own ∙ sym (same_addr-is (entry_at es p).key key at.2) in
+    let here : entry_at es' p ≡ e = ap (λ l. entry_at l p) written ∙ set-entry es p counts e at.0 its_key cur cnt in
+    let apart : (q : ℕ) → q ≢ p → entry_at es' q ≡ entry_at es q = λ q differ. ap (λ l. entry_at l q) written ∙ set-entry-apart es p counts q differ in
+    let len : length es' ≡ length es = ap length written ∙ length-set_value_at es p counts in
+    let is_kept : IsKept es' t' f' =
+    kept-moved es es' p t t' f f' kept at.0 len apart moved (ap (λ r. r.places) freed)
+    (ap (λ r. r.order) freed ∙ ap (λ x. without p f.order ++ cond (is_free x) (p ∷ []) []) (sym here)) in
+    record {
+      kept = is_kept;
+      entries =
+          ap (λ r. ranked es' r.order) moved ∙ ranked-moved es es' p t.order apart
+          ∙ ap (λ l. l ++ entry_at es' p ∷ []) (sym (others-map (entry_at es) key (length es) p at.1 t.order kept.below))
+          ∙ ap (λ x. others key (ranked es t.order) ++ x ∷ []) here;
+      len = length-kept es' t' f' is_kept ∙ len ∙ sym (length-kept es t f kept);
+    }
+
+-- where the order of the free places has a place
+pub free-has : (es : List (Addr × Counts)) (t f : Ranking) (p : ℕ) → IsKept es t f → p < length es → free_at es p ≡ true → Has p f.order
+free-has es t f p kept less is = rw kept.free_ones (has-filter (free_at es) p is t.order (kept.each p less))
+
+pub free-lacks : (es : List (Addr × Counts)) (t f : Ranking) (p : ℕ) → IsKept es t f → free_at es p ≡ false → Lacks p f.order
+free-lacks es t f p kept is = rw kept.free_ones (lacks-filter (free_at es) p is t.order)
+
+-- A key is added.
+
+-- the next place is not in the order
+pub new-lacks : (es : List (Addr × Counts)) (t f : Ranking) (n : ℕ) (order : List ℕ) → IsKept es t f → n ≡ t.places → order ≡ t.order → Lacks n order
+new-lacks es t f n order kept is same = rw (is ∙ kept.touched_places, same) (below-lacks (length es) (length es) t.order kept.below (omega arith))
+
+entry-before : (es : List (Addr × Counts)) (x : Addr × Counts) (q : ℕ) → q < length es → entry_at (es ++ x ∷ []) q ≡ entry_at es q
+entry-before es x q less = ap entry_of_pair (get_or_append_left es (x ∷ []) nothing q less)
+
+map-below : (f g : ℕ → Entry) (n : ℕ) → ((q : ℕ) → q < n → g q ≡ f q) → (xs : List ℕ) → Below n xs → map g xs ≡ map f xs
+map-below f g n same [] below = refl
+map-below f g n same (x ∷ xs) below =
+    let here : g x ≡ f x = same x below.0 in
+    rw here (ap (λ l. f x ∷ l) (map-below f g n same xs below.1))
+
+filter-below : (f g : ℕ → Bool) (n : ℕ) → ((q : ℕ) → q < n → g q ≡ f q) → (xs : List ℕ) → Below n xs → filter g xs ≡ filter f xs
+filter-below f g n same [] below = refl
+filter-below f g n same (x ∷ xs) below =
+    let here : g x ≡ f x = same x below.0 in
+    rw here (ap (λ l. cond (f x) (x ∷ l) l) (filter-below f g n same xs below.1))
+
+entry-last : (es : List (Addr × Counts)) (x : Addr × Counts) → entry_at (es ++ x ∷ []) (length es) ≡ entry_of_pair x
+entry-last [] x = refl
+entry-last (e ∷ es) x = entry-last es x
+
+pub record IsAdded (es es' : List (Addr × Counts)) (t t' f' : Ranking) (e : Entry) : Type 0 where
+  pub kept : IsKept es' t' f'
+  pub entries : ranked es' t'.order ≡ ranked es t.order ++ e ∷ []
+
+pub add : (es es' : List (Addr × Counts)) (t t' f f' : Ranking) (x : Addr × Counts) → IsKept es t f → is_free (entry_of_pair x) ≡ false → es' ≡ es ++ x ∷ []
+    → t'.order ≡ t.order ++ t.places ∷ [] → t'.places ≡ t.places + 1 → f'.order ≡ f.order → f'.places ≡ f.places + 1
+    → IsAdded es es' t t' f' (entry_of_pair x)
+add es es' t t' f f' x kept busy pushed to tp fo fp =
+    let n : ℕ = length es in
+    let order : t'.order ≡ t.order ++ n ∷ [] = to ∙ ap (λ k. t.order ++ k ∷ []) kept.touched_places in
+    let len : length es' ≡ n + 1 = ap length pushed ∙ length-append es (x ∷ []) in
+    let before : (q : ℕ) → q < n → entry_at es' q ≡ entry_at es q = λ q less. ap (λ l. entry_at l q) pushed ∙ entry-before es x q less in
+    let last : entry_at es' n ≡ entry_of_pair x = ap (λ l. entry_at l n) pushed ∙ entry-last es x in
+    let not_free : free_at es' n ≡ false = ap is_free last ∙ busy in
+    let lacks : Lacks n t.order = below-lacks n n t.order kept.below (omega arith) in
+    let same_free : filter (free_at es') t.order ≡ filter (free_at es) t.order = filter-below (free_at es) (free_at es') n (λ q less. ap is_free (before q less)) t.order kept.below in
+    let frees : filter (free_at es') (t.order ++ n ∷ []) ≡ filter (free_at es) t.order =
+    filter-push (free_at es') t.order n ∙ ap (λ l. l ++ cond (free_at es' n) (n ∷ []) []) same_free
+    ∙ ap (λ b. filter (free_at es) t.order ++ cond b (n ∷ []) []) not_free ∙ append-nil (filter (free_at es) t.order) in
+    let B : ℕ → Type 0 = λ k. Below k (t.order ++ n ∷ []) in
+    let is_below : Below (length es') (t.order ++ n ∷ []) = subst B (sym len) (below-push (n + 1) n t.order (below-more n (n + 1) t.order kept.below (omega arith)) (omega arith)) in
+    record {
+      kept = record {
+        touched_places = tp ∙ ap (λ k. k + 1) kept.touched_places ∙ sym len;
+        free_places = fp ∙ ap (λ k. k + 1) kept.free_places ∙ sym len;
+        count = ap length order ∙ length-append t.order (n ∷ []) ∙ ap (λ k. k + 1) kept.count ∙ sym len;
+        each = λ q q_in. rw order (each q (omega (arith, q_in, len)));
+        once = rw order (once-push n t.order kept.once lacks);
+        below = rw order is_below;
+        free_ones = rw order (fo ∙ kept.free_ones ∙ sym frees);
+      };
+      entries =
+          ap (λ l. ranked es' l) order ∙ map-push (entry_at es') t.order n
+          ∙ ap (λ l. l ++ entry_at es' n ∷ []) (map-below (entry_at es) (entry_at es') n before t.order kept.below)
+          ∙ ap (λ e. ranked es t.order ++ e ∷ []) last;
+    }
+  where
+    each : (q : ℕ) → q < length es + 1 → Has q (t.order ++ length es ∷ [])
+    each q less = by (eqb q (length es)) refl
+      where
+        by : (b : Bool) → eqb q (length es) ≡ b → Has q (t.order ++ length es ∷ [])
+        by true is = let P : ℕ → Type 0 = λ y. Has y (t.order ++ length es ∷ []) in subst P (sym (eqb-is q (length es) is)) (has-push (length es) t.order)
+        by false is = let apart : q ≢ length es = eqb-differ q (length es) is in has-before q (length es) t.order (kept.each q (omega (arith, less, apart)))
+
+-- A key is put in place of the first free one.
+
+-- some entry is free exactly where there is a first free place
+pub any-free : (es : List (Addr × Counts)) (xs : List ℕ) → is_some (slice_get (filter (free_at es) xs) 0) ≡ list_any is_free (ranked es xs)
+any-free es [] = refl
+any-free es (x ∷ xs) = by (free_at es x) refl (any-free es xs)
+  where
+    by : (t : Bool) → free_at es x ≡ t → is_some (slice_get (filter (free_at es) xs) 0) ≡ list_any is_free (ranked es xs) → is_some (slice_get (filter (free_at es) (x ∷ xs)) 0) ≡ list_any is_free (ranked es (x ∷ xs))
+    by true is more = simp is refl
+    by false is more = simp is more
+
+pub first-passes : (f : ℕ → Bool) (xs : List ℕ) (p : ℕ) → slice_get (filter f xs) 0 ≡ Some p → f p ≡ true
+first-passes f [] p first = absurd (cc)
+first-passes f (x ∷ xs) p first = by (f x) refl first (first-passes f xs p)
+  where
+    by : (t : Bool) → f x ≡ t → slice_get (filter f (x ∷ xs)) 0 ≡ Some p → (slice_get (filter f xs) 0 ≡ Some p → f p ≡ true) → f p ≡ true
+    by true is first more =
+        let found : Some x ≡ Some p = simp is at first in
+        let same : x ≡ p = cc in
+        ap f (sym same) ∙ is
+    by false is first more = more (simp is at first)
+
+-- the first free one is gone: the list without its place
+pub gone-first : (es : List (Addr × Counts)) (xs : List ℕ) (p : ℕ) → Distinct xs → slice_get (filter (free_at es) xs) 0 ≡ Some p → without_first_free (ranked es xs) ≡ ranked es (without p xs)
+gone-first es [] p once first = absurd (cc)
+gone-first es (x ∷ xs) p once first = by (free_at es x) refl first (gone-first es xs p once.1)
+  where
+    by : (t : Bool) → free_at es x ≡ t → slice_get (filter (free_at es) (x ∷ xs)) 0 ≡ Some p → (slice_get (filter (free_at es) xs) 0 ≡ Some p → without_first_free (ranked es xs) ≡ ranked es (without p xs))
+        → without_first_free (ranked es (x ∷ xs)) ≡ ranked es (without p (x ∷ xs))
+    by true is first more =
+        let found : Some x ≡ Some p = simp is at first in
+        let same : x ≡ p = cc in
+        let here : eqb x p ≡ true = ap (eqb x) (sym same) ∙ eqb-self x in
+        let lacks : without x xs ≡ xs = without-lacks x xs once.0 in
+        gone-here is_free (entry_at es x) (ranked es xs) is ∙ ap (λ l. ranked es l) (sym lacks ∙ ap (λ q. without q xs) same) ∙ rw here refl
+    by false is first more =
+        let passes : free_at es p ≡ true = first-passes (free_at es) (x ∷ xs) p first in
+        let apart : eqb x p ≡ false = eqb-apart x p (λ same. let wrong : true ≡ false = sym passes ∙ ap (free_at es) (sym same) ∙ is in absurd (cc)) in
+        gone-past is_free (entry_at es x) (ranked es xs) is ∙ ap (λ l. entry_at es x ∷ l) (more (simp is at first)) ∙ rw apart refl
+
+set-push : {X : Type 0} (xs : List X) (x : X) (p : ℕ) → p < length xs → set (xs ++ x ∷ []) p x ≡ set xs p x ++ x ∷ []
+set-push [] x p less = absurd (omega (arith, less))
+set-push (y ∷ ys) x zero less = refl
+set-push (y ∷ ys) x (suc p) less = ap (λ l. y ∷ l) (set-push ys x p (omega (arith, less)))
+
+take-push : {X : Type 0} (xs : List X) (x : X) → take (length xs) (xs ++ x ∷ []) ≡ xs
+take-push [] x = refl
+take-push (y ∷ ys) x = ap (λ l. y ∷ l) (take-push ys x)
+
+last-push : {X : Type 0} (xs : List X) (x d : X) → get_or (xs ++ x ∷ []) (length xs) d ≡ x
+last-push [] x d = refl
+last-push (y ∷ ys) x d = last-push ys x d
+
+length-set-same : {X : Type 0} (xs : List X) (x : X) (p : ℕ) → length (set xs p x) ≡ length xs
+length-set-same [] x p = refl
+length-set-same (y ∷ ys) x zero = refl
+length-set-same (y ∷ ys) x (suc p) = ap suc (length-set-same ys x p)
+
+-- the last one takes the place
+swapped : {X : Type 0} (xs : List X) (x d : X) (p : ℕ) → p < length xs → swap_remove (xs ++ x ∷ []) p d ≡ set xs p x
+swapped xs x d p less =
+    let count : length (xs ++ x ∷ []) - 1 ≡ length xs = omega (arith, length-append xs (x ∷ [])) in
+    let same : length (set xs p x) ≡ length xs = length-set-same xs x p in
+    ap (λ n. take n (set (xs ++ x ∷ []) p (get_or (xs ++ x ∷ []) n d))) count
+    ∙ ap (λ y. take (length xs) (set (xs ++ x ∷ []) p y)) (last-push xs x d)
+    ∙ ap (take (length xs)) (set-push xs x p less)
+    ∙ ap (λ n. take n (set xs p x ++ x ∷ [])) (sym same)
+    ∙ take-push (set xs p x) x
+
+-- what the index has after its last entry took the place of one
+pub taken-over : (es mid new : List (Addr × Counts)) (x : Addr × Counts) (p : ℕ) (result : Option (Addr × Counts)) → p < length es → mid ≡ es ++ x ∷ []
+    → result ≡ slice_get mid p → IfSome result (λ d. new ≡ swap_remove mid p d) → new ≡ set es p x
+taken-over es mid new x p result less pushed answer left = by result answer left
+  where
+    by : (o : Option (Addr × Counts)) → o ≡ slice_get mid p → IfSome o (λ d. new ≡ swap_remove mid p d) → new ≡ set es p x
+    by None is left =
+        let within : p < length mid = omega (arith, less, ap length pushed ∙ length-append es (x ∷ [])) in
+        absurd (let wrong : None ≡ Some (get_or mid p x) = is ∙ slice_get-get_or mid p x within in cc)
+    by (Some d) is left = left ∙ ap (λ l. swap_remove l p d) pushed ∙ swapped es x d p less
+
+at-replaced : (es : List (Addr × Counts)) (p : ℕ) (x : Addr × Counts) → p < length es → get_or (set es p x) p nothing ≡ x
+at-replaced [] p x less = absurd (omega (arith, less))
+at-replaced (e ∷ es) zero x less = refl
+at-replaced (e ∷ es) (suc p) x less = at-replaced es p x (omega (arith, less))
+
+at-replaced-apart : (es : List (Addr × Counts)) (p : ℕ) (x : Addr × Counts) (q : ℕ) → q ≢ p → get_or (set es p x) q nothing ≡ get_or es q nothing
+at-replaced-apart [] p x q apart = refl
+at-replaced-apart (e ∷ es) zero x zero apart = absurd (apart refl)
+at-replaced-apart (e ∷ es) zero x (suc q) apart = refl
+at-replaced-apart (e ∷ es) (suc p) x zero apart = refl
+at-replaced-apart (e ∷ es) (suc p) x (suc q) apart = at-replaced-apart es p x q (λ is. apart (ap suc is))
+
+has-first : (f : ℕ → Bool) (xs : List ℕ) (p : ℕ) → slice_get (filter f xs) 0 ≡ Some p → Has p (filter f xs)
+has-first f xs p first = by (filter f xs) first
+  where
+    by : (l : List ℕ) → slice_get l 0 ≡ Some p → Has p l
+    by [] first = absurd (cc)
+    by (y ∷ ys) first = inl (let found : Some y ≡ Some p = first in cc)
+
+-- the first of the free places
+pub free-first : (es : List (Addr × Counts)) (t f : Ranking) (p : ℕ) → IsKept es t f → slice_get f.order 0 ≡ Some p → Has p f.order
+free-first es t f p kept first = rw kept.free_ones (has-first (free_at es) t.order p (rw kept.free_ones at first))
+
+place-below : (p n : ℕ) (xs : List ℕ) (f : ℕ → Bool) → Has p (filter f xs) → Below n xs → p < n
+place-below p n [] f has below = absurd has
+place-below p n (x ∷ xs) f has below = by (f x) refl has (λ more. place-below p n xs f more below.1)
+  where
+    here : (Has p (filter f xs) → p < n) → ((p ≡ x) ⊎ Has p (filter f xs)) → p < n
+    here rest (inl same) = omega (arith, same, below.0)
+    here rest (inr more) = rest more
+
+    by : (t : Bool) → f x ≡ t → Has p (filter f (x ∷ xs)) → (Has p (filter f xs) → p < n) → p < n
+    by true is has rest = here rest (rw is at has)
+    by false is has rest = rest (rw is at has)
+
+pub free-below : (es : List (Addr × Counts)) (t f : Ranking) (p : ℕ) → IsKept es t f → slice_get f.order 0 ≡ Some p → p < length es
+free-below es t f p kept first = place-below p (length es) t.order (free_at es) (rw kept.free_ones at (free-first es t f p kept first)) kept.below
+
+pub record IsReplaced (es es' : List (Addr × Counts)) (t t' f' : Ranking) (e : Entry) : Type 0 where
+  pub kept : IsKept es' t' f'
+  pub entries : ranked es' t'.order ≡ without_first_free (ranked es t.order) ++ e ∷ []
+
+pub replace : (es es' : List (Addr × Counts)) (t t' f f' : Ranking) (x : Addr × Counts) (p : ℕ) → IsKept es t f → is_free (entry_of_pair x) ≡ false
+    → slice_get f.order 0 ≡ Some p → es' ≡ set es p x
+    → t' ≡ record t { order = without p t.order ++ p ∷ [] } → f' ≡ record f { order = without p f.order }
+    → IsReplaced es es' t t' f' (entry_of_pair x)
+replace es es' t t' f f' x p kept busy first written moved freed =
+    let less : p < length es = free-below es t f p kept first in
+    let here : entry_at es' p ≡ entry_of_pair x = ap (λ l. entry_at l p) written ∙ ap entry_of_pair (at-replaced es p x less) in
+    let apart : (q : ℕ) → q ≢ p → entry_at es' q ≡ entry_at es q = λ q differ. ap (λ l. entry_at l q) written ∙ ap entry_of_pair (at-replaced-apart es p x q differ) in
+    let len : length es' ≡ length es = ap length written ∙ length-set-same es x p in
+    let not_free : free_at es' p ≡ false = ap is_free here ∙ busy in
+    let is_kept : IsKept es' t' f' =
+    kept-moved es es' p t t' f f' kept less len apart moved (ap (λ r. r.places) freed)
+    (ap (λ r. r.order) freed ∙ sym (ap (λ b. without p f.order ++ cond b (p ∷ []) []) not_free ∙ append-nil (without p f.order))) in
+    record {
+      kept = is_kept;
+      entries =
+          ap (λ r. ranked es' r.order) moved ∙ ranked-moved es es' p t.order apart
+          ∙ ap (λ l. l ++ entry_at es' p ∷ []) (sym (gone-first es t.order p kept.once (ap (λ l. slice_get l 0) (sym kept.free_ones) ∙ first)))
+          ∙ ap (λ e. without_first_free (ranked es t.order) ++ e ∷ []) here;
+    }
+
+-- A walk along the order.
+
+lacks-has : (x : ℕ) (xs : List ℕ) → Lacks x xs → Has x xs → ⊥
+lacks-has x [] lacks has = has
+lacks-has x (y ∷ ys) lacks (inl is) = lacks.0 is
+lacks-has x (y ∷ ys) lacks (inr more) = lacks-has x ys lacks.1 more
+
+pub has-at : (xs : List ℕ) (n p : ℕ) → slice_get xs n ≡ Some p → Has p xs
+has-at [] n p at = absurd (cc)
+has-at (x ∷ xs) zero p at = inl (let found : Some x ≡ Some p = at in cc)
+has-at (x ∷ xs) (suc n) p at = inr (has-at xs n p at)
+
+first-is : (xs : List ℕ) → first_of xs ≡ slice_get xs 0
+first-is [] = refl
+first-is (x ∷ xs) = refl
+
+next-at : (xs : List ℕ) (n p : ℕ) → Distinct xs → slice_get xs n ≡ Some p → next_of p xs ≡ slice_get xs (suc n)
+next-at [] n p once at = absurd (cc)
+next-at (x ∷ xs) zero p once at =
+    let found : Some x ≡ Some p = at in
+    let same : x ≡ p = cc in
+    let here : eqb x p ≡ true = ap (eqb x) (sym same) ∙ eqb-self x in
+    rw here (first-is xs)
+next-at (x ∷ xs) (suc n) p once at =
+    let apart : eqb x p ≡ false = eqb-apart x p (λ same. lacks-has x xs once.0 (subst (λ y. Has y xs) (sym same) (has-at xs n p at))) in
+    rw apart (next-at xs n p once.1 at)
+
+take-at : (xs : List ℕ) (n p : ℕ) → slice_get xs n ≡ Some p → take (suc n) xs ≡ take n xs ++ p ∷ []
+take-at [] n p at = absurd (cc)
+take-at (x ∷ xs) zero p at = let found : Some x ≡ Some p = at in let same : x ≡ p = cc in ap (λ y. y ∷ []) same
+take-at (x ∷ xs) (suc n) p at = ap (λ l. x ∷ l) (take-at xs n p at)
+
+plain-push : (es : List Entry) (e : Entry) → plain (es ++ e ∷ []) ≡ plain es ++ plain_entry e ∷ []
+plain-push [] e = refl
+plain-push (x ∷ es) e = ap (λ l. plain_entry x ∷ l) (plain-push es e)
+
+-- the place after the one that is reached
+pub step-next : (es : List (Addr × Counts)) (t f : Ranking) (n p : ℕ) → IsKept es t f → slice_get t.order n ≡ Some p → next_of p t.order ≡ slice_get t.order (n + 1)
+step-next es t f n p kept at = next-at t.order n p kept.once at ∙ ap (slice_get t.order) (let one : suc n ≡ n + 1 = omega arith in one)
+
+-- the entries that were passed then
+pub step-list : (es : List (Addr × Counts)) (t : Ranking) (n p : ℕ) → slice_get t.order n ≡ Some p
+    → plain (ranked es (take n t.order)) ++ plain_entry (entry_at es p) ∷ [] ≡ plain (ranked es (take (n + 1) t.order))
+step-list es t n p at =
+    let one : suc n ≡ n + 1 = omega arith in
+    sym (plain-push (ranked es (take n t.order)) (entry_at es p)) ∙ ap plain (sym (map-push (entry_at es) (take n t.order) p))
+    ∙ ap (λ l. plain (ranked es l)) (sym (take-at t.order n p at)) ∙ ap (λ k. plain (ranked es (take k t.order))) one
+
+pub step-below : (es : List (Addr × Counts)) (t f : Ranking) (n p : ℕ) → IsKept es t f → slice_get t.order n ≡ Some p → p < length es
+step-below es t f n p kept at = has-below p (length es) t.order (has-at t.order n p at) kept.below
+
+-- the walk does not end before the last entry
+pub step-missing : (es : List (Addr × Counts)) (t f : Ranking) (n : ℕ) → IsKept es t f → n < length es → slice_get t.order n ≡ None → ⊥
+step-missing es t f n kept less none =
+    let within : n < length t.order = omega (arith, less, kept.count) in
+    absurd (let wrong : None ≡ Some (get_or t.order n 0) = sym none ∙ slice_get-get_or t.order n 0 within in cc)

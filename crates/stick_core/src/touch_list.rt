@@ -1,0 +1,234 @@
+//! Entries found by their keys, in the order of their last touch.
+ghost use Rattle.std.specs.Prelude.{◌≡◌, ◌+◌, ◌<◌, ◌≤◌, ◌++◌, ◌∷◌, [], true, false, cond, find, length, IfOk, OnOk, OnErr, IsOk, IsSome, None};
+ghost use Rattle.std.specs.List.{list_any};
+ghost use Rattle.indexmap.specs.IndexMap.{index_map_len, with_value_at};
+ghost use Rattle.stick_core.specs.Entries.{is_of, is_free, others, added, without_first_free};
+ghost use Rattle.stick_core.specs.Places.{entry_at};
+ghost use Rattle.stick_core.specs.PlainEntries.{plain};
+ghost use Rattle.stick_core.specs.Ring.{Has, Lacks, Distinct, without};
+
+use crate::entries::{Entry, TableEntry};
+use crate::order::Order;
+use addr_core::Addr;
+use indexmap::IndexMap;
+use list_core::Seq;
+use std::alloc::{AllocError, Global};
+use std::marker::Model;
+
+/// What is counted of a key.
+#[derive(Clone, Copy, Debug, PartialEq, Eq)]
+pub(crate) struct Counts {
+    pub(crate) cur: u64,
+    pub(crate) cnt: u64,
+}
+
+/// A key that is tracked for the first time.
+const FIRST: Counts = Counts { cur: 1, cnt: 1 };
+
+fn counts_of(entry: Entry) -> Counts
+    ensures cur { result.cur ≡ entry.cur }
+    ensures cnt { result.cnt ≡ entry.cnt }
+{
+    Counts {
+        cur: entry.cur,
+        cnt: entry.cnt,
+    }
+}
+
+/// The entry at a place.
+fn entry_at_place(index: &IndexMap<Addr, Counts>, place: usize) -> Entry
+    requires { place < index_map_len index.now }
+    ensures { result ≡ entry_at index.now.entries place }
+{
+    match index.get_index(place) {
+        Some((key, counts)) => Entry {
+            key: *key,
+            cur: counts.cur,
+            cnt: counts.cnt,
+        },
+        None => unreachable!(),
+    }
+}
+
+/// Puts other counts at a place.
+fn set_counts(index: &mut IndexMap<Addr, Counts>, place: usize, counts: Counts)
+    requires { place < index_map_len index.old }
+    ensures { index.new ≡ with_value_at index.old place counts }
+{
+    if let Some(held) = index.get_index_mut(place) {
+        *held = counts;
+    }
+}
+
+/// Moves a place to the end.
+fn move_last(order: &mut Order, place: usize)
+    requires place { place < order.old.places }
+    requires has { Has place order.old.order }
+    requires once { Distinct order.old.order }
+    ensures { order.new ≡ record order.old { order = without place order.old.order ++ place ∷ [] } }
+{
+    order.remove(place);
+    order.push_back(place);
+}
+
+/// Takes a place out of an order, if it is there.
+fn leave(order: &mut Order, place: usize, is_there: bool)
+    requires has { is_there ≡ true → Has place order.old.order }
+    requires lacks { is_there ≡ false → Lacks place order.old.order }
+    ensures { order.new ≡ record order.old { order = without place order.old.order } }
+{
+    if is_there {
+        order.remove(place);
+    }
+}
+
+/// Puts a place at the end of an order, if it belongs there.
+fn join(order: &mut Order, place: usize, belongs: bool)
+    requires place { place < order.old.places }
+    requires lacks { Lacks place order.old.order }
+    ensures { order.new ≡ record order.old { order = order.old.order ++ cond belongs (place ∷ []) [] } }
+{
+    if belongs {
+        order.push_back(place);
+    }
+}
+
+/// Entries found by their keys, in the order of their last touch. A call takes a time that does not grow with
+/// their number; only `listed` goes through them.
+#[derive(Debug, Drop)]
+pub(crate) struct TouchList {
+    index: IndexMap<Addr, Counts>,
+    touched: Order,
+    free: Order,
+}
+
+impl Model for TouchList {
+    ghost use Rattle.std.specs.Prelude.{min};
+    ghost use Rattle.indexmap.specs.IndexMap.{spare};
+    ghost use Rattle.stick_core.specs.Places.{ranked, Touches, IsKept};
+
+    ghost Value = { Touches };
+
+    ghost view = { λ t. record { entries = ranked t.index.entries t.touched.order; spare = min (spare t.index) (min t.touched.spare t.free.spare) } };
+
+    ghost invariant = { λ t. IsKept t.index.entries t.touched t.free };
+}
+
+impl TouchList {
+    /// No entries.
+    pub(crate) fn new(alloc: Global) -> TouchList
+        ensures { result.entries ≡ [] }
+    {
+        TouchList {
+            index: IndexMap::new(alloc),
+            touched: Order::new(alloc),
+            free: Order::new(alloc),
+        }
+    }
+
+    /// How many entries there are.
+    pub(crate) fn len(&self) -> usize
+        ensures { result ≡ length self.now.entries }
+    {
+        self.index.len()
+    }
+
+    /// The entry of a key.
+    pub(crate) fn entry(&self, key: &Addr) -> Option<Entry>
+        ensures { result ≡ find (is_of key.now) self.now.entries }
+    {
+        match self.index.get_index_of(key) {
+            Some(place) => Some(entry_at_place(&self.index, place)),
+            None => None,
+        }
+    }
+
+    /// Whether some entry has no trackers.
+    pub(crate) fn has_free(&self) -> bool
+        ensures { result ≡ list_any is_free self.now.entries }
+    {
+        self.free.first().is_some()
+    }
+
+    /// Makes room for so many more entries. It may have made some also where it lacks memory for all.
+    pub(crate) fn reserve(&mut self, more: usize) -> Result<(), AllocError>
+        ensures room { OnOk result (more ≤ self.new.spare) }
+        ensures entries { self.new.entries ≡ self.old.entries }
+        ensures spare { self.old.spare ≤ self.new.spare }
+        ensures succeeds { more ≤ self.old.spare → IsOk result }
+    {
+        self.index.reserve(more)?;
+        self.touched.reserve(more)?;
+        self.free.reserve(more)
+    }
+
+    /// Puts an entry in place of that of its key, as the last one touched.
+    pub(crate) fn put_last(&mut self, key: &Addr, entry: Entry)
+        requires there { IsSome (find (is_of key.now) self.old.entries) }
+        requires own { entry.key ≡ key.now }
+        ensures entries { self.new.entries ≡ others key.now self.old.entries ++ entry ∷ [] }
+        ensures spare { self.new.spare ≡ self.old.spare }
+        ensures len { length self.new.entries ≡ length self.old.entries }
+    {
+        let Some(place) = self.index.get_index_of(key) else {
+            return;
+        };
+        let was_free = entry_at_place(&self.index, place).cur == 0;
+        leave(&mut self.free, place, was_free);
+        set_counts(&mut self.index, place, counts_of(entry));
+        move_last(&mut self.touched, place);
+        join(&mut self.free, place, entry.cur == 0);
+    }
+
+    /// Adds a key that is tracked for the first time, as the last one touched.
+    pub(crate) fn add(&mut self, key: Addr) -> Result<(), AllocError>
+        requires { find (is_of key) self.old.entries ≡ None }
+        ensures entries { OnOk result (self.new.entries ≡ added key self.old.entries) }
+        ensures spare { self.old.spare ≤ self.new.spare + 1 }
+        ensures reserved { 0 < self.old.spare → IsOk result }
+        ensures err { OnErr result ((self.new.entries ≡ self.old.entries) × (self.old.spare ≤ self.new.spare)) }
+    {
+        self.reserve(1)?;
+        self.index.insert(key, FIRST)?;
+        let place = self.touched.add_place();
+        self.touched.push_back(place);
+        self.free.add_place();
+        Ok(())
+    }
+
+    /// Puts a key that is tracked for the first time, as the last one touched, in place of the entry that was
+    /// touched longest ago of those without trackers. Without such an entry it changes nothing.
+    pub(crate) fn replace_first_free(&mut self, key: Addr) -> Result<bool, AllocError>
+        requires { find (is_of key) self.old.entries ≡ None }
+        ensures answer { IfOk result (λ is. is ≡ list_any is_free self.old.entries) }
+        ensures entries { IfOk result (λ is. is ≡ true → self.new.entries ≡ added key (without_first_free self.old.entries)) }
+        ensures same { IfOk result (λ is. is ≡ false → self.new.entries ≡ self.old.entries) }
+        ensures spare { self.old.spare ≤ self.new.spare + 1 }
+        ensures reserved { 0 < self.old.spare → IsOk result }
+        ensures err { OnErr result ((self.new.entries ≡ self.old.entries) × (self.old.spare ≤ self.new.spare)) }
+    {
+        let Some(place) = self.free.first() else {
+            return Ok(false);
+        };
+        self.index.insert(key, FIRST)?;
+        self.index.swap_remove_index(place);
+        self.free.remove(place);
+        move_last(&mut self.touched, place);
+        Ok(true)
+    }
+
+    /// The keys, with how often each was tracked.
+    pub(crate) fn listed(&self, alloc: Global) -> Result<Seq<TableEntry>, AllocError>
+        ensures { IfOk result (λ list. list ≡ plain self.now.entries) }
+    {
+        let mut list = Vec::with_capacity(alloc, self.index.len())?;
+        let mut next = self.touched.first();
+        for _ in 0..self.index.len() {
+            if let Some(place) = next {
+                list.push(entry_at_place(&self.index, place).plain())?;
+                next = self.touched.next(place);
+            }
+        }
+        Ok(Seq::of(list))
+    }
+}
