@@ -1,3 +1,4 @@
 pub mod GroupLemmas
+pub mod NetworkLemmas
 pub mod SplitLemmas
 pub mod TruthLemmas

@@ -1,4 +1,5 @@
 pub mod Names
+pub mod Networks
 pub mod Reading
 pub mod TestValue
 pub mod Tokens

@@ -1,10 +1,11 @@
 //! Conditions made of tests.
 ghost use Rattle.std.specs.Prelude.{◌≡◌, slice_get, IfOk};
-ghost use Rattle.std.specs.List.{list_any, list_all};
+ghost use Rattle.std.specs.List.{list_all};
 ghost use Rattle.acl_core.specs.Truth.{test_holds, acl_holds, operand_holds, term_holds, condition_holds, applies};
 
 use crate::criterion::{Criterion, Value};
 use crate::test::Test;
+use crate::tests::Tests;
 use list_core::{Duplicate, Seq};
 use std::alloc::{AllocError, Global};
 
@@ -12,7 +13,7 @@ use std::alloc::{AllocError, Global};
 #[derive(Debug, Drop)]
 pub struct Acl {
     pub name: Seq<u8>,
-    pub tests: Seq<Test>,
+    pub tests: Tests,
 }
 
 /// What a term asks.
@@ -132,7 +133,7 @@ impl Acl {
     pub fn holds<V: View>(&self, view: &V) -> bool
         ensures { result ≡ acl_holds (V.worth view.now) self.now }
     {
-        self.tests.as_slice().iter().any(|test| test.holds(view))
+        self.tests.holds(view)
     }
 }
 

@@ -1,5 +1,6 @@
 //! What a test looks at, and what it compares it with.
 ghost use Rattle.std.specs.Prelude.{◌≡◌, IfOk};
+ghost use Rattle.acl_core.specs.Networks.{is_source};
 ghost use Rattle.acl_core.specs.Truth.{compares, matches};
 
 use addr_core::{Addr, Net};
@@ -59,6 +60,15 @@ pub enum Value {
     Absent,
     Number(u64),
     Source(Addr),
+}
+
+impl Criterion {
+    /// Whether it is the source address.
+    pub fn is_source(&self) -> bool
+        ensures { result ≡ is_source self.now }
+    {
+        matches!(self, Criterion::Source)
+    }
 }
 
 impl Pattern {

@@ -7,6 +7,7 @@ pub use fault::AclFault;
 pub use grouping::read_cond;
 pub use reading::{read_name, read_test};
 pub use test::Test;
+pub use tests::Tests;
 
 mod condition;
 mod criterion;
@@ -14,4 +15,5 @@ mod fault;
 mod grouping;
 mod reading;
 mod test;
+mod tests;
 mod token;

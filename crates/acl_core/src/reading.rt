@@ -258,7 +258,7 @@ pub(crate) fn test(alloc: Global, words: &[Word]) -> Result<Test, Stop<AclFault>
         [word, rest @ ..] => {
             let criterion = criterion(alloc, word)?;
             let patterns = patterns(alloc, &criterion, rest)?;
-            Ok(Test::of(criterion, patterns))
+            Ok(Test::of(alloc, criterion, patterns)?)
         }
     }
 }

@@ -3,7 +3,7 @@ ghost use Rattle.std.specs.Prelude.{◌≡◌, ◌≤◌, length, IfOk};
 ghost use Rattle.plan_core.specs.Fields.{line_choice, line_test, acl_of, acls_in, all_of};
 
 use crate::checking::backend_number;
-use acl_core::{Acl, Test};
+use acl_core::{Acl, Test, Tests};
 use conf_tree::{ConfigLine, Statement, acl_names};
 use list_core::{Duplicate, Seq};
 use plan_types::{Backend, Choice};
@@ -43,7 +43,7 @@ fn acl_of(alloc: Global, items: &[ConfigLine], name: &Word) -> Result<Acl, Alloc
 {
     Ok(Acl {
         name: Seq::duplicate_of(alloc, name.bytes())?,
-        tests: tests_in(alloc, name, items)?,
+        tests: Tests::of(alloc, tests_in(alloc, name, items)?)?,
     })
 }
 
