@@ -1,0 +1,3 @@
+pub mod BoxLemmas
+pub mod EntryLemmas
+pub mod ItemLemmas

@@ -1,0 +1,148 @@
+//! Items by rising keys.
+ghost use Rattle.std.specs.Prelude.{◌≡◌, ◌+◌, ◌<◌, ◌^◌, ◌∷◌, ◌++◌, ℕ, [], length, IfErr, IfSome, IfNone, IsSome, OnOk, OnErr, Some, option_to_list};
+ghost use Rattle.std.specs.List.{AllByRecursion};
+ghost use Rattle.std.specs.Option.{option_copied};
+ghost use Rattle.keyed_list.specs.Entries.{item_at, without, with_item, total};
+
+use crate::iter::Iter;
+use std::alloc::{AllocFailed, Global};
+use std::collections::BTreeMap;
+use std::marker::Model;
+
+/// The most entries of a list. No memory holds as many.
+const MOST: usize = (1 << 56) - 1;
+
+/// Items by keys, each added under a key above all others. A contract sees the list of the entries, a key and an item
+/// each, in the order of their keys.
+///
+/// It is a `BTreeMap` of boxes. What is done at a key takes time in the logarithm of the length, and an item stays
+/// where it is in memory until it is taken out. Its memory is given back then.
+///
+/// The items may be of any type. Where they cannot be dropped, neither can the list: it ends by `end`, once its items
+/// were taken out.
+#[derive(Drop)]
+pub struct KeyedList<T> {
+    alloc: Global,
+    tree: BTreeMap<u64, Box<T>>,
+}
+
+impl<T> Model for KeyedList<T> {
+    ghost use Rattle.std.specs.Prelude.{ℕ, List};
+    ghost use Rattle.std.specs.Coded.{coded_list, coded×, coded_ℕ};
+    ghost use Rattle.keyed_list.specs.Boxes.{opened_by};
+    ghost use Rattle.keyed_list.specs.Entries.{AreKept};
+
+    ghost Value = { List (ℕ × T) };
+
+    ghost coded = { coded_list (coded× coded_ℕ T.code) };
+
+    ghost view = { λ l. opened_by (λ own. own.value) l.tree.entries };
+
+    ghost invariant = { λ l. AreKept (opened_by (λ own. own.value) l.tree.entries) };
+}
+
+impl<T> KeyedList<T> {
+    ghost use Rattle.std.specs.Borrow.{sem};
+    ghost use Rattle.keyed_list.specs.Lends.{lends_item};
+
+    /// An empty list, which grows by that allocator.
+    pub fn new(alloc: Global) -> Self
+        ensures { result ≡ [] }
+    {
+        KeyedList {
+            alloc,
+            tree: BTreeMap::new(alloc),
+        }
+    }
+
+    /// The number of entries, at no cost that grows with it.
+    pub fn len(&self) -> usize
+        ensures value { result ≡ length self.now }
+        ensures few { result < 2 ^ 56 }
+    {
+        self.tree.len()
+    }
+
+    /// The item of a key.
+    pub fn get(&self, key: u64) -> Option<&T>
+        ensures { option_copied result ≡ item_at key self.now }
+    {
+        match self.tree.get(&key) {
+            Some(own) => Some(&**own),
+            None => None,
+        }
+    }
+
+    /// The item of a key that is there. When the borrow ends, the key has what was last written, and no other entry
+    /// has changed.
+    pub fn at_mut(&mut self, key: u64) -> &mut T
+        requires { IsSome (item_at key self.old) }
+        ensures* writes_back { sem 𝓛 (lends_item T.row self.entry key result) }
+        ensures value { item_at key self.old ≡ Some result.now }
+    {
+        match self.tree.get_mut(&key) {
+            Some(own) => &mut **own,
+            None => unreachable!(),
+        }
+    }
+
+    /// The entries, in the order of their keys.
+    pub fn iter(&self) -> Iter<'_, T>
+        ensures { result ≡ self.now }
+    {
+        Iter {
+            rest: self.tree.iter(),
+        }
+    }
+
+    /// Adds an item under a key above all others. Without memory nothing is changed, and the item comes back. A list of
+    /// 2^56 - 1 entries takes no further one, as if memory had run out.
+    pub fn push(&mut self, key: u64, item: T) -> Result<(), AllocFailed<T>>
+        requires { AllByRecursion (λ e. e.0 < key) self.old }
+        ensures ok { OnOk result (self.new ≡ self.old ++ (key, item) ∷ []) }
+        ensures err { OnErr result (self.new ≡ self.old) }
+        ensures value_returned { IfErr result (λ failed. failed.value ≡ item) }
+    {
+        if MOST <= self.tree.len() {
+            return Err(AllocFailed { value: item });
+        }
+        let own = Box::new(self.alloc, item)?;
+        match self.tree.insert(key, own) {
+            Ok(None) => Ok(()),
+            Ok(Some(_before)) => unreachable!(),
+            Err(failed) => Err(AllocFailed {
+                value: Box::into_inner(failed.value.1),
+            }),
+        }
+    }
+
+    /// Takes the item of a key out. It takes no memory.
+    pub fn take(&mut self, key: u64) -> Option<T>
+        ensures item { result ≡ item_at key self.old }
+        ensures left { self.new ≡ without key self.old }
+        ensures none { IfNone result (self.new ≡ self.old) }
+
+        // By any measure of an entry, the list has less by the measure of this one.
+        ensures counts { IfSome result (λ item. (worth : ℕ × T → ℕ) → total worth self.new + worth (key, item) ≡ total worth self.old) }
+    {
+        let own = self.tree.remove(&key)?;
+        Some(Box::into_inner(own))
+    }
+
+    /// Takes the last entry out. It takes no memory.
+    pub fn pop(&mut self) -> Option<(u64, T)>
+        ensures last { self.old ≡ self.new ++ option_to_list result }
+        ensures none { IfNone result (self.old ≡ []) }
+    {
+        let (key, own) = self.tree.pop_last()?;
+        Some((key, Box::into_inner(own)))
+    }
+
+    /// Ends a list that has no entries.
+    pub fn end(self)
+        requires { self ≡ [] }
+    {
+        let KeyedList { alloc: _, tree } = self;
+        tree.destroy_empty();
+    }
+}
