@@ -1,0 +1,5 @@
+//! Tests of `keyed_list`, which no program uses yet.
+#![tactic(auto)]
+
+#[cfg(test)]
+mod keyed;
