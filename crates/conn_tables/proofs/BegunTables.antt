@@ -1,6 +1,6 @@
 -- Tables that begin with a version.
-use Rattle.std.proofs.Common.{◌≡◌, ℕ, zero, suc, ◌+◌, ◌<◌, Bool, true, false, cond, List, [], ◌∷◌, ◌++◌, length, map, drop, Option, Some, None, refl, sym, ap, ◌∙◌, arith}
-use Rattle.std.specs.Prelude.{◌≤◌, ◌==◌, ◌&&◌, filter, find, slice_get, zip, is_none, option_map, if◌then◌else◌}
+use Rattle.std.proofs.Common.{◌≡◌, ℕ, ◌+◌, ◌<◌, Bool, true, false, cond, List, [], ◌∷◌, ◌++◌, length, map, Option, Some, None, refl, sym, ap, ◌∙◌, arith}
+use Rattle.std.specs.Prelude.{◌≤◌, ◌==◌, ◌&&◌, filter, find, zip, is_none, option_map, if◌then◌else◌}
 use Rattle.std.specs.List.{AllByRecursion, enumerate_from}
 use Rattle.std.specs.Option.{option_map_or}
 use Rattle.std.proofs.lemmas.Bool.Decides.{nat_tests}
@@ -9,8 +9,7 @@ use Rattle.stick_core.specs.Entries.{cur_of}
 use Rattle.stick_core.specs.PlainEntries.{plain}
 use Rattle.plan_types.specs.declared.plan.Table.{Table}
 use Rattle.plan_types.specs.declared.track.TableId.{TableId}
-use Rattle.conn_model.specs.declared.plain.TableState.{TableState}
-use Rattle.conn_model.specs.Tables.{is_new, new_table, new_tables, next_id, same_before, same_id, same_table}
+use Rattle.conn_model.specs.Tables.{is_new, new_table, new_tables, next_id, same_id, same_table}
 use Rattle.conn_tables.specs.declared.tables.StoredTable.{StoredTable}
 use Rattle.conn_tables.specs.Tables.{AreNextIds, AreTables, IsStored, TablesDiffer, begun_table, cur_in, is_begun, is_table, plain_table}
 use Rattle.conn_model.proofs.Lists.{all-append, all-found, all-more}

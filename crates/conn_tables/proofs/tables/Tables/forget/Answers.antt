@@ -1,5 +1,3 @@
-use Rattle.std.proofs.Common.{map, ap, subst, ◌∙◌}
-use Rattle.conn_tables.specs.Tables.{StoredTables, cur_in, is_listed_in, plain_table}
 use Rattle.conn_tables.proofs.Forgotten.{counts_stay, filter_tables, plain_listed}
 use Rattle.conn_tables.proofs.tables.Tables.forget.Goals as goal
 
