@@ -1,6 +1,7 @@
 -- Rows that are fed.
-use Rattle.std.proofs.Common.{◌≡◌, ℕ, List, [], ◌++◌, Option, Some, None, refl, sym}
+use Rattle.std.proofs.Common.{◌≡◌, ℕ, List, [], ◌++◌, Option, Some, None, refl, sym, ap, ◌∙◌, subst}
 use Rattle.std.specs.Prelude.{find, IsSome, option_and_then}
+use Rattle.std.specs.List.{AllByRecursion}
 use Rattle.pp_any.specs.declared.rest.Rest.{Rest}
 use Rattle.pp_any.specs.declared.rest.Rest.TheVariants.{Read}
 use Rattle.pp_any.specs.Status.{Status, Wait, Whole, Fault}
@@ -12,6 +13,7 @@ use Rattle.conn_rows.specs.declared.row.Stage.TheVariants.{Waiting, Offered}
 use Rattle.conn_rows.specs.declared.row.StoredRow.{StoredRow}
 use Rattle.conn_rows.specs.Stored.{IsHeld, has_serial, rest_kept, rest_within}
 use Rattle.conn_model.specs.Changes.{held_under}
+use Rattle.conn_model.proofs.Lists.{all-found}
 use Rattle.conn_rows.specs.Changes.{stage_fed, stage_up}
 
 -- nothing is held of nothing
@@ -40,3 +42,19 @@ found_waiting serial rows some = by (find (has_serial serial) rows) some
     by : (o : Option StoredRow) → IsSome (option_and_then (λ row. rest_within row.stage) o) → IsSome o
     by None some = absurd (cc)
     by (Some row) some = refl
+
+-- The stage of the row of a serial.
+module _ (serial : ℕ) (rows : List StoredRow) (stage : Stage) (value : (row : StoredRow) → find (has_serial serial) rows ≡ Some row → stage ≡ row.stage) where
+  pub held_found : AllByRecursion (λ row. IsHeld row.stage) rows → IsSome (find (has_serial serial) rows) → IsHeld stage
+  held_found held some = by (find (has_serial serial) rows) refl some
+    where
+      by : (o : Option StoredRow) → find (has_serial serial) rows ≡ o → IsSome o → IsHeld stage
+      by None none some = absurd (cc)
+      by (Some row) found some = subst IsHeld (sym (value row found)) (all-found (λ row. IsHeld row.stage) (has_serial serial) rows row held found).0
+
+  pub rest_found : IsSome (find (has_serial serial) rows) → rest_kept serial rows ≡ rest_within stage
+  rest_found some = by (find (has_serial serial) rows) refl some
+    where
+      by : (o : Option StoredRow) → find (has_serial serial) rows ≡ o → IsSome o → rest_kept serial rows ≡ rest_within stage
+      by None none some = absurd (cc)
+      by (Some row) found some = ap (option_and_then (λ row. rest_within row.stage)) found ∙ ap rest_within (sym (value row found))

@@ -1,3 +1,4 @@
+pub mod RowLists
 pub mod Serials
 pub mod Served
 pub mod OpenTo

@@ -1,78 +1,17 @@
 -- Rows in the order of their serials.
-use Rattle.std.proofs.Common.{◌≡◌, ℕ, zero, suc, ◌+◌, ◌<◌, ◌≤◌, Bool, true, false, not, List, [], ◌∷◌, ◌++◌, length, set, get_or, Option, Some, None, refl, sym, ap, ◌∙◌, arith}
+use Rattle.std.proofs.Common.{◌≡◌, ℕ, zero, suc, ◌+◌, ◌<◌, ◌≤◌, Bool, true, false, not, List, [], ◌∷◌, ◌++◌, length, set, get_or, Option, Some, None, refl, sym, ap, ◌∙◌, subst, ◌^◌, arith}
 use Rattle.std.specs.Prelude.{slice_get, filter, find, ◌==◌, if◌then◌else◌, IsSome}
 use Rattle.std.specs.List.{position, remove, AllByRecursion}
 use Rattle.std.proofs.lemmas.Bool.Decides.{nat_tests}
-use Rattle.std.proofs.lemmas.Option.{slice_get_read}
+use Rattle.std.proofs.lemmas.List.{length-map}
 use Rattle.conn_rows.specs.declared.row.StoredRow.{StoredRow}
-use Rattle.conn_rows.specs.Stored.{AreOpen, IsHeld, has_serial, with_stored}
+use Rattle.conn_rows.specs.declared.row.Stage.{Stage}
+use Rattle.conn_rows.specs.Stored.{AreOpen, IsHeld, at_stage, has_serial, with_stored}
 use Rattle.conn_model.specs.Words.{Rise}
-use Rattle.conn_model.proofs.Lists.{all-append, all-at, all-filter, all-found, all-map, all-more, found_there, nowhere, position_within, rise-append, rise-filter, rise-map}
+use Rattle.conn_model.proofs.Lists.{all-append, all-at, all-each, all-filter, all-found, all-map, all-more, found_there, nowhere, position_within, rise-append, rise-filter, rise-map}
 
 abbrev pub others : ℕ → List StoredRow → List StoredRow
 others serial rows = filter (λ row. not (has_serial serial row)) rows
-
--- where no row has the serial, all are others
-none_found : (serial : ℕ) (rows : List StoredRow) → find (has_serial serial) rows ≡ None → others serial rows ≡ rows
-none_found serial [] none = refl
-none_found serial (row ∷ rows) none = by (row.serial == serial) refl (none_found serial rows)
-  where
-    by : (b : Bool) → (row.serial == serial) ≡ b → (find (has_serial serial) rows ≡ None → others serial rows ≡ rows) → others serial (row ∷ rows) ≡ row ∷ rows
-    by true e rest = absurd (let wrong : Some row ≡ None = rw e at none in cc)
-    by false e rest = rw e (ap (λ rs. row ∷ rs) (rest (rw e at none)))
-
-pub not_placed : (serial : ℕ) (rows : List StoredRow) → position (has_serial serial) rows ≡ None → others serial rows ≡ rows
-not_placed serial rows none = none_found serial rows (nowhere (has_serial serial) rows none)
-
--- rows above a serial are all others
-above_others : (serial : ℕ) (rows : List StoredRow) → AllByRecursion (λ row. serial < row.serial) rows → others serial rows ≡ rows
-above_others serial [] above = refl
-above_others serial (row ∷ rows) above =
-    let less : serial < row.serial = above.0 in
-    let differs : (row.serial == serial) ≡ false = grind (arith, nat_tests, less) in
-    rw differs (ap (λ rs. row ∷ rs) (above_others serial rows above.1))
-
--- a row is not found among rows above it
-not_above : (serial : ℕ) (row : StoredRow) (rows : List StoredRow) → AllByRecursion (λ x. row.serial < x.serial) rows → find (has_serial serial) rows ≡ Some row → ⊥
-not_above serial row [] above found = cc
-not_above serial row (x ∷ rows) above found = by (x.serial == serial) refl (not_above serial row rows above.1)
-  where
-    by : (b : Bool) → (x.serial == serial) ≡ b → (find (has_serial serial) rows ≡ Some row → ⊥) → ⊥
-    by true e rest =
-        let same : x ≡ row = let it : Some x ≡ Some row = rw e at found in cc in
-        let serials : x.serial ≡ row.serial = ap (λ y. y.serial) same in
-        let less : row.serial < x.serial = above.0 in
-        absurd (omega (arith, less, serials))
-    by false e rest = rest (rw e at found)
-
-not_below : (row : StoredRow) (rows : List StoredRow) (n : ℕ) → AllByRecursion (λ x. row.serial < x.serial) rows → slice_get rows n ≡ Some row → ⊥
-not_below row [] n above there = cc
-not_below row (x ∷ rows) zero above there =
-    let same : x ≡ row = cc in
-    let serials : x.serial ≡ row.serial = ap (λ y. y.serial) same in
-    let less : row.serial < x.serial = above.0 in
-    absurd (omega (arith, less, serials))
-not_below row (x ∷ rows) (suc n) above there = not_below row rows n above.1 there
-
--- a serial has one row at most, so taking it out leaves all others
-found_others : (serial : ℕ) (rows : List StoredRow) (n : ℕ) → Rise (λ row. row.serial) rows → find (has_serial serial) rows ≡ slice_get rows n → n < length rows → others serial rows ≡ remove rows n
-found_others serial [] n rise at less = absurd (omega arith)
-found_others serial (row ∷ rows) zero rise at less = by (row.serial == serial) refl (not_above serial row rows rise.0)
-  where
-    by : (b : Bool) → (row.serial == serial) ≡ b → (find (has_serial serial) rows ≡ Some row → ⊥) → others serial (row ∷ rows) ≡ rows
-    by true e never =
-        let same : row.serial ≡ serial = grind (arith, nat_tests, e) in
-        rw e (above_others serial rows (all-more (λ r. row.serial < r.serial) (λ r. serial < r.serial) rows (λ r lt. omega (arith, lt, same)) rise.0))
-    by false e never = absurd (never (rw e at at))
-found_others serial (row ∷ rows) (suc n) rise at less = by (row.serial == serial) refl (not_below row rows n rise.0) (found_others serial rows n rise.1)
-  where
-    by : (b : Bool) → (row.serial == serial) ≡ b → (slice_get rows n ≡ Some row → ⊥) → (find (has_serial serial) rows ≡ slice_get rows n → n < length rows → others serial rows ≡ remove rows n) →
-        others serial (row ∷ rows) ≡ row ∷ remove rows n
-    by true e never rest = absurd (never (sym (rw e at at)))
-    by false e never rest = rw e (ap (λ rs. row ∷ rs) (rest (rw e at at) (omega arith)))
-
-pub placed : (serial : ℕ) (rows : List StoredRow) (n : ℕ) → Rise (λ row. row.serial) rows → position (has_serial serial) rows ≡ Some n → remove rows n ≡ others serial rows
-placed serial rows n rise is = sym (found_others serial rows n rise (found_there (has_serial serial) rows n is) (position_within (has_serial serial) rows n is))
 
 -- The row of a serial changed.
 
@@ -149,23 +88,52 @@ open-with serial last change rows keeps holds known = record {
 
 -- Rows found by their serials.
 
-pub not_some : {X : Type 0} (o : Option X) → o ≡ None → IsSome o → ⊥
-not_some None is some = absurd (cc)
-not_some (Some x) is some = absurd (cc)
-
-pub record At (serial : ℕ) (rows : List StoredRow) (n : ℕ) (row : StoredRow) : Type 0 where
-  pub there : slice_get rows n ≡ Some row
-  pub found : find (has_serial serial) rows ≡ Some row
+pub record Placed (serial : ℕ) (rows : List StoredRow) (row : StoredRow) : Type 0 where
+  pub place : ℕ
+  pub there : slice_get rows place ≡ Some row
   pub is : row.serial ≡ serial
 
--- what is read at the place of a serial
-pub at : (serial : ℕ) (rows : List StoredRow) (n : ℕ) (row : StoredRow) → position (has_serial serial) rows ≡ Some n → row ≡ get_or rows n row → At serial rows n row
-at serial rows n row place value =
-    let there : slice_get rows n ≡ Some row = slice_get_read rows (length rows) n row refl (position_within (has_serial serial) rows n place) value in
-    let found : find (has_serial serial) rows ≡ Some row = found_there (has_serial serial) rows n place ∙ there in
-    let test : (row.serial == serial) ≡ true = (all-found (λ r. Unit {0}) (has_serial serial) rows row (all_unit rows) found).1 in
-    record { there = there; found = found; is = grind (arith, nat_tests, test) }
+-- the row that is found has a place, and the serial
+pub placed : (serial : ℕ) (rows : List StoredRow) (row : StoredRow) → find (has_serial serial) rows ≡ Some row → Placed serial rows row
+placed serial rows row found = by (position (has_serial serial) rows) refl
   where
-    all_unit : (rows : List StoredRow) → AllByRecursion (λ r. Unit {0}) rows
-    all_unit [] = tt
-    all_unit (r ∷ rows) = (tt, all_unit rows)
+    by : (o : Option ℕ) → position (has_serial serial) rows ≡ o → Placed serial rows row
+    by None none = absurd (let no : Some row ≡ None = sym found ∙ nowhere (has_serial serial) rows none in cc)
+    by (Some n) is =
+        let test : (row.serial == serial) ≡ true = (all-found (λ r. Unit {0}) (has_serial serial) rows row (all-each (λ r. Unit {0}) rows (λ r. tt)) found).1 in
+        record { place = n; there = sym (found_there (has_serial serial) rows n is) ∙ found; is = grind (arith, nat_tests, test) }
+
+-- that row changed is the row at its place changed
+pub with_placed : (serial : ℕ) (change : StoredRow → StoredRow) (rows : List StoredRow) (row : StoredRow) → Rise (λ row. row.serial) rows → (at : Placed serial rows row) →
+    with_stored serial change rows ≡ set rows at.place (change row)
+with_placed serial change rows row rise at = sym (set_is serial change rows at.place row rise at.there at.is)
+
+pub places : (serial : ℕ) (change : StoredRow → StoredRow) (rows next : List StoredRow) → Rise (λ row. row.serial) rows → next ≡ with_stored serial change rows → (row : StoredRow) → find (has_serial serial) rows ≡ Some row →
+    (place : ℕ) × (slice_get rows place ≡ Some row) × (next ≡ set rows place (change row))
+places serial change rows next rise is row found =
+    let at = placed serial rows row found in
+    (at.place, at.there, is ∙ with_placed serial change rows row rise at)
+
+-- two changes that are the same of that row are the same
+pub with_same : (serial : ℕ) (one other : StoredRow → StoredRow) (rows : List StoredRow) (row : StoredRow) → Rise (λ row. row.serial) rows → find (has_serial serial) rows ≡ Some row → one row ≡ other row →
+    with_stored serial one rows ≡ with_stored serial other rows
+with_same serial one other rows row rise found same =
+    let at = placed serial rows row found in
+    with_placed serial one rows row rise at ∙ ap (set rows at.place) same ∙ sym (with_placed serial other rows row rise at)
+
+-- what was made of the stage of that row was made of each stage with the serial
+pub with_stage : (serial : ℕ) (change : Stage → Stage) (stage : Stage) (rows : List StoredRow) → Rise (λ row. row.serial) rows → IsSome (find (has_serial serial) rows) →
+    ((row : StoredRow) → find (has_serial serial) rows ≡ Some row → stage ≡ row.stage) → with_stored serial (at_stage (change stage)) rows ≡ with_stored serial (λ row. at_stage (change row.stage) row) rows
+with_stage serial change stage rows rise some value = by (find (has_serial serial) rows) refl some
+  where
+    by : (o : Option StoredRow) → find (has_serial serial) rows ≡ o → IsSome o → with_stored serial (at_stage (change stage)) rows ≡ with_stored serial (λ row. at_stage (change row.stage) row) rows
+    by None none some = absurd (cc)
+    by (Some row) found some =
+        with_same serial (at_stage (change stage)) (λ row. at_stage (change row.stage) row) rows row rise found (ap (λ stage. at_stage (change stage) row) (value row found))
+
+pub few-with : (serial : ℕ) (change : StoredRow → StoredRow) (rows : List StoredRow) → length rows < 2 ^ 56 → length (with_stored serial change rows) < 2 ^ 56
+few-with serial change rows few = subst (λ n. n < 2 ^ 56) (sym (length-map rows (λ row. if row.serial == serial then change row else row))) few
+
+pub no_rows : (rows : List StoredRow) → length rows ≡ 0 → rows ≡ []
+no_rows [] none = refl
+no_rows (row ∷ rows) none = absurd (omega (arith, none))

@@ -1,5 +1,7 @@
 pub mod Changes
 pub mod Counts
+pub mod Lends
+pub mod Listed
 pub mod Needed
 pub mod Stored
 pub mod Summaries

@@ -1,6 +1,6 @@
 //! The open connections of one frontend.
-ghost use Rattle.std.specs.Prelude.{◌≡◌, ◌+◌, ◌^◌, ◌<◌, ◌≤◌, ℕ, List, [], ◌∷◌, ◌++◌, length, slice_get, slice_set, not, filter, find, map, IfOk, IfSome, IfNone, OnOk, OnErr, IsSome, None, Some, vec_len};
-ghost use Rattle.std.specs.List.{position, AllByRecursion};
+ghost use Rattle.std.specs.Prelude.{◌≡◌, ◌+◌, ◌^◌, ◌<◌, ◌≤◌, ℕ, List, [], ◌∷◌, ◌++◌, length, not, filter, find, map, IfOk, IfSome, IfNone, OnOk, OnErr, IsSome, None, Some, vec_len};
+ghost use Rattle.std.specs.List.{AllByRecursion};
 ghost use Rattle.std.specs.Option.{option_copied};
 ghost use Rattle.pp_any.specs.declared.rest.Rest.{Rest};
 ghost use Rattle.pp_any.specs.Rest.{IsRest};
@@ -23,6 +23,7 @@ ghost use Rattle.conn_model.specs.Changes.{held_after, row_tracking, with_row};
 ghost use Rattle.conn_rows.specs.Changes.{stage_fed, stage_offered, stage_up, status_of, stored_fed, stored_up, used_by};
 
 use crate::row::{HeldSeat, Holdings, Seat, Stage, StoredRow};
+use crate::row_list::RowList;
 use crate::slots::give_back;
 use addr_core::Pair;
 use conn_model::plain::{FrontendRows, Row, Version};
@@ -50,7 +51,7 @@ pub enum HeaderStatus {
 pub struct FrontendState {
     name: Seq<u8>,
     serial: u64,
-    rows: Vec<StoredRow>,
+    rows: RowList,
 }
 
 impl Model for FrontendState {
@@ -58,9 +59,9 @@ impl Model for FrontendState {
 
     ghost Value = { StoredFrontend };
 
-    ghost view = { λ f. record { name = f.name; serial = f.serial; rows = f.rows.items } };
+    ghost view = { λ f. record { name = f.name; serial = f.serial; rows = f.rows } };
 
-    ghost invariant = { λ f. AreOpen f.serial f.rows.items };
+    ghost invariant = { λ f. AreOpen f.serial f.rows };
 }
 
 impl FrontendState {
@@ -71,7 +72,7 @@ impl FrontendState {
         FrontendState {
             name,
             serial,
-            rows: Vec::new(alloc),
+            rows: RowList::new(alloc),
         }
     }
 
@@ -93,7 +94,7 @@ impl FrontendState {
         ensures value { result ≡ length self.now.rows }
         ensures few { result < 2 ^ 56 }
     {
-        self.rows.as_slice().len() as u64
+        self.rows.len() as u64
     }
 
     /// How many connections were offered a server of a backend of that name, by the plans of these versions.
@@ -101,25 +102,21 @@ impl FrontendState {
         ensures value { result ≡ seated_stored versions.now name.now self.now }
         ensures few { result < 2 ^ 56 }
     {
-        let _few = self.count();
-        self.rows
-            .iter()
-            .filter(|row| row.is_offered_to(versions, name))
-            .count() as u64
+        self.rows.offered_to(versions, name)
     }
 
     /// Whether a connection is of the version of that number.
     pub fn has_version(&self, number: u64) -> bool
         ensures { result ≡ has_stored number self.now }
     {
-        self.rows.iter().any(|row| row.version == number)
+        self.rows.has_version(number)
     }
 
     /// The row of that serial.
     pub fn row(&self, serial: u64) -> Option<&StoredRow>
         ensures { option_copied result ≡ find (has_serial serial) self.now.rows }
     {
-        self.rows.iter().find(|row| row.serial == serial)
+        self.rows.find(serial)
     }
 
     /// Gives out the next serial to a connection that is refused.
@@ -128,6 +125,7 @@ impl FrontendState {
         ensures new { self.new ≡ record self.old { serial = self.old.serial + 1 } }
         ensures few { length self.new.rows < 2 ^ 56 }
     {
+        let _few = self.rows.len();
         self.serial += 1;
     }
 
@@ -139,12 +137,18 @@ impl FrontendState {
         ensures err { OnErr result (self.new ≡ self.old) }
         ensures few { length self.new.rows < 2 ^ 56 }
     {
-        self.rows.reserve(1)?;
         let serial = self.serial + 1;
-        self.rows
-            .push_reserved(StoredRow::new(serial, version, real, accepted));
-        self.serial = serial;
-        Ok(serial)
+        let row = StoredRow::new(serial, version, real, accepted);
+        match self.rows.push(row) {
+            Ok(()) => {
+                self.serial = serial;
+                Ok(serial)
+            }
+            Err(failed) => {
+                failed.value.end_arrival();
+                Err(AllocError)
+            }
+        }
     }
 
     /// Feeds a piece to a connection that waits. Once something is decided, nothing is held of the header.
@@ -208,7 +212,7 @@ impl FrontendState {
         ensures none { IfNone result (self.new.rows ≡ self.old.rows) }
         ensures counts { IfSome result (λ row. (worth : StoredRow → ℕ) → total worth self.new.rows + worth row ≡ total worth self.old.rows) }
     {
-        take_row(&mut self.rows, serial)
+        self.rows.take(serial)
     }
 
     /// Equal rows, as plain data, by the plans of these versions.
@@ -218,7 +222,7 @@ impl FrontendState {
         Ok(FrontendRows {
             name: self.name.duplicate(alloc)?,
             serial: self.serial,
-            rows: plain_rows(alloc, versions, self.rows.as_slice())?,
+            rows: self.rows.plain(alloc, versions)?,
         })
     }
 
@@ -234,12 +238,12 @@ impl FrontendState {
             serial: _,
             mut rows,
         } = self;
-        while let Some(row) = last_row(&mut rows) {
+        while let Some(row) = rows.pop() {
             let Holdings { tracks, slot } = row.end();
             tables.release(tracks);
             give_back(kept, slot);
         }
-        rows.destroy_empty();
+        rows.end();
     }
 
     /// Ends a frontend of which nothing is open.
@@ -251,7 +255,7 @@ impl FrontendState {
             serial: _,
             rows,
         } = self;
-        rows.destroy_empty();
+        rows.end();
     }
 }
 
@@ -276,15 +280,6 @@ pub fn end_all(mut frontends: Vec<FrontendState>, kept: &mut Versions, tables: &
     frontends.destroy_empty();
 }
 
-fn last_row(rows: &mut Vec<StoredRow>) -> Option<StoredRow>
-    ensures counts { IfSome result (λ row. (worth : StoredRow → ℕ) → total worth rows.new.items + worth row ≡ total worth rows.old.items) }
-    ensures shorter { IfSome result (λ row. vec_len rows.new + 1 ≡ vec_len rows.old) }
-    ensures none { IfNone result ((worth : StoredRow → ℕ) → total worth rows.old.items ≡ 0) }
-    ensures empty { IfNone result (vec_len rows.new ≡ 0) }
-{
-    rows.pop()
-}
-
 fn last_frontend(frontends: &mut Vec<FrontendState>) -> Option<FrontendState>
     ensures counts { IfSome result (λ own. (worth : StoredFrontend → ℕ) → total worth frontends.new.items + worth own ≡ total worth frontends.old.items) }
     ensures shorter { IfSome result (λ own. vec_len frontends.new + 1 ≡ vec_len frontends.old) }
@@ -293,69 +288,24 @@ fn last_frontend(frontends: &mut Vec<FrontendState>) -> Option<FrontendState>
     frontends.pop()
 }
 
-fn plain_rows(
-    alloc: Global,
-    versions: &[Version],
-    rows: &[StoredRow],
-) -> Result<Seq<Row>, AllocError>
-    ensures { IfOk result (λ copies. copies ≡ map (plain_row versions.now) rows.now) }
-{
-    let mut copies = Vec::with_capacity(alloc, rows.len())?;
-    for row in rows {
-        copies.push(row.plain(alloc, versions)?)?;
-    }
-    Ok(Seq::of(copies))
-}
-
-fn place_of(rows: &[StoredRow], serial: u64) -> Option<usize>
-    ensures { result ≡ position (has_serial serial) rows.now }
-{
-    rows.iter().position(|row| row.serial == serial)
-}
-
-fn place_there(rows: &[StoredRow], serial: u64) -> usize
-    requires { IsSome (find (has_serial serial) rows.now) }
-    ensures place { Some result ≡ position (has_serial serial) rows.now }
-    ensures within { result < length rows.now }
-{
-    let Some(place) = place_of(rows, serial) else {
-        unreachable!()
-    };
-    place
-}
-
-/// Takes the row of that serial out.
-fn take_row(rows: &mut Vec<StoredRow>, serial: u64) -> Option<StoredRow>
-    requires { Rise (λ row. row.serial) rows.old.items }
-    ensures row { result ≡ find (has_serial serial) rows.old.items }
-    ensures left { rows.new.items ≡ filter (λ row. not (has_serial serial row)) rows.old.items }
-    ensures none { IfNone result (rows.new.items ≡ rows.old.items) }
-    ensures counts { IfSome result (λ row. (worth : StoredRow → ℕ) → total worth rows.new.items + worth row ≡ total worth rows.old.items) }
-{
-    let place = place_of(rows.as_slice(), serial)?;
-    Some(rows.remove(place))
-}
-
 /// Puts a stage in place of that of a row, and hands out what was there.
-fn put_stage(rows: &mut Vec<StoredRow>, serial: u64, stage: Stage) -> Stage
-    requires rise { Rise (λ row. row.serial) rows.old.items }
-    requires there { IsSome (find (has_serial serial) rows.old.items) }
-    ensures rows { rows.new.items ≡ with_stored serial (at_stage stage) rows.old.items }
-    ensures before { (row : StoredRow) → find (has_serial serial) rows.old.items ≡ Some row → result ≡ row.stage }
-    ensures place { (row : StoredRow) → find (has_serial serial) rows.old.items ≡ Some row → (place : ℕ) × (slice_get rows.old.items place ≡ Some row) × (rows.new.items ≡ slice_set rows.old.items place (at_stage stage row)) }
+fn put_stage(rows: &mut RowList, serial: u64, stage: Stage) -> Stage
+    requires { IsSome (find (has_serial serial) rows.old) }
+    ensures rows { rows.new ≡ with_stored serial (at_stage stage) rows.old }
+    ensures before { (row : StoredRow) → find (has_serial serial) rows.old ≡ Some row → result ≡ row.stage }
+    ensures few { length rows.new < 2 ^ 56 }
 {
-    let place = place_there(rows.as_slice(), serial);
-    mem::replace(&mut rows[place].stage, stage)
+    mem::replace(rows.stage_mut(serial), stage)
 }
 
 /// Notes that its server took the connection of a row, if it was offered one.
-fn up_row(rows: &mut Vec<StoredRow>, serial: u64)
-    requires rise { Rise (λ row. row.serial) rows.old.items }
-    requires there { IsSome (find (has_serial serial) rows.old.items) }
-    ensures { rows.new.items ≡ with_stored serial stored_up rows.old.items }
+fn up_row(rows: &mut RowList, serial: u64)
+    requires rise { Rise (λ row. row.serial) rows.old }
+    requires there { IsSome (find (has_serial serial) rows.old) }
+    ensures rows { rows.new ≡ with_stored serial stored_up rows.old }
+    ensures few { length rows.new < 2 ^ 56 }
 {
-    let place = place_there(rows.as_slice(), serial);
-    up_stage(&mut rows[place].stage);
+    up_stage(rows.stage_mut(serial));
 }
 
 fn up_stage(stage: &mut Stage)
@@ -368,28 +318,28 @@ fn up_stage(stage: &mut Stage)
 }
 
 /// Lets a counter of a row, which tracks nothing, track.
-fn put_tracking(rows: &mut Vec<StoredRow>, serial: u64, counter: u8, tracking: Tracking)
-    requires rise { Rise (λ row. row.serial) rows.old.items }
+fn put_tracking(rows: &mut RowList, serial: u64, counter: u8, tracking: Tracking)
+    requires rise { Rise (λ row. row.serial) rows.old }
     requires counter { counter < 3 }
-    requires free { (row : StoredRow) × (find (has_serial serial) rows.old.items ≡ Some row) × (on_counter counter row.tracks ≡ None) }
-    ensures rows { rows.new.items ≡ with_stored serial (stored_tracking counter tracking) rows.old.items }
-    ensures plain { (versions : List Version) → map (plain_row versions) rows.new.items ≡ change_row serial (row_tracking (track_by counter tracking)) (map (plain_row versions) rows.old.items) }
-    ensures counts { (id : TableId) (key : Addr) → total (row_on id key) rows.new.items ≡ total (row_on id key) rows.old.items + counter_on id key (Some tracking) }
+    requires free { (row : StoredRow) × (find (has_serial serial) rows.old ≡ Some row) × (on_counter counter row.tracks ≡ None) }
+    ensures rows { rows.new ≡ with_stored serial (stored_tracking counter tracking) rows.old }
+    ensures plain { (versions : List Version) → map (plain_row versions) rows.new ≡ change_row serial (row_tracking (track_by counter tracking)) (map (plain_row versions) rows.old) }
+    ensures counts { (id : TableId) (key : Addr) → total (row_on id key) rows.new ≡ total (row_on id key) rows.old + counter_on id key (Some tracking) }
+    ensures few { length rows.new < 2 ^ 56 }
 {
-    let place = place_there(rows.as_slice(), serial);
-    rows[place].tracks.put(counter, tracking);
+    rows.tracks_mut(serial).put(counter, tracking);
 }
 
-fn feed_row(rows: &mut Vec<StoredRow>, serial: u64, piece: &[u8]) -> HeaderStatus
-    requires rise { Rise (λ row. row.serial) rows.old.items }
-    requires held { AllByRecursion (λ row. IsHeld row.stage) rows.old.items }
-    requires waits { IsSome (rest_kept serial rows.old.items) }
-    ensures status { (rest : Rest) → rest_kept serial rows.old.items ≡ Some rest → status_of result ≡ status_on rest piece.now }
+fn feed_row(rows: &mut RowList, serial: u64, piece: &[u8]) -> HeaderStatus
+    requires rise { Rise (λ row. row.serial) rows.old }
+    requires held { AllByRecursion (λ row. IsHeld row.stage) rows.old }
+    requires waits { IsSome (rest_kept serial rows.old) }
+    ensures status { (rest : Rest) → rest_kept serial rows.old ≡ Some rest → status_of result ≡ status_on rest piece.now }
     ensures used { used_by result ≤ length piece.now }
-    ensures rows { rows.new.items ≡ with_stored serial (stored_fed piece.now) rows.old.items }
+    ensures rows { rows.new ≡ with_stored serial (stored_fed piece.now) rows.old }
+    ensures few { length rows.new < 2 ^ 56 }
 {
-    let place = place_there(rows.as_slice(), serial);
-    feed_stage(&mut rows[place].stage, piece)
+    feed_stage(rows.stage_mut(serial), piece)
 }
 
 fn feed_stage(stage: &mut Stage, piece: &[u8]) -> HeaderStatus

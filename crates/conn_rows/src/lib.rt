@@ -12,5 +12,6 @@ mod needed;
 mod opening;
 mod reload;
 mod row;
+mod row_list;
 mod rows;
 mod slots;

@@ -1,7 +1,8 @@
 //! One open connection.
-ghost use Rattle.std.specs.Prelude.{◌≡◌, [], IfOk, find, option_and_then, slice_get};
+ghost use Rattle.std.specs.Prelude.{◌≡◌, [], IfOk, None, find, option_and_then, slice_get};
 ghost use Rattle.std.specs.Option.{option_copied, option_map_or};
 ghost use Rattle.plan_types.specs.Lines.{has_line};
+ghost use Rattle.conn_tables.specs.Tracks.{no_trackings};
 ghost use Rattle.conn_model.specs.Answer.{version_at};
 ghost use Rattle.conn_model.specs.Counts.{is_offered_to};
 ghost use Rattle.conn_model.specs.History.{identity_at, nobody};
@@ -220,6 +221,29 @@ impl StoredRow {
             tracks,
             slot: stage.end(),
         }
+    }
+
+    /// Ends a row that holds nothing, as one that was just made.
+    pub fn end_arrival(self)
+        requires tracks { self.tracks ≡ no_trackings }
+        requires slot { slot_of self.stage ≡ None }
+    {
+        let Holdings { tracks, slot } = self.end();
+        let Trackings { sc0, sc1, sc2 } = tracks;
+        end_none(sc0);
+        end_none(sc1);
+        end_none(sc2);
+        end_none(slot);
+    }
+}
+
+/// Ends what is not there.
+fn end_none<T>(value: Option<T>)
+    requires { value ≡ None }
+{
+    match value {
+        Some(_value) => unreachable!(),
+        None => {}
     }
 }
 

@@ -1,29 +1,30 @@
-use Rattle.std.proofs.Common.{ap, sym, ◌∙◌}
-use Rattle.std.specs.Prelude.{option_and_then}
-use Rattle.std.specs.List.{position}
-use Rattle.conn_rows.specs.Stored.{has_serial, rest_within}
-use Rattle.conn_rows.specs.Changes.{stored_fed}
-use Rattle.conn_rows.proofs.Serials.{At, at, set_is}
+use Rattle.std.proofs.Common.{subst, sym, ◌∙◌}
+use Rattle.std.specs.Prelude.{IsSome}
+use Rattle.conn_rows.specs.Changes.{stage_fed}
+use Rattle.conn_rows.specs.Stored.{at_stage}
+use Rattle.conn_rows.proofs.Fed.{found_waiting, held_found, rest_found}
+use Rattle.conn_rows.proofs.Serials.{few-with, with_stage}
 use Rattle.conn_rows.proofs.frontend.feed_row.Goals as goal
+
+pub stage_mut-requires : goal.stage_mut-requires
+stage_mut-requires c = found_waiting c.args.serial c.args.rows.now c.requires.waits
+
+pub feed_stage-requires-clause-held : goal.feed_stage-requires-clause-held
+feed_stage-requires-clause-held c =
+    held_found c.args.serial c.args.rows.now c.stage_mut.result.now c.stage_mut.ensures.value c.requires.held (found_waiting c.args.serial c.args.rows.now c.requires.waits)
 
 pub feed_stage-requires-clause-waits : goal.feed_stage-requires-clause-waits
 feed_stage-requires-clause-waits c =
-    let read : At c.args.serial c.args.rows.now.items c.place_there-place.result c.index_mut.result.now =
-    at c.args.serial c.args.rows.now.items c.place_there-place.result c.index_mut.result.now
-    (ap (λ xs. position (has_serial c.args.serial) xs) (sym c.as_slice.ensures.value) ∙ sym c.place_there-place.ensures.place) c.index_mut.ensures.value in
-    rw read.found at c.requires.waits
+    subst IsSome (rest_found c.args.serial c.args.rows.now c.stage_mut.result.now c.stage_mut.ensures.value (found_waiting c.args.serial c.args.rows.now c.requires.waits)) c.requires.waits
 
 pub returns-clause-status : goal.returns-clause-status
 returns-clause-status c = λ rest is.
-    let read : At c.args.serial c.args.rows.now.items c.place_there-place.result c.index_mut.result.now =
-    at c.args.serial c.args.rows.now.items c.place_there-place.result c.index_mut.result.now
-    (ap (λ xs. position (has_serial c.args.serial) xs) (sym c.as_slice.ensures.value) ∙ sym c.place_there-place.ensures.place) c.index_mut.ensures.value in
-    c.feed_stage.ensures.status rest (sym (ap (option_and_then (λ row. rest_within row.stage)) read.found) ∙ is)
+    c.feed_stage.ensures.status rest (sym (rest_found c.args.serial c.args.rows.now c.stage_mut.result.now c.stage_mut.ensures.value (found_waiting c.args.serial c.args.rows.now c.requires.waits)) ∙ is)
 
 pub returns-clause-rows : goal.returns-clause-rows
 returns-clause-rows c =
-    let read : At c.args.serial c.args.rows.now.items c.place_there-place.result c.index_mut.result.now =
-    at c.args.serial c.args.rows.now.items c.place_there-place.result c.index_mut.result.now
-    (ap (λ xs. position (has_serial c.args.serial) xs) (sym c.as_slice.ensures.value) ∙ sym c.place_there-place.ensures.place) c.index_mut.ensures.value in
     rw c.feed_stage.ensures.new
-    (set_is c.args.serial (stored_fed c.args.piece.now) c.args.rows.now.items c.place_there-place.result c.index_mut.result.now c.requires.rise read.there read.is)
+    (with_stage c.args.serial (stage_fed c.args.piece.now) c.stage_mut.result.now c.args.rows.now c.requires.rise (found_waiting c.args.serial c.args.rows.now c.requires.waits) c.stage_mut.ensures.value)
+
+pub returns-clause-few : goal.returns-clause-few
+returns-clause-few c = rw c.feed_stage.ensures.new (few-with c.args.serial (at_stage (stage_fed c.args.piece.now c.stage_mut.result.now)) c.args.rows.now c.stage_mut.ensures.few)

@@ -7,4 +7,4 @@ use Rattle.conn_rows.proofs.frontend.FrontendState.feed.Goals as goal
 pub invariant_of-self : goal.invariant_of-self
 invariant_of-self c =
     rw c.feed_row.ensures.rows
-    (open-with c.args.serial c.self.inside.serial (stored_fed c.args.piece.now) c.self.inside.rows.items (λ row. refl) (λ row held. fed_held row.stage c.args.piece.now held) c.self.invariant)
+    (open-with c.args.serial c.self.inside.serial (stored_fed c.args.piece.now) c.self.inside.rows (λ row. refl) (λ row held. fed_held row.stage c.args.piece.now held) c.self.invariant)

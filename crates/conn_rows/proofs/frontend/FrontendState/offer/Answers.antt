@@ -4,28 +4,28 @@ use Rattle.conn_rows.specs.Changes.{stage_offered}
 use Rattle.conn_rows.specs.Stored.{StoredFrontend, at_stage, rest_kept}
 use Rattle.conn_rows.specs.Value.{HasSlot}
 use Rattle.conn_rows.proofs.Fed.{found_waiting}
-use Rattle.conn_rows.proofs.Serials.{open-with}
+use Rattle.conn_rows.proofs.Serials.{open-with, places}
 use Rattle.conn_rows.proofs.Served.{each_offered, not_waiting, slots_offered}
 use Rattle.conn_rows.proofs.frontend.FrontendState.offer.Goals as goal
 
-pub put_stage-requires-clause-there : goal.put_stage-requires-clause-there
-put_stage-requires-clause-there c = found_waiting c.args.serial c.self.inside.rows.items (subst (λ (f : StoredFrontend). IsSome (rest_kept c.args.serial f.rows)) (sym c.self.view_is) c.requires)
+pub put_stage-requires : goal.put_stage-requires
+put_stage-requires c = found_waiting c.args.serial c.self.inside.rows (subst (λ (f : StoredFrontend). IsSome (rest_kept c.args.serial f.rows)) (sym c.self.view_is) c.requires)
 
 pub unreachable-requires : goal.unreachable-requires
-unreachable-requires c = not_waiting c.args.serial c.self.inside.rows.items c.put_stage.result _ (subst (λ (f : StoredFrontend). IsSome (rest_kept c.args.serial f.rows)) (sym c.self.view_is) c.requires) c.put_stage.ensures.before c.in-Offered.is
+unreachable-requires c = not_waiting c.args.serial c.self.inside.rows c.put_stage.result _ (subst (λ (f : StoredFrontend). IsSome (rest_kept c.args.serial f.rows)) (sym c.self.view_is) c.requires) c.put_stage.ensures.before c.in-Offered.is
 
 pub invariant_of-self : goal.invariant_of-self
 invariant_of-self c =
     rw c.put_stage.ensures.rows
-    (open-with c.args.serial c.self.inside.serial (at_stage (stage_offered c.args.seat c.args.slot)) c.self.inside.rows.items (λ row. refl) (λ row held. tt) c.self.invariant)
+    (open-with c.args.serial c.self.inside.serial (at_stage (stage_offered c.args.seat c.args.slot)) c.self.inside.rows (λ row. refl) (λ row held. tt) c.self.invariant)
 
 pub returns-clause-slots : goal.returns-clause-slots
 returns-clause-slots c =
     rw (← c.self.view_is)
-    (slots_offered c.args.serial c.self.inside.rows.items c.put_stage.new.rows.items c.args.seat c.args.slot (subst (λ (f : StoredFrontend). IsSome (rest_kept c.args.serial f.rows)) (sym c.self.view_is) c.requires) c.put_stage.ensures.place)
+    (slots_offered c.args.serial c.self.inside.rows c.put_stage.new.rows c.args.seat c.args.slot (subst (λ (f : StoredFrontend). IsSome (rest_kept c.args.serial f.rows)) (sym c.self.view_is) c.requires) (places c.args.serial (at_stage (stage_offered c.args.seat c.args.slot)) c.self.inside.rows c.put_stage.new.rows c.self.invariant.rise c.put_stage.ensures.rows))
 
 pub returns-clause-each : goal.returns-clause-each
 returns-clause-each c =
     rw (← c.self.view_is)
     (λ kept.
-    each_offered (HasSlot kept) c.args.serial c.self.inside.rows.items c.put_stage.new.rows.items c.args.seat c.args.slot (subst (λ (f : StoredFrontend). IsSome (rest_kept c.args.serial f.rows)) (sym c.self.view_is) c.requires) c.put_stage.ensures.place)
+    each_offered (HasSlot kept) c.args.serial c.self.inside.rows c.put_stage.new.rows c.args.seat c.args.slot (subst (λ (f : StoredFrontend). IsSome (rest_kept c.args.serial f.rows)) (sym c.self.view_is) c.requires) (places c.args.serial (at_stage (stage_offered c.args.seat c.args.slot)) c.self.inside.rows c.put_stage.new.rows c.self.invariant.rise c.put_stage.ensures.rows))

@@ -9,12 +9,12 @@ use Rattle.conn_rows.proofs.frontend.FrontendState.track.Goals as goal
 pub invariant_of-self : goal.invariant_of-self
 invariant_of-self c =
     rw c.put_tracking.ensures.rows
-    (open-with c.args.serial c.self.inside.serial (stored_tracking c.args.counter c.args.tracking) c.self.inside.rows.items (λ row. refl) (λ row held. held) c.self.invariant)
+    (open-with c.args.serial c.self.inside.serial (stored_tracking c.args.counter c.args.tracking) c.self.inside.rows (λ row. refl) (λ row held. held) c.self.invariant)
 
 pub returns-clause-slots : goal.returns-clause-slots
 returns-clause-slots c =
-    rw (← c.self.view_is, c.put_tracking.ensures.rows) (λ place. total-with (row_slots place) c.args.serial (stored_tracking c.args.counter c.args.tracking) c.self.inside.rows.items (λ row. refl))
+    rw (← c.self.view_is, c.put_tracking.ensures.rows) (λ place. total-with (row_slots place) c.args.serial (stored_tracking c.args.counter c.args.tracking) c.self.inside.rows (λ row. refl))
 
 pub returns-clause-each : goal.returns-clause-each
 returns-clause-each c =
-    rw (← c.self.view_is, c.put_tracking.ensures.rows) (λ kept all. all-with (HasSlot kept) c.args.serial (stored_tracking c.args.counter c.args.tracking) c.self.inside.rows.items (λ row has. has) all)
+    rw (← c.self.view_is, c.put_tracking.ensures.rows) (λ kept all. all-with (HasSlot kept) c.args.serial (stored_tracking c.args.counter c.args.tracking) c.self.inside.rows (λ row has. has) all)

@@ -6,5 +6,5 @@ use Rattle.conn_rows.proofs.frontend.FrontendState.up.Goals as goal
 
 pub invariant_of-self : goal.invariant_of-self
 invariant_of-self c =
-    rw c.up_row.ensures
-    (open-with c.args.serial c.self.inside.serial stored_up c.self.inside.rows.items (λ row. refl) (λ row. up_held row.stage) c.self.invariant)
+    rw c.up_row.ensures.rows
+    (open-with c.args.serial c.self.inside.serial stored_up c.self.inside.rows (λ row. refl) (λ row. up_held row.stage) c.self.invariant)
