@@ -1,14 +1,13 @@
 -- A list of rows, each under its serial.
-use Rattle.std.proofs.Common.{◌≡◌, ℕ, ◌+◌, ◌<◌, ◌^◌, List, [], ◌∷◌, ◌++◌, length, Option, Some, None, Result, Ok, Err, refl, sym, ap, ◌∙◌, subst, arith}
-use Rattle.std.specs.Prelude.{filter, find, not, IfSome, IfNone, OnErr, OnOk, option_to_list}
+use Rattle.std.proofs.Common.{◌≡◌, ℕ, ◌+◌, ◌<◌, ◌^◌, List, [], ◌∷◌, ◌++◌, length, Some, Result, Ok, Err, refl, sym, ap, ◌∙◌, subst}
+use Rattle.std.specs.Prelude.{filter, find, not, OnErr, OnOk}
 use Rattle.std.specs.List.{AllByRecursion}
-use Rattle.std.specs.Option.{option_map}
 use Rattle.std.proofs.lemmas.List.{length-map}
 use Rattle.keyed_list.specs.Entries as keyed
 use Rattle.keyed_list.specs.Entries.{item_at, items_of, with_item, without, AreKept, AreNumbered}
 use Rattle.keyed_list.proofs.EntryLemmas.{all-append, all-filter, all-front}
 use Rattle.keyed_list.proofs.BoxLemmas.{kept-front, kept-with_item, kept-without}
-use Rattle.keyed_list.proofs.ItemLemmas.{item_at-is, items-append, number-found, numbered-with_item, total-taken, with_item-is, without-is}
+use Rattle.keyed_list.proofs.ItemLemmas.{item_at-is, number-found, numbered-with_item, total-taken, with_item-is, without-is}
 use Rattle.conn_model.specs.Counts.{total}
 use Rattle.conn_rows.specs.declared.row.StoredRow.{StoredRow}
 use Rattle.conn_rows.specs.Listed.{AreListed}

@@ -1,14 +1,14 @@
 -- Rows in the order of their serials.
-use Rattle.std.proofs.Common.{◌≡◌, ℕ, zero, suc, ◌+◌, ◌<◌, ◌≤◌, Bool, true, false, not, List, [], ◌∷◌, ◌++◌, length, set, get_or, Option, Some, None, refl, sym, ap, ◌∙◌, subst, ◌^◌, arith}
+use Rattle.std.proofs.Common.{◌≡◌, ℕ, zero, suc, ◌+◌, ◌<◌, ◌≤◌, Bool, true, false, not, List, [], ◌∷◌, ◌++◌, length, set, Option, Some, None, refl, sym, ap, ◌∙◌, subst, ◌^◌, arith}
 use Rattle.std.specs.Prelude.{slice_get, filter, find, ◌==◌, if◌then◌else◌, IsSome}
-use Rattle.std.specs.List.{position, remove, AllByRecursion}
+use Rattle.std.specs.List.{position, AllByRecursion}
 use Rattle.std.proofs.lemmas.Bool.Decides.{nat_tests}
 use Rattle.std.proofs.lemmas.List.{length-map}
 use Rattle.conn_rows.specs.declared.row.StoredRow.{StoredRow}
 use Rattle.conn_rows.specs.declared.row.Stage.{Stage}
 use Rattle.conn_rows.specs.Stored.{AreOpen, IsHeld, at_stage, has_serial, with_stored}
 use Rattle.conn_model.specs.Words.{Rise}
-use Rattle.conn_model.proofs.Lists.{all-append, all-at, all-each, all-filter, all-found, all-map, all-more, found_there, nowhere, position_within, rise-append, rise-filter, rise-map}
+use Rattle.conn_model.proofs.Lists.{all-append, all-at, all-each, all-filter, all-found, all-map, all-more, found_there, nowhere, rise-append, rise-filter, rise-map}
 
 abbrev pub others : ℕ → List StoredRow → List StoredRow
 others serial rows = filter (λ row. not (has_serial serial row)) rows

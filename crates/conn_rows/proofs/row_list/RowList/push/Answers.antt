@@ -1,6 +1,6 @@
 use Rattle.std.proofs.Common.{◌<◌, sym, subst}
 use Rattle.std.specs.List.{AllByRecursion}
-use Rattle.conn_rows.proofs.RowLists.{below-keys, listed-push}
+use Rattle.conn_rows.proofs.RowLists.{below-keys}
 use Rattle.conn_rows.proofs.row_list.RowList.push.Goals as goal
 
 pub push-pushed-requires : goal.push-pushed-requires

@@ -1,4 +1,4 @@
-use Rattle.std.proofs.Common.{◌≡◌, ◌+◌, ℕ, List, Option, Some, None, ap, sym, ◌∙◌}
+use Rattle.std.proofs.Common.{◌≡◌, ◌+◌, ℕ, List, Option, Some, None, ap, ◌∙◌}
 use Rattle.std.specs.Prelude.{filter, find, not, IfSome}
 use Rattle.keyed_list.specs.Entries as keyed
 use Rattle.keyed_list.specs.Entries.{items_of}

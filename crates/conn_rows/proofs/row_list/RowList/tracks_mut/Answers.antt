@@ -1,6 +1,5 @@
 use Rattle.std.proofs.Common.{◌≡◌, Some, refl, sym, ap, ◌∙◌, subst}
 use Rattle.std.specs.Prelude.{find, IsSome}
-use Rattle.keyed_list.specs.Entries.{item_at}
 use Rattle.conn_rows.specs.Lends.{at_tracks}
 use Rattle.conn_rows.specs.Stored.{has_serial, with_stored}
 use Rattle.conn_rows.specs.declared.row.StoredRow.{StoredRow}
