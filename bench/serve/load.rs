@@ -8,8 +8,13 @@
 //!     load ping PORT N S      N connections that send 64 bytes and wait for them to come back, again and again, from `echo`
 //!     load hold PORT N        N connections, each of which got 5 bytes back from `echo`; it prints `held`, and holds them
 //!                             until its standard input ends
+//!     load idle PORT N        N connections that send nothing; it prints `held`, and holds them until its standard input
+//!                             ends
+//!     load come PORT N        N connections as those of `rate`, each from a source of its own in 127.0.0.0/8
+//!     load stall PORT S       one connection that sends 64 bytes and waits for them to come back, again and again for S
+//!                             seconds, from `echo`; it prints how many there were and the longest wait in seconds
 //!
-//! `rate`, `bulk` and `ping` print what was done (connections, bytes, messages), in how many seconds, and how many
+//! `rate`, `bulk`, `ping` and `come` print what was done (connections, bytes, messages), in how many seconds, and how many
 //! connections went wrong.
 
 use std::io::{ErrorKind, Read, Write};
@@ -22,6 +27,7 @@ use std::time::{Duration, Instant};
 const MESSAGE: [u8; 64] = [b'x'; 64];
 const PART: usize = 131_072;
 const LISTENER: u64 = u64::MAX;
+const HERE: [u8; 4] = [127, 0, 0, 1];
 
 // epoll, as Linux has it on x86-64
 
@@ -46,6 +52,7 @@ extern "C" {
     fn epoll_ctl(set: i32, what: i32, fd: i32, event: *mut Event) -> i32;
     fn epoll_wait(set: i32, events: *mut Event, most: i32, limit: i32) -> i32;
     fn socket(domain: i32, kind: i32, protocol: i32) -> i32;
+    fn bind(fd: i32, address: *const u8, length: u32) -> i32;
     fn connect(fd: i32, address: *const u8, length: u32) -> i32;
 }
 
@@ -142,18 +149,27 @@ fn open(port: u16) -> TcpStream {
     link
 }
 
-/// Begins to connect, and does not wait for it.
-fn begin(port: u16) -> Option<TcpStream> {
+/// An address as the system takes it.
+fn address(host: [u8; 4], port: u16) -> [u8; 16] {
     let mut address = [0u8; 16];
     address[0] = INTERNET as u8;
     address[2..4].copy_from_slice(&port.to_be_bytes());
-    address[4..8].copy_from_slice(&[127, 0, 0, 1]);
+    address[4..8].copy_from_slice(&host);
+    address
+}
+
+/// Begins to connect from a source, and does not wait for it.
+fn begin(port: u16, source: [u8; 4]) -> Option<TcpStream> {
+    let address = address(HERE, port);
     unsafe {
         let fd = socket(INTERNET, STREAM | NONBLOCKING, 0);
         if fd < 0 {
             return None;
         }
         let link = TcpStream::from_raw_fd(fd);
+        if source != HERE && bind(fd, self::address(source, 0).as_ptr(), 16) < 0 {
+            return None;
+        }
         let is_wrong = connect(fd, address.as_ptr(), 16) < 0 && std::io::Error::last_os_error().raw_os_error() != Some(IN_PROGRESS);
         let _ = link.set_nodelay(true);
         (!is_wrong).then_some(link)
@@ -192,7 +208,7 @@ fn come_and_go(port: u16, clients: usize, until: Instant, done: &AtomicU64, wron
     let mut part = [0; 4096];
     while Instant::now() < until {
         for (key, place) in visits.iter_mut().enumerate().filter(|(_, place)| place.is_none()) {
-            match begin(port) {
+            match begin(port, HERE) {
                 Some(link) => {
                     poll.watch(ADD, link.as_raw_fd(), READABLE | WRITABLE, key as u64);
                     *place = Some(Visit { link, has_sent: false, taken: 0 });
@@ -211,6 +227,38 @@ fn come_and_go(port: u16, clients: usize, until: Instant, done: &AtomicU64, wron
             }
         }
     }
+}
+
+/// The number of a source in 127.0.0.0/8.
+fn source(number: usize) -> [u8; 4] {
+    [127, 1 + (number >> 16) as u8, (number >> 8) as u8, number as u8]
+}
+
+/// So many connections, 64 at a time, each from a source of its own.
+fn come(port: u16, count: usize) {
+    let mut poll = Poll::new();
+    let mut visits: Vec<Option<Visit>> = (0..64.min(count)).map(|_| None).collect();
+    let (mut part, mut begun, mut done, mut wrong) = ([0; 4096], 0, 0, 0);
+    let start = Instant::now();
+    while done + wrong < count as u64 {
+        for (key, place) in visits.iter_mut().enumerate().filter(|(_, place)| place.is_none()) {
+            if begun < count {
+                let link = begin(port, source(begun)).expect("a connection");
+                poll.watch(ADD, link.as_raw_fd(), READABLE | WRITABLE, key as u64);
+                *place = Some(Visit { link, has_sent: false, taken: 0 });
+                begun += 1;
+            }
+        }
+        for key in poll.wait(10) {
+            let place = &mut visits[key as usize];
+            let Some(visit) = place else { continue };
+            if let Some(is_good) = go_on(visit, &poll, key, &mut part) {
+                if is_good { done += 1 } else { wrong += 1 }
+                *place = None;
+            }
+        }
+    }
+    report(done, start, wrong);
 }
 
 fn rate(port: u16, clients: usize, seconds: f64) {
@@ -284,6 +332,25 @@ fn ping(port: u16, links: usize, seconds: f64) {
     report(done, begun, wrong);
 }
 
+fn stall(port: u16, seconds: f64) {
+    let (mut link, mut answer, mut count, mut longest) = (open(port), [0; 64], 0u64, Duration::ZERO);
+    let until = Instant::now() + Duration::from_secs_f64(seconds);
+    while Instant::now() < until {
+        let sent = Instant::now();
+        link.write_all(&MESSAGE).and_then(|()| link.read_exact(&mut answer)).expect("an answer");
+        longest = longest.max(sent.elapsed());
+        count += 1;
+    }
+    println!("{count} {:.6}", longest.as_secs_f64());
+}
+
+fn idle(port: u16, count: usize) {
+    let links: Vec<TcpStream> = (0..count).map(|_| open(port)).collect();
+    println!("held");
+    wait_for_end();
+    drop(links);
+}
+
 fn hold(port: u16, count: usize) {
     let links: Vec<TcpStream> = (0..count)
         .map(|_| {
@@ -315,6 +382,9 @@ fn main() {
         Some("bulk") => bulk(port(), count(), number(3)),
         Some("ping") => ping(port(), count(), number(3)),
         Some("hold") => hold(port(), count()),
-        _ => panic!("servers, rate, bulk, ping or hold"),
+        Some("idle") => idle(port(), count()),
+        Some("come") => come(port(), count()),
+        Some("stall") => stall(port(), number(2)),
+        _ => panic!("servers, rate, bulk, ping, hold, idle, come or stall"),
     }
 }
