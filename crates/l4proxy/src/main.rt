@@ -10,10 +10,10 @@
 //! words that are no command, and 3 where something cannot be read or written, or memory ran out.
 #![tactic(auto)]
 
-use crate::command::commands;
-use crate::serve::{ServeWords, Stand};
+use crate::serve::Stand;
 use clap::ArgMatches;
 use clap::error::ErrorKind;
+use command_line::{ServeWords, commands};
 use conn_core::OpenFault;
 use crew_core::CrewFault;
 use device_core::{FromRead, ToWrite};
@@ -25,7 +25,6 @@ use std::rt::Files;
 use std::{env, fs, io, thread};
 
 mod audit;
-mod command;
 mod input;
 mod pipe;
 mod serve;
@@ -143,7 +142,7 @@ fn run<R: Files + AllocGlobal + io::Input + Print + Eprint>(
 ) -> Result<Asked, clap::Error> {
     let matches = commands(rt.alloc())?.try_get_matches_from(words)?;
     match matches.subcommand() {
-        Some(("serve", given)) => Ok(Asked::Serve(serve::words(rt.alloc(), given)?)),
+        Some(("serve", given)) => Ok(Asked::Serve(ServeWords::of(rt.alloc(), given)?)),
         Some((name, given)) => Ok(Asked::Done(run_command(rt, name, given))),
         None => Ok(Asked::Done(USAGE)),
     }

@@ -5,7 +5,7 @@ ghost use Rattle.book_core.specs.Open.{open_connections};
 use crate::{DEVICE, DONE, REFUSED, explain_refusal, unreadable};
 use addr_core::{Endpoint, write_endpoint};
 use book_core::Book;
-use clap::ArgMatches;
+use command_line::ServeWords;
 use conn_core::OpenFault;
 use conn_model::reply::{Reply, StepFault};
 use crew_core::{Clock, Dial, Door, Knock, Served, open_book, serve};
@@ -24,27 +24,6 @@ use std::{fmt, fs, io, rt};
 
 /// How many descriptors are left for all that is no connection, listener or poll.
 const OTHER_FILES: u64 = 12;
-
-/// How many workers there are where the words do not say.
-const WORKERS: u16 = 2;
-
-/// The words of the command.
-#[derive(Drop)]
-pub struct ServeWords {
-    pub file: String,
-    /// 1 to 64.
-    pub workers: u16,
-    pub ghost some_workers: { 1 ≤ workers },
-    pub ghost few_workers: { workers ≤ 64 },
-}
-
-/// What the words name.
-pub fn words(alloc: Global, given: &ArgMatches<'_>) -> Result<ServeWords, AllocError> {
-    let mut file = String::new(alloc);
-    file.push_str(given.get_str("FILE").unwrap_or(""))?;
-    let workers = given.get_one("workers").unwrap_or(WORKERS).clamp(1, 64);
-    Ok(ServeWords { file, workers })
-}
 
 /// What is ready before the first connection is taken.
 pub struct Stand<'a, R: Net + Log + rt::Clock> {

@@ -1,4 +1,4 @@
-//! The command line.
+//! The commands.
 use clap::{Arg, Command, value_parser};
 use std::alloc::{AllocError, Global};
 
