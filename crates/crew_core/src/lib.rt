@@ -11,6 +11,7 @@ mod conn;
 mod crew;
 mod engine;
 mod leases;
+mod queue;
 mod serving;
 mod table;
 mod worker;

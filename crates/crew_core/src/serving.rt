@@ -3,7 +3,7 @@ ghost use Rattle.std.specs.Prelude.{◌≡◌, ◌≤◌, length, take, drop};
 
 use crate::calls::{Hall, Outcome};
 use crate::conn::Stage;
-use crate::worker::{Bench, Worker};
+use crate::worker::{Bench, SERVED, Worker};
 use addr_core::Endpoint;
 use conn_model::event::Why;
 use conn_model::reply::{Said, StepFault};
@@ -189,14 +189,14 @@ impl<M: Ledger, O: Ledger, K: Link, L: Dial<Link = K>> Worker<M, O, K, L> {
         }
     }
 
-    /// Connections that have waited for their header for too long.
+    /// Connections that have waited for their header for too long: as many of them as are served in one turn.
     pub(crate) fn expire<B: Base, G: Gate, C: Clock, R: Wait>(
         &mut self,
         rt: &R,
         hall: &Hall<'_, M, O, B, G, C>,
     ) {
         let now = hall.clock.now();
-        for _wait in 0..self.bench.table.waiting() {
+        for _wait in 0..self.bench.table.waiting().min(SERVED) {
             if self.calls.is_stopped {
                 return;
             }

@@ -1,6 +1,7 @@
 //! The connections of one worker.
 
 use crate::conn::{Conn, Stage};
+use crate::queue::Queue;
 use conn_model::event::Why;
 use link_core::{Link, Ready};
 use slab::Slab;
@@ -18,6 +19,7 @@ pub(crate) enum Entry<K: Link> {
 #[derive(Drop)]
 struct Place<K: Link> {
     entry: Entry<K>,
+    listener: u16,
     /// Whether its key is in the queue.
     is_queued: bool,
     /// The number of the accept among those of this worker.
@@ -37,8 +39,8 @@ pub(crate) struct HeaderWait {
 #[derive(Drop)]
 pub(crate) struct Table<K: Link> {
     places: Slab<Place<K>>,
-    /// Keys, each once.
-    queue: VecDeque<usize>,
+    /// Each key once.
+    queue: Queue,
     /// In the order of accepts, which is that of the moments.
     waits: VecDeque<HeaderWait>,
     /// How many of the queue have ended.
@@ -50,32 +52,35 @@ impl<K: Link> Table<K> {
     pub(crate) fn new(alloc: Global) -> Table<K> {
         Table {
             places: Slab::new(alloc),
-            queue: VecDeque::new(alloc),
+            queue: Queue::new(alloc),
             waits: VecDeque::new(alloc),
             ended: 0,
             serial: 0,
         }
     }
 
-    /// Makes room for one connection more, with its place in the queue and its wait for a header.
-    pub(crate) fn make_room(&mut self) -> Result<usize, AllocError> {
+    /// Makes room for one connection more of a listener, with its place in the queue and its wait for a header.
+    pub(crate) fn make_room(&mut self, listener: u16) -> Result<usize, AllocError> {
         self.places.reserve(1)?;
-        let unqueued = self.places.len().saturating_sub(self.queue.len());
-        self.queue.reserve(unqueued.saturating_add(1))?;
+        self.queue.make_room(listener)?;
         self.waits.reserve(1)?;
         Ok(self.places.vacant_key())
     }
 
-    /// Keeps a connection, and says under which key.
-    pub(crate) fn insert(&mut self, conn: Conn<K>) -> Result<usize, AllocError> {
+    /// Keeps a connection of a listener, and says under which key.
+    pub(crate) fn insert(&mut self, listener: u16, conn: Conn<K>) -> Result<usize, AllocError> {
         self.serial = self.serial.saturating_add(1);
         let place = Place {
             entry: Entry::Open(conn),
+            listener,
             is_queued: false,
             serial: self.serial,
         };
         match self.places.insert(place) {
-            Ok(key) => Ok(key),
+            Ok(key) => {
+                self.queue.open(listener);
+                Ok(key)
+            }
             Err(_full) => Err(AllocError),
         }
     }
@@ -101,7 +106,7 @@ impl<K: Link> Table<K> {
             return;
         };
         if !place.is_queued {
-            place.is_queued = self.queue.push_back(key).is_ok();
+            place.is_queued = self.queue.push(place.listener, key);
         }
     }
 
@@ -120,7 +125,7 @@ impl<K: Link> Table<K> {
 
     /// The next key of the queue.
     pub(crate) fn dequeue(&mut self) -> Option<usize> {
-        let key = self.queue.pop_front()?;
+        let key = self.queue.pop()?;
         let place = self.places.get_mut(key)?;
         place.is_queued = false;
         if matches!(place.entry, Entry::Ended(_)) {
@@ -130,7 +135,9 @@ impl<K: Link> Table<K> {
     }
 
     pub(crate) fn remove(&mut self, key: usize) {
-        let _ = self.places.try_remove(key);
+        if let Some(place) = self.places.try_remove(key) {
+            self.queue.close(place.listener);
+        }
     }
 
     /// The connection of a key ended, and its links with it, but that could not be recorded.

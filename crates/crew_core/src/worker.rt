@@ -15,8 +15,15 @@ use std::alloc::Global;
 use std::sync::Wait;
 use std::sync::ledger::Ledger;
 
-/// How many links a dial reports in one turn at the most.
+/// How many links a dial reports at a time at the most.
 pub(crate) const REPORTS: usize = 256;
+
+/// How many times in one turn a dial is asked for reports at the most.
+const ASKED: u32 = 64;
+
+/// How many connections are served in one turn at the most, and how many waits for a header end. What is left has its turn
+/// after what was reported meanwhile.
+pub(crate) const SERVED: usize = 128;
 
 /// How long a worker waits at the most, in ms, where nothing is due.
 const LONGEST_WAIT: u64 = 100;
@@ -86,20 +93,33 @@ impl<M: Ledger, O: Ledger, K: Link, L: Dial<Link = K>> Worker<M, O, K, L> {
         hall: &Hall<'_, M, O, B, G, C>,
     ) {
         let limit = self.bench.table.limit(hall.clock.now(), LONGEST_WAIT);
-        self.bench.ready.clear();
-        self.dial.wait(limit, &mut self.bench.ready);
-        for ready in &self.bench.ready {
-            self.bench.table.raise(ready);
-        }
+        self.gather(limit);
         self.take_arrivals(rt, hall);
         self.expire(rt, hall);
-        for _key in 0..self.bench.table.queued() {
+        for _key in 0..self.bench.table.queued().min(SERVED) {
             if self.calls.is_stopped {
                 return;
             }
             if let Some(key) = self.bench.table.dequeue() {
                 self.serve(rt, hall, key);
             }
+        }
+    }
+
+    /// Takes all that the dial has to report, so that nobody is served before another connection is known to be ready. It
+    /// waits for the first report for `limit` ms at the most.
+    fn gather(&mut self, limit: u64) {
+        let mut limit = limit;
+        for _part in 0..ASKED {
+            self.bench.ready.clear();
+            self.dial.wait(limit, &mut self.bench.ready);
+            for ready in &self.bench.ready {
+                self.bench.table.raise(ready);
+            }
+            if self.bench.ready.len() < REPORTS {
+                return;
+            }
+            limit = 0;
         }
     }
 
@@ -130,11 +150,11 @@ impl<M: Ledger, O: Ledger, K: Link, L: Dial<Link = K>> Worker<M, O, K, L> {
             real,
             link,
         } = arrival;
-        let Ok(key) = self.bench.table.make_room() else {
+        let Ok(key) = self.bench.table.make_room(listener) else {
             return shut(link);
         };
         match self.calls.accept(rt, hall, key, listener, &real) {
-            Outcome::Open(said) => self.keep(rt, hall, key, link, &said),
+            Outcome::Open(said) => self.keep(rt, hall, key, listener, link, &said),
             Outcome::Ended | Outcome::Stopped => {}
             Outcome::Failed(_fault) => shut(link),
         }
@@ -146,12 +166,13 @@ impl<M: Ledger, O: Ledger, K: Link, L: Dial<Link = K>> Worker<M, O, K, L> {
         rt: &R,
         hall: &Hall<'_, M, O, B, G, C>,
         key: usize,
+        listener: u16,
         link: K,
         said: &Said,
     ) {
         let mut conn = Conn::new(link);
         let is_watched = self.dial.watch(key, &mut conn.client);
-        let kept = self.bench.table.insert(conn);
+        let kept = self.bench.table.insert(listener, conn);
         if kept != Ok(key) || !is_watched {
             return self.close(rt, hall, key, Why::Fault);
         }
