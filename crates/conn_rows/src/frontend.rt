@@ -22,6 +22,7 @@ ghost use Rattle.conn_rows.specs.Value.{row_on, row_slots, rows_total, HasSlot};
 ghost use Rattle.conn_model.specs.Changes.{held_after, row_tracking, with_row};
 ghost use Rattle.conn_rows.specs.Changes.{stage_fed, stage_offered, stage_up, status_of, stored_fed, stored_up, used_by};
 
+use crate::packed::PackedSeat;
 use crate::row::{HeldSeat, Holdings, Seat, Stage, StoredRow};
 use crate::row_list::RowList;
 use crate::slots::give_back;
@@ -171,7 +172,7 @@ impl FrontendState {
         ensures few { length self.new.rows < 2 ^ 56 }
     {
         let held = HeldSeat {
-            seat,
+            seat: PackedSeat::of(&seat),
             slot,
             is_up: false,
         };

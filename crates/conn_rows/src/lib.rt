@@ -10,6 +10,7 @@ mod frontend;
 pub mod laws;
 mod needed;
 mod opening;
+mod packed;
 mod reload;
 mod row;
 mod row_list;

@@ -10,6 +10,7 @@ ghost use Rattle.conn_rows.specs.Counts.{is_seated};
 ghost use Rattle.conn_rows.specs.Summaries.{stored_summary};
 ghost use Rattle.conn_rows.specs.Stored.{assignment_in, awaits, phase_of, phase_with, plan_at, plain_row, slot_of, stored_arrival, waits};
 
+use crate::packed::{PackedPair, PackedSeat};
 use addr_core::{Endpoint, Pair};
 use conn_model::plain::{Assignment, Phase, Row, Version};
 use conn_tables::Trackings;
@@ -34,7 +35,7 @@ pub struct Seat {
 
 /// The server that a connection was offered. It cannot be dropped.
 pub struct HeldSeat {
-    pub seat: Seat,
+    pub seat: PackedSeat,
     /// The connection is one of those that are open to the server.
     pub slot: Slot,
     /// Whether the server took it.
@@ -90,7 +91,7 @@ impl Stage {
         let Stage::Offered(held) = self else {
             return false;
         };
-        match backend_of(plan, held.seat.line) {
+        match backend_of(plan, held.seat.line()) {
             Some(backend) => backend.name.as_slice() == name,
             None => name.is_empty(),
         }
@@ -102,7 +103,10 @@ impl Stage {
     {
         match self {
             Stage::Waiting(parser) => Ok(Phase::Waiting(parser.rest())),
-            Stage::Offered(held) => Ok(phase(assignment(alloc, plan, &held.seat)?, held.is_up)),
+            Stage::Offered(held) => Ok(phase(
+                assignment(alloc, plan, &held.seat.seat())?,
+                held.is_up,
+            )),
         }
     }
 
@@ -125,7 +129,7 @@ impl HeldSeat {
         ensures { result ≡ self.slot }
     {
         let HeldSeat {
-            seat: _,
+            seat: _seat,
             slot,
             is_up: _,
         } = self;
@@ -146,7 +150,7 @@ pub struct StoredRow {
     /// The version of the configuration that judges it.
     pub version: u64,
     /// Its peer and its local end.
-    pub real: Pair,
+    pub real: PackedPair,
     /// The moment of its accept, in ms.
     pub accepted: u64,
     pub stage: Stage,
@@ -162,7 +166,7 @@ impl StoredRow {
         StoredRow {
             serial,
             version,
-            real,
+            real: PackedPair::of(&real),
             accepted,
             stage: Stage::Waiting(Parser::new()),
             tracks: Trackings::none(),
@@ -174,7 +178,7 @@ impl StoredRow {
     {
         RowSummary {
             version: self.version,
-            real: self.real,
+            real: self.real.pair(),
             accepted: self.accepted,
             waits: self.stage.waits(),
             awaits_server: self.stage.awaits(),
@@ -197,7 +201,7 @@ impl StoredRow {
         Ok(Row {
             serial: self.serial,
             version: self.version,
-            real: self.real,
+            real: self.real.pair(),
             accepted: self.accepted,
             phase: self.stage.plain(alloc, plan)?,
             tracks: self.tracks.plain(alloc)?,
@@ -212,7 +216,7 @@ impl StoredRow {
         let StoredRow {
             serial: _,
             version: _,
-            real: _,
+            real: _real,
             accepted: _,
             stage,
             tracks,

@@ -16,16 +16,16 @@ unreachable-requires c = not_waiting c.args.serial c.self.inside.rows c.put_stag
 
 pub invariant_of-self : goal.invariant_of-self
 invariant_of-self c =
-    rw c.put_stage.ensures.rows
+    rw (c.put_stage.ensures.rows, c.of.ensures)
     (open-with c.args.serial c.self.inside.serial (at_stage (stage_offered c.args.seat c.args.slot)) c.self.inside.rows (λ row. refl) (λ row held. tt) c.self.invariant)
 
 pub returns-clause-slots : goal.returns-clause-slots
 returns-clause-slots c =
     rw (← c.self.view_is)
-    (slots_offered c.args.serial c.self.inside.rows c.put_stage.new.rows c.args.seat c.args.slot (subst (λ (f : StoredFrontend). IsSome (rest_kept c.args.serial f.rows)) (sym c.self.view_is) c.requires) (places c.args.serial (at_stage (stage_offered c.args.seat c.args.slot)) c.self.inside.rows c.put_stage.new.rows c.self.invariant.rise c.put_stage.ensures.rows))
+    (slots_offered c.args.serial c.self.inside.rows c.put_stage.new.rows c.args.seat c.args.slot (subst (λ (f : StoredFrontend). IsSome (rest_kept c.args.serial f.rows)) (sym c.self.view_is) c.requires) (places c.args.serial (at_stage (stage_offered c.args.seat c.args.slot)) c.self.inside.rows c.put_stage.new.rows c.self.invariant.rise (rw c.of.ensures at c.put_stage.ensures.rows)))
 
 pub returns-clause-each : goal.returns-clause-each
 returns-clause-each c =
     rw (← c.self.view_is)
     (λ kept.
-    each_offered (HasSlot kept) c.args.serial c.self.inside.rows c.put_stage.new.rows c.args.seat c.args.slot (subst (λ (f : StoredFrontend). IsSome (rest_kept c.args.serial f.rows)) (sym c.self.view_is) c.requires) (places c.args.serial (at_stage (stage_offered c.args.seat c.args.slot)) c.self.inside.rows c.put_stage.new.rows c.self.invariant.rise c.put_stage.ensures.rows))
+    each_offered (HasSlot kept) c.args.serial c.self.inside.rows c.put_stage.new.rows c.args.seat c.args.slot (subst (λ (f : StoredFrontend). IsSome (rest_kept c.args.serial f.rows)) (sym c.self.view_is) c.requires) (places c.args.serial (at_stage (stage_offered c.args.seat c.args.slot)) c.self.inside.rows c.put_stage.new.rows c.self.invariant.rise (rw c.of.ensures at c.put_stage.ensures.rows)))
