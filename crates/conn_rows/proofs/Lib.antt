@@ -2,6 +2,7 @@ pub mod RowLists
 pub mod Serials
 pub mod Served
 pub mod OpenTo
+pub mod OfferedTo
 pub mod Fed
 pub mod Plain
 pub mod Totals

@@ -15,7 +15,8 @@ use Rattle.slot_core.specs.Counts.{identity_at, is_of, open_at, slots_at, Identi
 use Rattle.slot_core.proofs.CountLemmas.{same_server-refl}
 use Rattle.plan_types.specs.declared.plan.Backend.{Backend}
 use Rattle.plan_types.specs.declared.plan.Plan.{Plan}
-use Rattle.conn_model.specs.Counts.{is_served_by, served_by, server_of, total}
+use Rattle.conn_model.specs.declared.plain.Phase.{Phase}
+use Rattle.conn_model.specs.Counts.{served_by, server_of, total}
 use Rattle.conn_model.specs.Servers.{pick_in}
 use Rattle.conn_model.proofs.Lists.{all-at}
 use Rattle.conn_versions.specs.Versions.{VersionsValue, open_to}
@@ -47,13 +48,16 @@ unique (count ∷ counts) identity zero (suc n) apart first second = absurd (bes
 unique (count ∷ counts) identity (suc m) zero apart first second = absurd (beside counts count.identity m apart.0 (first ∙ sym second))
 unique (count ∷ counts) identity (suc m) (suc n) apart first second = ap suc (unique counts identity m n apart.1 first second)
 
--- one for a connection that was offered the server
-abbrev served : ServerIdentity → Option ServerIdentity → ℕ
-served identity server = if option_map_or (same_server identity) server false then 1 else 0
+-- one for a connection that was offered a server of those
+abbrev pub served : (ServerIdentity → Bool) → Option ServerIdentity → ℕ
+served test server = if option_map_or test server false then 1 else 0
+
+abbrev pub is_served_in : (ServerIdentity → Bool) → Phase → Bool
+is_served_in test phase = option_map_or test (server_of phase) false
 
 -- the count at the place of a server is of the connections that were offered it
 at_place : (kept : VersionsValue) (identity : ServerIdentity) (place : ℕ) → IdentitiesDiffer kept.counts → identity_at place kept.counts ≡ Some identity → (slot : SlotIx) (server : ServerIdentity) →
-    identity_at slot.place kept.counts ≡ Some server → slots_at place slot ≡ served identity (Some server)
+    identity_at slot.place kept.counts ≡ Some server → slots_at place slot ≡ served (same_server identity) (Some server)
 at_place kept identity place apart there slot server is = by (slot.place == place) refl (same_server identity server) refl
   where
     by : (b : Bool) → (slot.place == place) ≡ b → (s : Bool) → same_server identity server ≡ s → ◌≡◌ {A = ℕ} (if b then 1 else 0) (if s then 1 else 0)
@@ -71,7 +75,7 @@ at_place kept identity place apart there slot server is = by (slot.place == plac
 
 -- a server without a count was offered to nobody
 nowhere : (kept : VersionsValue) (identity : ServerIdentity) → IdentitiesDiffer kept.counts → find (is_of identity) kept.counts ≡ None → (slot : SlotIx) (server : ServerIdentity) →
-    identity_at slot.place kept.counts ≡ Some server → 0 ≡ served identity (Some server)
+    identity_at slot.place kept.counts ≡ Some server → 0 ≡ served (same_server identity) (Some server)
 nowhere kept identity apart none slot server is = by (same_server identity server) refl
   where
     by : (s : Bool) → same_server identity server ≡ s → ◌≡◌ {A = ℕ} 0 (if s then 1 else 0)
@@ -82,45 +86,45 @@ nowhere kept identity apart none slot server is = by (same_server identity serve
         absurd (let gone : slice_get kept.counts slot.place ≡ None = sym there ∙ none in let wrong : None ≡ Some server = sym (ap (option_map (λ count. count.identity)) gone) ∙ is in cc)
 
 -- of a row
-row_served : (kept : VersionsValue) (identity : ServerIdentity) (worth : Option SlotIx → ℕ) → worth None ≡ 0 →
-    ((slot : SlotIx) (server : ServerIdentity) → identity_at slot.place kept.counts ≡ Some server → worth (Some slot) ≡ served identity (Some server)) → (row : StoredRow) → HasSlot kept row →
-    worth (slot_of row.stage) ≡ served identity (server_of (phase_of (plan_at kept.versions row.version) row.stage))
-row_served kept identity worth none each row = by row.stage
+pub row_served : (kept : VersionsValue) (test : ServerIdentity → Bool) (worth : Option SlotIx → ℕ) → worth None ≡ 0 →
+    ((slot : SlotIx) (server : ServerIdentity) → identity_at slot.place kept.counts ≡ Some server → worth (Some slot) ≡ served test (Some server)) → (row : StoredRow) → HasSlot kept row →
+    worth (slot_of row.stage) ≡ served test (server_of (phase_of (plan_at kept.versions row.version) row.stage))
+row_served kept test worth none each row = by row.stage
   where
     plan : Option Plan
     plan = plan_at kept.versions row.version
 
-    by : (stage : Stage) → CountsFor kept (slot_of stage) (server_of (phase_of plan stage)) → worth (slot_of stage) ≡ served identity (server_of (phase_of plan stage))
+    by : (stage : Stage) → CountsFor kept (slot_of stage) (server_of (phase_of plan stage)) → worth (slot_of stage) ≡ served test (server_of (phase_of plan stage))
     by (Waiting rest) is = none
     by (Offered held) is = taken held.is_up is
       where
-        taken : (b : Bool) → identity_at held.slot.place kept.counts ≡ server_of (phase_with b (assignment_in plan held.seat)) → worth (Some held.slot) ≡ served identity (server_of (phase_with b (assignment_in plan held.seat)))
+        taken : (b : Bool) → identity_at held.slot.place kept.counts ≡ server_of (phase_with b (assignment_in plan held.seat)) → worth (Some held.slot) ≡ served test (server_of (phase_with b (assignment_in plan held.seat)))
         taken true is = each held.slot (assignment_in plan held.seat).server is
         taken false is = each held.slot (assignment_in plan held.seat).server is
 
 -- of the rows of a frontend
-rows_served : (kept : VersionsValue) (identity : ServerIdentity) (worth : StoredRow → ℕ) →
-    ((row : StoredRow) → HasSlot kept row → worth row ≡ served identity (server_of (phase_of (plan_at kept.versions row.version) row.stage))) → (rows : List StoredRow) → AllByRecursion (HasSlot kept) rows →
-    total worth rows ≡ length (filter (λ row. is_served_by identity row.phase) (map (plain_row kept.versions) rows))
-rows_served kept identity worth each [] known = refl
-rows_served kept identity worth each (row ∷ rows) known =
+rows_served : (kept : VersionsValue) (test : ServerIdentity → Bool) (worth : StoredRow → ℕ) →
+    ((row : StoredRow) → HasSlot kept row → worth row ≡ served test (server_of (phase_of (plan_at kept.versions row.version) row.stage))) → (rows : List StoredRow) → AllByRecursion (HasSlot kept) rows →
+    total worth rows ≡ length (filter (λ row. is_served_in test row.phase) (map (plain_row kept.versions) rows))
+rows_served kept test worth each [] known = refl
+rows_served kept test worth each (row ∷ rows) known =
     let here = each row known.0 in
-    let more = rows_served kept identity worth each rows known.1 in
-    by (is_served_by identity (phase_of (plan_at kept.versions row.version) row.stage)) refl here more
+    let more = rows_served kept test worth each rows known.1 in
+    by (is_served_in test (phase_of (plan_at kept.versions row.version) row.stage)) refl here more
   where
-    by : (b : Bool) → is_served_by identity (phase_of (plan_at kept.versions row.version) row.stage) ≡ b → worth row ≡ served identity (server_of (phase_of (plan_at kept.versions row.version) row.stage)) →
-        total worth rows ≡ length (filter (λ row. is_served_by identity row.phase) (map (plain_row kept.versions) rows)) →
-        total worth (row ∷ rows) ≡ length (filter (λ row. is_served_by identity row.phase) (map (plain_row kept.versions) (row ∷ rows)))
+    by : (b : Bool) → is_served_in test (phase_of (plan_at kept.versions row.version) row.stage) ≡ b → worth row ≡ served test (server_of (phase_of (plan_at kept.versions row.version) row.stage)) →
+        total worth rows ≡ length (filter (λ row. is_served_in test row.phase) (map (plain_row kept.versions) rows)) →
+        total worth (row ∷ rows) ≡ length (filter (λ row. is_served_in test row.phase) (map (plain_row kept.versions) (row ∷ rows)))
     by true is here more = let one : worth row ≡ 1 = here ∙ rw is refl in rw is (omega (arith, one, more))
     by false is here more = let none : worth row ≡ 0 = here ∙ rw is refl in rw is (omega (arith, none, more))
 
-all_served : (kept : VersionsValue) (identity : ServerIdentity) (worth : StoredRow → ℕ) →
-    ((row : StoredRow) → HasSlot kept row → worth row ≡ served identity (server_of (phase_of (plan_at kept.versions row.version) row.stage))) → (frontends : List StoredFrontend) → AllRows (HasSlot kept) frontends →
-    rows_total worth frontends ≡ served_by (map (plain_frontend kept.versions) frontends) identity
-all_served kept identity worth each [] known = refl
-all_served kept identity worth each (own ∷ frontends) known =
-    let here = rows_served kept identity worth each own.rows known.0 in
-    let more = all_served kept identity worth each frontends known.1 in
+pub all_served : (kept : VersionsValue) (test : ServerIdentity → Bool) (worth : StoredRow → ℕ) →
+    ((row : StoredRow) → HasSlot kept row → worth row ≡ served test (server_of (phase_of (plan_at kept.versions row.version) row.stage))) → (frontends : List StoredFrontend) → AllRows (HasSlot kept) frontends →
+    rows_total worth frontends ≡ total (λ own. length (filter (λ row. is_served_in test row.phase) own.rows)) (map (plain_frontend kept.versions) frontends)
+all_served kept test worth each [] known = refl
+all_served kept test worth each (own ∷ frontends) known =
+    let here = rows_served kept test worth each own.rows known.0 in
+    let more = all_served kept test worth each frontends known.1 in
     omega (arith, here, more)
 
 -- nobody, where nothing is counted
@@ -151,13 +155,13 @@ open_is_served frontends kept apart known identity = by (find (is_of identity) k
     by : (o : Option Count) → find (is_of identity) kept.counts ≡ o → option_map_or (λ count. count.connections) o 0 ≡ served_by (map (plain_frontend kept.versions) frontends) identity
     by None none =
         sym (nobody frontends)
-        ∙ all_served kept identity (λ row. 0) (row_served kept identity (λ o. 0) refl (nowhere kept identity apart none)) frontends known.slots
+        ∙ all_served kept (same_server identity) (λ row. 0) (row_served kept (same_server identity) (λ o. 0) refl (nowhere kept identity apart none)) frontends known.slots
     by (Some count) is =
         let at = found_place identity kept.counts count is in
         let its : identity_at at.0 kept.counts ≡ Some identity = ap (option_map (λ c. c.identity)) at.1 ∙ ap (λ i. Some i) (server_is count.identity identity at.2) in
         let open_here : open_at at.0 kept.counts ≡ count.connections = ap (λ o. option_map_or (λ c. c.connections) o 0) at.1 in
         sym open_here ∙ known.counted at.0
-        ∙ all_served kept identity (row_slots at.0) (row_served kept identity (λ o. option_map_or (slots_at at.0) o 0) refl (at_place kept identity at.0 apart its)) frontends known.slots
+        ∙ all_served kept (same_server identity) (row_slots at.0) (row_served kept (same_server identity) (λ o. option_map_or (slots_at at.0) o 0) refl (at_place kept identity at.0 apart its)) frontends known.slots
 
 -- so what is picked by slots is what is picked by the rows
 pub picks_served : (frontends : List StoredFrontend) (kept : VersionsValue) → IdentitiesDiffer kept.counts → AreServed frontends kept → (backend : Backend) (last : Option Place) (source : Addr) →
