@@ -8,4 +8,5 @@ pub mod Plain
 pub mod Totals
 pub mod Counted
 pub mod Kept
+pub mod TablesListed
 pub mod Reloaded

@@ -1,5 +1,5 @@
 -- What contracts see of the rows, and what is always true of them.
-use Rattle.std.specs.Prelude.{ℕ, List, length, Option, Some, None, ◌≡◌, ◌≤◌, ◌<◌, ◌^◌}
+use Rattle.std.specs.Prelude.{ℕ, true, List, length, map, Option, Some, None, ◌≡◌, ◌≤◌, ◌<◌, ◌^◌}
 use Rattle.std.specs.List.{AllByRecursion}
 use Rattle.std.specs.Option.{option_map_or}
 use Rattle.addr_core.specs.declared.addr.Addr.{Addr}
@@ -13,12 +13,13 @@ use Rattle.conn_model.specs.declared.plain.Plain.{Plain}
 use Rattle.conn_model.specs.declared.plain.TableState.{TableState}
 use Rattle.conn_model.specs.declared.plain.Version.{Version}
 use Rattle.conn_model.specs.Counts.{server_of, total}
+use Rattle.conn_model.specs.Tables.{is_listed_by}
 use Rattle.conn_rows.specs.declared.row.StoredRow.{StoredRow}
 use Rattle.conn_rows.specs.declared.rows.RowsState.{RowsState}
 use Rattle.conn_tables.specs.declared.tables.StoredTable.{StoredTable}
 use Rattle.conn_versions.specs.Versions.{VersionsValue}
 use Rattle.conn_rows.specs.Stored.{StoredFrontend, phase_of, plan_at, slot_of}
-use Rattle.conn_tables.specs.Tables.{cur_in}
+use Rattle.conn_tables.specs.Tables.{cur_in, plain_table}
 use Rattle.conn_tables.specs.Tracks.{tracks_on}
 
 pub record RowsValue : Type 0 where
@@ -73,6 +74,11 @@ pub record AreServed (frontends : List StoredFrontend) (kept : VersionsValue) : 
   pub counted : (place : ℕ) → open_at place kept.counts ≡ rows_total (row_slots place) frontends
   pub slots : AllRows (HasSlot kept) frontends
 
+-- each table is listed by one of the versions
+abbrev pub AreTablesListed : List Version → List TableState → Type 0
+AreTablesListed versions tables = AllByRecursion (λ table. is_listed_by versions table ≡ true) tables
+
 pub record IsRowsState (frontends : List StoredFrontend) (kept : VersionsValue) (tables : List StoredTable) : Type 0 where
   pub rows : AreRows frontends tables
   pub served : AreServed frontends kept
+  pub listed : AreTablesListed kept.versions (map plain_table tables)

@@ -332,7 +332,8 @@ impl Rows {
     }
 
     /// Forgets the versions that are neither in force nor of an open connection, and then the tables that no version
-    /// lists. Open connections track no key of those. It takes no memory.
+    /// lists. Open connections track no key of those. Where no version is forgotten, no table is looked at. It takes no
+    /// memory.
     pub fn forget(&mut self)
         requires { AreTracksHeld self.old.frontends (versions_needed self.old.frontends self.old.versions) }
         ensures { self.new ≡ record self.old {
@@ -340,8 +341,11 @@ impl Rows {
           tables = filter (is_listed_by (versions_needed self.old.frontends self.old.versions)) self.old.tables;
         } }
     {
+        let before = self.kept.as_slice().len();
         forget_idle(&mut self.kept, self.frontends.as_slice());
-        self.tables.forget(self.kept.as_slice());
+        if self.kept.as_slice().len() < before {
+            self.tables.forget(self.kept.as_slice());
+        }
     }
 
     /// The same as plain data.

@@ -49,4 +49,5 @@ invariant_of-self c =
           (λ place. ap (λ f. total (row_slots place) f.rows) c.feed.ensures.new ∙ total-with (row_slots place) c.args.id.serial (stored_fed c.args.piece.now) own.rows (slots-fed place c.args.piece.now))
           (λ all. subst (λ (f : StoredFrontend). AllByRecursion (HasSlot kept) f.rows) (sym c.feed.ensures.new) (all-with (HasSlot kept) c.args.id.serial (stored_fed c.args.piece.now) own.rows (fed_has kept c.args.piece.now) all))
           c.self.invariant.served;
+      listed = c.self.invariant.listed;
     }

@@ -23,6 +23,7 @@ invariant_of-self c =
           still_served c.self.inside.frontends.items c.self.inside.kept c.from.result own c.insert.new.self (ap (slice_get c.self.inside.frontends.items) c.from.ensures ∙ there c)
           (λ place. total-arrival (row_slots place) c.insert.result own c.insert.new.self row refl c.insert.ensures.ok c.insert.ensures.err)
           (all-arrival (HasSlot c.self.inside.kept) c.insert.result own c.insert.new.self row tt c.insert.ensures.ok c.insert.ensures.err) c.self.invariant.served;
+      listed = c.self.invariant.listed;
     }
 
 pub returns-clause-serial : goal.returns-clause-serial

@@ -1,4 +1,4 @@
-use Rattle.std.proofs.Common.{◌≡◌, ◌<◌, ◌≤◌, Some, ap, ◌∙◌, refl, sym, subst, length, arith}
+use Rattle.std.proofs.Common.{◌≡◌, ◌<◌, ◌≤◌, Some, ap, ◌∙◌, refl, sym, subst, length, map, arith}
 use Rattle.std.specs.Prelude.{slice_get, IsSome}
 use Rattle.conn_model.specs.Counts.{total}
 use Rattle.conn_rows.specs.Changes.{stage_offered}
@@ -7,7 +7,9 @@ use Rattle.conn_rows.specs.Value.{row_on, RowsValue}
 use Rattle.conn_rows.proofs.Counted.{still_rows, total-with}
 use Rattle.conn_rows.proofs.Plain.{judged_there, offered_value, own_exists, own_there, rest_of_state, rest_open, rest_there}
 use Rattle.conn_rows.proofs.Served.{all_slots_few, more_served, offered_has, slots-offer}
+use Rattle.conn_tables.specs.Tables.{plain_table}
 use Rattle.conn_versions.specs.Versions.{HasServer}
+use Rattle.conn_rows.proofs.TablesListed.{listed-offer}
 use Rattle.conn_rows.proofs.rows.Rows.offer.Goals as goal
 
 pub offer-slot-requires-clause-there : goal.offer-slot-requires-clause-there
@@ -66,4 +68,5 @@ invariant_of-self c =
           offered_has kept rest c.args.version c.args.seat c.offer-slot.result c.offer-slot.ensures.versions has.0 has.1 (c.offer-slot.ensures.slot has.0) row
           (judged_there frontends kept.versions c.self.inside.tables c.args.self.now c.args.id own row c.args.version c.self.view_is (there_after c) found c.requires.judged)))
           (slots-offer frontends kept rest c.args.version c.args.seat.line c.args.seat.server c.offer-slot.ensures.versions c.offer-slot.ensures.identities c.self.invariant.served.slots) c.self.invariant.served;
+      listed = listed-offer c.args.version c.args.seat.line c.args.seat.server kept.versions rest.versions (map plain_table c.self.inside.tables.tables) c.offer-slot.ensures.versions c.self.invariant.listed;
     }

@@ -6,6 +6,7 @@ use Rattle.conn_rows.specs.Stored.{plain_frontend}
 use Rattle.conn_rows.specs.Value.{RowsValue}
 use Rattle.conn_rows.proofs.Kept.{AreSeenAlike, seen_more, seen_same, served_seen}
 use Rattle.conn_rows.proofs.Reloaded.{brought_value, err_both, ok_both, same_value}
+use Rattle.conn_rows.proofs.TablesListed.{listed-brought}
 use Rattle.conn_rows.proofs.rows.Rows.reload.Goals as goal
 
 pub bring-requires-clause-next : goal.bring-requires-clause-next
@@ -30,6 +31,9 @@ invariant_of-self c = record {
     counted = λ id key. c.bring.ensures.counts id key ∙ c.self.invariant.rows.counted id key;
   };
   served = served_seen c.self.inside.frontends.items c.self.inside.kept c.bring.new.kept (alike c) c.bring.ensures.open c.bring.ensures.identities c.self.invariant.served;
+  listed =
+      listed-brought c.bring.result c.self.inside.kept.versions c.bring.new.kept.versions c.self.inside.tables c.bring.new.tables c.args.number c.args.plan c.bring.ensures.versions c.bring.ensures.tables c.bring.ensures.versions_err
+      c.bring.ensures.tables_err c.self.invariant.listed;
 }
 
 pub returns-clause-ok : goal.returns-clause-ok

@@ -1,10 +1,12 @@
-use Rattle.std.proofs.Common.{◌≡◌, ◌+◌, refl, sym, ap, ◌∙◌, arith}
+use Rattle.std.proofs.Common.{◌≡◌, ◌+◌, map, refl, sym, ap, ◌∙◌, arith}
 use Rattle.slot_core.specs.Counts.{open_at, slots_at}
 use Rattle.std.specs.Option.{option_map_or}
-use Rattle.conn_tables.specs.Tables.{cur_in}
+use Rattle.conn_tables.specs.Tables.{cur_in, plain_table}
+use Rattle.conn_tables.specs.Tracks.{plain_tracks}
 use Rattle.conn_rows.specs.Value.{row_on, row_slots}
 use Rattle.conn_rows.proofs.Plain.{removed}
 use Rattle.conn_rows.proofs.Served.{left_served, slot_counted}
+use Rattle.conn_rows.proofs.TablesListed.{listed-ended}
 use Rattle.conn_rows.proofs.rows.Rows.remove.Goals as goal
 
 pub give_back-requires : goal.give_back-requires
@@ -41,6 +43,9 @@ invariant_of-self c = record {
   served =
       left_served c.self.inside.frontends.items c.take_conn.new.frontends.items c.self.inside.kept c.give_back.new.kept c.in-Some.row c.in-Some.ensures.counts c.take_conn.ensures.rows c.give_back.ensures.versions
       (λ place. ap (λ o. open_at place c.give_back.new.kept.counts + option_map_or (slots_at place) o 0) (sym c.end-tracks.ensures.slot) ∙ c.give_back.ensures.open place) c.give_back.ensures.identities c.self.invariant.served;
+  listed =
+      listed-ended c.self.inside.kept.versions c.give_back.new.kept.versions (plain_tracks c.end-tracks.result.tracks) (map plain_table c.self.inside.tables.tables) (map plain_table c.release.new.self.tables) c.give_back.ensures.versions
+      c.release.ensures.plain c.self.invariant.listed;
 }
 
 pub invariant_of-self-in_default : goal.invariant_of-self-in_default
@@ -54,4 +59,5 @@ invariant_of-self-in_default c = record {
     counted = λ place. c.self.invariant.served.counted place ∙ sym (c.in_default.ensures.none (row_slots place));
     slots = c.take_conn.ensures.rows _ c.self.invariant.served.slots;
   };
+  listed = c.self.invariant.listed;
 }

@@ -22,6 +22,7 @@ invariant_of-self c = record {
   served =
       still_served c.self.inside.frontends.items c.self.inside.kept c.from.result c.index_mut.result.now c.skip.new.self (ap (slice_get c.self.inside.frontends.items) c.from.ensures ∙ there c)
       (λ place. ap (λ f. total (row_slots place) f.rows) c.skip.ensures.new) (λ all. subst (λ (f : StoredFrontend). AllByRecursion (HasSlot c.self.inside.kept) f.rows) (sym c.skip.ensures.new) all) c.self.invariant.served;
+  listed = c.self.invariant.listed;
 }
 
 pub returns : goal.returns

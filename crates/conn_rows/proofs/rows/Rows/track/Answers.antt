@@ -2,11 +2,12 @@ use Rattle.std.proofs.Common.{◌≡◌, ◌<◌, Some, ap, sym, subst, ◌∙�
 use Rattle.std.specs.Prelude.{slice_get}
 use Rattle.conn_model.specs.Tables.{open_tracks}
 use Rattle.conn_rows.specs.Stored.{plain_frontend}
-use Rattle.conn_tables.specs.Tables.{key_at}
+use Rattle.conn_tables.specs.Tables.{key_at, plain_table}
 use Rattle.conn_rows.specs.Value.{RowsValue}
 use Rattle.conn_rows.proofs.Served.{still_served}
 use Rattle.conn_rows.proofs.Counted.{are_counted, cur_few, more_rows, trackers_more}
 use Rattle.conn_rows.proofs.Plain.{free_there, own_exists, own_there, row_there, tracking_value}
+use Rattle.conn_rows.proofs.TablesListed.{listed-track}
 use Rattle.conn_rows.proofs.rows.Rows.track.Goals as goal
 
 pub track-tracking-requires-clause-below : goal.track-tracking-requires-clause-below
@@ -48,6 +49,10 @@ invariant_of-self c = record {
   served =
       still_served c.self.inside.frontends.items c.self.inside.kept c.from.result c.index_mut.result.now c.track.new.self (ap (slice_get c.self.inside.frontends.items) c.from.ensures ∙ there_after c)
       c.track.ensures.slots (c.track.ensures.each c.self.inside.kept) c.self.invariant.served;
+  listed =
+      listed-track c.self.inside.kept.versions (open_tracks (map (plain_frontend c.self.inside.kept.versions) c.self.inside.frontends.items)) c.args.track (map plain_table c.self.inside.tables.tables) (map plain_table c.track-tracking.new.self.tables)
+      (c.track-tracking.ensures.plain (open_tracks (map (plain_frontend c.self.inside.kept.versions) c.self.inside.frontends.items))
+      (are_counted c.self.inside.kept.versions c.self.inside.frontends.items c.self.inside.tables.tables c.self.invariant.rows) c.args.track.counter) c.self.invariant.listed;
 }
 
 pub returns-clause-value : goal.returns-clause-value

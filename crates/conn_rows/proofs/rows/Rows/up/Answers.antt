@@ -45,4 +45,5 @@ invariant_of-self c =
           (λ place. ap (λ f. total (row_slots place) f.rows) c.up.ensures.new ∙ total-with (row_slots place) c.args.id.serial stored_up own.rows (slots-up place))
           (λ all. subst (λ (f : StoredFrontend). AllByRecursion (HasSlot kept) f.rows) (sym c.up.ensures.new) (all-with (HasSlot kept) c.args.id.serial stored_up own.rows (up_has kept) all))
           c.self.invariant.served;
+      listed = c.self.invariant.listed;
     }
