@@ -1,41 +1,63 @@
--- Where an identity that is new is counted.
-use Rattle.std.proofs.Common.{◌≡◌, ℕ, zero, suc, ◌<◌, ◌+◌, ◌-◌, Bool, true, false, not, cond, List, [], ◌∷◌, ◌++◌, length, Option, Some, None, get_or, refl, sym, ap, subst, ◌∙◌, arith, length-append}
-use Rattle.std.specs.Prelude.{nat_lt, slice_get, slice_set, ◌==◌, if◌then◌else◌}
+-- Counts that are changed, added and replaced.
+use Rattle.std.proofs.Common.{◌≡◌, ℕ, zero, suc, ◌<◌, ◌≤◌, ◌⊎◌, inl, inr, ◌+◌, ◌-◌, Bool, true, false, List, [], ◌∷◌, ◌++◌, length, Option, Some, None, get_or, refl, sym, ap, subst, ◌∙◌, arith}
+use Rattle.std.specs.Prelude.{slice_get, slice_set, ◌==◌, ◌&&◌, if◌then◌else◌}
+use Rattle.std.specs.Option.{option_map, option_map_or}
 use Rattle.std.specs.Str.{bytes_eq}
-use Rattle.std.specs.List.{position, position_or_len, AllByRecursion}
+use Rattle.std.specs.List.{position, AllByRecursion}
+use Rattle.std.proofs.lemmas.Bool.{cases_eq, false_from_ne_true}
 use Rattle.std.proofs.lemmas.Bool.Decides.{nat_tests}
 use Rattle.std.proofs.lemmas.Option.{slice_get-get_or}
-use Rattle.std.proofs.lemmas.List.Folds.{position_or_len_push}
-use Rattle.std.proofs.lemmas.List.Sums.{prefix_len-le-length}
 use Rattle.std.proofs.lemmas.Slice.Eq.{bytes_eq-Decides}
 use Rattle.proxy_types.specs.declared.server.ServerIdentity.{ServerIdentity}
 use Rattle.slot_core.specs.declared.slots.Count.{Count}
 use Rattle.slot_core.specs.declared.slots.SlotIx.{SlotIx}
-use Rattle.slot_core.specs.Counts.{is_of, open_at, identity_at, changed, with_open, slots_at, IdentitiesDiffer}
-use Rattle.addr_core.proofs.SameLemmas.{same_addr-refl}
+use Rattle.slot_core.specs.Counts.{is_of, place_of, closed, open_at, open_in, open_in_all, identity_at, named_at, changed, with_open, slots_at, IdentitiesDiffer}
+use Rattle.slot_core.proofs.Items.{absent, found, get-other, get-set, one_item}
+use Rattle.addr_core.specs.declared.addr.Addr.{Addr}
+use Rattle.addr_core.specs.declared.addr.Endpoint.{Endpoint}
+use Rattle.addr_core.specs.Same.{same_addr, same_endpoint}
+use Rattle.addr_core.proofs.SameLemmas.{same_addr-is, same_addr-refl}
 use Rattle.proxy_types.specs.ServerIdentity.{same_server}
 
 same_number : (n : ℕ) → (n == n) ≡ true
 same_number n = grind (arith, nat_tests)
-
-nowhere : (b : Bool) (n : ℕ) → cond b (Some n) None ≡ None → b ≡ false
-nowhere true n e = absurd (cc)
-nowhere false n e = refl
-
-pub position-new : {X : Type 0} (p : X → Bool) (xs : List X) (y : X) → position p xs ≡ None → p y ≡ true → position p (xs ++ y ∷ []) ≡ Some (length xs)
-position-new p xs y none passes =
-    let no : nat_lt (position_or_len p xs) (length xs) ≡ false = nowhere (nat_lt (position_or_len p xs) (length xs)) (position_or_len p xs) none in
-    let at : position_or_len p xs ≡ length xs = grind (arith, nat_tests, prefix_len-le-length (λ x. not (p x)) xs) in
-    let past : position_or_len p (xs ++ y ∷ []) ≡ length xs =
-    position_or_len_push p xs y ∙ rw (at, passes, same_number (length xs)) (omega arith) in
-    let below : nat_lt (length xs) (length (xs ++ y ∷ [])) ≡ true = rw (length-append xs (y ∷ [])) (grind (arith, nat_tests)) in
-    rw (past, below) refl
 
 same_text : (xs : List ℕ) → bytes_eq xs xs ≡ true
 same_text xs = (bytes_eq-Decides xs xs).1 refl
 
 pub same_server-refl : (i : ServerIdentity) → same_server i i ≡ true
 same_server-refl i = rw (same_text i.backend, same_text i.name, same_addr-refl i.to.addr, same_number i.to.port) refl
+
+and_true : (a b : Bool) → (a && b) ≡ true → (a ≡ true) × (b ≡ true)
+and_true true b is = (refl, is)
+and_true false b is = absurd (cc)
+
+number_is : (m n : ℕ) → (m == n) ≡ true → m ≡ n
+number_is m n e = grind (arith, nat_tests)
+
+-- servers that pass for one are one
+pub server_is : (a b : ServerIdentity) → same_server a b ≡ true → a ≡ b
+server_is a b is =
+    let parts = and_true (bytes_eq a.backend b.backend && bytes_eq a.name b.name) (same_endpoint a.to b.to) is in
+    let names = and_true (bytes_eq a.backend b.backend) (bytes_eq a.name b.name) parts.0 in
+    let at = and_true (same_addr a.to.addr b.to.addr) (a.to.port == b.to.port) parts.1 in
+    let backend : a.backend ≡ b.backend = (bytes_eq-Decides a.backend b.backend).0 names.0 in
+    let name : a.name ≡ b.name = (bytes_eq-Decides a.name b.name).0 names.1 in
+    let addr : a.to.addr ≡ b.to.addr = same_addr-is a.to.addr b.to.addr at.0 in
+    let port : a.to.port ≡ b.to.port = number_is a.to.port b.to.port at.1 in
+    let to : a.to ≡ b.to = ap (λ x. endpoint x a.to.port) addr ∙ ap (λ n. endpoint b.to.addr n) port in
+    ap (λ x. server x a.name a.to) backend ∙ ap (λ x. server b.backend x a.to) name ∙ ap (λ x. server b.backend b.name x) to
+  where
+    endpoint : Addr → ℕ → Endpoint
+    endpoint addr port = record { addr = addr; port = port }
+
+    server : List ℕ → List ℕ → Endpoint → ServerIdentity
+    server backend name to = record { backend = backend; name = name; to = to }
+
+-- so servers that differ do so both ways
+other_server : (a b : ServerIdentity) → same_server a b ≡ false → same_server b a ≡ false
+other_server a b differs = false_from_ne_true (same_server b a) (λ same.
+    let wrong : true ≡ false = sym (same_server-refl a) ∙ ap (same_server a) (sym (server_is b a same)) ∙ differs in cc)
 
 -- Changes of one count.
 
@@ -123,18 +145,6 @@ differ-changed f (suc n) (c ∷ cs) differ =
     let Q : List Count → Type 0 = λ l. IdentitiesDiffer l in
     subst Q (sym (with_open-past f n c cs)) (all_with (λ other. same_server c.identity other ≡ false) f n cs differ.0, differ-changed f n cs differ.1)
 
-absent : {X : Type 0} (p : X → Bool) (xs : List X) → position p xs ≡ None → AllByRecursion (λ x. p x ≡ false) xs
-absent p xs none = past p xs (nowhere (nat_lt (position_or_len p xs) (length xs)) (position_or_len p xs) none)
-  where
-    past : {X : Type 0} (p : X → Bool) (xs : List X) → nat_lt (position_or_len p xs) (length xs) ≡ false → AllByRecursion (λ x. p x ≡ false) xs
-    past p [] e = tt
-    past {X} p (x ∷ xs) e = by (p x) refl e (past p xs)
-      where
-        by : (b : Bool) → p x ≡ b → nat_lt (position_or_len p (x ∷ xs)) (length (x ∷ xs)) ≡ false → (nat_lt (position_or_len p xs) (length xs) ≡ false → AllByRecursion (λ x. p x ≡ false) xs)
-            → AllByRecursion (λ x. p x ≡ false) (x ∷ xs)
-        by true is e more = absurd (let f : nat_lt 0 (length (x ∷ xs)) ≡ false = rw is at e in let t : nat_lt 0 (length (x ∷ xs)) ≡ true = grind (arith, nat_tests) in let wrong : true ≡ false = sym t ∙ f in cc)
-        by false is e more = (is, more (let f : nat_lt (1 + position_or_len p xs) (length (x ∷ xs)) ≡ false = rw is at e in grind (arith, nat_tests)))
-
 pub differ-added : (new : Count) (cs : List Count) → position (is_of new.identity) cs ≡ None → IdentitiesDiffer cs → IdentitiesDiffer (cs ++ new ∷ [])
 differ-added new cs none differ = push cs (absent (is_of new.identity) cs none) differ
   where
@@ -146,3 +156,122 @@ differ-added new cs none differ = push cs (absent (is_of new.identity) cs none) 
     push : (cs : List Count) → AllByRecursion (λ c. is_of new.identity c ≡ false) cs → IdentitiesDiffer cs → IdentitiesDiffer (cs ++ new ∷ [])
     push [] all differ = (tt, tt)
     push (c ∷ cs) all differ = (all_push c cs differ.0 all.0, push cs all.1 differ.1)
+
+-- A count that is replaced by one of a server that is new.
+
+pub differ-replaced : (new : Count) (n : ℕ) (cs : List Count) → position (is_of new.identity) cs ≡ None → IdentitiesDiffer cs → IdentitiesDiffer (slice_set cs n new)
+differ-replaced new n cs none differ = set n cs (absent (is_of new.identity) cs none) differ
+  where
+    others : (cs : List Count) → AllByRecursion (λ c. is_of new.identity c ≡ false) cs → AllByRecursion (λ other. same_server new.identity other.identity ≡ false) cs
+    others [] all = tt
+    others (c ∷ cs) all = (other_server c.identity new.identity all.0, others cs all.1)
+
+    all_set : (c : Count) (n : ℕ) (cs : List Count) → same_server c.identity new.identity ≡ false → AllByRecursion (λ other. same_server c.identity other.identity ≡ false) cs
+        → AllByRecursion (λ other. same_server c.identity other.identity ≡ false) (slice_set cs n new)
+    all_set c n [] own all = tt
+    all_set c zero (d ∷ cs) own all = (own, all.1)
+    all_set c (suc n) (d ∷ cs) own all = (all.0, all_set c n cs own all.1)
+
+    set : (n : ℕ) (cs : List Count) → AllByRecursion (λ c. is_of new.identity c ≡ false) cs → IdentitiesDiffer cs → IdentitiesDiffer (slice_set cs n new)
+    set n [] all differ = tt
+    set zero (c ∷ cs) all differ = (others cs all.1, differ.1)
+    set (suc n) (c ∷ cs) all differ = (all_set c n cs all.0 differ.0, set n cs all.1 differ.1)
+
+pub identity-replaced : (new : Count) (n : ℕ) (cs : List Count) (m : ℕ) → (m ≡ n → ⊥) → identity_at m (slice_set cs n new) ≡ identity_at m cs
+identity-replaced new n cs m other = ap (option_map (λ c. c.identity)) (get-other cs n m new other)
+
+pub open-replaced : (identity : ServerIdentity) (n : ℕ) (cs : List Count) → n < length cs → open_at n cs ≡ 0 → (m : ℕ) → open_at m (slice_set cs n (closed identity)) ≡ open_at m cs
+open-replaced identity n cs there none m = by (cases_eq m n)
+  where
+    by : (m ≡ n) ⊎ (m ≡ n → ⊥) → open_at m (slice_set cs n (closed identity)) ≡ open_at m cs
+    by (inl same) =
+        ap (λ k. open_at k (slice_set cs n (closed identity))) same ∙ ap (λ o. option_map_or (λ c. c.connections) o 0) (get-set cs n (closed identity) there)
+        ∙ sym none ∙ ap (λ k. open_at k cs) (sym same)
+    by (inr other) = ap (λ o. option_map_or (λ c. c.connections) o 0) (get-other cs n m (closed identity) other)
+
+pub place_identity : (identity : ServerIdentity) (counts : List Count) (n : ℕ) → place_of identity counts ≡ Some n → identity_at n counts ≡ Some identity
+place_identity identity counts n is =
+    let item = found (is_of identity) counts n is in
+    ap (option_map (λ c. c.identity)) item.1 ∙ ap (λ i. Some i) (server_is item.0.identity identity item.2)
+
+-- Sums of open connections.
+
+pub open_at-in_all : (n : ℕ) (cs : List Count) → open_at n cs ≤ open_in_all cs
+open_at-in_all n [] = omega arith
+open_at-in_all zero (c ∷ cs) = omega arith
+open_at-in_all (suc n) (c ∷ cs) = let less : open_at n cs ≤ open_in_all cs = open_at-in_all n cs in omega (arith, less)
+
+pub open_in-in_all : (name : List ℕ) (cs : List Count) → open_in name cs ≤ open_in_all cs
+open_in-in_all name [] = omega arith
+open_in-in_all name (c ∷ cs) = by (bytes_eq c.identity.backend name) refl (open_in-in_all name cs)
+  where
+    by : (b : Bool) → bytes_eq c.identity.backend name ≡ b → open_in name cs ≤ open_in_all cs → open_in name (c ∷ cs) ≤ open_in_all (c ∷ cs)
+    by true e less = rw e (omega (arith, less))
+    by false e less = rw e (omega (arith, less))
+
+none_in : (name : List ℕ) (cs : List Count) → ((m : ℕ) → open_at m cs ≡ 0) → open_in name cs ≡ 0
+none_in name [] none = refl
+none_in name (c ∷ cs) none = by (bytes_eq c.identity.backend name) refl (none_in name cs (λ m. none (suc m)))
+  where
+    by : (b : Bool) → bytes_eq c.identity.backend name ≡ b → open_in name cs ≡ 0 → open_in name (c ∷ cs) ≡ 0
+    by true e rest = let own : c.connections ≡ 0 = none 0 in rw e (omega (arith, own, rest))
+    by false e rest = rw e (omega (arith, rest))
+
+-- where the counts stay, and so do the identities of those that are not 0
+pub open_in-same : (name : List ℕ) (old next : List Count) → ((m : ℕ) → open_at m next ≡ open_at m old) → ((m : ℕ) → 0 < open_at m old → identity_at m next ≡ identity_at m old) →
+    open_in name next ≡ open_in name old
+open_in-same name [] next same kept = none_in name next same
+open_in-same name (c ∷ cs) [] same kept = sym (none_in name (c ∷ cs) (λ m. sym (same m)))
+open_in-same name (c ∷ cs) (d ∷ ds) same kept = by (c.connections) refl (open_in-same name cs ds (λ m. same (suc m)) (λ m some. kept (suc m) some))
+  where
+    own : Count → ℕ
+    own e = if bytes_eq e.identity.backend name then e.connections else 0
+
+    nothing : (e : Count) → e.connections ≡ 0 → own e ≡ 0
+    nothing e none = test (bytes_eq e.identity.backend name)
+      where
+        test : (b : Bool) → (if b then e.connections else 0) ≡ 0
+        test true = none
+        test false = refl
+
+    by : (n : ℕ) → c.connections ≡ n → open_in name ds ≡ open_in name cs → own d + open_in name ds ≡ own c + open_in name cs
+    by zero none rest =
+        let there : own c ≡ 0 = nothing c none in
+        let here : own d ≡ 0 = nothing d (same 0 ∙ none) in
+        omega (arith, there, here, rest)
+    by (suc n) some rest =
+        let one : Some d.identity ≡ Some c.identity = kept 0 (omega (arith, some)) in
+        let identity : d.identity ≡ c.identity = one_item (Some d.identity) d.identity c.identity refl one in
+        let here : own d ≡ own c = ap (λ i. if bytes_eq i.backend name then d.connections else 0) identity ∙ ap (λ k. if bytes_eq c.identity.backend name then k else 0) (same 0) in
+        omega (arith, here, rest)
+
+-- Places that are named.
+
+pub still_named : (n : ℕ) (named : List Bool) (m : ℕ) → named_at m named ≡ true → named_at m (slice_set named n true) ≡ true
+still_named n [] m is = is
+still_named zero (b ∷ named) zero is = refl
+still_named zero (b ∷ named) (suc m) is = is
+still_named (suc n) (b ∷ named) zero is = is
+still_named (suc n) (b ∷ named) (suc m) is = still_named n named m is
+
+pub now_named : (n : ℕ) (named : List Bool) → n < length named → named_at n (slice_set named n true) ≡ true
+now_named n named there = ap (λ o. option_map_or (λ is. is) o false) (get-set named n true there)
+
+pub named-pushed : (named : List Bool) (m : ℕ) → named_at m named ≡ true → named_at m (named ++ true ∷ []) ≡ true
+named-pushed [] m is = absurd (cc)
+named-pushed (b ∷ named) zero is = is
+named-pushed (b ∷ named) (suc m) is = named-pushed named m is
+
+pub last-named : (named : List Bool) → named_at (length named) (named ++ true ∷ []) ≡ true
+last-named [] = refl
+last-named (b ∷ named) = last-named named
+
+-- one that is named is within
+pub named-within : (m : ℕ) (named : List Bool) → named_at m named ≡ true → m < length named
+named-within m [] is = absurd (cc)
+named-within zero (b ∷ named) is = omega arith
+named-within (suc m) (b ∷ named) is = let less : m < length named = named-within m named is in omega (arith, less)
+
+pub identity-last : (new : Count) (cs : List Count) → identity_at (length cs) (cs ++ new ∷ []) ≡ Some new.identity
+identity-last new [] = refl
+identity-last new (c ∷ cs) = identity-last new cs

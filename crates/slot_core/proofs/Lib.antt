@@ -1,1 +1,4 @@
+pub mod Items
 pub mod CountLemmas
+pub mod TotalLemmas
+pub mod AddLemmas

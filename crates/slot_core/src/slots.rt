@@ -1,9 +1,11 @@
 //! Counts of open connections.
-ghost use Rattle.std.specs.Prelude.{◌≡◌, ◌↔◌, IsTrue, ◌+◌, ◌-◌, ◌<◌, ◌^◌, ℕ, [], length, find, Some, IfOk, OnOk, OnErr};
+ghost use Rattle.std.specs.Prelude.{◌≡◌, ◌↔◌, IsTrue, ◌+◌, ◌-◌, ◌<◌, ◌^◌, ◌++◌, ◌∷◌, ℕ, true, false, List, [], length, find, replicate, slice_set, None, Some, IfOk, OnOk, OnErr};
 ghost use Rattle.std.specs.List.{position};
 ghost use Rattle.std.specs.Option.{option_copied};
-ghost use Rattle.slot_core.specs.Counts.{is_of, place_of, with_identity, identity_at, open_at, open_of, with_open, slots_at, IdentitiesDiffer};
+ghost use Rattle.slot_core.specs.Counts.{is_of, place_of, closed, identity_at, open_at, open_of, open_in, open_in_all, named_at, with_open, slots_at, IdentitiesDiffer};
 
+use crate::places::NamedPlaces;
+use crate::totals::{BackendTotal, close_one, find_total, join, leave, open_one, place_of_total};
 use addr_core::Endpoint;
 use list_core::Duplicate;
 use proxy_types::ServerIdentity;
@@ -17,7 +19,7 @@ pub struct Count {
     pub connections: u64,
 }
 
-/// The place of a server's count. It holds for good.
+/// The place of a server's count. It holds as long as the place is named, or a connection to the server is open.
 #[derive(Clone, Copy, Debug, PartialEq, Eq)]
 pub struct SlotIx {
     pub place: usize,
@@ -45,23 +47,26 @@ impl Slot {
     }
 }
 
-/// Counts by identity. Contracts see them in the order in which the identities were added.
+/// Counts by identity, with a running total for the name of each backend. Contracts see the counts, each at its place.
 #[derive(Debug, Drop)]
 pub struct Slots {
     alloc: Global,
     counts: Vec<Count>,
+    /// Of each count, the place of the total of its backend.
+    backends: Vec<usize>,
+    totals: Vec<BackendTotal>,
 }
 
 impl Model for Slots {
     ghost use Rattle.std.specs.Prelude.{List};
     ghost use Rattle.slot_core.specs.declared.slots.Count.{Count};
-    ghost use Rattle.slot_core.specs.Counts.{IdentitiesDiffer};
+    ghost use Rattle.slot_core.specs.Totals.{AreCounts};
 
     ghost Value = { List Count };
 
     ghost view = { λ s. s.counts.items };
 
-    ghost invariant = { λ s. IdentitiesDiffer s.counts.items };
+    ghost invariant = { λ s. AreCounts s.counts.items s.backends.items s.totals.items };
 }
 
 impl Slots {
@@ -72,10 +77,12 @@ impl Slots {
         Slots {
             alloc,
             counts: Vec::new(alloc),
+            backends: Vec::new(alloc),
+            totals: Vec::new(alloc),
         }
     }
 
-    /// How many identities were added. No two of them are one.
+    /// How many places there are. No two of them are of one identity.
     pub fn len(&self) -> usize
         ensures value { result ≡ length self.now }
         ensures apart { IdentitiesDiffer self.now }
@@ -83,30 +90,96 @@ impl Slots {
         self.counts.len()
     }
 
-    /// Whether none was.
+    /// Whether there is none.
     pub fn is_empty(&self) -> bool
         ensures { IsTrue result ↔ (self.now ≡ []) }
     {
         self.counts.is_empty()
     }
 
-    /// Where an identity is counted. One that is new has no open connection.
-    pub fn add(&mut self, identity: &ServerIdentity) -> Result<SlotIx, AllocError>
-        ensures ix { IfOk result (λ ix. Some ix.place ≡ place_of identity.now self.new) }
-        ensures counts { OnOk result (self.new ≡ with_identity identity.now self.old) }
+    /// Of each place: that it is not named.
+    pub fn none_named(&self, alloc: Global) -> Result<NamedPlaces, AllocError>
+        ensures { IfOk result (λ named. named ≡ replicate (length self.now) false) }
+    {
+        NamedPlaces::none(alloc, self.counts.len())
+    }
+
+    /// Where an identity is counted, which is named from now on. One that is new has no open connection. It is given a
+    /// place that is not named, and to whose server no connection is open, and the last one where there is no such place.
+    pub fn add(
+        &mut self,
+        identity: &ServerIdentity,
+        named: &mut NamedPlaces,
+    ) -> Result<SlotIx, AllocError>
+        requires { length named.old ≡ length self.old }
+        ensures there { IfOk result (λ ix. identity_at ix.place self.new ≡ Some identity.now) }
+        ensures named { IfOk result (λ ix. named_at ix.place named.new ≡ true) }
+        ensures still_named { (place : ℕ) → named_at place named.old ≡ true → named_at place named.new ≡ true }
+        ensures many { length named.new ≡ length self.new }
+        ensures apart { IdentitiesDiffer self.new }
+
+        // What is named or has open connections keeps its place.
+        ensures kept { (place : ℕ) → named_at place named.old ≡ true → identity_at place self.new ≡ identity_at place self.old }
+        ensures open_kept { (place : ℕ) → 0 < open_at place self.old → identity_at place self.new ≡ identity_at place self.old }
+
+        // Each count and each total is as before.
         ensures open { (place : ℕ) → open_at place self.new ≡ open_at place self.old }
-        ensures kept { (place : ℕ) → place < length self.old → identity_at place self.new ≡ identity_at place self.old }
+        ensures open_in { (name : List ℕ) → open_in name self.new ≡ open_in name self.old }
         ensures err { OnErr result (self.new ≡ self.old) }
+        ensures err_named { OnErr result (named.new ≡ named.old) }
     {
         if let Some(place) = find(self.counts.as_slice(), identity) {
+            named.note(SlotIx { place });
+            return Ok(SlotIx { place });
+        }
+        if let Some(place) = named.free(self.counts.as_slice()) {
+            self.replace(place, identity)?;
+            named.note(SlotIx { place });
             return Ok(SlotIx { place });
         }
         let place = self.counts.len();
+        named.named.try_reserve(1)?;
+        self.push(identity)?;
+        named.named.push_reserved(true);
+        Ok(SlotIx { place })
+    }
+
+    /// Gives a place to whose server no connection is open to a new identity.
+    fn replace(&mut self, place: usize, identity: &ServerIdentity) -> Result<(), AllocError>
+        requires there { place < length self.old }
+        requires closed { open_at place self.old ≡ 0 }
+        requires new { place_of identity.now self.old ≡ None }
+        ensures ok { OnOk result (self.new ≡ slice_set self.old place (closed identity.now)) }
+        ensures err { OnErr result (self.new ≡ self.old) }
+    {
+        let identity = identity.duplicate(self.alloc)?;
+        let total = place_of_total(self.alloc, &mut self.totals, identity.backend.as_slice())?;
+        leave(&mut self.totals, self.backends[place]);
+        join(&mut self.totals, total);
+        self.backends[place] = total;
+        self.counts[place] = Count {
+            identity,
+            connections: 0,
+        };
+        Ok(())
+    }
+
+    /// Counts a new identity in a place that is the last.
+    fn push(&mut self, identity: &ServerIdentity) -> Result<(), AllocError>
+        requires { place_of identity.now self.old ≡ None }
+        ensures ok { OnOk result (self.new ≡ self.old ++ closed identity.now ∷ []) }
+        ensures err { OnErr result (self.new ≡ self.old) }
+    {
+        let identity = identity.duplicate(self.alloc)?;
+        let total = place_of_total(self.alloc, &mut self.totals, identity.backend.as_slice())?;
+        self.backends.try_reserve(1)?;
         self.counts.push(Count {
-            identity: identity.duplicate(self.alloc)?,
+            identity,
             connections: 0,
         })?;
-        Ok(SlotIx { place })
+        self.backends.push_reserved(total);
+        join(&mut self.totals, total);
+        Ok(())
     }
 
     /// Which server is counted there.
@@ -135,10 +208,20 @@ impl Slots {
         }
     }
 
+    /// How many connections are open to the servers of the backend of that name: a running number.
+    pub fn offered(&self, backend: &[u8]) -> u64
+        ensures { result ≡ open_in backend.now self.now }
+    {
+        match find_total(self.totals.as_slice(), backend) {
+            Some(place) => self.totals[place].connections,
+            None => 0,
+        }
+    }
+
     /// Counts one more open connection, without taking memory.
     pub fn take(&mut self, ix: SlotIx) -> Slot
         requires there { ix.place < length self.old }
-        requires below { open_at ix.place self.old < 2 ^ 64 - 1 }
+        requires below { open_in_all self.old < 2 ^ 64 - 1 }
         ensures slot { result ≡ ix }
         ensures counts { self.new ≡ with_open (λ n. n + 1) ix.place self.old }
 
@@ -146,6 +229,7 @@ impl Slots {
         ensures open { (place : ℕ) → open_at place self.new ≡ open_at place self.old + slots_at place result }
     {
         self.counts[ix.place].connections += 1;
+        open_one(&mut self.totals, self.backends[ix.place]);
         Slot { ix }
     }
 
@@ -157,6 +241,7 @@ impl Slots {
     {
         let Slot { ix } = slot;
         self.counts[ix.place].connections -= 1;
+        close_one(&mut self.totals, self.backends[ix.place]);
     }
 }
 
