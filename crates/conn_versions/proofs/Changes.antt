@@ -7,6 +7,7 @@ use Rattle.std.proofs.lemmas.Bool.Decides.{nat_tests}
 use Rattle.std.proofs.lemmas.List.Edits.{length-remove}
 use Rattle.std.proofs.lemmas.Option.{slice_get_within}
 use Rattle.slot_core.specs.declared.slots.Count.{Count}
+use Rattle.slot_core.specs.Counts.{identity_at, open_at}
 use Rattle.list_core.proofs.PlaceLemmas.{find-passes}
 use Rattle.plan_types.specs.Sound.{IsSoundPlan}
 use Rattle.conn_model.specs.declared.plain.Version.{Version}
@@ -14,27 +15,36 @@ use Rattle.conn_model.specs.Words.{Rise}
 use Rattle.conn_model.proofs.Lists.{all-append, all-at, all-filter, filter-all, found_there, position_within, rise-filter}
 use Rattle.conn_versions.specs.declared.versions.VersionPicks.{VersionPicks}
 use Rattle.conn_versions.specs.Versions.{has_number}
-use Rattle.conn_versions.specs.Slots.{OnlyAdds}
-use Rattle.conn_versions.specs.Kept.{AreKept, IsKept}
+use Rattle.conn_versions.specs.Slots.{KeepsPlaces}
+use Rattle.conn_versions.specs.Kept.{AreAllNoted, AreKept, IsKept}
 use Rattle.conn_versions.proofs.Places.{one_item, push-cases, within}
-use Rattle.conn_versions.proofs.Identities.{still_slots}
+use Rattle.conn_versions.proofs.Identities.{noted_named, still_slots}
 
 -- Places of servers that are added.
 
-still_is : (old later : List Count) (version : Version) (own : VersionPicks) → OnlyAdds old later → IsKept old version own.backends.items → IsKept later version own.backends.items
-still_is old later version own adds is = record {
+still_is : (old : List Count) (before : List Bool) (later : List Count) (after : List Bool) (version : Version) (own : VersionPicks) → length before ≡ length old →
+    AreAllNoted before own.backends.items → KeepsPlaces old before later after → IsKept old version own.backends.items → IsKept later version own.backends.items
+still_is old before later after version own many noted keeps is = record {
   tied = is.tied;
-  counted = λ n backend picks at found. still_slots backend picks.slots old later adds (is.counted n backend picks at found);
+  counted = λ n backend picks at found.
+      let slots = is.counted n backend picks at found in
+      still_slots backend picks.slots old before later after keeps (noted_named backend picks.slots old before many (noted n picks found) slots) slots;
 }
 
-pub kept_adding : (old later : List Count) (versions : List Version) (all : List VersionPicks) → OnlyAdds old later → AreKept old versions all → AreKept later versions all
-kept_adding old later versions all adds kept = record {
-  apart = adds.apart;
+-- what each version names stays
+pub kept_adding : (old : List Count) (before : List Bool) (later : List Count) (after : List Bool) (versions : List Version) (all : List VersionPicks) → length before ≡ length old →
+    ((n : ℕ) (own : VersionPicks) → slice_get all n ≡ Some own → AreAllNoted before own.backends.items) → KeepsPlaces old before later after → AreKept old versions all → AreKept later versions all
+kept_adding old before later after versions all many noted keeps kept = record {
+  apart = keeps.apart;
   rise = kept.rise;
   sound = kept.sound;
   many = kept.many;
-  each = λ n version own at found. still_is old later version own adds (kept.each n version own at found);
+  each = λ n version own at found. still_is old before later after version own many (noted n own found) keeps (kept.each n version own at found);
 }
+
+pub kept_open : (old : List Count) (before : List Bool) (later : List Count) (after : List Bool) (counts : List Count) → KeepsPlaces old before later after → old ≡ counts →
+    (place : ℕ) → 0 < open_at place counts → identity_at place later ≡ identity_at place counts
+kept_open old before later after counts keeps same place some = keeps.open_kept place (subst (λ k. 0 < open_at place k) (sym same) some) ∙ ap (identity_at place) same
 
 -- A version is added.
 

@@ -17,15 +17,15 @@ use Rattle.conn_model.specs.declared.plain.Version.{Version}
 use Rattle.conn_model.specs.Words.{Rise}
 use Rattle.conn_model.specs.History.{with_offer}
 use Rattle.conn_model.specs.Servers.{cursor_after, cursor_at, with_cursor}
-use Rattle.conn_model.proofs.Lists.{all-at, all-map, all-more, rise-map}
+use Rattle.conn_model.proofs.Lists.{all-append, all-at, all-map, all-more, rise-map}
 use Rattle.conn_versions.specs.declared.picks.BackendPicks.{BackendPicks}
 use Rattle.conn_versions.specs.declared.versions.VersionPicks.{VersionPicks}
 use Rattle.conn_versions.specs.Versions.{AreSound}
-use Rattle.conn_versions.specs.Slots.{AreSlots, OnlyAdds}
+use Rattle.conn_versions.specs.Slots.{AreNamed, AreSlots, KeepsPlaces}
 use Rattle.conn_versions.specs.Picks.{IsTied}
 use Rattle.conn_versions.specs.Kept.{AreCounted, AreKept, AreTied, IsKept}
 use Rattle.conn_versions.proofs.Places.{get-other, get-set, length-set, one_item, push-cases, set-cases}
-use Rattle.conn_versions.proofs.Identities.{identity-changed, still_slots}
+use Rattle.conn_versions.proofs.Identities.{identity-changed, still_named, still_slots}
 
 -- One backend of a version.
 
@@ -183,16 +183,24 @@ one_more_new backends own backend next new' there is = λ n other picks at found
         let same : backend ≡ other = one_item (slice_get backends (length own)) backend other there (ap (slice_get backends) (sym last.0) ∙ at) in
         subst (λ b. IsTied b None picks) same (subst (IsTied backend None) last.1 is)
 
-pub one_more_counted : (backends : List Backend) (own : List BackendPicks) (old later : List Count) (backend : Backend) (next : BackendPicks) → OnlyAdds old later → AreCounted old backends own →
-    slice_get backends (length own) ≡ Some backend → AreSlots later backend next.slots → AreCounted later backends (own ++ next ∷ [])
-one_more_counted backends own old later backend next adds counted there is = λ n other picks at found. by n other picks at (push-cases own next n picks found)
+pub one_more_counted : (backends : List Backend) (own : List BackendPicks) (old : List Count) (before : List Bool) (later : List Count) (after : List Bool) (backend : Backend) (next : BackendPicks) →
+    KeepsPlaces old before later after → AllByRecursion (λ picks. AreNamed before picks.slots) own → AreCounted old backends own → slice_get backends (length own) ≡ Some backend →
+    AreSlots later backend next.slots → AreCounted later backends (own ++ next ∷ [])
+one_more_counted backends own old before later after backend next keeps named counted there is = λ n other picks at found. by n other picks at (push-cases own next n picks found)
   where
     by : (n : ℕ) (other : Backend) (picks : BackendPicks) → slice_get backends n ≡ Some other → (slice_get own n ≡ Some picks) ⊎ ((n ≡ length own) × (next ≡ picks)) →
         AreSlots later other picks.slots
-    by n other picks at (inl before) = still_slots other picks.slots old later adds (counted n other picks at before)
+    by n other picks at (inl earlier) =
+        still_slots other picks.slots old before later after keeps (all-at (λ p. AreNamed before p.slots) own n picks named earlier) (counted n other picks at earlier)
     by n other picks at (inr last) =
         let same : backend ≡ other = one_item (slice_get backends (length own)) backend other there (ap (slice_get backends) (sym last.0) ∙ at) in
         subst (λ b. AreSlots later b picks.slots) same (subst (λ p. AreSlots later backend p.slots) last.1 is)
+
+pub one_more_named : (own : List BackendPicks) (old : List Count) (before : List Bool) (later : List Count) (after : List Bool) (next : BackendPicks) → KeepsPlaces old before later after →
+    AllByRecursion (λ picks. AreNamed before picks.slots) own → AreNamed after next.slots → AllByRecursion (λ picks. AreNamed after picks.slots) (own ++ next ∷ [])
+one_more_named own old before later after next keeps named is =
+    all-append (λ picks. AreNamed after picks.slots) own (next ∷ [])
+    (all-more (λ picks. AreNamed before picks.slots) (λ picks. AreNamed after picks.slots) own (λ picks each. still_named picks.slots old before later after keeps each) named) (is, tt)
 
 pub new_kept : (counts : List Count) (version : Version) (own : VersionPicks) → IdentitiesDiffer counts → IsSoundPlan version.plan → IsKept counts version own.backends.items →
     AreKept counts (version ∷ []) (own ∷ [])

@@ -1,5 +1,5 @@
 -- The versions that are kept, with what picks of their backends go by.
-use Rattle.std.specs.Prelude.{ℕ, List, Option, length, slice_get, Some, ◌≡◌}
+use Rattle.std.specs.Prelude.{ℕ, Bool, List, Option, length, slice_get, Some, ◌≡◌}
 use Rattle.proxy_types.specs.declared.balance.Place.{Place}
 use Rattle.slot_core.specs.declared.slots.Count.{Count}
 use Rattle.slot_core.specs.Counts.{IdentitiesDiffer}
@@ -10,7 +10,7 @@ use Rattle.conn_model.specs.Servers.{cursor_at}
 use Rattle.conn_versions.specs.declared.picks.BackendPicks.{BackendPicks}
 use Rattle.conn_versions.specs.declared.versions.VersionPicks.{VersionPicks}
 use Rattle.conn_versions.specs.Versions.{AreSound}
-use Rattle.conn_versions.specs.Slots.{AreSlots}
+use Rattle.conn_versions.specs.Slots.{AreNoted, AreSlots}
 use Rattle.conn_versions.specs.Picks.{IsTied}
 
 -- each backend's cursor is tied to what its picks go by
@@ -36,3 +36,7 @@ pub record AreKept (counts : List Count) (versions : List Version) (all : List V
   pub sound : AreSound versions
   pub many : length all ≡ length versions
   pub each : (n : ℕ) (version : Version) (own : VersionPicks) → slice_get versions n ≡ Some version → slice_get all n ≡ Some own → IsKept counts version own.backends.items
+
+-- each place of each backend is named, if there is such a place
+abbrev pub AreAllNoted : List Bool → List BackendPicks → Type 0
+AreAllNoted named own = (n : ℕ) (picks : BackendPicks) → slice_get own n ≡ Some picks → AreNoted named picks.slots

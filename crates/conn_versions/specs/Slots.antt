@@ -1,9 +1,9 @@
 -- The places at which the open connections of servers are counted.
-use Rattle.std.specs.Prelude.{ℕ, List, length, slice_get, Some, ◌≡◌, ◌≤◌}
-use Rattle.proxy_types.specs.declared.server.ServerIdentity.{ServerIdentity}
+use Rattle.std.specs.Prelude.{ℕ, Bool, true, List, length, slice_get, Some, ◌≡◌, ◌<◌, ◌≤◌}
+use Rattle.std.specs.List.{AllByRecursion}
 use Rattle.slot_core.specs.declared.slots.Count.{Count}
 use Rattle.slot_core.specs.declared.slots.SlotIx.{SlotIx}
-use Rattle.slot_core.specs.Counts.{identity_at, open_at, IdentitiesDiffer}
+use Rattle.slot_core.specs.Counts.{identity_at, named_at, open_at, IdentitiesDiffer}
 use Rattle.plan_types.specs.declared.plan.Backend.{Backend}
 use Rattle.plan_types.specs.declared.plan.Server.{Server}
 use Rattle.plan_types.specs.Sound.{most_servers}
@@ -25,8 +25,19 @@ pub record IsServed (counts : List Count) (backend : Backend) (places : List Slo
   pub apart : IdentitiesDiffer counts
   pub slots : AreSlots counts backend places
 
--- no count was changed, and those that are new are 0
-pub record OnlyAdds (old next : List Count) : Type 0 where
+-- each of the places is named
+abbrev pub AreNamed : List Bool → List SlotIx → Type 0
+AreNamed named places = AllByRecursion (λ ix. named_at ix.place named ≡ true) places
+
+-- each of the places is named, if there is such a place
+abbrev pub AreNoted : List Bool → List SlotIx → Type 0
+AreNoted named places = (n : ℕ) (ix : SlotIx) → slice_get places n ≡ Some ix → ix.place < length named → named_at ix.place named ≡ true
+
+-- what is named, or has open connections, keeps its identity; the open connections are as before, and what is named stays so
+pub record KeepsPlaces (old : List Count) (before : List Bool) (next : List Count) (after : List Bool) : Type 0 where
   pub apart : IdentitiesDiffer next
-  pub kept : (place : ℕ) (identity : ServerIdentity) → identity_at place old ≡ Some identity → identity_at place next ≡ Some identity
+  pub many : length after ≡ length next
+  pub named : (place : ℕ) → named_at place before ≡ true → named_at place after ≡ true
+  pub kept : (place : ℕ) → named_at place before ≡ true → identity_at place next ≡ identity_at place old
+  pub open_kept : (place : ℕ) → 0 < open_at place old → identity_at place next ≡ identity_at place old
   pub open_as_before : (place : ℕ) → open_at place next ≡ open_at place old

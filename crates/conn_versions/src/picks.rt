@@ -1,11 +1,11 @@
 //! What picks of a backend go by.
-ghost use Rattle.std.specs.Prelude.{◌≡◌, ◌<◌, ◌≤◌, length, map, option_map, slice_get, None, Some, IfOk};
+ghost use Rattle.std.specs.Prelude.{◌≡◌, ◌<◌, ◌≤◌, ℕ, true, length, map, option_map, slice_get, None, Some, IfOk};
 ghost use Rattle.balance_core.specs.Cycles.{turn_at, IsRound};
 ghost use Rattle.balance_core.specs.Rounds.{next_turn, used_turn, weights_of};
 ghost use Rattle.conn_model.specs.Servers.{cursor_after, identity_in, pick_in, weight_of};
-ghost use Rattle.slot_core.specs.Counts.{IdentitiesDiffer};
+ghost use Rattle.slot_core.specs.Counts.{named_at, IdentitiesDiffer};
 ghost use Rattle.conn_versions.specs.Versions.{open_to};
-ghost use Rattle.conn_versions.specs.Slots.{AreSlots, IsServed, OnlyAdds};
+ghost use Rattle.conn_versions.specs.Slots.{AreNamed, AreNoted, AreSlots, IsServed, KeepsPlaces};
 ghost use Rattle.conn_versions.specs.Picks.{IsTied};
 
 use crate::loads::{BackendLoad, OneServer, weight_of};
@@ -14,7 +14,7 @@ use balance_core::{Cycle, pick_least, pick_round, pick_source};
 use list_core::{Duplicate, Seq};
 use plan_types::{Backend, Server};
 use proxy_types::{Method, Place, ServerIdentity};
-use slot_core::{SlotIx, Slots};
+use slot_core::{NamedPlaces, SlotIx, Slots};
 use std::alloc::{AllocError, Global};
 
 /// What picks of a backend go by.
@@ -43,16 +43,34 @@ fn identity_of(
     })
 }
 
-/// The slot of each server. One that is new has no open connection.
-fn slots_of(alloc: Global, backend: &Backend, slots: &mut Slots) -> Result<Seq<SlotIx>, AllocError>
-    requires { IdentitiesDiffer slots.old }
+/// Names the places of a backend's servers.
+pub fn note_places(named: &mut NamedPlaces, places: &[SlotIx])
+    ensures many { length named.new ≡ length named.old }
+    ensures noted { AreNoted named.new places.now }
+    ensures still_named { (place : ℕ) → named_at place named.old ≡ true → named_at place named.new ≡ true }
+{
+    for ix in places {
+        named.note(*ix);
+    }
+}
+
+/// The slot of each server, whose place is named from now on. One that is new has no open connection.
+fn slots_of(
+    alloc: Global,
+    backend: &Backend,
+    slots: &mut Slots,
+    named: &mut NamedPlaces,
+) -> Result<Seq<SlotIx>, AllocError>
+    requires apart { IdentitiesDiffer slots.old }
+    requires many { length named.old ≡ length slots.old }
     ensures each { IfOk result (λ places. AreSlots slots.new backend.now places) }
-    ensures adds { OnlyAdds slots.old slots.new }
+    ensures named { IfOk result (λ places. AreNamed named.new places) }
+    ensures keeps { KeepsPlaces slots.old named.old slots.new named.new }
 {
     let mut places = Seq::new(alloc);
     for server in backend.servers.as_slice() {
         let identity = identity_of(alloc, backend, server)?;
-        let ix = slots.add(&identity)?;
+        let ix = slots.add(&identity, named)?;
         places.push(ix)?;
     }
     Ok(places)
@@ -83,15 +101,18 @@ pub fn picks_of(
     alloc: Global,
     backend: &Backend,
     slots: &mut Slots,
+    named: &mut NamedPlaces,
 ) -> Result<BackendPicks, AllocError>
     requires few { length backend.now.servers ≤ 64 }
     requires apart { IdentitiesDiffer slots.old }
+    requires many { length named.old ≡ length slots.old }
     ensures slots { IfOk result (λ own. AreSlots slots.new backend.now own.slots) }
-    ensures adds { OnlyAdds slots.old slots.new }
+    ensures named { IfOk result (λ own. AreNamed named.new own.slots) }
+    ensures keeps { KeepsPlaces slots.old named.old slots.new named.new }
     ensures tied { IfOk result (IsTied backend.now None) }
 {
     let cycle = cycle_of(alloc, backend.servers.as_slice())?;
-    let places = slots_of(alloc, backend, slots)?;
+    let places = slots_of(alloc, backend, slots, named)?;
     Ok(BackendPicks {
         slots: places,
         cycle,

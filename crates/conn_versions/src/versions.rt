@@ -1,9 +1,9 @@
 //! Versions that are kept.
-ghost use Rattle.std.specs.Prelude.{◌≡◌, ◌+◌, ◌-◌, ◌<◌, ◌^◌, ◌==◌, ℕ, not, List, [], ◌∷◌, map, filter, length, position, slice_get, slice_set, option_map, None, Some, IfOk, OnOk, OnErr};
+ghost use Rattle.std.specs.Prelude.{◌≡◌, ◌+◌, ◌-◌, ◌<◌, ◌^◌, ◌==◌, ℕ, not, List, [], ◌∷◌, map, filter, length, position, slice_get, slice_set, option_map, true, None, Some, IfOk, OnOk, OnErr};
 ghost use Rattle.std.specs.List.{AllByRecursion};
 ghost use Rattle.std.specs.Option.{option_copied};
 ghost use Rattle.slot_core.specs.declared.slots.Count.{Count};
-ghost use Rattle.slot_core.specs.Counts.{identity_at, open_at, slots_at, IdentitiesDiffer};
+ghost use Rattle.slot_core.specs.Counts.{identity_at, named_at, open_at, open_in, open_in_all, slots_at, IdentitiesDiffer};
 ghost use Rattle.plan_types.specs.Lines.{has_line};
 ghost use Rattle.plan_types.specs.Sound.{IsSoundBackend, IsSoundPlan};
 ghost use Rattle.plan_types.specs.declared.plan.Backend as backends;
@@ -11,20 +11,20 @@ ghost use Rattle.conn_model.specs.declared.plain.Version as versions;
 ghost use Rattle.conn_model.specs.Answer.{version_at};
 ghost use Rattle.conn_model.specs.History.{new_version, next_version, with_offer, with_version};
 ghost use Rattle.conn_model.specs.Tables.{written_tables};
-ghost use Rattle.proxy_types.specs.declared.server.ServerIdentity.{ServerIdentity};
 ghost use Rattle.conn_model.specs.Servers.{cursor_at, identity_in, pick_in, with_cursor};
-ghost use Rattle.conn_versions.specs.Kept.{AreCounted, AreTied};
-ghost use Rattle.conn_versions.specs.Slots.{OnlyAdds};
+ghost use Rattle.conn_versions.specs.Kept.{AreAllNoted, AreCounted, AreTied};
+ghost use Rattle.conn_versions.specs.Slots.{KeepsPlaces};
+ghost use Rattle.conn_versions.specs.declared.versions.VersionPicks.{VersionPicks};
 ghost use Rattle.conn_versions.specs.Versions.{has_number, open_to, AreSound, HasServer};
 
 use crate::opening::{cursors, table_ids};
-use crate::picks::{BackendPicks, pick, picks_of, slot_of, use_server};
+use crate::picks::{BackendPicks, note_places, pick, picks_of, slot_of, use_server};
 use addr_core::Addr;
 use conn_model::plain::Version;
 use list_core::{Seq, newest};
 use plan_types::{Backend, Plan, Server};
 use proxy_types::Place;
-use slot_core::{Slot, Slots};
+use slot_core::{NamedPlaces, Slot, Slots};
 use std::alloc::{AllocError, Global};
 use std::marker::Model;
 use std::mem;
@@ -65,7 +65,8 @@ impl Versions {
         ensures open { IfOk result (λ kept. (place : ℕ) → open_at place kept.counts ≡ 0) }
     {
         let mut slots = Slots::new(alloc);
-        let backends = picks_of_all(alloc, plan.backends.as_slice(), &mut slots)?;
+        let mut named = slots.none_named(alloc)?;
+        let backends = picks_of_all(alloc, plan.backends.as_slice(), &mut slots, &mut named)?;
         let mut picks = Vec::new(alloc);
         picks.push(VersionPicks { backends })?;
         let mut versions = Vec::new(alloc);
@@ -87,14 +88,16 @@ impl Versions {
         ensures ok { OnOk result (self.new.versions ≡ with_version self.old.versions (Some (number, plan))) }
         ensures err { OnErr result (self.new.versions ≡ self.old.versions) }
         ensures open { (place : ℕ) → open_at place self.new.counts ≡ open_at place self.old.counts }
-        ensures identities { (place : ℕ) (identity : ServerIdentity) → identity_at place self.old.counts ≡ Some identity → identity_at place self.new.counts ≡ Some identity }
+        ensures identities { (place : ℕ) → 0 < open_at place self.old.counts → identity_at place self.new.counts ≡ identity_at place self.old.counts }
     {
         let before = newest(self.versions.as_slice());
         let version = version_after(self.alloc, number, before, plan)?;
+        let mut named = named_places(self.alloc, &self.slots, self.picks.as_slice())?;
         let backends = picks_of_all(
             self.alloc,
             version.plan.backends.as_slice(),
             &mut self.slots,
+            &mut named,
         )?;
         self.versions.try_reserve(1)?;
         self.picks.try_reserve(1)?;
@@ -155,11 +158,18 @@ impl Versions {
         self.slots.count_of(backend.name.as_slice(), server.name.as_slice(), &server.to)
     }
 
+    /// How many connections were offered a server of a backend of that name.
+    pub fn offered(&self, name: &[u8]) -> u64
+        ensures { result ≡ open_in name.now self.now.counts }
+    {
+        self.slots.offered(name)
+    }
+
     /// Counts one more open connection of the server of a line, which has that number in its backend, and moves what was
     /// last used of the backend. It takes no memory.
     pub fn offer(&mut self, version: u64, line: u32, server: u16) -> Slot
         requires there { HasServer self.old.versions version line server }
-        requires below { (place : ℕ) → open_at place self.old.counts < 2 ^ 64 - 1 }
+        requires below { open_in_all self.old.counts < 2 ^ 64 - 1 }
         ensures versions { self.new.versions ≡ map (with_offer version line server) self.old.versions }
         ensures slot { (there : HasServer self.old.versions version line server) → identity_at result.place self.new.counts ≡ Some (identity_in there.backend there.server) }
         ensures open { (place : ℕ) → open_at place self.new.counts ≡ open_at place self.old.counts + slots_at place result }
@@ -209,21 +219,50 @@ fn version_after(
     })
 }
 
+/// The places that the kept versions name.
+fn named_places(
+    alloc: Global,
+    slots: &Slots,
+    picks: &[VersionPicks],
+) -> Result<NamedPlaces, AllocError>
+    ensures many { IfOk result (λ named. length named ≡ length slots.now) }
+    ensures noted { IfOk result (λ named. (n : ℕ) (own : VersionPicks) → slice_get picks.now n ≡ Some own → AreAllNoted named own.backends.items) }
+{
+    let mut named = slots.none_named(alloc)?;
+    for own in picks {
+        note_all(&mut named, own.backends.as_slice());
+    }
+    Ok(named)
+}
+
+/// Names the places of the servers of each backend.
+fn note_all(named: &mut NamedPlaces, own: &[BackendPicks])
+    ensures many { length named.new ≡ length named.old }
+    ensures noted { AreAllNoted named.new own.now }
+    ensures still_named { (place : ℕ) → named_at place named.old ≡ true → named_at place named.new ≡ true }
+{
+    for picks in own {
+        note_places(named, picks.slots.as_slice());
+    }
+}
+
 /// What picks of each backend go by where nothing was used.
 fn picks_of_all(
     alloc: Global,
     backends: &[Backend],
     slots: &mut Slots,
+    named: &mut NamedPlaces,
 ) -> Result<Vec<BackendPicks>, AllocError>
     requires sound { AllByRecursion IsSoundBackend backends.now }
     requires apart { IdentitiesDiffer slots.old }
+    requires many { length named.old ≡ length slots.old }
     ensures tied { IfOk result (λ own. AreTied backends.now (map (λ backend. None) backends.now) own.items) }
     ensures counted { IfOk result (λ own. AreCounted slots.new backends.now own.items) }
-    ensures adds { OnlyAdds slots.old slots.new }
+    ensures keeps { KeepsPlaces slots.old named.old slots.new named.new }
 {
     let mut all = Vec::new(alloc);
     for backend in backends {
-        all.push(picks_of(alloc, backend, slots)?)?;
+        all.push(picks_of(alloc, backend, slots, named)?)?;
     }
     Ok(all)
 }

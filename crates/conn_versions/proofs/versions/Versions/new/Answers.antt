@@ -14,7 +14,7 @@ invariant_of-result c =
     ∙ ap (λ v. v ∷ []) (c.in_ok-version_after.ensures ∙ first_version 1 c.args.plan) in
     let plan = rw c.as_slice.ensures at c.in_ok-backends.ensures.tied in
     let counted = rw c.as_slice.ensures at c.in_ok-backends.ensures.counted in
-    rw (versions, all) (new_kept c.picks_of_all.new.slots (new_version 1 c.args.plan) own c.in_ok-backends.ensures.adds.apart c.requires (record { tied = plan; counted = counted }))
+    rw (versions, all) (new_kept c.picks_of_all.new.slots (new_version 1 c.args.plan) own c.in_ok-backends.ensures.keeps.apart c.requires (record { tied = plan; counted = counted }))
 
 pub returns-clause-versions : goal.returns-clause-versions
 returns-clause-versions c =

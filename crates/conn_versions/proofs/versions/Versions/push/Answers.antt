@@ -1,47 +1,50 @@
 use Rattle.std.proofs.Common.{◌≡◌, ◌<◌, ap, sym, ◌∙◌, subst}
 use Rattle.std.specs.List.{AllByRecursion}
 use Rattle.std.specs.Option.{option_copied}
-use Rattle.slot_core.specs.Counts.{identity_at}
 use Rattle.conn_model.specs.declared.plain.Version.{Version}
 use Rattle.conn_model.specs.History.{next_version}
 use Rattle.conn_model.specs.Tables.{written_tables}
 use Rattle.conn_versions.specs.declared.versions.VersionPicks.{VersionPicks}
-use Rattle.conn_versions.proofs.Changes.{kept_adding, kept_with}
+use Rattle.conn_versions.proofs.Changes.{kept_adding, kept_open, kept_with}
 use Rattle.conn_versions.proofs.versions.Versions.push.Goals as goal
 
 pub invariant_of-self : goal.invariant_of-self
-invariant_of-self c = kept_adding c.self.inside.slots c.picks_of_all.new.slots c.self.inside.versions.items c.self.inside.picks.items c.picks_of_all.ensures.adds c.self.invariant
+invariant_of-self c = kept_adding c.self.inside.slots c.in_ok-named.named c.picks_of_all.new.slots c.picks_of_all.new.named c.self.inside.versions.items c.self.inside.picks.items c.in_ok-named.ensures.many
+    (rw c.as_slice-2.ensures.value at c.in_ok-named.ensures.noted) c.picks_of_all.ensures.keeps c.self.invariant
 
 pub invariant_of-self-in_err-try_reserve : goal.invariant_of-self-in_err-try_reserve
 invariant_of-self-in_err-try_reserve c =
     rw c.try_reserve.ensures.items
-    (kept_adding c.self.inside.slots c.picks_of_all.new.slots c.self.inside.versions.items c.self.inside.picks.items c.picks_of_all.ensures.adds c.self.invariant)
+    (kept_adding c.self.inside.slots c.in_ok-named.named c.picks_of_all.new.slots c.picks_of_all.new.named c.self.inside.versions.items c.self.inside.picks.items c.in_ok-named.ensures.many
+    (rw c.as_slice-2.ensures.value at c.in_ok-named.ensures.noted) c.picks_of_all.ensures.keeps c.self.invariant)
 
 pub returns-in_err-try_reserve-clause-identities : goal.returns-in_err-try_reserve-clause-identities
-returns-in_err-try_reserve-clause-identities c = λ place identity there. c.picks_of_all.ensures.adds.kept place identity (ap (λ v. identity_at place v.counts) c.self.view_is ∙ there)
+returns-in_err-try_reserve-clause-identities c = kept_open c.self.inside.slots c.in_ok-named.named c.picks_of_all.new.slots c.picks_of_all.new.named c.args.self.now.counts c.picks_of_all.ensures.keeps (ap (λ v. v.counts) c.self.view_is)
 
 pub invariant_of-self-in_err-try_reserve-2 : goal.invariant_of-self-in_err-try_reserve-2
 invariant_of-self-in_err-try_reserve-2 c =
     rw (c.try_reserve.ensures.items, c.try_reserve-2.ensures.items)
-    (kept_adding c.self.inside.slots c.picks_of_all.new.slots c.self.inside.versions.items c.self.inside.picks.items c.picks_of_all.ensures.adds c.self.invariant)
+    (kept_adding c.self.inside.slots c.in_ok-named.named c.picks_of_all.new.slots c.picks_of_all.new.named c.self.inside.versions.items c.self.inside.picks.items c.in_ok-named.ensures.many
+    (rw c.as_slice-2.ensures.value at c.in_ok-named.ensures.noted) c.picks_of_all.ensures.keeps c.self.invariant)
 
 pub returns-in_err-try_reserve-2-clause-identities : goal.returns-in_err-try_reserve-2-clause-identities
-returns-in_err-try_reserve-2-clause-identities c = λ place identity there. c.picks_of_all.ensures.adds.kept place identity (ap (λ v. identity_at place v.counts) c.self.view_is ∙ there)
+returns-in_err-try_reserve-2-clause-identities c = kept_open c.self.inside.slots c.in_ok-named.named c.picks_of_all.new.slots c.picks_of_all.new.named c.args.self.now.counts c.picks_of_all.ensures.keeps (ap (λ v. v.counts) c.self.view_is)
 
 pub invariant_of-self-2 : goal.invariant_of-self-2
 invariant_of-self-2 c =
     let own : VersionPicks = record { backends = c.in_ok-backends.backends } in
     let next : Version = next_version c.args.number (written_tables (option_copied c.newest-before.result)) c.args.plan in
     let is : c.in_ok-version.version ≡ next = c.in_ok-version.ensures in
-    let backends : c.as_slice-2.result.now ≡ c.args.plan.backends = c.as_slice-2.ensures ∙ ap (λ v. v.plan.backends) is in
+    let backends : c.as_slice-3.result.now ≡ c.args.plan.backends = c.as_slice-3.ensures ∙ ap (λ v. v.plan.backends) is in
     let below : AllByRecursion (λ version. version.number < c.args.number) c.self.inside.versions.items =
     subst (λ v. AllByRecursion (λ version. version.number < c.args.number) v.versions) (sym c.self.view_is) c.requires.next in
     let tied = rw backends at c.in_ok-backends.ensures.tied in
     let counted = rw backends at c.in_ok-backends.ensures.counted in
     rw (c.push_reserved.ensures.items, c.push_reserved-2.ensures.items, c.try_reserve.ensures.items, c.try_reserve-2.ensures.items, is)
     (kept_with c.picks_of_all.new.slots c.self.inside.versions.items c.self.inside.picks.items next own
-    (kept_adding c.self.inside.slots c.picks_of_all.new.slots c.self.inside.versions.items c.self.inside.picks.items c.picks_of_all.ensures.adds c.self.invariant)
+    (kept_adding c.self.inside.slots c.in_ok-named.named c.picks_of_all.new.slots c.picks_of_all.new.named c.self.inside.versions.items c.self.inside.picks.items c.in_ok-named.ensures.many
+    (rw c.as_slice-2.ensures.value at c.in_ok-named.ensures.noted) c.picks_of_all.ensures.keeps c.self.invariant)
     below c.requires.sound (record { tied = tied; counted = counted }))
 
 pub returns-clause-identities : goal.returns-clause-identities
-returns-clause-identities c = λ place identity there. c.picks_of_all.ensures.adds.kept place identity (ap (λ v. identity_at place v.counts) c.self.view_is ∙ there)
+returns-clause-identities c = kept_open c.self.inside.slots c.in_ok-named.named c.picks_of_all.new.slots c.picks_of_all.new.named c.args.self.now.counts c.picks_of_all.ensures.keeps (ap (λ v. v.counts) c.self.view_is)
