@@ -1,10 +1,11 @@
 -- The plain state as versions come and are forgotten.
-use Rattle.std.proofs.Common.{◌≡◌, ℕ, suc, ◌<◌, Bool, true, false, not, List, [], ◌∷◌, length, map, Option, Some, None, refl, sym, ap, subst, ◌∙◌, arith}
-use Rattle.std.specs.Prelude.{filter, find, flat_map, slice_get, option_map, IsSome, ◌==◌, ◌||◌}
+use Rattle.std.proofs.Common.{◌≡◌, ℕ, zero, suc, ◌<◌, ◌≤◌, Bool, true, false, not, List, [], ◌∷◌, length, map, Option, Some, None, refl, sym, ap, subst, ◌∙◌, arith}
+use Rattle.std.specs.Prelude.{filter, find, flat_map, slice_get, option_map, IfSome, IsSome, ◌==◌, ◌||◌}
 use Rattle.std.specs.List.{AllByRecursion, list_any}
 use Rattle.std.proofs.lemmas.Bool.{false≢true, eqb-true, eq-eqb}
 use Rattle.addr_core.specs.declared.addr.Addr.{Addr}
 use Rattle.proxy_types.specs.declared.server.ServerIdentity.{ServerIdentity}
+use Rattle.slot_core.specs.declared.slots.SlotIx.{SlotIx}
 use Rattle.slot_core.specs.Counts.{identity_at, open_at}
 use Rattle.plan_types.specs.declared.plan.Plan.{Plan}
 use Rattle.plan_types.specs.declared.track.TableId.{TableId}
@@ -12,23 +13,22 @@ use Rattle.plan_types.specs.declared.track.Track.{Track}
 use Rattle.conn_model.specs.declared.plain.FrontendRows.{FrontendRows}
 use Rattle.conn_model.specs.declared.plain.Version.{Version}
 use Rattle.conn_model.specs.Answer.{version_at}
-use Rattle.conn_model.specs.Counts.{server_of}
+use Rattle.conn_model.specs.Counts.{server_of, total}
 use Rattle.conn_model.specs.History.{has_version, is_needed, needed_versions, with_version}
 use Rattle.conn_model.specs.Tables.{open_tracks, same_id, trackers, tracks_in}
 use Rattle.conn_model.specs.Words.{newest}
-use Rattle.conn_model.proofs.Lists.{all-append, all-both, all-each, all-found, all-more, any-at, or_right}
+use Rattle.conn_model.proofs.Lists.{all-append, all-at, all-each, all-found, all-more, any-at, or_right}
 use Rattle.conn_model.proofs.Versions.{newest-some, version_at-filter, version_at-with}
 use Rattle.conn_tables.specs.declared.tables.StoredTable.{StoredTable}
 use Rattle.conn_tables.specs.Tables.{cur_in, is_listed_in}
 use Rattle.conn_tables.proofs.TableLemmas.{same_id-is}
 use Rattle.conn_versions.specs.Versions.{VersionsValue}
-use Rattle.conn_rows.specs.declared.row.Stage.{Stage}
-use Rattle.conn_rows.specs.declared.row.Stage.TheVariants.{Waiting, Offered}
 use Rattle.conn_rows.specs.declared.row.StoredRow.{StoredRow}
 use Rattle.conn_rows.specs.Needed.{AreTracksHeld, AreVersionsKept, first_idle, has_stored, is_stored_needed, stored_needed}
-use Rattle.conn_rows.specs.Stored.{StoredFrontend, assignment_in, phase_of, phase_with, plan_at, plain_frontend, plain_row, slot_of}
-use Rattle.conn_rows.specs.Value.{AllRows, AreRows, AreServed, CountsFor, HasSlot}
+use Rattle.conn_rows.specs.Stored.{StoredFrontend, phase_of, plan_at, plain_frontend, plain_row, slot_of}
+use Rattle.conn_rows.specs.Value.{AllRows, AreRows, AreServed, CountsFor, HasSlot, row_slots, rows_total}
 use Rattle.conn_rows.proofs.Counted.{are_counted, fewer}
+use Rattle.conn_rows.proofs.Served.{slot_counted}
 
 -- Lists.
 
@@ -174,28 +174,38 @@ frontends_seen versions others (own ∷ frontends) same =
     let more = frontends_seen versions others frontends same.1 in
     cc (here, more)
 
+total-at : {X : Type 0} (worth : X → ℕ) (xs : List X) (n : ℕ) (x : X) → slice_get xs n ≡ Some x → worth x ≤ total worth xs
+total-at worth [] n x there = absurd (cc)
+total-at worth (y ∷ xs) zero x there = let same : y ≡ x = cc in let is : worth y ≡ worth x = ap worth same in omega (arith, is)
+total-at worth (y ∷ xs) (suc n) x there = let more : worth x ≤ total worth xs = total-at worth xs n x there in omega (arith, more)
+
 -- their servers are counted as they were
 pub served_seen : (frontends : List StoredFrontend) (kept rest : VersionsValue) → AreSeenAlike kept.versions rest.versions frontends → ((place : ℕ) → open_at place rest.counts ≡ open_at place kept.counts) →
-    ((place : ℕ) (identity : ServerIdentity) → identity_at place kept.counts ≡ Some identity → identity_at place rest.counts ≡ Some identity) → AreServed frontends kept → AreServed frontends rest
+    ((place : ℕ) → 0 < open_at place kept.counts → identity_at place rest.counts ≡ identity_at place kept.counts) → AreServed frontends kept → AreServed frontends rest
 served_seen frontends kept rest same opens identities known = record {
   counted = λ place. opens place ∙ known.counted place;
-  slots =
-      all-more (λ own. AllByRecursion (λ row. IsSeenAlike kept.versions rest.versions row.version) own.rows × AllByRecursion (HasSlot kept) own.rows) (λ own. AllByRecursion (HasSlot rest) own.rows) frontends
-      (λ own both. all-more (λ row. IsSeenAlike kept.versions rest.versions row.version × HasSlot kept row) (HasSlot rest) own.rows each (all-both (λ row. IsSeenAlike kept.versions rest.versions row.version) (HasSlot kept) own.rows both.0 both.1))
-      (all-both (λ own. AllByRecursion (λ row. IsSeenAlike kept.versions rest.versions row.version) own.rows) (λ own. AllByRecursion (HasSlot kept) own.rows) frontends same known.slots);
+  slots = all-places (λ own. AllByRecursion (HasSlot rest) own.rows) frontends (λ n own there. all-places (HasSlot rest) own.rows (still n own there));
 }
   where
-    counts : (plan : Option Plan) (stage : Stage) → CountsFor kept (slot_of stage) (server_of (phase_of plan stage)) → CountsFor rest (slot_of stage) (server_of (phase_of plan stage))
-    counts plan (Waiting rest) is = tt
-    counts plan (Offered held) is = taken held.is_up is
-      where
-        taken : (b : Bool) → identity_at held.slot.place kept.counts ≡ server_of (phase_with b (assignment_in plan held.seat)) → identity_at held.slot.place rest.counts ≡ server_of (phase_with b (assignment_in plan held.seat))
-        taken true is = identities held.slot.place (assignment_in plan held.seat).server is
-        taken false is = identities held.slot.place (assignment_in plan held.seat).server is
+    counts : (o : Option SlotIx) (server : Option ServerIdentity) → IfSome o (λ slot. 0 < open_at slot.place kept.counts) → CountsFor kept o server → CountsFor rest o server
+    counts None server some is = tt
+    counts (Some slot) server some is = identities slot.place some ∙ is
 
-    each : (row : StoredRow) → IsSeenAlike kept.versions rest.versions row.version × HasSlot kept row → HasSlot rest row
-    each row both =
-        subst (λ plan. CountsFor rest (slot_of row.stage) (server_of (phase_of plan row.stage))) (sym both.0) (counts (plan_at kept.versions row.version) row.stage both.1)
+    -- a row's own slot is one of those that are open
+    open_there : (n : ℕ) (own : StoredFrontend) → slice_get frontends n ≡ Some own → (m : ℕ) (row : StoredRow) → slice_get own.rows m ≡ Some row → (place : ℕ) → row_slots place row ≤ open_at place kept.counts
+    open_there n own there m row at place =
+        let one = total-at (row_slots place) own.rows m row at in
+        let all : total (row_slots place) own.rows ≤ rows_total (row_slots place) frontends = total-at (λ own. total (row_slots place) own.rows) frontends n own there in
+        let is = known.counted place in
+        omega (arith, one, all, is)
+
+    still : (n : ℕ) (own : StoredFrontend) → slice_get frontends n ≡ Some own → (m : ℕ) (row : StoredRow) → slice_get own.rows m ≡ Some row → HasSlot rest row
+    still n own there m row at =
+        let seen : IsSeenAlike kept.versions rest.versions row.version =
+        all-at (λ row. IsSeenAlike kept.versions rest.versions row.version) own.rows m row (all-at (λ own. AllByRecursion (λ row. IsSeenAlike kept.versions rest.versions row.version) own.rows) frontends n own same there) at in
+        let has : HasSlot kept row = all-at (HasSlot kept) own.rows m row (all-at (λ own. AllByRecursion (HasSlot kept) own.rows) frontends n own known.slots there) at in
+        subst (λ plan. CountsFor rest (slot_of row.stage) (server_of (phase_of plan row.stage))) (sym seen)
+        (counts (slot_of row.stage) (server_of (phase_of (plan_at kept.versions row.version) row.stage)) (slot_counted (λ place. open_at place kept.counts) (slot_of row.stage) (open_there n own there m row at)) has)
 
 -- the same versions
 pub seen_same : (versions others : List Version) (frontends : List StoredFrontend) → others ≡ versions → AreSeenAlike versions others frontends

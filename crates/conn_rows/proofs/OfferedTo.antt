@@ -1,6 +1,6 @@
 -- How many connections were offered a server of a backend, by the counts of servers and by the rows.
 use Rattle.std.proofs.Common.{◌≡◌, ℕ, zero, suc, ◌+◌, ◌*◌, ◌<◌, ◌≤◌, ◌^◌, Bool, true, false, List, [], ◌∷◌, length, map, Option, Some, None, refl, sym, ap, ◌∙◌, arith}
-use Rattle.std.specs.Prelude.{slice_get, option_map, ◌==◌, ◌-◌, if◌then◌else◌}
+use Rattle.std.specs.Prelude.{slice_get, option_map, ◌==◌, if◌then◌else◌}
 use Rattle.std.specs.List.{AllByRecursion}
 use Rattle.std.specs.Option.{option_map_or}
 use Rattle.std.specs.Str.{bytes_eq}
@@ -8,21 +8,13 @@ use Rattle.std.proofs.lemmas.Bool.Decides.{nat_tests}
 use Rattle.proxy_types.specs.declared.server.ServerIdentity.{ServerIdentity}
 use Rattle.slot_core.specs.declared.slots.Count.{Count}
 use Rattle.slot_core.specs.declared.slots.SlotIx.{SlotIx}
-use Rattle.slot_core.specs.Counts.{identity_at, open_at, slots_at}
+use Rattle.slot_core.specs.Counts.{identity_at, open_at, open_in, open_in_all, slots_at}
 use Rattle.conn_model.specs.Counts.{offered_to, total}
 use Rattle.conn_versions.specs.Versions.{VersionsValue}
 use Rattle.conn_rows.specs.declared.row.StoredRow.{StoredRow}
 use Rattle.conn_rows.specs.Stored.{StoredFrontend, plain_frontend, slot_of}
-use Rattle.conn_rows.specs.Value.{AreServed, HasSlot, row_slots, rows_total}
+use Rattle.conn_rows.specs.Value.{AreServed, row_slots, rows_total}
 use Rattle.conn_rows.proofs.OpenTo.{all_served, row_served, served}
-
-abbrev pub open_in : List ℕ → List Count → ℕ
-open_in name [] = 0
-open_in name (count ∷ counts) = (if bytes_eq count.identity.backend name then count.connections else 0) + open_in name counts
-
-abbrev pub open_in_all : List Count → ℕ
-open_in_all [] = 0
-open_in_all (count ∷ counts) = count.connections + open_in_all counts
 
 -- Sums over the places of the counts that pass a test.
 

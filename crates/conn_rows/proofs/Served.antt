@@ -1,6 +1,6 @@
 -- Open connections of servers, as the rows change.
-use Rattle.std.proofs.Common.{◌≡◌, ℕ, ◌*◌, ◌+◌, Bool, true, false, List, [], ◌∷◌, ◌++◌, length, map, set, Option, Some, None, refl, sym, ap, subst, ◌∙◌, arith}
-use Rattle.std.specs.Prelude.{filter, find, ◌^◌, ◌<◌, ◌≤◌, slice_get, slice_set, option_map, ◌==◌, if◌then◌else◌, Result, Ok, Err, OnOk, OnErr, IfSome, IsSome, option_and_then}
+use Rattle.std.proofs.Common.{◌≡◌, ℕ, ◌+◌, Bool, true, false, List, [], ◌∷◌, ◌++◌, map, set, Option, Some, None, refl, sym, ap, subst, ◌∙◌, arith}
+use Rattle.std.specs.Prelude.{filter, find, ◌<◌, ◌≤◌, slice_get, slice_set, option_map, ◌==◌, if◌then◌else◌, Result, Ok, Err, OnOk, OnErr, IfSome, IsSome, option_and_then}
 use Rattle.std.specs.List.{AllByRecursion}
 use Rattle.std.proofs.lemmas.Bool.Decides.{nat_tests}
 use Rattle.std.specs.Option.{option_map_or}
@@ -105,28 +105,6 @@ all-arrival P (Err e) own next row new' ok err known = subst (λ (f : StoredFron
 pub none-served : (kept : VersionsValue) (frontends : List Frontend) (last : ℕ) → AllRows (HasSlot kept) (map (λ frontend. record { name = frontend.name; serial = last; rows = [] }) frontends)
 none-served kept [] last = tt
 none-served kept (f ∷ frontends) last = (tt, none-served kept frontends last)
-
--- Not too many open connections.
-
-one-slot : (place : ℕ) (o : Option SlotIx) → option_map_or (slots_at place) o 0 ≤ 1
-one-slot place None = omega arith
-one-slot place (Some slot) = by (slot.place == place)
-  where
-    by : (b : Bool) → (if b then 1 else 0) ≤ 1
-    by true = omega arith
-    by false = omega arith
-
-slots-few : (place : ℕ) (rows : List StoredRow) → total (row_slots place) rows ≤ length rows
-slots-few place [] = omega arith
-slots-few place (row ∷ rows) = let one = one-slot place (slot_of row.stage) in let more = slots-few place rows in omega (arith, one, more)
-
-pub all_slots_few : (place : ℕ) (frontends : List StoredFrontend) → AllByRecursion (λ own. length own.rows < 2 ^ 56) frontends → rows_total (row_slots place) frontends ≤ 0x100_0000_0000_0000 * length frontends
-all_slots_few place [] small = omega arith
-all_slots_few place (own ∷ frontends) small =
-    let here = slots-few place own.rows in
-    let less : length own.rows < 0x100_0000_0000_0000 = small.0 in
-    let more = all_slots_few place frontends small.1 in
-    omega (arith, here, less, more)
 
 -- An offer.
 

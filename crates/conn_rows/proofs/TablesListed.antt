@@ -1,5 +1,5 @@
 -- Each table that is kept is listed by a version that is kept.
-use Rattle.std.proofs.Common.{◌≡◌, ℕ, ◌≤◌, ◌<◌, Bool, true, false, not, List, [], ◌∷◌, ◌++◌, length, map, Option, Some, None, Result, Ok, Err, refl, sym, ap, subst, ◌∙◌, arith}
+use Rattle.std.proofs.Common.{◌≡◌, ℕ, ◌≤◌, Bool, true, false, List, [], ◌∷◌, ◌++◌, length, map, Option, Some, None, Result, Ok, Err, refl, sym, ap, subst, ◌∙◌, arith}
 use Rattle.std.specs.Prelude.{filter, is_none, OnOk, OnErr, ◌==◌, ◌||◌, if◌then◌else◌}
 use Rattle.std.specs.List.{list_any, AllByRecursion, enumerate_from}
 use Rattle.std.specs.Option.{option_map_or}
@@ -11,7 +11,7 @@ use Rattle.plan_types.specs.declared.track.Track.{Track}
 use Rattle.conn_model.specs.declared.plain.TableState.{TableState}
 use Rattle.conn_model.specs.declared.plain.Version.{Version}
 use Rattle.conn_model.specs.Words.{newest}
-use Rattle.conn_model.specs.History.{new_version, next_version, opening, tables_with, with_offer, with_version}
+use Rattle.conn_model.specs.History.{new_version, next_version, tables_with, with_offer, with_version}
 use Rattle.conn_model.specs.Servers.{cursors_after}
 use Rattle.conn_model.specs.Tables.{is_listed_by, is_new, new_table, next_id, same_before, same_id, table_with, table_without, with_track, without_track, without_tracks, written_tables}
 use Rattle.conn_model.proofs.Lists.{all-append, all-map, all-more, all-pass, filter-all, or_left, or_right}

@@ -1,35 +1,23 @@
 -- Totals over the frontends as they are stored.
-use Rattle.std.proofs.Common.{◌≡◌, ℕ, suc, ◌≤◌, Bool, true, false, List, [], ◌∷◌, length, map, refl, sym, ap, arith}
-use Rattle.std.specs.Prelude.{filter, if◌then◌else◌}
+use Rattle.std.proofs.Common.{◌≡◌, ℕ, ◌≤◌, List, [], ◌∷◌, length, map, refl, sym, ap, arith}
+use Rattle.std.specs.Prelude.{if◌then◌else◌}
 use Rattle.std.specs.Str.{bytes_eq}
 use Rattle.std.proofs.lemmas.List.{length-map}
 use Rattle.conn_model.specs.declared.plain.Version.{Version}
 use Rattle.conn_model.proofs.Totals.{total-map}
 use Rattle.conn_rows.specs.declared.row.StoredRow.{StoredRow}
 use Rattle.conn_rows.specs.Stored.{StoredFrontend, plain_frontend, plain_row}
-use Rattle.conn_model.specs.Counts.{is_offered_to, offered_in, offered_to, open_if, open_named, total}
+use Rattle.conn_model.specs.Counts.{open_if, open_named, total}
 use Rattle.plan_types.specs.declared.plan.Frontend.{Frontend}
 use Rattle.plan_types.specs.Sound.{most_frontends}
 use Rattle.conn_rows.specs.Value.{rows_total}
-use Rattle.conn_rows.specs.Counts.{is_seated, open_stored, seated_stored}
+use Rattle.conn_rows.specs.Counts.{open_stored}
 
 pub open_is : (versions : List Version) (frontends : List StoredFrontend) (name : List ℕ) → total (open_stored name) frontends ≡ open_named (map (plain_frontend versions) frontends) name
 open_is versions frontends name = total-map (plain_frontend versions) (open_if name) (open_stored name) frontends same
   where
     same : (own : StoredFrontend) → open_stored name own ≡ open_if name (plain_frontend versions own)
     same own = ap (λ n. if bytes_eq own.name name then n else 0) (sym (length-map own.rows (plain_row versions)))
-
-filter-map : (versions : List Version) (name : List ℕ) (rows : List StoredRow) → length (filter (is_seated versions name) rows) ≡ length (filter (λ row. is_offered_to name row.phase) (map (plain_row versions) rows))
-filter-map versions name [] = refl
-filter-map versions name (row ∷ rows) = by (is_seated versions name row) refl (filter-map versions name rows)
-  where
-    by : (b : Bool) → is_seated versions name row ≡ b → length (filter (is_seated versions name) rows) ≡ length (filter (λ row. is_offered_to name row.phase) (map (plain_row versions) rows)) →
-        length (filter (is_seated versions name) (row ∷ rows)) ≡ length (filter (λ row. is_offered_to name row.phase) (map (plain_row versions) (row ∷ rows)))
-    by true is more = rw is (ap (λ n. suc n) more)
-    by false is more = rw is more
-
-pub offered_is : (versions : List Version) (frontends : List StoredFrontend) (name : List ℕ) → total (seated_stored versions name) frontends ≡ offered_to (map (plain_frontend versions) frontends) name
-offered_is versions frontends name = total-map (plain_frontend versions) (offered_in name) (seated_stored versions name) frontends (λ own. filter-map versions name own.rows)
 
 -- frontends of which nothing is open
 pub total-empty : (frontends : List Frontend) (last : ℕ) → total (λ (own : StoredFrontend). length own.rows) (map (λ frontend. record { name = frontend.name; serial = last; rows = [] }) frontends) ≡ 0

@@ -2,10 +2,9 @@
 ghost use Rattle.std.specs.Prelude.{◌≡◌, ◌≤◌, ◌<◌, ◌^◌, length};
 ghost use Rattle.std.specs.Str.{bytes_eq};
 ghost use Rattle.conn_model.specs.Counts.{total};
-ghost use Rattle.conn_rows.specs.Counts.{open_stored, seated_stored};
+ghost use Rattle.conn_rows.specs.Counts.{open_stored};
 
 use crate::frontend::FrontendState;
-use conn_model::plain::Version;
 
 fn has_name(own: &FrontendState, name: &[u8]) -> bool
     ensures { result ≡ bytes_eq own.now.name name.now }
@@ -31,18 +30,6 @@ pub fn open_named(frontends: &[FrontendState], name: &[u8]) -> u64
     let mut count = 0;
     for own in frontends {
         count += open_if(own, name);
-    }
-    count
-}
-
-/// How many connections were offered a server of a backend of that name.
-pub fn offered_to(frontends: &[FrontendState], versions: &[Version], name: &[u8]) -> u64
-    requires { length frontends.now ≤ 64 }
-    ensures { result ≡ total (seated_stored versions.now name.now) frontends.now }
-{
-    let mut count = 0;
-    for own in frontends {
-        count += own.offered_to(versions, name);
     }
     count
 }

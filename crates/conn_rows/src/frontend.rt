@@ -16,7 +16,6 @@ ghost use Rattle.slot_core.specs.Counts.{open_at, slots_at};
 ghost use Rattle.conn_tables.specs.Tables.{cur_in};
 ghost use Rattle.conn_tables.specs.Tracks.{counter_on, on_counter, track_by};
 ghost use Rattle.conn_versions.specs.Versions.{VersionsValue};
-ghost use Rattle.conn_rows.specs.Counts.{seated_stored};
 ghost use Rattle.conn_rows.specs.Needed.{has_stored};
 ghost use Rattle.conn_rows.specs.Value.{row_on, row_slots, rows_total, HasSlot};
 ghost use Rattle.conn_model.specs.Changes.{held_after, row_tracking, with_row};
@@ -96,14 +95,6 @@ impl FrontendState {
         ensures few { result < 2 ^ 56 }
     {
         self.rows.len() as u64
-    }
-
-    /// How many connections were offered a server of a backend of that name, by the plans of these versions.
-    pub fn offered_to(&self, versions: &[Version], name: &[u8]) -> u64
-        ensures value { result ≡ seated_stored versions.now name.now self.now }
-        ensures few { result < 2 ^ 56 }
-    {
-        self.rows.offered_to(versions, name)
     }
 
     /// Whether a connection is of the version of that number.

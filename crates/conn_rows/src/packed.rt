@@ -140,13 +140,6 @@ impl PackedSeat {
             judged: self.judged.pair(),
         }
     }
-
-    /// The line of the server in the configuration.
-    pub(crate) fn line(&self) -> u32
-        ensures { result ≡ self.now.line }
-    {
-        self.line
-    }
 }
 
 /// The upper 64 bits of a number.

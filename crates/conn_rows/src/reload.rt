@@ -1,7 +1,6 @@
 //! A version that comes into force.
-ghost use Rattle.std.specs.Prelude.{◌≡◌, ◌++◌, ℕ, map, Some, OnOk, OnErr};
+ghost use Rattle.std.specs.Prelude.{◌≡◌, ◌<◌, ◌++◌, ℕ, map, Some, OnOk, OnErr};
 ghost use Rattle.addr_core.specs.declared.addr.Addr.{Addr};
-ghost use Rattle.proxy_types.specs.declared.server.ServerIdentity.{ServerIdentity};
 ghost use Rattle.slot_core.specs.Counts.{identity_at, open_at};
 ghost use Rattle.plan_types.specs.Sound.{IsSoundPlan};
 ghost use Rattle.plan_types.specs.declared.track.TableId.{TableId};
@@ -32,7 +31,7 @@ pub fn bring(
     ensures versions_err { OnErr result (kept.new.versions ≡ kept.old.versions) }
     ensures tables_err { OnErr result (tables.new ≡ tables.old) }
     ensures open { (place : ℕ) → open_at place kept.new.counts ≡ open_at place kept.old.counts }
-    ensures identities { (place : ℕ) (identity : ServerIdentity) → identity_at place kept.old.counts ≡ Some identity → identity_at place kept.new.counts ≡ Some identity }
+    ensures identities { (place : ℕ) → 0 < open_at place kept.old.counts → identity_at place kept.new.counts ≡ identity_at place kept.old.counts }
     ensures counts { (id : TableId) (key : Addr) → cur_in id key tables.new.tables ≡ cur_in id key tables.old.tables }
     ensures spare { tables.new.spare ≡ tables.old.spare }
 {

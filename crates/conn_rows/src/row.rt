@@ -4,9 +4,7 @@ ghost use Rattle.std.specs.Option.{option_copied, option_map_or};
 ghost use Rattle.plan_types.specs.Lines.{has_line};
 ghost use Rattle.conn_tables.specs.Tracks.{no_trackings};
 ghost use Rattle.conn_model.specs.Answer.{version_at};
-ghost use Rattle.conn_model.specs.Counts.{is_offered_to};
 ghost use Rattle.conn_model.specs.History.{identity_at, nobody};
-ghost use Rattle.conn_rows.specs.Counts.{is_seated};
 ghost use Rattle.conn_rows.specs.Summaries.{stored_summary};
 ghost use Rattle.conn_rows.specs.Stored.{assignment_in, awaits, phase_of, phase_with, plan_at, plain_row, slot_of, stored_arrival, waits};
 
@@ -81,19 +79,6 @@ impl Stage {
         match self {
             Stage::Waiting(_) => false,
             Stage::Offered(held) => !held.is_up,
-        }
-    }
-
-    /// Whether the connection was offered a server of a backend of that name, by that plan.
-    fn is_offered_to(&self, plan: Option<&Plan>, name: &[u8]) -> bool
-        ensures { result ≡ is_offered_to name.now (phase_of (option_copied plan.entry) self.now) }
-    {
-        let Stage::Offered(held) = self else {
-            return false;
-        };
-        match backend_of(plan, held.seat.line()) {
-            Some(backend) => backend.name.as_slice() == name,
-            None => name.is_empty(),
         }
     }
 
@@ -183,14 +168,6 @@ impl StoredRow {
             waits: self.stage.waits(),
             awaits_server: self.stage.awaits(),
         }
-    }
-
-    /// Whether it was offered a server of a backend of that name, by the plans of these versions.
-    pub fn is_offered_to(&self, versions: &[Version], name: &[u8]) -> bool
-        ensures { result ≡ is_seated versions.now name.now self.now }
-    {
-        self.stage
-            .is_offered_to(plan_at(versions, self.version), name)
     }
 
     /// An equal row, as plain data, by the plans of these versions.

@@ -4,7 +4,6 @@ ghost use Rattle.std.specs.List.{list_any, AllByRecursion};
 ghost use Rattle.std.specs.Option.{option_copied};
 ghost use Rattle.conn_model.specs.Counts.{total};
 ghost use Rattle.conn_rows.specs.declared.row.StoredRow.{StoredRow};
-ghost use Rattle.conn_rows.specs.Counts.{is_seated};
 ghost use Rattle.conn_rows.specs.Stored.{has_serial, plain_row};
 
 use crate::row::{Stage, StoredRow};
@@ -75,20 +74,6 @@ impl RowList {
             }
         }
         false
-    }
-
-    /// How many rows were offered a server of a backend of that name, by the plans of these versions.
-    pub fn offered_to(&self, versions: &[Version], name: &[u8]) -> u64
-        ensures value { result ≡ length (filter (is_seated versions.now name.now) self.now) }
-        ensures few { result < 2 ^ 56 }
-    {
-        let mut count = 0;
-        for (_, row) in self.entries.iter() {
-            if row.is_offered_to(versions, name) {
-                count += 1;
-            }
-        }
-        count
     }
 
     /// Equal rows, as plain data, by the plans of these versions.

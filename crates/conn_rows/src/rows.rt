@@ -182,7 +182,7 @@ impl Rows {
     pub fn offered_to(&self, name: &[u8]) -> u64
         ensures { result ≡ offered_to self.now.frontends name.now }
     {
-        counts::offered_to(self.frontends.as_slice(), self.kept.as_slice(), name)
+        self.kept.offered(name)
     }
 
     /// How many open connections were offered a server of a backend.

@@ -40,7 +40,7 @@ left_state frontends items kept rest tables next are less same counts listed kno
   };
   served =
       served_seen items kept rest (seen_needed kept.versions rest.versions (option_map_or (λ version. version.number) (newest kept.versions) 0) items (of_items frontends items kept.versions rest.versions are less))
-      (λ place. rw same refl) (λ place identity is. rw same is) known.served;
+      (λ place. rw same refl) (λ place some. rw same refl) known.served;
   listed = listed;
 }
 

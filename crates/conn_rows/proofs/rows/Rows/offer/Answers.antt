@@ -1,4 +1,4 @@
-use Rattle.std.proofs.Common.{◌≡◌, ◌<◌, ◌≤◌, Some, ap, ◌∙◌, refl, sym, subst, length, map, arith}
+use Rattle.std.proofs.Common.{◌≡◌, ◌<◌, Some, ap, ◌∙◌, refl, sym, subst, length, map, arith}
 use Rattle.std.specs.Prelude.{slice_get, IsSome}
 use Rattle.conn_model.specs.Counts.{total}
 use Rattle.conn_rows.specs.Changes.{stage_offered}
@@ -6,7 +6,8 @@ use Rattle.conn_rows.specs.Stored.{at_stage}
 use Rattle.conn_rows.specs.Value.{row_on, RowsValue}
 use Rattle.conn_rows.proofs.Counted.{still_rows, total-with}
 use Rattle.conn_rows.proofs.Plain.{judged_there, offered_value, own_exists, own_there, rest_of_state, rest_open, rest_there}
-use Rattle.conn_rows.proofs.Served.{all_slots_few, more_served, offered_has, slots-offer}
+use Rattle.conn_rows.proofs.OfferedTo.{open_few}
+use Rattle.conn_rows.proofs.Served.{more_served, offered_has, slots-offer}
 use Rattle.conn_tables.specs.Tables.{plain_table}
 use Rattle.conn_versions.specs.Versions.{HasServer}
 use Rattle.conn_rows.proofs.TablesListed.{listed-offer}
@@ -16,11 +17,7 @@ pub offer-slot-requires-clause-there : goal.offer-slot-requires-clause-there
 offer-slot-requires-clause-there c = subst (λ (v : RowsValue). HasServer v.versions c.args.version c.args.seat.line c.args.seat.server) (sym c.self.view_is) c.requires.server.0
 
 pub offer-slot-requires-clause-below : goal.offer-slot-requires-clause-below
-offer-slot-requires-clause-below c = λ place.
-    let is = c.self.invariant.served.counted place in
-    let most = all_slots_few place c.self.inside.frontends.items c.self.invariant.rows.small in
-    let few : length c.self.inside.frontends.items ≤ 64 = c.self.invariant.rows.few in
-    omega (arith, is, most, few)
+offer-slot-requires-clause-below c = open_few c.self.inside.frontends.items c.self.inside.kept c.self.invariant.served c.self.invariant.rows.few c.self.invariant.rows.small
 
 pub index_mut-requires : goal.index_mut-requires
 index_mut-requires c =
