@@ -124,7 +124,7 @@ none_removed number (v ∷ versions) none = by (v.number == number) refl (λ lat
     by false e more = rw e (ap (λ vs. v ∷ vs) (more (rw e at none)))
 
 -- the version that is found at a place
-version_found : (number : ℕ) (versions : List Version) (n : ℕ) → position (has_number number) versions ≡ Some n → (version : Version) × (slice_get versions n ≡ Some version) × (version.number ≡ number)
+pub version_found : (number : ℕ) (versions : List Version) (n : ℕ) → position (has_number number) versions ≡ Some n → (version : Version) × (slice_get versions n ≡ Some version) × (version.number ≡ number)
 version_found number versions n is =
     let there = within versions n (position_within (has_number number) versions n is) in
     (there.0, there.1, eqb-true there.0.number number (find-passes (has_number number) versions there.0 (found_there (has_number number) versions n is ∙ there.1)))

@@ -1,5 +1,5 @@
 -- The versions that are kept, with what picks of their backends go by.
-use Rattle.std.specs.Prelude.{ℕ, Bool, List, Option, length, slice_get, Some, ◌≡◌}
+use Rattle.std.specs.Prelude.{ℕ, Bool, List, Option, length, map, slice_get, Some, ◌≡◌}
 use Rattle.proxy_types.specs.declared.balance.Place.{Place}
 use Rattle.slot_core.specs.declared.slots.Count.{Count}
 use Rattle.slot_core.specs.Counts.{IdentitiesDiffer}
@@ -28,6 +28,10 @@ AreCounted counts backends own =
 pub record IsKept (counts : List Count) (version : Version) (own : List BackendPicks) : Type 0 where
   pub tied : AreTied version.plan.backends version.cursors own
   pub counted : AreCounted counts version.plan.backends own
+
+-- how many open connections each version judges
+abbrev pub connections_of : List VersionPicks → List ℕ
+connections_of all = map (λ own. own.connections) all
 
 -- the numbers of the versions rise, and each is kept with what its picks go by
 pub record AreKept (counts : List Count) (versions : List Version) (all : List VersionPicks) : Type 0 where

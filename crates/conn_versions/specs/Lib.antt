@@ -1,4 +1,5 @@
 pub mod Versions
+pub mod Judged
 pub mod Slots
 pub mod Picks
 pub mod Kept

@@ -16,6 +16,8 @@ pub record VersionsValue : Type 0 where
   pub versions : List Version
   -- the open connections of each server, through all versions
   pub counts : List Count
+  -- how many open connections each of the versions judges
+  pub judged : List ℕ
 
 -- each version has a plan as plans are made
 abbrev pub AreSound : List Version → Type 0

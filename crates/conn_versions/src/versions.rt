@@ -1,7 +1,7 @@
 //! Versions that are kept.
-ghost use Rattle.std.specs.Prelude.{◌≡◌, ◌+◌, ◌-◌, ◌<◌, ◌^◌, ◌==◌, ℕ, not, List, [], ◌∷◌, map, filter, length, position, slice_get, slice_set, option_map, true, None, Some, IfOk, OnOk, OnErr};
+ghost use Rattle.std.specs.Prelude.{◌≡◌, ◌+◌, ◌-◌, ◌<◌, ◌^◌, ◌==◌, ◌||◌, ℕ, true, false, not, nat_lt, List, [], ◌∷◌, map, filter, length, position, slice_get, slice_set, option_map, None, Some, IfNone, IfOk, IfSome, IsSome, OnOk, OnErr};
 ghost use Rattle.std.specs.List.{AllByRecursion};
-ghost use Rattle.std.specs.Option.{option_copied};
+ghost use Rattle.std.specs.Option.{option_copied, option_map_or};
 ghost use Rattle.slot_core.specs.declared.slots.Count.{Count};
 ghost use Rattle.slot_core.specs.Counts.{identity_at, named_at, open_at, open_in, open_in_all, slots_at, IdentitiesDiffer};
 ghost use Rattle.plan_types.specs.Lines.{has_line};
@@ -9,9 +9,11 @@ ghost use Rattle.plan_types.specs.Sound.{IsSoundBackend, IsSoundPlan};
 ghost use Rattle.plan_types.specs.declared.plan.Backend as backends;
 ghost use Rattle.conn_model.specs.declared.plain.Version as versions;
 ghost use Rattle.conn_model.specs.Answer.{version_at};
+ghost use Rattle.conn_model.specs.Words.{newest};
 ghost use Rattle.conn_model.specs.History.{new_version, next_version, with_offer, with_version};
 ghost use Rattle.conn_model.specs.Tables.{written_tables};
 ghost use Rattle.conn_model.specs.Servers.{cursor_at, identity_in, pick_in, with_cursor};
+ghost use Rattle.conn_versions.specs.Judged.{in_use, is_in_use, judged_by, judged_of};
 ghost use Rattle.conn_versions.specs.Kept.{AreAllNoted, AreCounted, AreTied};
 ghost use Rattle.conn_versions.specs.Slots.{KeepsPlaces};
 ghost use Rattle.conn_versions.specs.declared.versions.VersionPicks.{VersionPicks};
@@ -29,14 +31,17 @@ use std::alloc::{AllocError, Global};
 use std::marker::Model;
 use std::mem;
 
-/// What picks of the backends of one version go by.
+/// What picks of the backends of one version go by, and the connections that it judges.
 #[derive(Debug, Drop)]
 pub struct VersionPicks {
     pub backends: Vec<BackendPicks>,
+    /// How many open connections the version judges.
+    pub connections: u64,
 }
 
 /// The versions that are kept, with what picks of their servers need. Of each server the open connections are counted,
-/// by the name of its backend, its own name and its address, through all versions.
+/// by the name of its backend, its own name and its address, through all versions; and of each version those that it
+/// judges.
 #[derive(Debug, Drop)]
 pub struct Versions {
     alloc: Global,
@@ -48,11 +53,11 @@ pub struct Versions {
 
 impl Model for Versions {
     ghost use Rattle.conn_versions.specs.Versions.{VersionsValue};
-    ghost use Rattle.conn_versions.specs.Kept.{AreKept};
+    ghost use Rattle.conn_versions.specs.Kept.{AreKept, connections_of};
 
     ghost Value = { VersionsValue };
 
-    ghost view = { λ v. record { versions = v.versions.items; counts = v.slots } };
+    ghost view = { λ v. record { versions = v.versions.items; counts = v.slots; judged = connections_of v.picks.items } };
 
     ghost invariant = { λ v. AreKept v.slots v.versions.items v.picks.items };
 }
@@ -63,12 +68,16 @@ impl Versions {
         requires { IsSoundPlan plan }
         ensures versions { IfOk result (λ kept. kept.versions ≡ new_version 1 plan ∷ []) }
         ensures open { IfOk result (λ kept. (place : ℕ) → open_at place kept.counts ≡ 0) }
+        ensures judged { IfOk result (λ kept. (number : ℕ) → judged_of kept number ≡ 0) }
     {
         let mut slots = Slots::new(alloc);
         let mut named = slots.none_named(alloc)?;
         let backends = picks_of_all(alloc, plan.backends.as_slice(), &mut slots, &mut named)?;
         let mut picks = Vec::new(alloc);
-        picks.push(VersionPicks { backends })?;
+        picks.push(VersionPicks {
+            backends,
+            connections: 0,
+        })?;
         let mut versions = Vec::new(alloc);
         versions.push(version_after(alloc, 1, None, plan)?)?;
         Ok(Versions {
@@ -89,6 +98,8 @@ impl Versions {
         ensures err { OnErr result (self.new.versions ≡ self.old.versions) }
         ensures open { (place : ℕ) → open_at place self.new.counts ≡ open_at place self.old.counts }
         ensures identities { (place : ℕ) → 0 < open_at place self.old.counts → identity_at place self.new.counts ≡ identity_at place self.old.counts }
+        ensures judged { (number : ℕ) → judged_of self.new number ≡ judged_of self.old number }
+        ensures begins { OnOk result (judged_of self.new number ≡ 0) }
     {
         let before = newest(self.versions.as_slice());
         let version = version_after(self.alloc, number, before, plan)?;
@@ -102,7 +113,10 @@ impl Versions {
         self.versions.try_reserve(1)?;
         self.picks.try_reserve(1)?;
         self.versions.push_reserved(version);
-        self.picks.push_reserved(VersionPicks { backends });
+        self.picks.push_reserved(VersionPicks {
+            backends,
+            connections: 0,
+        });
         Ok(())
     }
 
@@ -110,11 +124,46 @@ impl Versions {
     pub fn forget(&mut self, number: u64)
         ensures versions { self.new.versions ≡ filter (λ version. not (version.number == number)) self.old.versions }
         ensures counts { self.new.counts ≡ self.old.counts }
+        ensures judged { (other : ℕ) → (other == number) ≡ false → judged_of self.new other ≡ judged_of self.old other }
     {
         if let Some(place) = place_of(self.versions.as_slice(), number) {
             let _version = self.versions.remove(place);
             let _picks = self.picks.remove(place);
         }
+    }
+
+    /// Forgets the versions that are neither the newest nor judge an open connection; whether there was one. It takes no
+    /// memory.
+    pub fn forget_idle(&mut self) -> bool
+        ensures versions { self.new.versions ≡ in_use (judged_of self.old) (option_map_or (λ version. version.number) (newest self.old.versions) 0) self.old.versions }
+        ensures counts { self.new.counts ≡ self.old.counts }
+        ensures judged { (number : ℕ) → IsSome (version_at self.new.versions number) → judged_of self.new number ≡ judged_of self.old number }
+        ensures some { result ≡ true → length self.new.versions < length self.old.versions }
+        ensures none { result ≡ false → self.new.versions ≡ self.old.versions }
+    {
+        let Some(newest) = newest(self.as_slice()) else {
+            return false;
+        };
+        let force = newest.number;
+        let mut some = false;
+        while let Some(number) = self.first_idle(force) {
+            self.forget(number);
+            some = true;
+        }
+        some
+    }
+
+    /// The number of the first version that is neither the one in force nor judges an open connection.
+    fn first_idle(&self, force: u64) -> Option<u64>
+        ensures some { IfSome result (λ number. IsSome (version_at self.now.versions number) × (is_in_use (judged_of self.now) force number ≡ false)) }
+        ensures none { IfNone result ((number : ℕ) → IsSome (version_at self.now.versions number) → is_in_use (judged_of self.now) force number ≡ true) }
+    {
+        for (place, version) in self.versions.iter().enumerate() {
+            if !is_in_use(version.number, force, self.picks[place].connections) {
+                return Some(version.number);
+            }
+        }
+        None
     }
 
     /// By number, the newest last.
@@ -174,6 +223,7 @@ impl Versions {
         ensures slot { (there : HasServer self.old.versions version line server) → identity_at result.place self.new.counts ≡ Some (identity_in there.backend there.server) }
         ensures open { (place : ℕ) → open_at place self.new.counts ≡ open_at place self.old.counts + slots_at place result }
         ensures identities { (place : ℕ) → identity_at place self.new.counts ≡ identity_at place self.old.counts }
+        ensures judged { (number : ℕ) → judged_of self.new number ≡ judged_of self.old number }
     {
         let Some(place) = place_of(self.versions.as_slice(), version) else {
             unreachable!()
@@ -194,9 +244,41 @@ impl Versions {
         ensures versions { self.new.versions ≡ self.old.versions }
         ensures open { (place : ℕ) → open_at place self.new.counts + slots_at place slot ≡ open_at place self.old.counts }
         ensures identities { (place : ℕ) → identity_at place self.new.counts ≡ identity_at place self.old.counts }
+        ensures judged { (number : ℕ) → judged_of self.new number ≡ judged_of self.old number }
     {
         self.slots.give_back(slot);
     }
+
+    /// Counts one more open connection of the version of that number, if it is kept. It takes no memory.
+    pub fn enter(&mut self, number: u64)
+        requires below { IsSome (version_at self.old.versions number) → judged_of self.old number < 2 ^ 64 - 1 }
+        ensures versions { self.new.versions ≡ self.old.versions }
+        ensures counts { self.new.counts ≡ self.old.counts }
+        ensures judged { (other : ℕ) → IsSome (version_at self.old.versions other) → judged_of self.new other ≡ judged_of self.old other + judged_by other number }
+    {
+        if let Some(place) = place_of(self.versions.as_slice(), number) {
+            self.picks[place].connections += 1;
+        }
+    }
+
+    /// Counts one open connection of the version of that number less, if it is kept. It takes no memory.
+    pub fn leave(&mut self, number: u64)
+        requires there { IsSome (version_at self.old.versions number) → 0 < judged_of self.old number }
+        ensures versions { self.new.versions ≡ self.old.versions }
+        ensures counts { self.new.counts ≡ self.old.counts }
+        ensures judged { (other : ℕ) → IsSome (version_at self.old.versions other) → judged_of self.new other + judged_by other number ≡ judged_of self.old other }
+    {
+        if let Some(place) = place_of(self.versions.as_slice(), number) {
+            self.picks[place].connections -= 1;
+        }
+    }
+}
+
+/// Whether a version is in force, where that is the one, or judges an open connection.
+fn is_in_use(number: u64, force: u64, connections: u64) -> bool
+    ensures { result ≡ (number == force) || nat_lt 0 connections }
+{
+    number == force || connections > 0
 }
 
 /// The version of that number, of a plan, which follows another, if there is one before.

@@ -1,8 +1,9 @@
 use Rattle.std.proofs.Common.{◌≡◌, None, Some, ap, sym, ◌∙◌}
-use Rattle.std.specs.Prelude.{filter, find, position}
+use Rattle.std.specs.Prelude.{filter, find, position, ◌==◌}
 use Rattle.conn_model.proofs.Lists.{nowhere}
 use Rattle.conn_versions.specs.Versions.{has_number}
-use Rattle.conn_versions.proofs.Changes.{has_other, kept_without, none_removed, removed}
+use Rattle.conn_versions.proofs.Changes.{has_other, kept_without, none_removed, removed, version_found}
+use Rattle.conn_versions.proofs.Judged.{judged-removed}
 use Rattle.conn_versions.proofs.versions.Versions.forget.Goals as goal
 
 pub invariant_of-self : goal.invariant_of-self
@@ -24,3 +25,12 @@ returns-in_default-clause-versions c =
     let none : find (has_number c.args.number) c.self.inside.versions.items ≡ None =
     nowhere (has_number c.args.number) c.self.inside.versions.items (ap (position (has_number c.args.number)) (sym c.as_slice.ensures.value) ∙ sym c.place_of.ensures ∙ c.in_default.is) in
     sym (none_removed c.args.number c.args.self.now.versions (ap (λ v. find (has_number c.args.number) v.versions) (sym c.self.view_is) ∙ none))
+
+pub returns-in-Some-clause-judged : goal.returns-in-Some-clause-judged
+returns-in-Some-clause-judged c =
+    let is : position (has_number c.args.number) c.self.inside.versions.items ≡ Some c.in-Some.place =
+    ap (position (has_number c.args.number)) (sym c.as_slice.ensures.value) ∙ sym c.place_of.ensures ∙ c.in-Some.is in
+    let found = version_found c.args.number c.self.inside.versions.items c.in-Some.place is in
+    rw (c.remove-version.ensures.items, c.remove-picks.ensures.items, ← c.self.view_is)
+    (λ other differs.
+    judged-removed c.self.inside.versions.items c.self.inside.picks.items c.in-Some.place found.0 other c.self.invariant.many found.1 (ap (λ n. other == n) found.2 ∙ differs))

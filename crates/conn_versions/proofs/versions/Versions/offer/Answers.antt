@@ -1,4 +1,4 @@
-use Rattle.std.proofs.Common.{◌≡◌, ◌+◌, Some, None, ap, sym, ◌∙◌, arith, subst}
+use Rattle.std.proofs.Common.{◌≡◌, ◌+◌, Some, None, refl, ap, sym, ◌∙◌, arith, subst}
 use Rattle.std.specs.Prelude.{find, position, slice_get, slice_set}
 use Rattle.slot_core.specs.Counts.{identity_at}
 use Rattle.plan_types.specs.Lines.{has_line}
@@ -11,6 +11,7 @@ use Rattle.conn_versions.specs.Kept.{IsKept}
 use Rattle.conn_versions.proofs.Places.{one_item}
 use Rattle.conn_model.proofs.Lists.{nowhere, position_within}
 use Rattle.conn_versions.proofs.Identities.{identity-changed, identity_within}
+use Rattle.conn_versions.proofs.Judged.{judged-moved}
 use Rattle.conn_versions.proofs.Moves.{kept_moved, offered, one_version, still_kept}
 use Rattle.conn_versions.proofs.Founds.{found_server, found_version, version_there, within_own}
 use Rattle.conn_versions.proofs.versions.Versions.offer.Goals as goal
@@ -89,7 +90,7 @@ invariant_of-self c =
     let next : c.move_cursor.new.version ≡ with_offer c.args.version c.args.line c.args.server c.index_mut-version.result.now =
     c.move_cursor.ensures.version
     ∙ sym (offered c.args.version c.args.line c.args.server c.index_mut-version.result.now c.in-Some-line_place.number moved.numbered (ap (λ v. position (has_line c.args.line) v.plan.backends) (sym same) ∙ line)) in
-    let own : VersionPicks = record { backends = c.move_cursor.new.own } in
+    let own : VersionPicks = record c.index_mut.result.now { backends = c.move_cursor.new.own } in
     let is : IsKept c.self.inside.slots (with_offer c.args.version c.args.line c.args.server c.index_mut-version.result.now) c.move_cursor.new.own.items =
     subst (λ v. IsKept c.self.inside.slots v c.move_cursor.new.own.items) next
     (record { tied = c.move_cursor.ensures.tied; counted = c.move_cursor.ensures.counted c.self.inside.slots moved.is.counted }) in
@@ -129,3 +130,12 @@ returns-clause-slot c =
 pub returns-clause-identities : goal.returns-clause-identities
 returns-clause-identities c = λ place.
     ap (identity_at place) c.take.ensures.counts ∙ identity-changed (λ n. n + 1) _ c.self.inside.slots place ∙ ap (λ v. identity_at place v.counts) c.self.view_is
+
+pub returns-clause-judged : goal.returns-clause-judged
+returns-clause-judged c =
+    let moved = found_version c.self.inside.slots c.self.inside.versions.items c.self.inside.picks.items c.args.version c.in-Some.place c.index_mut-version.result.now c.index_mut.result.now c.self.invariant
+    (ap (position (has_number c.args.version)) (sym c.as_slice.ensures.value) ∙ sym c.place_of.ensures ∙ c.in-Some.is) c.index_mut-version.ensures.value c.index_mut.ensures.value in
+    let own : VersionPicks = record c.index_mut.result.now { backends = c.move_cursor.new.own } in
+    rw (← c.self.view_is)
+    (judged-moved c.self.inside.versions.items c.self.inside.picks.items c.in-Some.place c.index_mut-version.result.now c.move_cursor.new.version c.index_mut.result.now own moved.at moved.own_at
+    (ap (λ v. v.number) c.move_cursor.ensures.version) refl)
