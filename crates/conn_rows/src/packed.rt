@@ -7,11 +7,12 @@ use crate::row::Seat;
 use addr_core::{Addr, Endpoint, Pair};
 use std::marker::Model;
 
-/// An endpoint in 24 bytes.
+/// An endpoint in 24 bytes, where an `Endpoint` takes 48.
 #[derive(Debug, Drop)]
 pub(crate) struct PackedEndpoint {
     /// Of an address of IPv6 the upper 64 bits.
     high: u64,
+    /// Of an address of IPv6 the lower 64 bits, and of one of IPv4 its number.
     low: u64,
     port: u16,
     is_six: bool,
