@@ -13,7 +13,7 @@ use Rattle.conn_tables.specs.declared.tracking.Tracking.{Tracking}
 use Rattle.conn_rows.specs.Stored.{plain_frontend, plain_row}
 use Rattle.conn_tables.specs.Tables.{AreCounted, cur_in}
 use Rattle.conn_tables.specs.Tracks.{counter_on, plain_tracks}
-use Rattle.std.specs.Prelude.{filter, flat_map, ◌^◌, ◌<◌, ◌≤◌, slice_get, option_map, ◌==◌, if◌then◌else◌, Result, Ok, Err, OnOk, OnErr, IfSome, IfNone}
+use Rattle.std.specs.Prelude.{filter, flat_map, ◌^◌, ◌<◌, ◌≤◌, slice_get, option_map, ◌==◌, if◌then◌else◌, IfSome, IfNone}
 use Rattle.addr_core.specs.declared.addr.Addr.{Addr}
 use Rattle.plan_types.specs.declared.track.TableId.{TableId}
 use Rattle.conn_model.specs.Counts.{total}
@@ -52,13 +52,8 @@ total-with worth serial change (row ∷ rows) same = let more = total-with worth
     by false = refl
 
 -- a row more, which tracks nothing
-pub total-arrival : {E : Type 0} (worth : StoredRow → ℕ) (r : Result ℕ E) (own next : StoredFrontend) (row : StoredRow) → worth row ≡ 0 →
-    OnOk r (next ≡ record own { serial = own.serial + 1; rows = own.rows ++ row ∷ [] }) → OnErr r (next ≡ own) → total worth next.rows ≡ total worth own.rows
-total-arrival worth (Ok serial) own next row none ok err =
-    let more = total-push worth own.rows row in
-    let is : total worth next.rows ≡ total worth (own.rows ++ row ∷ []) = ap (λ f. total worth f.rows) ok in
-    omega (arith, more, is, none)
-total-arrival worth (Err e) own next row none ok err = ap (λ f. total worth f.rows) err
+pub total-arrival : (worth : StoredRow → ℕ) (rows : List StoredRow) (row : StoredRow) → worth row ≡ 0 → total worth (rows ++ row ∷ []) ≡ total worth rows
+total-arrival worth rows row none = let more = total-push worth rows row in omega (arith, more, none)
 
 -- a row less
 pub total-gone : (worth : StoredRow → ℕ) (frontends : List StoredFrontend) (n : ℕ) (own next : StoredFrontend) (row : StoredRow) → slice_get frontends n ≡ Some own →

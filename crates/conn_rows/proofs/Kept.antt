@@ -1,8 +1,9 @@
 -- The plain state as versions come and are forgotten.
-use Rattle.std.proofs.Common.{◌≡◌, ℕ, zero, suc, ◌<◌, ◌≤◌, Bool, true, false, not, List, [], ◌∷◌, length, map, Option, Some, None, refl, sym, ap, subst, ◌∙◌, arith}
-use Rattle.std.specs.Prelude.{filter, find, flat_map, slice_get, option_map, IfSome, IsSome, ◌==◌, ◌||◌}
+use Rattle.std.proofs.Common.{◌≡◌, ℕ, zero, suc, ◌<◌, ◌≤◌, ◌+◌, Bool, true, false, nat_lt, List, [], ◌∷◌, ◌++◌, map, Option, Some, None, refl, sym, ap, subst, ◌∙◌, arith}
+use Rattle.std.specs.Prelude.{filter, flat_map, slice_get, option_map, IfSome, IsSome, ◌==◌, ◌||◌, if◌then◌else◌}
 use Rattle.std.specs.List.{AllByRecursion, list_any}
 use Rattle.std.proofs.lemmas.Bool.{false≢true, eqb-true, eq-eqb}
+use Rattle.std.proofs.lemmas.Bool.Decides.{nat_tests}
 use Rattle.addr_core.specs.declared.addr.Addr.{Addr}
 use Rattle.proxy_types.specs.declared.server.ServerIdentity.{ServerIdentity}
 use Rattle.slot_core.specs.declared.slots.SlotIx.{SlotIx}
@@ -16,18 +17,19 @@ use Rattle.conn_model.specs.Answer.{version_at}
 use Rattle.conn_model.specs.Counts.{server_of, total}
 use Rattle.conn_model.specs.History.{has_version, is_needed, needed_versions, with_version}
 use Rattle.conn_model.specs.Tables.{open_tracks, same_id, trackers, tracks_in}
-use Rattle.conn_model.specs.Words.{newest}
-use Rattle.conn_model.proofs.Lists.{all-append, all-at, all-each, all-found, all-more, any-at, or_right}
-use Rattle.conn_model.proofs.Versions.{newest-some, version_at-filter, version_at-with}
+use Rattle.conn_model.proofs.Lists.{all-append, all-at, all-each, all-more, any-at, or_right}
+use Rattle.conn_model.proofs.Versions.{version_at-filter, version_at-with}
 use Rattle.conn_tables.specs.declared.tables.StoredTable.{StoredTable}
 use Rattle.conn_tables.specs.Tables.{cur_in, is_listed_in}
 use Rattle.conn_tables.proofs.TableLemmas.{same_id-is}
+use Rattle.conn_versions.specs.Judged.{in_use, is_in_use, judged_by, judged_of}
 use Rattle.conn_versions.specs.Versions.{VersionsValue}
+use Rattle.conn_versions.proofs.Judged.{judged-other, not_kept, pass_alike, still_passes}
 use Rattle.conn_rows.specs.declared.row.StoredRow.{StoredRow}
-use Rattle.conn_rows.specs.Needed.{AreTracksHeld, AreVersionsKept, first_idle, has_stored, is_stored_needed, stored_needed}
+use Rattle.conn_rows.specs.Needed.{AreTracksHeld, AreVersionsKept}
 use Rattle.conn_rows.specs.Stored.{StoredFrontend, phase_of, plan_at, plain_frontend, plain_row, slot_of}
-use Rattle.conn_rows.specs.Value.{AllRows, AreRows, AreServed, CountsFor, HasSlot, row_slots, rows_total}
-use Rattle.conn_rows.proofs.Counted.{are_counted, fewer}
+use Rattle.conn_rows.specs.Value.{row_judged, row_slots, rows_total, AllRows, AreRows, AreServed, CountsFor, HasSlot}
+use Rattle.conn_rows.proofs.Counted.{are_counted}
 use Rattle.conn_rows.proofs.Served.{slot_counted}
 
 -- Lists.
@@ -37,103 +39,23 @@ all-places : {X : Type 0} (P : X → Type 0) (xs : List X) → ((n : ℕ) (x : X
 all-places P [] each = tt
 all-places P (x ∷ xs) each = (each 0 x refl, all-places P xs (λ n y there. each (suc n) y there))
 
-found_passes : {X : Type 0} (test : X → Bool) (xs : List X) (x : X) → find test xs ≡ Some x → test x ≡ true
-found_passes {X} test xs x found = (all-found (λ (y : X). Unit {0}) test xs x (all-each (λ (y : X). Unit {0}) xs (λ y. tt)) found).1
-
--- what the first filter leaves out goes by the second one too
-filter-idle : {X : Type 0} (test keep : X → Bool) (xs : List X) → ((x : X) → keep x ≡ false → test x ≡ false) → filter test (filter keep xs) ≡ filter test xs
-filter-idle test keep [] same = refl
-filter-idle {X} test keep (x ∷ xs) same = by (keep x) refl (test x) refl (filter-idle test keep xs same)
-  where
-    by : (k : Bool) → keep x ≡ k → (t : Bool) → test x ≡ t → filter test (filter keep xs) ≡ filter test xs → filter test (filter keep (x ∷ xs)) ≡ filter test (x ∷ xs)
-    by true kept true passes more = rw (kept, passes) (ap (λ ys. x ∷ ys) more)
-    by true kept false fails more = rw (kept, fails) more
-    by false left true passes more = absurd (false≢true (sym (same x left) ∙ passes))
-    by false left false fails more = rw (left, fails) more
-
--- none is left that does not pass
-filter-done : {X : Type 0} (test : X → Bool) (xs : List X) → find (λ x. not (test x)) xs ≡ None → filter test xs ≡ xs
-filter-done test [] none = refl
-filter-done {X} test (x ∷ xs) none = by (test x) refl none (filter-done test xs)
-  where
-    by : (b : Bool) → test x ≡ b → find (λ y. not (test y)) (x ∷ xs) ≡ None → (find (λ y. not (test y)) xs ≡ None → filter test xs ≡ xs) → filter test (x ∷ xs) ≡ x ∷ xs
-    by true passes none rest = rw passes (ap (λ ys. x ∷ ys) (rest (rw passes at none)))
-    by false fails none rest = absurd (let wrong : Some x ≡ None = rw fails at none in cc)
-
--- one that is there does not pass
-filter-less : {X : Type 0} (p test : X → Bool) (xs : List X) (x : X) → find p xs ≡ Some x → test x ≡ false → length (filter test xs) < length xs
-filter-less p test [] x found fails = absurd (let wrong : None ≡ Some x = found in cc)
-filter-less {X} p test (y ∷ ys) x found fails = by (p y) refl (test y) refl (filter-less p test ys x)
-  where
-    by : (b : Bool) → p y ≡ b → (t : Bool) → test y ≡ t → (find p ys ≡ Some x → test x ≡ false → length (filter test ys) < length ys) → length (filter test (y ∷ ys)) < length (y ∷ ys)
-    by true here true passes rest = let same : y ≡ x = let it : Some y ≡ Some x = rw here at found in cc in absurd (false≢true (sym fails ∙ ap test (sym same) ∙ passes))
-    by true here false left rest = let less = fewer test ys in rw left (omega (arith, less))
-    by false later true passes rest = let less = rest (rw later at found) fails in rw passes (omega (arith, less))
-    by false later false left rest = let less = rest (rw later at found) fails in rw left (omega (arith, less))
-
-filter-alike : {X : Type 0} (f g : X → Bool) (xs : List X) → ((x : X) → f x ≡ g x) → filter f xs ≡ filter g xs
-filter-alike f g [] same = refl
-filter-alike {X} f g (x ∷ xs) same = by (g x) refl (filter-alike f g xs same)
-  where
-    by : (b : Bool) → g x ≡ b → filter f xs ≡ filter g xs → filter f (x ∷ xs) ≡ filter g (x ∷ xs)
-    by true is more = rw (same x, is) (ap (λ ys. x ∷ ys) more)
-    by false is more = rw (same x, is) more
-
 all-flat : {X Y : Type 0} (P : Y → Type 0) (f : X → List Y) (xs : List X) → AllByRecursion (λ x. AllByRecursion P (f x)) xs → AllByRecursion P (flat_map f xs)
 all-flat P f [] all = tt
 all-flat P f (x ∷ xs) all = all-append P (f x) (flat_map f xs) all.0 (all-flat P f xs all.1)
 
--- Versions that are forgotten one by one.
+-- Versions that are needed.
 
-idle_fails : (frontends : List StoredFrontend) (force : ℕ) (versions : List Version) (number : ℕ) → first_idle frontends force versions ≡ Some number → is_stored_needed frontends force number ≡ false
-idle_fails frontends force versions number is = by (find (λ version. not (is_stored_needed frontends force version.number)) versions) refl is
-  where
-    opposite : (b : Bool) → not b ≡ true → b ≡ false
-    opposite true wrong = absurd (false≢true wrong)
-    opposite false right = refl
+-- some connection of the frontend is of the version of that number
+abbrev pub has_stored : ℕ → StoredFrontend → Bool
+has_stored number own = list_any (λ row. row.version == number) own.rows
 
-    by : (o : Option Version) → find (λ version. not (is_stored_needed frontends force version.number)) versions ≡ o → option_map (λ (version : Version). version.number) o ≡ Some number →
-        is_stored_needed frontends force number ≡ false
-    by None none is = absurd (let wrong : None ≡ Some number = is in cc)
-    by (Some version) found is =
-        let same : version.number ≡ number = let it : Some version.number ≡ Some number = is in cc in
-        ap (is_stored_needed frontends force) (sym same)
-        ∙ opposite (is_stored_needed frontends force version.number) (found_passes (λ version. not (is_stored_needed frontends force version.number)) versions version found)
+-- the version of that number is in force, where that is the one, or an open connection is of it
+abbrev pub is_stored_needed : List StoredFrontend → ℕ → ℕ → Bool
+is_stored_needed frontends force number = (number == force) || list_any (has_stored number) frontends
 
--- the others are as they were
-pub idle_left : (frontends : List StoredFrontend) (force : ℕ) (versions : List Version) (number : ℕ) → first_idle frontends force versions ≡ Some number →
-    stored_needed frontends force (filter (λ version. not (version.number == number)) versions) ≡ stored_needed frontends force versions
-idle_left frontends force versions number is = filter-idle (λ version. is_stored_needed frontends force version.number) (λ version. not (version.number == number)) versions (λ version. by version.number (version.number == number) refl)
-  where
-    by : (n : ℕ) (b : Bool) → (n == number) ≡ b → not b ≡ false → is_stored_needed frontends force n ≡ false
-    by n true same gone = ap (is_stored_needed frontends force) (eqb-true n number same) ∙ idle_fails frontends force versions number is
-    by n false same gone = absurd (false≢true (sym gone))
-
--- and there is one less
-pub idle_less : (frontends : List StoredFrontend) (force : ℕ) (versions : List Version) (number : ℕ) → first_idle frontends force versions ≡ Some number →
-    length (filter (λ version. not (version.number == number)) versions) < length versions
-idle_less frontends force versions number is = by (find (λ version. not (is_stored_needed frontends force version.number)) versions) refl is
-  where
-    by : (o : Option Version) → find (λ version. not (is_stored_needed frontends force version.number)) versions ≡ o → option_map (λ (version : Version). version.number) o ≡ Some number →
-        length (filter (λ version. not (version.number == number)) versions) < length versions
-    by None none is = absurd (let wrong : None ≡ Some number = is in cc)
-    by (Some version) found is =
-        let same : version.number ≡ number = let it : Some version.number ≡ Some number = is in cc in
-        filter-less (λ version. not (is_stored_needed frontends force version.number)) (λ version. not (version.number == number)) versions version found (ap not (eq-eqb version.number number same))
-
--- until each is needed
-pub idle_none : (frontends : List StoredFrontend) (force : ℕ) (versions : List Version) → first_idle frontends force versions ≡ None → stored_needed frontends force versions ≡ versions
-idle_none frontends force versions is = by (find (λ version. not (is_stored_needed frontends force version.number)) versions) refl is
-  where
-    by : (o : Option Version) → find (λ version. not (is_stored_needed frontends force version.number)) versions ≡ o → option_map (λ (version : Version). version.number) o ≡ None →
-        stored_needed frontends force versions ≡ versions
-    by None none is = filter-done (λ version. is_stored_needed frontends force version.number) versions none
-    by (Some version) found is = absurd (let wrong : Some version.number ≡ None = is in cc)
-
--- where there is no version there is none to forget
-pub no_versions : (versions : List Version) → newest versions ≡ None → versions ≡ []
-no_versions [] none = refl
-no_versions (version ∷ versions) none = let last = newest-some version versions in absurd (let wrong : None ≡ Some last.0 = sym none ∙ last.1 in cc)
+-- the versions that are
+abbrev pub stored_needed : List StoredFrontend → ℕ → List Version → List Version
+stored_needed frontends force versions = filter (λ version. is_stored_needed frontends force version.number) versions
 
 -- What is needed of plain rows and of stored ones.
 
@@ -148,8 +70,7 @@ any-frontends versions n (own ∷ frontends) =
 
 pub needed_alike : (versions : List Version) (frontends : List StoredFrontend) (force : ℕ) (all : List Version) → needed_versions (map (plain_frontend versions) frontends) force all ≡ stored_needed frontends force all
 needed_alike versions frontends force all =
-    filter-alike (λ version. is_needed (map (plain_frontend versions) frontends) force version.number) (λ version. is_stored_needed frontends force version.number) all
-    (λ version. ap (λ b. (version.number == force) || b) (any-frontends versions version.number frontends))
+    pass_alike (is_needed (map (plain_frontend versions) frontends) force) (is_stored_needed frontends force) all (λ number some. ap (λ b. (number == force) || b) (any-frontends versions number frontends))
 
 -- Rows whose versions have the plans that they had.
 
@@ -181,9 +102,11 @@ total-at worth (y ∷ xs) (suc n) x there = let more : worth x ≤ total worth x
 
 -- their servers are counted as they were
 pub served_seen : (frontends : List StoredFrontend) (kept rest : VersionsValue) → AreSeenAlike kept.versions rest.versions frontends → ((place : ℕ) → open_at place rest.counts ≡ open_at place kept.counts) →
+    ((number : ℕ) → IsSome (version_at rest.versions number) → judged_of rest number ≡ rows_total (row_judged number) frontends) →
     ((place : ℕ) → 0 < open_at place kept.counts → identity_at place rest.counts ≡ identity_at place kept.counts) → AreServed frontends kept → AreServed frontends rest
-served_seen frontends kept rest same opens identities known = record {
+served_seen frontends kept rest same opens judged identities known = record {
   counted = λ place. opens place ∙ known.counted place;
+  judged = judged;
   slots = all-places (λ own. AllByRecursion (HasSlot rest) own.rows) frontends (λ n own there. all-places (HasSlot rest) own.rows (still n own there));
 }
   where
@@ -246,6 +169,85 @@ seen_needed versions others force frontends less =
 
     each : (number : ℕ) → is_stored_needed frontends force number ≡ true → IsSeenAlike versions others number
     each number passes = ap (λ vs. plan_at vs number) less ∙ ap (option_map (λ version. version.plan)) (version_at-filter (is_stored_needed frontends force) versions number passes)
+
+-- Versions that judge an open connection.
+
+lt-sum : (m n : ℕ) → (nat_lt 0 m || nat_lt 0 n) ≡ nat_lt 0 (m + n)
+lt-sum m n = grind (arith, nat_tests)
+
+one-any : (number version : ℕ) → (version == number) ≡ nat_lt 0 (judged_by number version)
+one-any number version = by (version == number)
+  where
+    by : (b : Bool) → b ≡ nat_lt 0 (if b then 1 else 0)
+    by true = refl
+    by false = refl
+
+rows-any : (number : ℕ) (rows : List StoredRow) → list_any (λ row. row.version == number) rows ≡ nat_lt 0 (total (row_judged number) rows)
+rows-any number [] = refl
+rows-any number (row ∷ rows) =
+    ap (λ b. b || list_any (λ row. row.version == number) rows) (one-any number row.version) ∙ ap (λ b. nat_lt 0 (row_judged number row) || b) (rows-any number rows)
+    ∙ lt-sum (row_judged number row) (total (row_judged number) rows)
+
+frontends-any : (number : ℕ) (frontends : List StoredFrontend) → list_any (has_stored number) frontends ≡ nat_lt 0 (rows_total (row_judged number) frontends)
+frontends-any number [] = refl
+frontends-any number (own ∷ frontends) =
+    ap (λ b. b || list_any (has_stored number) frontends) (rows-any number own.rows) ∙ ap (λ b. nat_lt 0 (total (row_judged number) own.rows) || b) (frontends-any number frontends)
+    ∙ lt-sum (total (row_judged number) own.rows) (rows_total (row_judged number) frontends)
+
+-- they are those that open connections are of
+pub used_needed : (frontends : List StoredFrontend) (kept : VersionsValue) (force : ℕ) (versions : List Version) → AreServed frontends kept → versions ≡ in_use (judged_of kept) force kept.versions →
+    versions ≡ stored_needed frontends force kept.versions
+used_needed frontends kept force versions known are =
+    are
+    ∙ pass_alike (is_in_use (judged_of kept) force) (is_stored_needed frontends force) kept.versions
+    (λ number some. ap (λ b. (number == force) || b) (ap (nat_lt 0) (known.judged number some) ∙ sym (frontends-any number frontends)))
+
+-- those that are left judge the connections that they did
+pub left_judged : (frontends : List StoredFrontend) (kept rest : VersionsValue) (force : ℕ) → AreServed frontends kept → rest.versions ≡ in_use (judged_of kept) force kept.versions →
+    ((number : ℕ) → IsSome (version_at rest.versions number) → judged_of rest number ≡ judged_of kept number) →
+    (number : ℕ) → IsSome (version_at rest.versions number) → judged_of rest number ≡ rows_total (row_judged number) frontends
+left_judged frontends kept rest force known are same number some =
+    same number some ∙ known.judged number (still_passes (is_in_use (judged_of kept) force) kept.versions number (subst (λ vs. IsSome (version_at vs number)) are some)).1
+
+-- A version that comes judges nobody.
+
+new_number : (versions : List Version) (next : Version) (number : ℕ) → version_at versions number ≡ None → IsSome (version_at (versions ++ next ∷ []) number) → next.number ≡ number
+new_number [] next number none some = by (next.number == number) refl
+  where
+    by : (b : Bool) → (next.number == number) ≡ b → next.number ≡ number
+    by true e = eqb-true next.number number e
+    by false e = absurd (false≢true (rw e at some))
+new_number (v ∷ versions) next number none some = by (v.number == number) refl (new_number versions next number)
+  where
+    by : (b : Bool) → (v.number == number) ≡ b → (version_at versions number ≡ None → IsSome (version_at (versions ++ next ∷ []) number) → next.number ≡ number) → next.number ≡ number
+    by true e more = absurd (let wrong : Some v ≡ None = rw e at none in cc)
+    by false e more = more (rw e at none) (rw e at some)
+
+-- no connection is of a version that is not kept
+nobody-rows : (versions : List Version) (number : ℕ) (rows : List StoredRow) → version_at versions number ≡ None → AllByRecursion (λ row. IsSome (version_at versions row.version)) rows → total (row_judged number) rows ≡ 0
+nobody-rows versions number [] none kept = refl
+nobody-rows versions number (row ∷ rows) none kept =
+    let here = judged-other number row.version (λ same. not_kept versions number row.version none kept.0 (sym same)) in
+    let more = nobody-rows versions number rows none kept.1 in
+    omega (arith, here, more)
+
+nobody : (versions : List Version) (number : ℕ) (frontends : List StoredFrontend) → version_at versions number ≡ None → AllRows (λ row. IsSome (version_at versions row.version)) frontends → rows_total (row_judged number) frontends ≡ 0
+nobody versions number [] none kept = refl
+nobody versions number (own ∷ frontends) none kept =
+    let here = nobody-rows versions number own.rows none kept.0 in
+    let more = nobody versions number frontends none kept.1 in
+    omega (arith, here, more)
+
+pub brought_judged : (frontends : List StoredFrontend) (kept rest : VersionsValue) (number : ℕ) (plan : Plan) → AreServed frontends kept → AreVersionsKept (map (plain_frontend kept.versions) frontends) kept.versions →
+    rest.versions ≡ with_version kept.versions (Some (number, plan)) → ((other : ℕ) → IsSome (version_at kept.versions other) → judged_of rest other ≡ judged_of kept other) → judged_of rest number ≡ 0 →
+    (other : ℕ) → IsSome (version_at rest.versions other) → judged_of rest other ≡ rows_total (row_judged other) frontends
+brought_judged frontends kept rest number plan known held more same none other some = by (version_at kept.versions other) refl
+  where
+    by : (o : Option Version) → version_at kept.versions other ≡ o → judged_of rest other ≡ rows_total (row_judged other) frontends
+    by (Some version) e = let there : IsSome (version_at kept.versions other) = rw e refl in same other there ∙ known.judged other there
+    by None e =
+        let it : number ≡ other = new_number kept.versions _ other e (subst (λ vs. IsSome (version_at vs other)) more some) in
+        ap (judged_of rest) (sym it) ∙ none ∙ sym (nobody kept.versions other frontends e (frontends-stored (λ n. IsSome (version_at kept.versions n)) kept.versions frontends held))
 
 -- Tables that no version lists.
 

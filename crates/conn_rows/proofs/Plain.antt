@@ -1,7 +1,7 @@
 -- The plain state of what is stored.
 use Rattle.std.proofs.Common.{◌≡◌, ℕ, zero, suc, ◌+◌, ◌<◌, Bool, true, false, not, List, [], ◌∷◌, ◌++◌, length, map, set, get_or, Option, Some, None, refl, sym, ap, subst, ◌∙◌, arith}
 use Rattle.std.specs.Prelude.{slice_get, slice_set, filter, find, ◌==◌, if◌then◌else◌, IsSome, option_map, option_and_then}
-use Rattle.std.specs.Prelude.{Result, Ok, Err, IfOk, OnOk, IfSome, ◌-◌}
+use Rattle.std.specs.Prelude.{IfSome, ◌-◌}
 use Rattle.std.specs.Option.{option_map_or}
 use Rattle.std.proofs.lemmas.List.{map-append, map-set}
 use Rattle.std.proofs.lemmas.Option.{get_or_from_slice_get, slice_get_read, slice_get_within}
@@ -265,10 +265,6 @@ summed versions row =
         taken true = refl
         taken false = refl
 
-pub on_ok : {X E P Q : Type 0} (r : Result X E) → (P → Q) → OnOk r P → OnOk r Q
-on_ok (Ok x) more p = more p
-on_ok (Err e) more p = tt
-
 pub own_below : (frontends : List StoredFrontend) (n number : ℕ) (own : StoredFrontend) → n ≡ number → own ≡ get_or frontends n own → n < length frontends → slice_get frontends number ≡ Some own
 own_below frontends n number own n_is value less =
     ap (λ i. slice_get frontends i) (sym n_is) ∙ slice_get_read frontends (length frontends) n own refl less value
@@ -300,11 +296,9 @@ removed frontends next versions tables rest value id o value_is o_is left ended 
     by (Some row) = refl
 
 -- the serial that is given out next
-pub next_serial : {E : Type 0} (r : Result ℕ E) (frontends : List StoredFrontend) (versions : List Version) (tables : StoredTables) (value : RowsValue) (number : ℕ) (own : StoredFrontend) →
-    value_of frontends versions tables ≡ value → slice_get frontends number ≡ Some own → IfOk r (λ serial. serial ≡ own.serial + 1) →
-    IfOk r (λ serial. Some serial ≡ option_map (λ own. own.serial + 1) (slice_get value.frontends number))
-next_serial (Err e) frontends versions tables value number own value_is there is = tt
-next_serial (Ok serial) frontends versions tables value number own value_is there is =
+pub next_serial : (frontends : List StoredFrontend) (versions : List Version) (tables : StoredTables) (value : RowsValue) (number : ℕ) (own : StoredFrontend) (serial : ℕ) →
+    value_of frontends versions tables ≡ value → slice_get frontends number ≡ Some own → serial ≡ own.serial + 1 → Some serial ≡ option_map (λ own. own.serial + 1) (slice_get value.frontends number)
+next_serial frontends versions tables value number own serial value_is there is =
     let plain : slice_get value.frontends number ≡ Some (plain_frontend versions own) =
     ap (λ v. slice_get v.frontends number) (sym value_is) ∙ get-map (plain_frontend versions) frontends number ∙ ap (option_map (plain_frontend versions)) there in
     rw (plain, is) refl

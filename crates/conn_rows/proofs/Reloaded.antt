@@ -15,10 +15,10 @@ use Rattle.conn_model.specs.Tables.{is_listed_by, next_id, written_tables}
 use Rattle.conn_model.proofs.Versions.{newest-end}
 use Rattle.conn_tables.specs.declared.tables.StoredTable.{StoredTable}
 use Rattle.conn_tables.specs.Tables.{AreNextIds, StoredTables, plain_table}
-use Rattle.conn_rows.specs.Needed.{stored_needed, versions_needed}
+use Rattle.conn_rows.specs.Needed.{versions_needed}
 use Rattle.conn_rows.specs.Stored.{StoredFrontend, plain_frontend}
 use Rattle.conn_rows.specs.Value.{RowsValue}
-use Rattle.conn_rows.proofs.Kept.{AreSeenAlike, frontends_seen, needed_alike, seen_needed}
+use Rattle.conn_rows.proofs.Kept.{AreSeenAlike, frontends_seen, needed_alike, seen_needed, stored_needed}
 use Rattle.conn_rows.proofs.Plain.{value_of}
 
 -- what holds of both arms

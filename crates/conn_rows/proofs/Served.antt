@@ -1,6 +1,6 @@
 -- Open connections of servers, as the rows change.
-use Rattle.std.proofs.Common.{◌≡◌, ℕ, ◌+◌, Bool, true, false, List, [], ◌∷◌, ◌++◌, map, set, Option, Some, None, refl, sym, ap, subst, ◌∙◌, arith}
-use Rattle.std.specs.Prelude.{filter, find, ◌<◌, ◌≤◌, slice_get, slice_set, option_map, ◌==◌, if◌then◌else◌, Result, Ok, Err, OnOk, OnErr, IfSome, IsSome, option_and_then}
+use Rattle.std.proofs.Common.{◌≡◌, ℕ, ◌*◌, ◌+◌, Bool, true, false, List, [], ◌∷◌, ◌++◌, length, map, set, Option, Some, None, refl, sym, ap, subst, ◌∙◌, arith}
+use Rattle.std.specs.Prelude.{filter, find, ◌^◌, ◌<◌, ◌≤◌, slice_get, slice_set, option_map, ◌==◌, if◌then◌else◌, IfSome, IsSome, option_and_then}
 use Rattle.std.specs.List.{AllByRecursion}
 use Rattle.std.proofs.lemmas.Bool.Decides.{nat_tests}
 use Rattle.std.specs.Option.{option_map_or}
@@ -16,6 +16,7 @@ use Rattle.conn_model.specs.Servers.{cursors_after, identity_in}
 use Rattle.proxy_types.specs.declared.balance.Place.{Place}
 use Rattle.conn_model.proofs.Lists.{all-append, all-at, all-filter, all-map, all-more}
 use Rattle.conn_tables.proofs.PlaceLemmas.{all_set}
+use Rattle.conn_versions.specs.Judged.{judged_by, judged_of}
 use Rattle.conn_versions.specs.Versions.{HasServer, VersionsValue}
 use Rattle.conn_rows.specs.declared.row.HeldSeat.{HeldSeat}
 use Rattle.conn_rows.specs.declared.row.Seat.{Seat}
@@ -24,20 +25,25 @@ use Rattle.conn_rows.specs.declared.row.Stage.TheVariants.{Waiting, Offered}
 use Rattle.conn_rows.specs.declared.row.StoredRow.{StoredRow}
 use Rattle.conn_rows.specs.Changes.{stage_fed, stage_offered, stage_up, stored_fed, stored_up}
 use Rattle.conn_rows.specs.Stored.{StoredFrontend, at_stage, has_serial, phase_of, plan_at, rest_kept, rest_within, slot_of, with_stored}
-use Rattle.conn_rows.specs.Value.{AllRows, AreServed, CountsFor, HasSlot, row_slots, rows_total}
-use Rattle.conn_model.proofs.Totals.{total-set}
+use Rattle.conn_rows.specs.Value.{AllRows, AreServed, CountsFor, HasSlot, row_judged, row_slots, rows_total}
+use Rattle.conn_model.proofs.Totals.{total-push, total-set}
+use Rattle.conn_rows.proofs.Counted.{total-arrival}
 
--- a frontend is changed, whose rows are as many open connections of each server as they were
+-- a frontend is changed, whose rows are worth what they were
+pub worth_same : (worth : StoredRow → ℕ) (frontends : List StoredFrontend) (n : ℕ) (own next : StoredFrontend) → slice_get frontends n ≡ Some own → total worth next.rows ≡ total worth own.rows →
+    rows_total worth (set frontends n next) ≡ rows_total worth frontends
+worth_same worth frontends n own next there same =
+    let all : rows_total worth (set frontends n next) + total worth own.rows ≡ rows_total worth frontends + total worth next.rows =
+    total-set (λ own. total worth own.rows) frontends n own next there in
+    omega (arith, all, same)
+
+-- whose rows are as many open connections of each server and of each version as they were
 pub still_served : (frontends : List StoredFrontend) (kept : VersionsValue) (n : ℕ) (own next : StoredFrontend) → slice_get frontends n ≡ Some own →
-    ((place : ℕ) → total (row_slots place) next.rows ≡ total (row_slots place) own.rows) → (AllByRecursion (HasSlot kept) own.rows → AllByRecursion (HasSlot kept) next.rows) →
-    AreServed frontends kept → AreServed (set frontends n next) kept
-still_served frontends kept n own next there same each known = record {
-  counted = λ place.
-      let all : rows_total (row_slots place) (set frontends n next) + total (row_slots place) own.rows ≡ rows_total (row_slots place) frontends + total (row_slots place) next.rows =
-      total-set (λ own. total (row_slots place) own.rows) frontends n own next there in
-      let before = known.counted place in
-      let is = same place in
-      omega (arith, all, before, is);
+    ((place : ℕ) → total (row_slots place) next.rows ≡ total (row_slots place) own.rows) → ((number : ℕ) → total (row_judged number) next.rows ≡ total (row_judged number) own.rows) →
+    (AllByRecursion (HasSlot kept) own.rows → AllByRecursion (HasSlot kept) next.rows) → AreServed frontends kept → AreServed (set frontends n next) kept
+still_served frontends kept n own next there same judged each known = record {
+  counted = λ place. known.counted place ∙ sym (worth_same (row_slots place) frontends n own next there (same place));
+  judged = λ number some. known.judged number some ∙ sym (worth_same (row_judged number) frontends n own next there (judged number));
   slots = all_set (λ own. AllByRecursion (HasSlot kept) own.rows) frontends n next known.slots (each (all-at (λ own. AllByRecursion (HasSlot kept) own.rows) frontends n own known.slots there));
 }
 
@@ -94,17 +100,72 @@ slots-fed place piece row = ap (λ o. option_map_or (slots_at place) o 0) (fed_s
 pub slots-up : (place : ℕ) (row : StoredRow) → row_slots place (stored_up row) ≡ row_slots place row
 slots-up place row = ap (λ o. option_map_or (slots_at place) o 0) (up_slot row.stage)
 
--- a row more, which waits
-pub all-arrival : {E : Type 0} (P : StoredRow → Type 0) (r : Result ℕ E) (own next : StoredFrontend) (row : StoredRow) → P row →
-    OnOk r (next ≡ record own { serial = own.serial + 1; rows = own.rows ++ row ∷ [] }) → OnErr r (next ≡ own) → AllByRecursion P own.rows → AllByRecursion P next.rows
-all-arrival P (Ok serial) own next row new' ok err known = subst (λ (f : StoredFrontend). AllByRecursion P f.rows) (sym ok) (all-append P own.rows (row ∷ []) known (new', tt))
-all-arrival P (Err e) own next row new' ok err known = subst (λ (f : StoredFrontend). AllByRecursion P f.rows) (sym err) known
+-- The same versions and servers.
+
+pub still_has : (kept rest : VersionsValue) → rest.versions ≡ kept.versions → ((place : ℕ) → identity_at place rest.counts ≡ identity_at place kept.counts) → (row : StoredRow) → HasSlot kept row → HasSlot rest row
+still_has kept rest versions identities row is =
+    subst (λ vs. CountsFor rest (slot_of row.stage) (server_of (phase_of (plan_at vs row.version) row.stage))) (sym versions) (same (slot_of row.stage) (server_of (phase_of (plan_at kept.versions row.version) row.stage)) is)
+  where
+    same : (o : Option SlotIx) (s : Option _) → CountsFor kept o s → CountsFor rest o s
+    same None s is = tt
+    same (Some slot) s is = identities slot.place ∙ is
+
+pub all_still : (kept rest : VersionsValue) (frontends : List StoredFrontend) → rest.versions ≡ kept.versions → ((place : ℕ) → identity_at place rest.counts ≡ identity_at place kept.counts) → AllRows (HasSlot kept) frontends →
+    AllRows (HasSlot rest) frontends
+all_still kept rest frontends versions identities known =
+    all-more (λ own. AllByRecursion (HasSlot kept) own.rows) (λ own. AllByRecursion (HasSlot rest) own.rows) frontends (λ own. all-more (HasSlot kept) (HasSlot rest) own.rows (still_has kept rest versions identities)) known
+
+-- a row more, which waits: its version judges one more
+pub arrived_served : (frontends : List StoredFrontend) (kept rest : VersionsValue) (n : ℕ) (own next : StoredFrontend) (row : StoredRow) → slice_get frontends n ≡ Some own → next.rows ≡ own.rows ++ row ∷ [] →
+    slot_of row.stage ≡ None → rest.versions ≡ kept.versions → rest.counts ≡ kept.counts →
+    ((number : ℕ) → IsSome (version_at kept.versions number) → judged_of rest number ≡ judged_of kept number + judged_by number row.version) → AreServed frontends kept → AreServed (set frontends n next) rest
+arrived_served frontends kept rest n own next row there rows none versions counts enters known = record {
+  counted = λ place.
+      let same : total (row_slots place) next.rows ≡ total (row_slots place) own.rows =
+      ap (total (row_slots place)) rows ∙ total-arrival (row_slots place) own.rows row (ap (λ o. option_map_or (slots_at place) o 0) none) in
+      ap (open_at place) counts ∙ known.counted place ∙ sym (worth_same (row_slots place) frontends n own next there same);
+  judged = λ number some.
+      let all : rows_total (row_judged number) (set frontends n next) + total (row_judged number) own.rows ≡ rows_total (row_judged number) frontends + total (row_judged number) next.rows =
+      total-set (λ own. total (row_judged number) own.rows) frontends n own next there in
+      let kept_before : IsSome (version_at kept.versions number) = subst (λ vs. IsSome (version_at vs number)) versions some in
+      let before = known.judged number kept_before in
+      let more : total (row_judged number) next.rows ≡ total (row_judged number) own.rows + row_judged number row = ap (total (row_judged number)) rows ∙ total-push (row_judged number) own.rows row in
+      let one = enters number kept_before in
+      omega (arith, all, before, more, one);
+  slots =
+      all_still kept rest (set frontends n next) versions (λ place. ap (identity_at place) counts)
+      (all_set (λ own. AllByRecursion (HasSlot kept) own.rows) frontends n next known.slots
+      (subst (AllByRecursion (HasSlot kept)) (sym rows)
+      (all-append (HasSlot kept) own.rows (row ∷ []) (all-at (λ own. AllByRecursion (HasSlot kept) own.rows) frontends n own known.slots there)
+      (subst (λ o. CountsFor kept o (server_of (phase_of (plan_at kept.versions row.version) row.stage))) (sym none) tt, tt))));
+}
 
 -- Frontends of which nothing is open.
 
 pub none-served : (kept : VersionsValue) (frontends : List Frontend) (last : ℕ) → AllRows (HasSlot kept) (map (λ frontend. record { name = frontend.name; serial = last; rows = [] }) frontends)
 none-served kept [] last = tt
 none-served kept (f ∷ frontends) last = (tt, none-served kept frontends last)
+
+-- Not too many connections of a version.
+
+one-judged : (number version : ℕ) → judged_by number version ≤ 1
+one-judged number version = by (version == number)
+  where
+    by : (b : Bool) → (if b then 1 else 0) ≤ 1
+    by true = omega arith
+    by false = omega arith
+
+judged-few : (number : ℕ) (rows : List StoredRow) → total (row_judged number) rows ≤ length rows
+judged-few number [] = omega arith
+judged-few number (row ∷ rows) = let one = one-judged number row.version in let more = judged-few number rows in omega (arith, one, more)
+
+pub all_judged_few : (number : ℕ) (frontends : List StoredFrontend) → AllByRecursion (λ own. length own.rows < 2 ^ 56) frontends → rows_total (row_judged number) frontends ≤ 0x100_0000_0000_0000 * length frontends
+all_judged_few number [] small = omega arith
+all_judged_few number (own ∷ frontends) small =
+    let here = judged-few number own.rows in
+    let less : length own.rows < 0x100_0000_0000_0000 = small.0 in
+    let more = all_judged_few number frontends small.1 in
+    omega (arith, here, less, more)
 
 -- An offer.
 
@@ -123,13 +184,28 @@ version-offer number line server (v ∷ versions) n = by (v.number == number) re
         here cursors false true c = rw c refl
         here cursors false false c = rw c rest
 
+-- the versions that are kept are the same
+pub still_there : (number line server : ℕ) (versions : List Version) (n : ℕ) → IsSome (version_at (map (with_offer number line server) versions) n) → IsSome (version_at versions n)
+still_there number line server versions n some =
+    below (version_at versions n) (subst IsSome (version-offer number line server versions n) (above (version_at (map (with_offer number line server) versions) n) some))
+  where
+    above : (o : Option Version) → IsSome o → IsSome (option_map (λ version. version.plan) o)
+    above None some = absurd (cc)
+    above (Some version) some = refl
+
+    below : (o : Option Version) → IsSome (option_map (λ version. version.plan) o) → IsSome o
+    below None some = absurd (cc)
+    below (Some version) some = refl
+
 -- a slot is taken: one connection more is open to its server
 pub more_served : (frontends : List StoredFrontend) (kept rest : VersionsValue) (n : ℕ) (own next : StoredFrontend) (slot : SlotIx) → slice_get frontends n ≡ Some own →
     ((place : ℕ) → total (row_slots place) next.rows ≡ total (row_slots place) own.rows + slots_at place slot) →
     ((place : ℕ) → open_at place rest.counts ≡ open_at place kept.counts + slots_at place slot) →
+    ((number : ℕ) → total (row_judged number) next.rows ≡ total (row_judged number) own.rows) →
+    ((number : ℕ) → IsSome (version_at rest.versions number) → IsSome (version_at kept.versions number)) → ((number : ℕ) → judged_of rest number ≡ judged_of kept number) →
     (AllByRecursion (HasSlot rest) own.rows → AllByRecursion (HasSlot rest) next.rows) → AllRows (HasSlot rest) frontends →
     AreServed frontends kept → AreServed (set frontends n next) rest
-more_served frontends kept rest n own next slot there rows counts each slots known = record {
+more_served frontends kept rest n own next slot there rows counts own_judged kept_before judged each slots known = record {
   counted = λ place.
       let all : rows_total (row_slots place) (set frontends n next) + total (row_slots place) own.rows ≡ rows_total (row_slots place) frontends + total (row_slots place) next.rows =
       total-set (λ own. total (row_slots place) own.rows) frontends n own next there in
@@ -137,6 +213,8 @@ more_served frontends kept rest n own next slot there rows counts each slots kno
       let more = rows place in
       let count = counts place in
       omega (arith, all, before, more, count);
+  judged = λ number some.
+      judged number ∙ known.judged number (kept_before number some) ∙ sym (worth_same (row_judged number) frontends n own next there (own_judged number));
   slots = all_set (λ own. AllByRecursion (HasSlot rest) own.rows) frontends n next slots (each (all-at (λ own. AllByRecursion (HasSlot rest) own.rows) frontends n own slots there));
 }
 
@@ -220,26 +298,30 @@ pub all-without : (P : StoredRow → Type 0) (frontends : List StoredFrontend) (
 all-without P frontends n own next test there rows known =
     all_set (λ own. AllByRecursion P own.rows) frontends n next known (subst (AllByRecursion P) (sym rows) (all-filter P test own.rows (all-at (λ own. AllByRecursion P own.rows) frontends n own known there)))
 
--- after a connection ended its slot is given back
+-- after a connection ended its slot is given back, and its version judges one less
 pub left_served : (frontends next : List StoredFrontend) (kept rest : VersionsValue) (row : StoredRow) →
     ((worth : StoredRow → ℕ) → rows_total worth next + worth row ≡ rows_total worth frontends) → ((kept : VersionsValue) → AllRows (HasSlot kept) frontends → AllRows (HasSlot kept) next) →
     rest.versions ≡ kept.versions → ((place : ℕ) → open_at place rest.counts + row_slots place row ≡ open_at place kept.counts) →
-    ((place : ℕ) → identity_at place rest.counts ≡ identity_at place kept.counts) → AreServed frontends kept → AreServed next rest
-left_served frontends next kept rest row counts each versions backs identities known = record {
+    ((place : ℕ) → identity_at place rest.counts ≡ identity_at place kept.counts) →
+    ((number : ℕ) → IsSome (version_at kept.versions number) → judged_of rest number + judged_by number row.version ≡ judged_of kept number) → AreServed frontends kept → AreServed next rest
+left_served frontends next kept rest row counts each versions backs identities leaves known = record {
   counted = λ place.
       let before = known.counted place in
       let gone = counts (row_slots place) in
       let back = backs place in
       omega (arith, before, gone, back);
-  slots = all-more (λ own. AllByRecursion (HasSlot kept) own.rows) (λ own. AllByRecursion (HasSlot rest) own.rows) next (λ own. all-more (HasSlot kept) (HasSlot rest) own.rows still) (each kept known.slots);
+  judged = λ number some.
+      let there : IsSome (version_at kept.versions number) = subst (λ vs. IsSome (version_at vs number)) versions some in
+      let before = known.judged number there in
+      let gone = counts (row_judged number) in
+      let less = leaves number there in
+      omega (arith, before, gone, less);
+  slots = all_still kept rest next versions identities (each kept known.slots);
 }
-  where
-    same : (o : Option SlotIx) (s : Option _) → CountsFor kept o s → CountsFor rest o s
-    same None s is = tt
-    same (Some slot) s is = identities slot.place ∙ is
 
-    still : (row : StoredRow) → HasSlot kept row → HasSlot rest row
-    still row is = subst (λ vs. CountsFor rest (slot_of row.stage) (server_of (phase_of (plan_at vs row.version) row.stage))) (sym versions) (same (slot_of row.stage) (server_of (phase_of (plan_at kept.versions row.version) row.stage)) is)
+-- a connection is one of its version
+pub own-judged : (version : ℕ) → judged_by version version ≡ 1
+own-judged version = let same : (version == version) ≡ true = grind (arith, nat_tests) in rw same refl
 
 -- a slot that is given back is one of those that are counted
 pub slot_counted : (counts : ℕ → ℕ) (o : Option SlotIx) → ((place : ℕ) → option_map_or (slots_at place) o 0 ≤ counts place) → IfSome o (λ slot. 0 < counts slot.place)

@@ -144,17 +144,5 @@ listed-brought (Err e) versions others tables rest number plan more begun same b
 pub listed-kept : (versions : List Version) (tables next : List TableState) → next ≡ filter (is_listed_by versions) tables → AreTablesListed versions next
 listed-kept versions tables next is = subst (AreTablesListed versions) (sym is) (all-pass (is_listed_by versions) tables)
 
--- where the test leaves as many, it leaves all
-filter-whole : {X : Type 0} (test : X → Bool) (xs : List X) → length xs ≤ length (filter test xs) → filter test xs ≡ xs
-filter-whole test [] many = refl
-filter-whole {X} test (x ∷ xs) many = by (test x) refl many (filter-whole test xs)
-  where
-    by : (b : Bool) → test x ≡ b → length (x ∷ xs) ≤ length (filter test (x ∷ xs)) → (length xs ≤ length (filter test xs) → filter test xs ≡ xs) → filter test (x ∷ xs) ≡ x ∷ xs
-    by true passes many rest = let more : length (x ∷ xs) ≤ length (x ∷ filter test xs) = rw passes at many in rw passes (ap (λ ys. x ∷ ys) (rest (omega (arith, more))))
-    by false fails many rest = let more : length (x ∷ xs) ≤ length (filter test xs) = rw fails at many in let less = fewer test xs in absurd (omega (arith, more, less))
-
-pub none_forgotten : (test : Version → Bool) (versions others : List Version) → others ≡ filter test versions → length versions ≤ length others → others ≡ versions
-none_forgotten test versions others is many = let all : length versions ≤ length (filter test versions) = subst (λ vs. length versions ≤ length vs) is many in is ∙ filter-whole test versions all
-
 pub none_unlisted : (versions others : List Version) (tables : List TableState) → others ≡ versions → AreTablesListed versions tables → tables ≡ filter (is_listed_by others) tables
 none_unlisted versions others tables same known = sym (filter-all (is_listed_by others) tables (subst (λ vs. AreTablesListed vs tables) (sym same) known))

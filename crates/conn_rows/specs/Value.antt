@@ -1,5 +1,5 @@
 -- What contracts see of the rows, and what is always true of them.
-use Rattle.std.specs.Prelude.{ℕ, true, List, length, map, Option, Some, None, ◌≡◌, ◌≤◌, ◌<◌, ◌^◌}
+use Rattle.std.specs.Prelude.{ℕ, true, List, length, map, Option, Some, None, IsSome, ◌≡◌, ◌≤◌, ◌<◌, ◌^◌}
 use Rattle.std.specs.List.{AllByRecursion}
 use Rattle.std.specs.Option.{option_map_or}
 use Rattle.addr_core.specs.declared.addr.Addr.{Addr}
@@ -12,11 +12,13 @@ use Rattle.conn_model.specs.declared.plain.FrontendRows.{FrontendRows}
 use Rattle.conn_model.specs.declared.plain.Plain.{Plain}
 use Rattle.conn_model.specs.declared.plain.TableState.{TableState}
 use Rattle.conn_model.specs.declared.plain.Version.{Version}
+use Rattle.conn_model.specs.Answer.{version_at}
 use Rattle.conn_model.specs.Counts.{server_of, total}
 use Rattle.conn_model.specs.Tables.{is_listed_by}
 use Rattle.conn_rows.specs.declared.row.StoredRow.{StoredRow}
 use Rattle.conn_rows.specs.declared.rows.RowsState.{RowsState}
 use Rattle.conn_tables.specs.declared.tables.StoredTable.{StoredTable}
+use Rattle.conn_versions.specs.Judged.{judged_by, judged_of}
 use Rattle.conn_versions.specs.Versions.{VersionsValue}
 use Rattle.conn_rows.specs.Stored.{StoredFrontend, phase_of, plan_at, slot_of}
 use Rattle.conn_tables.specs.Tables.{cur_in, plain_table}
@@ -69,9 +71,15 @@ HasSlot kept row = CountsFor kept (slot_of row.stage) (server_of (phase_of (plan
 abbrev pub AllRows : (StoredRow → Type 0) → List StoredFrontend → Type 0
 AllRows P frontends = AllByRecursion (λ own. AllByRecursion P own.rows) frontends
 
--- each open connection of a server is a row, and counts for the server that it was offered
+-- one for a row of the version of that number, and none for another
+abbrev pub row_judged : ℕ → StoredRow → ℕ
+row_judged number row = judged_by number row.version
+
+-- each open connection of a server is a row, and counts for the server that it was offered; each version judges the rows
+-- that are of it
 pub record AreServed (frontends : List StoredFrontend) (kept : VersionsValue) : Type 0 where
   pub counted : (place : ℕ) → open_at place kept.counts ≡ rows_total (row_slots place) frontends
+  pub judged : (number : ℕ) → IsSome (version_at kept.versions number) → judged_of kept number ≡ rows_total (row_judged number) frontends
   pub slots : AllRows (HasSlot kept) frontends
 
 -- each table is listed by one of the versions

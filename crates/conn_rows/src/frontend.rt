@@ -16,8 +16,7 @@ ghost use Rattle.slot_core.specs.Counts.{open_at, slots_at};
 ghost use Rattle.conn_tables.specs.Tables.{cur_in};
 ghost use Rattle.conn_tables.specs.Tracks.{counter_on, on_counter, track_by};
 ghost use Rattle.conn_versions.specs.Versions.{VersionsValue};
-ghost use Rattle.conn_rows.specs.Needed.{has_stored};
-ghost use Rattle.conn_rows.specs.Value.{row_on, row_slots, rows_total, HasSlot};
+ghost use Rattle.conn_rows.specs.Value.{row_judged, row_on, row_slots, rows_total, HasSlot};
 ghost use Rattle.conn_model.specs.Changes.{held_after, row_tracking, with_row};
 ghost use Rattle.conn_rows.specs.Changes.{stage_fed, stage_offered, stage_up, status_of, stored_fed, stored_up, used_by};
 
@@ -95,13 +94,6 @@ impl FrontendState {
         ensures few { result < 2 ^ 56 }
     {
         self.rows.len() as u64
-    }
-
-    /// Whether a connection is of the version of that number.
-    pub fn has_version(&self, number: u64) -> bool
-        ensures { result ≡ has_stored number self.now }
-    {
-        self.rows.has_version(number)
     }
 
     /// The row of that serial.
@@ -191,6 +183,7 @@ impl FrontendState {
         ensures plain { (versions : List Version) → plain_frontend versions self.new ≡ with_row serial (row_tracking (track_by counter tracking)) (plain_frontend versions self.old) }
         ensures counts { (id : TableId) (key : Addr) → total (row_on id key) self.new.rows ≡ total (row_on id key) self.old.rows + counter_on id key (Some tracking) }
         ensures slots { (place : ℕ) → total (row_slots place) self.new.rows ≡ total (row_slots place) self.old.rows }
+        ensures judged { (number : ℕ) → total (row_judged number) self.new.rows ≡ total (row_judged number) self.old.rows }
         ensures each { (kept : VersionsValue) → AllByRecursion (HasSlot kept) self.old.rows → AllByRecursion (HasSlot kept) self.new.rows }
         ensures few { length self.new.rows < 2 ^ 56 }
     {

@@ -8,7 +8,6 @@ pub use rows::{FrontendSummary, Rows, RowsState};
 mod counts;
 mod frontend;
 pub mod laws;
-mod needed;
 mod opening;
 mod packed;
 mod reload;

@@ -1,12 +1,14 @@
 //! A version that comes into force.
-ghost use Rattle.std.specs.Prelude.{◌≡◌, ◌<◌, ◌++◌, ℕ, map, Some, OnOk, OnErr};
+ghost use Rattle.std.specs.Prelude.{◌≡◌, ◌<◌, ◌++◌, ℕ, map, IsSome, Some, OnOk, OnErr};
 ghost use Rattle.addr_core.specs.declared.addr.Addr.{Addr};
 ghost use Rattle.slot_core.specs.Counts.{identity_at, open_at};
 ghost use Rattle.plan_types.specs.Sound.{IsSoundPlan};
 ghost use Rattle.plan_types.specs.declared.track.TableId.{TableId};
+ghost use Rattle.conn_model.specs.Answer.{version_at};
 ghost use Rattle.conn_model.specs.Words.{newest};
 ghost use Rattle.conn_model.specs.History.{tables_with, with_version};
 ghost use Rattle.conn_tables.specs.Tables.{cur_in, plain_table};
+ghost use Rattle.conn_versions.specs.Judged.{judged_of};
 ghost use Rattle.conn_rows.specs.Needed.{IsNextNumber};
 
 use conn_tables::Tables;
@@ -32,6 +34,8 @@ pub fn bring(
     ensures tables_err { OnErr result (tables.new ≡ tables.old) }
     ensures open { (place : ℕ) → open_at place kept.new.counts ≡ open_at place kept.old.counts }
     ensures identities { (place : ℕ) → 0 < open_at place kept.old.counts → identity_at place kept.new.counts ≡ identity_at place kept.old.counts }
+    ensures judged { (other : ℕ) → IsSome (version_at kept.old.versions other) → judged_of kept.new other ≡ judged_of kept.old other }
+    ensures begins { OnOk result (judged_of kept.new number ≡ 0) }
     ensures counts { (id : TableId) (key : Addr) → cur_in id key tables.new.tables ≡ cur_in id key tables.old.tables }
     ensures spare { tables.new.spare ≡ tables.old.spare }
 {

@@ -1,6 +1,6 @@
 //! Rows in the order of their serials.
-ghost use Rattle.std.specs.Prelude.{◌≡◌, ◌+◌, ◌<◌, ◌^◌, ◌==◌, ◌∷◌, ◌++◌, ℕ, [], length, filter, find, map, not, IfErr, IfOk, IfSome, IfNone, IsSome, OnOk, OnErr, Some};
-ghost use Rattle.std.specs.List.{list_any, AllByRecursion};
+ghost use Rattle.std.specs.Prelude.{◌≡◌, ◌+◌, ◌<◌, ◌^◌, ◌∷◌, ◌++◌, ℕ, [], length, filter, find, map, not, IfErr, IfOk, IfSome, IfNone, IsSome, OnOk, OnErr, Some};
+ghost use Rattle.std.specs.List.{AllByRecursion};
 ghost use Rattle.std.specs.Option.{option_copied};
 ghost use Rattle.conn_model.specs.Counts.{total};
 ghost use Rattle.conn_rows.specs.declared.row.StoredRow.{StoredRow};
@@ -62,18 +62,6 @@ impl RowList {
         ensures { option_copied result ≡ find (has_serial serial) self.now }
     {
         self.entries.get(serial)
-    }
-
-    /// Whether a row is of the version of that number.
-    pub fn has_version(&self, number: u64) -> bool
-        ensures { result ≡ list_any (λ row. row.version == number) self.now }
-    {
-        for (_, row) in self.entries.iter() {
-            if row.version == number {
-                return true;
-            }
-        }
-        false
     }
 
     /// Equal rows, as plain data, by the plans of these versions.

@@ -31,7 +31,6 @@ ghost use Rattle.conn_rows.specs.Value.{rows_of, rows_total, state_of, AllRows, 
 
 use crate::counts;
 use crate::frontend::{FrontendState, HeaderStatus, end_all, end_all_empty};
-use crate::needed::forget_idle;
 use crate::opening::frontends;
 use crate::reload::bring;
 use crate::row::{Holdings, RowSummary, Seat, StoredRow, item, version_at};
@@ -70,8 +69,8 @@ pub struct FrontendSummary<'a> {
 }
 
 /// The open connections of all frontends, and the versions and tables that are kept. Open rows change by its calls
-/// alone; each table counts what they track, and each server those that were offered it. It cannot be dropped: it ends
-/// by `end`.
+/// alone; each table counts what they track, each server those that were offered it, and each version those that it
+/// judges. It cannot be dropped: it ends by `end`.
 pub struct Rows {
     frontends: Vec<FrontendState>,
     kept: Versions,
@@ -256,7 +255,9 @@ impl Rows {
         ensures ok { OnOk result (self.new ≡ record self.old { frontends = with_item number (with_arrival version real accepted) self.old.frontends }) }
         ensures err { OnErr result (self.new ≡ self.old) }
     {
-        self.frontends[usize::from(number)].insert(version, real, accepted)
+        let serial = self.frontends[usize::from(number)].insert(version, real, accepted)?;
+        self.kept.enter(version);
+        Ok(serial)
     }
 
     /// Feeds a piece to a connection that waits. Once something is decided, nothing is held of its header.
@@ -310,9 +311,11 @@ impl Rows {
         ensures { self.new ≡ record self.old { frontends = without_conn id self.old.frontends; tables = without_tracks (tracks_at self.old.frontends id) self.old.tables } }
     {
         if let Some(row) = take_conn(&mut self.frontends, id) {
+            let version = row.version;
             let Holdings { tracks, slot } = row.end();
             self.tables.release(tracks);
             give_back(&mut self.kept, slot);
+            self.kept.leave(version);
         }
     }
 
@@ -341,9 +344,7 @@ impl Rows {
           tables = filter (is_listed_by (versions_needed self.old.frontends self.old.versions)) self.old.tables;
         } }
     {
-        let before = self.kept.as_slice().len();
-        forget_idle(&mut self.kept, self.frontends.as_slice());
-        if self.kept.as_slice().len() < before {
+        if self.kept.forget_idle() {
             self.tables.forget(self.kept.as_slice());
         }
     }

@@ -1,11 +1,13 @@
-use Rattle.std.proofs.Common.{◌≡◌, ◌≤◌, ◌∙◌, ◌++◌, Some, None, length, map, not, refl, sym, ap, subst}
+use Rattle.std.proofs.Common.{◌≡◌, ◌≤◌, ◌∙◌, ◌++◌, false, Some, None, length, map, not, refl, sym, ap, subst, arith}
 use Rattle.std.specs.Prelude.{filter, ◌==◌}
+use Rattle.std.proofs.lemmas.Bool.Decides.{nat_tests}
 use Rattle.plan_types.specs.Sound.{most_tables}
 use Rattle.conn_model.specs.Words.{newest}
 use Rattle.conn_model.specs.Tables.{new_tables, written_tables}
 use Rattle.conn_model.specs.History.{next_version}
 use Rattle.conn_rows.proofs.Reloaded.{brought_ids, brought_is, brought_newest, taken_back, tables_earlier}
 use Rattle.conn_tables.specs.Tables.{plain_table}
+use Rattle.conn_versions.proofs.Judged.{none-above, not_kept}
 use Rattle.conn_rows.proofs.reload.bring.Goals as goal
 
 pub unreachable-requires : goal.unreachable-requires
@@ -42,3 +44,10 @@ pub returns-in-Err-clause-versions_err : goal.returns-in-Err-clause-versions_err
 returns-in-Err-clause-versions_err c =
     c.forget.ensures.versions ∙ ap (filter (λ version. not (version.number == c.args.number))) c.in_ok-push.ensures.ok
     ∙ taken_back c.args.kept.now.versions (next_version c.args.number (written_tables (newest c.args.kept.now.versions)) c.args.plan) c.args.number c.requires.next.above refl
+
+pub returns-in-Err-clause-judged : goal.returns-in-Err-clause-judged
+returns-in-Err-clause-judged c = λ other some.
+    let none = none-above c.args.kept.now.versions c.args.number c.requires.next.above in
+    let differs = not_kept c.args.kept.now.versions c.args.number other none some in
+    let is : (other == c.args.number) ≡ false = grind (arith, nat_tests, differs) in
+    c.forget.ensures.judged other is ∙ c.push.ensures.judged other

@@ -7,7 +7,7 @@ use Rattle.conn_rows.proofs.Plain.{changed, fed_plain, own_there, rest_of_state,
 use Rattle.conn_model.specs.Counts.{total}
 use Rattle.std.specs.List.{AllByRecursion}
 use Rattle.conn_rows.specs.Stored.{StoredFrontend}
-use Rattle.conn_rows.specs.Value.{HasSlot, row_on, row_slots}
+use Rattle.conn_rows.specs.Value.{HasSlot, row_judged, row_on, row_slots}
 use Rattle.conn_rows.proofs.Served.{all-with, fed_has, slots-fed, still_served}
 use Rattle.conn_rows.proofs.Counted.{still_rows, total-with}
 use Rattle.conn_rows.proofs.rows.Rows.feed.Goals as goal
@@ -47,6 +47,7 @@ invariant_of-self c =
       served =
           still_served c.self.inside.frontends.items kept c.from.result own c.feed.new.self (ap (slice_get c.self.inside.frontends.items) c.from.ensures ∙ there_after c)
           (λ place. ap (λ f. total (row_slots place) f.rows) c.feed.ensures.new ∙ total-with (row_slots place) c.args.id.serial (stored_fed c.args.piece.now) own.rows (slots-fed place c.args.piece.now))
+          (λ number. ap (λ f. total (row_judged number) f.rows) c.feed.ensures.new ∙ total-with (row_judged number) c.args.id.serial (stored_fed c.args.piece.now) own.rows (λ row. refl))
           (λ all. subst (λ (f : StoredFrontend). AllByRecursion (HasSlot kept) f.rows) (sym c.feed.ensures.new) (all-with (HasSlot kept) c.args.id.serial (stored_fed c.args.piece.now) own.rows (fed_has kept c.args.piece.now) all))
           c.self.invariant.served;
       listed = c.self.invariant.listed;

@@ -2,7 +2,7 @@ use Rattle.std.proofs.Common.{◌≡◌, rules, sym, ap, ◌∙◌, map, [], len
 use Rattle.conn_model.specs.Counts.{total}
 use Rattle.conn_tables.specs.Tables.{plain_table}
 use Rattle.conn_rows.specs.Stored.{StoredFrontend}
-use Rattle.conn_rows.specs.Value.{row_on, row_slots, rows_total}
+use Rattle.conn_rows.specs.Value.{row_judged, row_on, row_slots, rows_total}
 use Rattle.conn_rows.proofs.Counted.{small-empty}
 use Rattle.conn_rows.proofs.Plain.{opened}
 use Rattle.conn_rows.proofs.Served.{none-served}
@@ -29,6 +29,7 @@ invariant_of-result c =
       };
       served = record {
         counted = λ place. c.in-Ok.ensures.open place ∙ sym (ap (rows_total (row_slots place)) all ∙ rows-empty (row_slots place) c.args.plan.frontends c.args.last);
+        judged = λ number some. c.in-Ok.ensures.judged number ∙ sym (ap (rows_total (row_judged number)) all ∙ rows-empty (row_judged number) c.args.plan.frontends c.args.last);
         slots = rw all (none-served c.in-Ok.kept c.args.plan.frontends c.args.last);
       };
       listed = listed-opened c.args.plan c.in-Ok.kept.versions (map plain_table c.in_ok-tables.tables.tables) (search rules) (search rules);

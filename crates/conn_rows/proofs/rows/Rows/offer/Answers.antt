@@ -1,13 +1,14 @@
 use Rattle.std.proofs.Common.{◌≡◌, ◌<◌, Some, ap, ◌∙◌, refl, sym, subst, length, map, arith}
 use Rattle.std.specs.Prelude.{slice_get, IsSome}
+use Rattle.conn_model.specs.Answer.{version_at}
 use Rattle.conn_model.specs.Counts.{total}
 use Rattle.conn_rows.specs.Changes.{stage_offered}
 use Rattle.conn_rows.specs.Stored.{at_stage}
-use Rattle.conn_rows.specs.Value.{row_on, RowsValue}
+use Rattle.conn_rows.specs.Value.{row_judged, row_on, RowsValue}
 use Rattle.conn_rows.proofs.Counted.{still_rows, total-with}
 use Rattle.conn_rows.proofs.Plain.{judged_there, offered_value, own_exists, own_there, rest_of_state, rest_open, rest_there}
 use Rattle.conn_rows.proofs.OfferedTo.{open_few}
-use Rattle.conn_rows.proofs.Served.{more_served, offered_has, slots-offer}
+use Rattle.conn_rows.proofs.Served.{more_served, offered_has, slots-offer, still_there}
 use Rattle.conn_tables.specs.Tables.{plain_table}
 use Rattle.conn_versions.specs.Versions.{HasServer}
 use Rattle.conn_rows.proofs.TablesListed.{listed-offer}
@@ -60,6 +61,10 @@ invariant_of-self c =
           (λ id key. ap (λ f. total (row_on id key) f.rows) c.offer.ensures.new ∙ total-with (row_on id key) c.args.id.serial (at_stage (stage_offered c.args.seat c.offer-slot.result)) own.rows (λ row. refl)) c.self.invariant.rows;
       served =
           more_served frontends kept rest c.from.result own c.offer.new.self c.offer-slot.result (ap (slice_get frontends) c.from.ensures ∙ there_after c) c.offer.ensures.slots c.offer-slot.ensures.open
+          (λ number. ap (λ f. total (row_judged number) f.rows) c.offer.ensures.new ∙ total-with (row_judged number) c.args.id.serial (at_stage (stage_offered c.args.seat c.offer-slot.result)) own.rows (λ row. refl))
+          (λ number some.
+          still_there c.args.version c.args.seat.line c.args.seat.server kept.versions number (subst (λ vs. IsSome (version_at vs number)) c.offer-slot.ensures.versions some))
+          c.offer-slot.ensures.judged
           (c.offer.ensures.each rest
           (λ row found.
           offered_has kept rest c.args.version c.args.seat c.offer-slot.result c.offer-slot.ensures.versions has.0 has.1 (c.offer-slot.ensures.slot has.0) row

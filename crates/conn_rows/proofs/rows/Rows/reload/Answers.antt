@@ -1,10 +1,12 @@
-use Rattle.std.proofs.Common.{◌≡◌, Result, Ok, Err, Some, map, sym, subst, ◌∙◌}
-use Rattle.std.specs.Prelude.{OnOk, OnErr}
+use Rattle.std.proofs.Common.{◌≡◌, ℕ, Result, Ok, Err, Some, map, sym, subst, ◌∙◌}
+use Rattle.std.specs.Prelude.{IsSome, OnOk, OnErr}
+use Rattle.conn_model.specs.Answer.{version_at}
 use Rattle.conn_model.specs.History.{with_version}
+use Rattle.conn_versions.specs.Judged.{judged_of}
 use Rattle.conn_rows.specs.Needed.{AreVersionsKept, IsNextNumber}
 use Rattle.conn_rows.specs.Stored.{plain_frontend}
-use Rattle.conn_rows.specs.Value.{RowsValue}
-use Rattle.conn_rows.proofs.Kept.{AreSeenAlike, seen_more, seen_same, served_seen}
+use Rattle.conn_rows.specs.Value.{row_judged, rows_total, RowsValue}
+use Rattle.conn_rows.proofs.Kept.{AreSeenAlike, brought_judged, seen_more, seen_same, served_seen}
 use Rattle.conn_rows.proofs.Reloaded.{brought_value, err_both, ok_both, same_value}
 use Rattle.conn_rows.proofs.TablesListed.{listed-brought}
 use Rattle.conn_rows.proofs.rows.Rows.reload.Goals as goal
@@ -23,6 +25,18 @@ alike c = by c.bring.result c.bring.ensures.versions c.bring.ensures.versions_er
     by (Ok x) ok err = seen_more c.self.inside.kept.versions c.bring.new.kept.versions c.args.number c.args.plan c.self.inside.frontends.items (kept c) ok
     by (Err e) ok err = seen_same c.self.inside.kept.versions c.bring.new.kept.versions c.self.inside.frontends.items err
 
+judged : (c : goal.After-bring) → (other : ℕ) → IsSome (version_at c.bring.new.kept.versions other) → judged_of c.bring.new.kept other ≡ rows_total (row_judged other) c.self.inside.frontends.items
+judged c = by c.bring.result c.bring.ensures.versions c.bring.ensures.versions_err c.bring.ensures.begins
+  where
+    by : {X E : Type 0} (r : Result X E) → OnOk r (c.bring.new.kept.versions ≡ with_version c.self.inside.kept.versions (Some (c.args.number, c.args.plan))) →
+        OnErr r (c.bring.new.kept.versions ≡ c.self.inside.kept.versions) → OnOk r (judged_of c.bring.new.kept c.args.number ≡ 0) →
+        (other : ℕ) → IsSome (version_at c.bring.new.kept.versions other) → judged_of c.bring.new.kept other ≡ rows_total (row_judged other) c.self.inside.frontends.items
+    by (Ok x) ok err begins =
+        brought_judged c.self.inside.frontends.items c.self.inside.kept c.bring.new.kept c.args.number c.args.plan c.self.invariant.served (kept c) ok c.bring.ensures.judged begins
+    by (Err e) ok err begins = λ other some.
+        let there : IsSome (version_at c.self.inside.kept.versions other) = subst (λ vs. IsSome (version_at vs other)) err some in
+        c.bring.ensures.judged other there ∙ c.self.invariant.served.judged other there
+
 pub invariant_of-self : goal.invariant_of-self
 invariant_of-self c = record {
   rows = record {
@@ -30,7 +44,7 @@ invariant_of-self c = record {
     small = c.self.invariant.rows.small;
     counted = λ id key. c.bring.ensures.counts id key ∙ c.self.invariant.rows.counted id key;
   };
-  served = served_seen c.self.inside.frontends.items c.self.inside.kept c.bring.new.kept (alike c) c.bring.ensures.open c.bring.ensures.identities c.self.invariant.served;
+  served = served_seen c.self.inside.frontends.items c.self.inside.kept c.bring.new.kept (alike c) c.bring.ensures.open (judged c) c.bring.ensures.identities c.self.invariant.served;
   listed =
       listed-brought c.bring.result c.self.inside.kept.versions c.bring.new.kept.versions c.self.inside.tables c.bring.new.tables c.args.number c.args.plan c.bring.ensures.versions c.bring.ensures.tables c.bring.ensures.versions_err
       c.bring.ensures.tables_err c.self.invariant.listed;

@@ -5,7 +5,7 @@ use Rattle.conn_model.specs.Changes.{with_refusal}
 use Rattle.conn_rows.specs.Stored.{StoredFrontend}
 use Rattle.conn_rows.specs.Value.{row_on}
 use Rattle.std.specs.List.{AllByRecursion}
-use Rattle.conn_rows.specs.Value.{HasSlot, row_slots}
+use Rattle.conn_rows.specs.Value.{HasSlot, row_judged, row_slots}
 use Rattle.conn_rows.proofs.Counted.{still_rows}
 use Rattle.conn_rows.proofs.Served.{still_served}
 use Rattle.conn_rows.proofs.Plain.{changed, own_there}
@@ -21,7 +21,7 @@ invariant_of-self c = record {
       (λ id key. ap (λ f. total (row_on id key) f.rows) c.skip.ensures.new) c.self.invariant.rows;
   served =
       still_served c.self.inside.frontends.items c.self.inside.kept c.from.result c.index_mut.result.now c.skip.new.self (ap (slice_get c.self.inside.frontends.items) c.from.ensures ∙ there c)
-      (λ place. ap (λ f. total (row_slots place) f.rows) c.skip.ensures.new) (λ all. subst (λ (f : StoredFrontend). AllByRecursion (HasSlot c.self.inside.kept) f.rows) (sym c.skip.ensures.new) all) c.self.invariant.served;
+      (λ place. ap (λ f. total (row_slots place) f.rows) c.skip.ensures.new) (λ number. ap (λ f. total (row_judged number) f.rows) c.skip.ensures.new) (λ all. subst (λ (f : StoredFrontend). AllByRecursion (HasSlot c.self.inside.kept) f.rows) (sym c.skip.ensures.new) all) c.self.invariant.served;
   listed = c.self.invariant.listed;
 }
 

@@ -48,7 +48,7 @@ invariant_of-self c = record {
       (ap (slice_get c.self.inside.frontends.items) c.from.ensures ∙ there_after c) c.track.ensures.few (rw c.track-tracking.ensures.tracking at c.track.ensures.counts) c.track-tracking.ensures.counts c.self.invariant.rows;
   served =
       still_served c.self.inside.frontends.items c.self.inside.kept c.from.result c.index_mut.result.now c.track.new.self (ap (slice_get c.self.inside.frontends.items) c.from.ensures ∙ there_after c)
-      c.track.ensures.slots (c.track.ensures.each c.self.inside.kept) c.self.invariant.served;
+      c.track.ensures.slots c.track.ensures.judged (c.track.ensures.each c.self.inside.kept) c.self.invariant.served;
   listed =
       listed-track c.self.inside.kept.versions (open_tracks (map (plain_frontend c.self.inside.kept.versions) c.self.inside.frontends.items)) c.args.track (map plain_table c.self.inside.tables.tables) (map plain_table c.track-tracking.new.self.tables)
       (c.track-tracking.ensures.plain (open_tracks (map (plain_frontend c.self.inside.kept.versions) c.self.inside.frontends.items))

@@ -5,7 +5,7 @@ use Rattle.conn_model.specs.Counts.{total}
 use Rattle.conn_model.specs.Changes.{row_up, with_row}
 use Rattle.conn_rows.specs.Changes.{stored_up}
 use Rattle.conn_rows.specs.Stored.{StoredFrontend, with_stored}
-use Rattle.conn_rows.specs.Value.{HasSlot, row_on, row_slots}
+use Rattle.conn_rows.specs.Value.{HasSlot, row_judged, row_on, row_slots}
 use Rattle.conn_rows.proofs.Counted.{still_rows, total-with}
 use Rattle.conn_rows.proofs.Plain.{changed, own_there, row_there, stored_open, up_plain}
 use Rattle.conn_rows.proofs.Served.{all-with, slots-up, still_served, up_has}
@@ -43,6 +43,7 @@ invariant_of-self c =
       served =
           still_served c.self.inside.frontends.items kept c.from.result own c.up.new.self (ap (slice_get c.self.inside.frontends.items) c.from.ensures ∙ there_after c)
           (λ place. ap (λ f. total (row_slots place) f.rows) c.up.ensures.new ∙ total-with (row_slots place) c.args.id.serial stored_up own.rows (slots-up place))
+          (λ number. ap (λ f. total (row_judged number) f.rows) c.up.ensures.new ∙ total-with (row_judged number) c.args.id.serial stored_up own.rows (λ row. refl))
           (λ all. subst (λ (f : StoredFrontend). AllByRecursion (HasSlot kept) f.rows) (sym c.up.ensures.new) (all-with (HasSlot kept) c.args.id.serial stored_up own.rows (up_has kept) all))
           c.self.invariant.served;
       listed = c.self.invariant.listed;
