@@ -38,7 +38,7 @@ pub invariant_of-self : goal.invariant_of-self
 invariant_of-self c =
     let at = found_after c in
     let own = c.index_mut.result.now in
-    kept_counting c.self.inside.slots c.self.inside.versions.items c.self.inside.picks.items c.in-Some.place own (record own { connections = own.connections + 1 }) at.own_there refl c.self.invariant
+    kept_counting c.self.inside.slots c.self.inside.versions.items c.self.inside.picks.items c.in-Some.place own _ at.own_there refl c.self.invariant
 
 pub returns-in-Some-clause-judged : goal.returns-in-Some-clause-judged
 returns-in-Some-clause-judged c =
