@@ -36,9 +36,15 @@ SHOWN = 10
 WHOLE_RUNS = ('must-not-compile/run', 'tests/run', 'tests/pipe/run', 'tests/serve')
 
 
-def hash_of(crate, kit):
+def logic_of_toolchain():
+    """The identity of the logic in which the toolchain proves, from its one line `KIT logic HASH`."""
+    line = subprocess.run(['rt', 'version'], capture_output=True, text=True, check=True).stdout.strip()
+    return ''.join(line.partition('logic ')[1:]) or line
+
+
+def hash_of(crate, logic):
     """What the wrong bodies of a crate depend on in its own files and in the toolchain."""
-    folder, made = ROOT / 'crates' / crate, hashlib.sha256(kit.encode())
+    folder, made = ROOT / 'crates' / crate, hashlib.sha256(logic.encode())
     for part in ('src', 'specs', 'proofs', 'must-fail'):
         for file in sorted((folder / part).rglob('*')):
             if file.is_file():
@@ -111,7 +117,7 @@ def copy_wrong_bodies(tree):
 
 def run_parts(tree, tried, costs):
     """Runs the parts of the gate in turn up to the first that fails: what passed, and whether all did."""
-    passed = passed_by(['rt', 'ci'], tree)
+    passed = passed_by([sys.executable, str(ROOT / 'tools' / 'prover.py'), 'ci'], tree)
     if passed is None:
         return 0, False
     prover.keep_program(tree)
@@ -143,10 +149,9 @@ def show_costs(costs, wall):
 
 
 def gate(tries_all):
-    begun = time.monotonic()
-    kit = subprocess.run(['rt', 'version'], capture_output=True, text=True, check=True).stdout.strip()
+    begun, logic = time.monotonic(), logic_of_toolchain()
     refused, sizes = Refused(LIST.read_text()), edit_counts()
-    made = {crate: hash_of(crate, kit) for crate in sizes}
+    made = {crate: hash_of(crate, logic) for crate in sizes}
     gone = sorted(set(refused.crates) - set(sizes))
     tried = {crate for crate in sizes if tries_all or refused.is_due(crate, made[crate])}
     print(f'gate: turn {refused.turn}: wrong bodies of {len(tried)} of {len(sizes)} crates', flush=True)

@@ -69,14 +69,20 @@ def by_function(check):
     return checked
 
 
+def try_edit(rt, crate, edit, kept=None):
+    """Tries an edit: whether it was refused, which some versions of `rt` say by a word and others by a truth, and a line that
+    says so."""
+    kind, line = rt.must_fail(crate, edit, ['--jobs', '1'], kept)
+    is_refused = kind if isinstance(kind, bool) else kind in (rt.REFUSED, rt.AT_LIMIT)
+    return is_refused, line
+
+
 def try_crate(rt, crate, edits):
     """Tries the edits of a crate in turn, each over what the checks before it proved: of each whether it was refused, and a
     line that says so."""
-    flags, refused = ['--jobs', '1'], (rt.REFUSED, rt.AT_LIMIT)
     with tempfile.TemporaryDirectory(prefix='rt-edits-') as kept:
-        tried = [rt.must_fail(crate, it, flags, kept) for it in edits]
-    tried = [it if it[0] in refused else rt.must_fail(crate, edit, flags) for edit, it in zip(edits, tried)]
-    return [(kind in refused, line) for kind, line in tried]
+        tried = [try_edit(rt, crate, it, kept) for it in edits]
+    return [it if it[0] else try_edit(rt, crate, edit) for edit, it in zip(edits, tried)]
 
 
 def try_all(rt, tree, folders):

@@ -1,4 +1,7 @@
-"""What the gate and the build share: the toolchain's command, copies of the tree, and what the prover's processes cost."""
+"""What the gate and the build share: the toolchain's command, copies of the tree, and what the prover's processes cost.
+
+    tools/prover.py VERB ..      the toolchain's command `rt VERB ..`, with the stamp of each crate made once
+"""
 import collections
 import importlib.machinery
 import importlib.util
@@ -15,12 +18,27 @@ TICKS = os.sysconf('SC_CLK_TCK')
 
 
 def toolchain():
-    """The toolchain's command `rt` as a module."""
+    """The toolchain's command `rt` as a module. Each crate's stamp, a hash of its files and of its libraries' stamps, is made once
+    in a process: some versions of `rt` make it once for each path in the graph of libraries, 60,000 times for the program. So
+    nobody may change a file while the module is used."""
     path = shutil.which('rt') or sys.exit('rt, the command of the Rattle toolchain, is not on the PATH')
     loader = importlib.machinery.SourceFileLoader('rt', os.path.realpath(path))
     rt = importlib.util.module_from_spec(importlib.util.spec_from_loader('rt', loader))
     loader.exec_module(rt)
+    rt.rtlib.Crate.stamp = stamp_once(rt.rtlib.Crate.stamp)
     return rt
+
+
+def stamp_once(stamp):
+    """A crate's stamp, kept by its folder from the first call on."""
+    kept = {}
+
+    def stamp_of(crate):
+        if crate.folder not in kept:
+            kept[crate.folder] = stamp(crate)
+        return kept[crate.folder]
+
+    return stamp_of
 
 
 def libraries(tree=ROOT):
@@ -105,3 +123,7 @@ class Costs(threading.Thread):
         for (_, part), seconds in [*self.seconds.items()]:
             sums[part] += seconds
         return sums
+
+
+if __name__ == '__main__':
+    sys.exit(toolchain().main(sys.argv[1:]))
