@@ -14,6 +14,10 @@ use proxy_types::{KeyType, Stores};
 use std::alloc::{AllocError, Global};
 use std::marker::Model;
 
+/// The entries from which on a table has room for all that it may have. Room that grew step by step would move as many
+/// entries as there are in one of the steps, and so many are moved in some ms.
+const MANY: usize = 65_536;
+
 /// One tracking of a key. It is spent by `release` on the table that gave it.
 pub struct Tracked {
     key: Addr,
@@ -175,12 +179,17 @@ impl Table {
     }
 
     /// Makes room so that the next so many trackings do not lack memory. It may have made some also where it lacks
-    /// memory for all.
+    /// memory for all. A table with `MANY` entries makes room for all that it may have, where there is memory for so
+    /// much.
     pub fn reserve(&mut self, more: usize) -> Result<(), AllocError>
         ensures room { OnOk result (more ≤ self.new.spare) }
         ensures same { self.new ≡ record self.old { spare = self.new.spare } }
         ensures spare { self.old.spare ≤ self.new.spare }
     {
+        if self.touched.len() >= MANY {
+            let size = usize::try_from(self.size).unwrap_or(usize::MAX);
+            let _refused = self.touched.reserve_for(size.saturating_add(more));
+        }
         self.touched.reserve(more)
     }
 
