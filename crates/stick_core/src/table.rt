@@ -187,10 +187,16 @@ impl Table {
         ensures spare { self.old.spare ≤ self.new.spare }
     {
         if self.touched.len() >= MANY {
-            let size = usize::try_from(self.size).unwrap_or(usize::MAX);
-            let _refused = self.touched.reserve_for(size.saturating_add(more));
+            let whole = self.left().saturating_add(more);
+            let _refused = self.touched.reserve(whole);
         }
         self.touched.reserve(more)
+    }
+
+    /// How many keys may be added before the table is full.
+    fn left(&self) -> usize {
+        let left = self.size.saturating_sub(self.touched.len() as u64);
+        usize::try_from(left).unwrap_or(usize::MAX)
     }
 
     /// Tracks an address, if it is a key that can be listed. A new key in a full table removes the

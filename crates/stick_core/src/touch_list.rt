@@ -1,7 +1,7 @@
 //! Entries found by their keys, in the order of their last touch.
 ghost use Rattle.std.specs.Prelude.{◌≡◌, ◌+◌, ◌<◌, ◌≤◌, ◌++◌, ◌∷◌, [], true, false, cond, find, length, IfOk, OnOk, OnErr, IsOk, IsSome, None};
 ghost use Rattle.std.specs.List.{list_any};
-ghost use Rattle.indexmap.specs.IndexMap.{index_map_len, spare, with_value_at};
+ghost use Rattle.indexmap.specs.IndexMap.{index_map_len, with_value_at};
 ghost use Rattle.stick_core.specs.Entries.{is_of, is_free, others, added, without_first_free};
 ghost use Rattle.stick_core.specs.Places.{entry_at};
 ghost use Rattle.stick_core.specs.PlainEntries.{plain};
@@ -21,11 +21,6 @@ pub(crate) struct Counts {
     pub(crate) cur: u64,
     pub(crate) cnt: u64,
 }
-
-/// The room of an index for each entry of a table that has many. In a full table each new key takes the place of one that
-/// goes, which now and then leaves its lane to none, and an index with no lane left has to be made again. A lane is lost
-/// where twelve keys met in one group of lanes; with so much room four meet there on average.
-const WIDE: usize = 2;
 
 /// A key that is tracked for the first time.
 const FIRST: Counts = Counts { cur: 1, cnt: 1 };
@@ -53,17 +48,6 @@ fn entry_at_place(index: &IndexMap<Addr, Counts>, place: usize) -> Entry
         },
         None => unreachable!(),
     }
-}
-
-/// Makes room for so many entries in all, unless there is half of that.
-fn widen(index: &mut IndexMap<Addr, Counts>, count: usize) -> Result<(), AllocError>
-    ensures entries { index.new.entries ≡ index.old.entries }
-    ensures spare { spare index.old ≤ spare index.new }
-{
-    if index.capacity() < count / 2 {
-        index.reserve(count.saturating_sub(index.len()))?;
-    }
-    Ok(())
 }
 
 /// Puts other counts at a place.
@@ -174,18 +158,6 @@ impl TouchList {
         ensures succeeds { more ≤ self.old.spare → IsOk result }
     {
         self.index.reserve(more)?;
-        self.touched.reserve(more)?;
-        self.free.reserve(more)
-    }
-
-    /// Makes room for so many entries in all, and in the index for `WIDE` times as many. It may have made some also where
-    /// it lacks memory for all.
-    pub(crate) fn reserve_for(&mut self, count: usize) -> Result<(), AllocError>
-        ensures entries { self.new.entries ≡ self.old.entries }
-        ensures spare { self.old.spare ≤ self.new.spare }
-    {
-        let more = count.saturating_sub(self.index.len());
-        widen(&mut self.index, count.saturating_mul(WIDE))?;
         self.touched.reserve(more)?;
         self.free.reserve(more)
     }
