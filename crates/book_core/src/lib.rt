@@ -1,7 +1,7 @@
-//! A balancer whose every decision is kept: a core with its records, which go out in segments.
+//! A balancer whose every decision is kept: a core with the journal of its records.
 #![tactic(auto)]
 
-pub use book::{Book, CutFault, Receipt};
+pub use book::{Book, Receipt};
 
 mod book;
 pub mod laws;

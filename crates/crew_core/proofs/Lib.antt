@@ -1,3 +1,2 @@
 pub mod ConnLemmas
 pub mod RecordLemmas
-pub mod OutletLemmas

@@ -1,4 +1,3 @@
 pub mod Crew
 pub mod Leases
 pub mod Conns
-pub mod Outlets
