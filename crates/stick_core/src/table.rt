@@ -14,8 +14,8 @@ use proxy_types::{KeyType, Stores};
 use std::alloc::{AllocError, Global};
 use std::marker::Model;
 
-/// The entries from which on a table has room for all that it may have. Room that grew step by step would move as many
-/// entries as there are in one of the steps, and so many are moved in some ms.
+/// From so many entries on a table has room for all that it may have. Room that grows step by step moves all entries in
+/// some of its steps. To move this many takes some ms.
 const MANY: usize = 65_536;
 
 /// One tracking of a key. It is spent by `release` on the table that gave it.
@@ -179,7 +179,7 @@ impl Table {
     }
 
     /// Makes room so that the next so many trackings do not lack memory. It may have made some also where it lacks
-    /// memory for all. A table with `MANY` entries makes room for all that it may have, where there is memory for so
+    /// memory for all. A table with 65,536 entries makes room for all that it may have, where there is memory for so
     /// much.
     pub fn reserve(&mut self, more: usize) -> Result<(), AllocError>
         ensures room { OnOk result (more ≤ self.new.spare) }
