@@ -13,7 +13,7 @@ appends_nothing : (held : Option (List ℕ)) → Appends held held []
 appends_nothing None = tt
 appends_nothing (Some xs) = sym (append-nil xs)
 
-appends_both : (a b c : Option (List ℕ)) (xs ys : List ℕ) → Appends a b xs → Appends b c ys → Appends a c (xs ++ ys)
+pub appends_both : (a b c : Option (List ℕ)) (xs ys : List ℕ) → Appends a b xs → Appends b c ys → Appends a c (xs ++ ys)
 appends_both None b c xs ys p q = tt
 appends_both (Some l) None c xs ys p q = absurd p
 appends_both (Some l) (Some m) None xs ys p q = absurd q
@@ -44,7 +44,7 @@ written_same held block = record { done = []; appended = appends_nothing held; s
 pub written_sent : (old new : Option (List ℕ)) (bytes block left : List ℕ) → bytes ≡ block → left ≡ [] → Appends old new bytes → Written old new left block
 written_sent old new bytes block left same none added = record { done = bytes; appended = added; same = ap (λ xs. bytes ++ xs) none ∙ append-nil bytes ∙ same }
 
-records_append : (xs ys : List Record) → records_text (xs ++ ys) ≡ records_text xs ++ records_text ys
+pub records_append : (xs ys : List Record) → records_text (xs ++ ys) ≡ records_text xs ++ records_text ys
 records_append [] ys = refl
 records_append (x ∷ xs) ys =
     ap (λ more. entry_text x.number (entry_of x) ++ more) (records_append xs ys) ∙ sym (append_assoc (entry_text x.number (entry_of x)) (records_text xs) (records_text ys))
@@ -83,7 +83,7 @@ take_front [] ys = refl
 take_front (x ∷ xs) ys = ap (λ zs. x ∷ zs) (take_front xs ys)
 
 -- what was written is a front of a longer text
-front_of : (old new : Option (List ℕ)) (done rest text : List ℕ) → Appends old new done → done ++ rest ≡ text → AppendsFront old new text
+pub front_of : (old new : Option (List ℕ)) (done rest text : List ℕ) → Appends old new done → done ++ rest ≡ text → AppendsFront old new text
 front_of old new done rest text added same = (length done, subst (Appends old new) (sym (take_front done rest) ∙ ap (take (length done)) same) added)
 
 -- of the records after those

@@ -1,19 +1,23 @@
-//! A core with its journal.
-ghost use Rattle.std.specs.Prelude.{◌≡◌, ◌<◌, ◌+◌, ◌^◌, IfOk, IfErr, OnErr, Ok};
+//! A core with its records.
+ghost use Rattle.std.specs.Prelude.{◌≡◌, ◌↔◌, ◌<◌, ◌≤◌, ◌+◌, ◌^◌, [], ◌∷◌, ◌++◌, length, IfOk, IfErr, OnErr, OnOk, Err, Ok};
 ghost use Rattle.conn_model.specs.Counts.{counts_in};
 ghost use Rattle.conn_model.specs.History.{answer, counts, entry, owned_event};
 ghost use Rattle.record_core.specs.Records.{history_of};
 ghost use Rattle.book_core.specs.Open.{connections_ended, connections_opened, open_connections};
-ghost use Rattle.book_core.specs.Book.{book_answer, new_book, with_entry, IsBook, IsBookFault};
+ghost use Rattle.rtrb.specs.Ring.{known_free, known_items, received, sent, ConsumerLooked, IsPair, ProducerLooked, SameProducer};
+ghost use Rattle.book_core.specs.Book.{after_cut, book_answer, new_book, segment_of, with_entry, with_ring, IsBook, IsBookFault};
 
 use conn_core::Core;
 use conn_model::ask::{Ask, Counts};
 use conn_model::event::Event;
 use conn_model::plain::Plain;
 use conn_model::reply::{Reply, StepFault};
-use record_core::{Record, copy_event, copy_reply};
+use list_core::Seq;
+use record_core::{Record, Segment, copy_event, copy_reply};
+use rtrb::{Consumer, Producer};
 use std::alloc::{AllocFailed, Global};
 use std::marker::Model;
+use std::mem;
 
 /// What a step answers: the reply, and the number of the record that has it.
 #[derive(Debug, Drop)]
@@ -22,12 +26,23 @@ pub struct Receipt {
     pub reply: Reply,
 }
 
-/// A core with the records of all that it answered, from a base on. It cannot be dropped: it ends by `end`.
+/// Why nothing was cut.
+#[derive(Clone, Copy, Debug, PartialEq, Eq)]
+pub enum CutFault {
+    /// No record is in memory.
+    Nothing,
+    /// The ring has no room for a segment.
+    Full,
+}
+
+/// A core with the records of all that it answered. Those in memory are its journal; a cut hands them over as one
+/// segment. It cannot be dropped: it ends by `end`.
 pub struct Book {
     alloc: Global,
     core: Core,
     base: Plain,
     journal: Vec<Record>,
+    segments: Producer<Segment>,
     made: u64,
 }
 
@@ -36,18 +51,23 @@ impl Model for Book {
 
     ghost Value = { BookState };
 
-    ghost view = { λ b. state_of b.base b.journal.items b.core b.made };
+    ghost view = { λ b. state_of b.base b.journal.items b.segments b.core b.made };
 
-    ghost invariant = { λ b. IsBook (state_of b.base b.journal.items b.core b.made) };
+    ghost invariant = { λ b. IsBook (state_of b.base b.journal.items b.segments b.core b.made) };
 }
 
 impl Book {
-    /// A book over a core, with no record yet. Its base is the state of the core. Without memory the core
-    /// comes back.
-    pub fn open(alloc: Global, core: Core) -> Result<Book, AllocFailed<Core>>
-        ensures ok { IfOk result (λ book. book ≡ new_book core) }
+    /// A book over a core, with no record yet, and the ring into which it is to put its segments. Its base is the
+    /// state of the core. When it is out of memory, both come back.
+    pub fn open(
+        alloc: Global,
+        core: Core,
+        segments: Producer<Segment>,
+    ) -> Result<Book, AllocFailed<(Core, Producer<Segment>)>>
+        requires { sent segments ≡ [] }
+        ensures ok { IfOk result (λ book. book ≡ new_book core segments) }
         ensures legal { IfOk result IsBook }
-        ensures err { IfErr result (λ failed. failed.value ≡ core) }
+        ensures err { IfErr result (λ failed. (failed.value.0 ≡ core) × (failed.value.1 ≡ segments)) }
     {
         match core.plain() {
             Ok(base) => Ok(Book {
@@ -55,9 +75,12 @@ impl Book {
                 core,
                 base,
                 journal: Vec::new(alloc),
+                segments,
                 made: 0,
             }),
-            Err(_) => Err(AllocFailed { value: core }),
+            Err(_) => Err(AllocFailed {
+                value: (core, segments),
+            }),
         }
     }
 
@@ -65,7 +88,7 @@ impl Book {
     /// else room for the record is made before the core answers. After a fault nothing is changed.
     pub fn step(&mut self, moment: u64, event: &Event) -> Result<Receipt, StepFault>
         // The reply is the answer after the history so far.
-        ensures reply { IfOk result (λ receipt. answer self.old.base (history_of self.old.journal) moment (owned_event event.now) ≡ Ok receipt.reply) }
+        ensures reply { IfOk result (λ receipt. answer self.old.base (history_of self.old.records) moment (owned_event event.now) ≡ Ok receipt.reply) }
 
         // There is one record more, under the next number, with this moment, this event and this reply.
         ensures number { IfOk result (λ receipt. receipt.number ≡ self.old.made + 1) }
@@ -75,7 +98,7 @@ impl Book {
         ensures fault { IfErr result (IsBookFault self.old (book_answer self.old moment (owned_event event.now))) }
         ensures err { OnErr result (self.new ≡ self.old) }
 
-        // The journal is a legal history from the base on, and the core is the state after it.
+        // The records are a legal history from the base on, and the core is the state after it.
         ensures legal { IsBook self.new }
 
         // The connection that the event opened is open besides, and the one that it ended is not open any longer.
@@ -110,23 +133,73 @@ impl Book {
         Ok(receipt)
     }
 
+    /// Hands the records in memory over as one segment, and forgets them. It takes no memory.
+    pub fn cut(&mut self) -> Result<(), CutFault>
+        // They are the newest segment in the ring, the journal is empty, and nothing else is changed.
+        ensures sent { OnOk result (sent self.new.segments ≡ sent self.old.segments ++ segment_of self.old ∷ []) }
+        ensures new { OnOk result (self.new ≡ after_cut self.old self.new.segments) }
+        ensures ring { SameProducer self.old.segments self.new.segments }
+        ensures free { OnOk result (known_free self.old.segments ≤ known_free self.new.segments + 1) }
+
+        // There was no record, or there is no room; then the ring was looked at, at most, and nothing else is changed.
+        ensures nothing { (result ≡ Err CutFault.Nothing) ↔ (self.old.journal ≡ []) }
+        ensures full { result ≡ Err CutFault.Full → known_free self.new.segments ≡ 0 }
+        ensures err { OnErr result ((self.new ≡ with_ring self.old self.new.segments) × ProducerLooked self.old.segments self.new.segments) }
+
+        ensures legal { IsBook self.new }
+    {
+        if self.journal.is_empty() {
+            return Err(CutFault::Nothing);
+        }
+        if self.segments.is_full() {
+            return Err(CutFault::Full);
+        }
+        let first = self.made - self.journal.len() as u64 + 1;
+        let records = mem::replace(&mut self.journal, Vec::new(self.alloc));
+        self.segments.push_reserved(Segment {
+            first,
+            records: Seq::of(records),
+        });
+        Ok(())
+    }
+
+    /// How many segments are still in the ring, for whoever has both of its ends. Then it is known which they are.
+    pub fn left(&mut self, segments: &mut Consumer<Segment>) -> usize
+        requires { IsPair self.old.segments segments.old }
+        ensures value { result ≡ length (known_items segments.new) }
+        ensures fifo { received segments.new ++ known_items segments.new ≡ sent self.new.segments }
+        ensures consumer { ConsumerLooked segments.old segments.new }
+        ensures producer { ProducerLooked self.old.segments self.new.segments }
+        ensures new { self.new ≡ with_ring self.old self.new.segments }
+        ensures legal { IsBook self.new }
+    {
+        segments.slots_beside(&mut self.segments)
+    }
+
     /// What is open of that which is asked for, if there is such a thing.
     pub fn counts(&self, ask: &Ask) -> Option<Counts>
         // They are the counts after the history.
-        ensures history { result ≡ counts self.now.base (history_of self.now.journal) ask.now }
+        ensures history { result ≡ counts self.now.base (history_of self.now.records) ask.now }
         ensures plain { result ≡ counts_in self.now.state ask.now }
     {
         self.core.counts(ask)
     }
 
-    /// The state from which the journal goes on.
+    /// How many records were made.
+    pub fn made(&self) -> u64
+        ensures { result ≡ self.now.made }
+    {
+        self.made
+    }
+
+    /// The state in which it was opened, from which the records go on.
     pub fn base(&self) -> &Plain
         ensures { result.now ≡ self.now.base }
     {
         &self.base
     }
 
-    /// The records, the oldest first.
+    /// The records in memory, the oldest first.
     pub fn journal(&self) -> &[Record]
         ensures records { result.now ≡ self.now.journal }
         ensures legal { IsBook self.now }
@@ -134,13 +207,14 @@ impl Book {
         self.journal.as_slice()
     }
 
-    /// Ends the core with all that it holds, and forgets the records.
+    /// Ends the core with all that it holds, and forgets the records in memory.
     pub fn end(self) {
         let Book {
             alloc: _,
             core,
             base: _base,
             journal: _journal,
+            segments: _segments,
             made: _,
         } = self;
         core.end();

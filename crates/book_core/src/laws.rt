@@ -1,22 +1,29 @@
 //! Laws of books.
-ghost use Rattle.std.specs.Prelude.{◌≡◌, ◌≤◌, ◌+◌, ◌++◌, ◌∷◌, ℕ, List, [], Ok};
+ghost use Rattle.std.specs.Prelude.{◌≡◌, ◌≤◌, ◌+◌, ◌-◌, ◌++◌, ◌∷◌, ℕ, List, [], length, Ok};
 ghost use Rattle.plan_types.specs.declared.plan.Plan as plans;
 ghost use Rattle.conn_model.specs.declared.event.OwnedEvent.{OwnedEvent};
 ghost use Rattle.conn_model.specs.declared.plain.Plain.{Plain};
 ghost use Rattle.conn_model.specs.declared.reply.Reply.{Reply};
 ghost use Rattle.conn_model.specs.Answer.{answer_in};
 ghost use Rattle.conn_model.specs.History.{after, entry, opening, Entry, IsLegal, IsWell};
-ghost use Rattle.record_core.specs.Records.{history_of};
+ghost use Rattle.record_core.specs.Records.{history_of, joined, AreNumbered};
+ghost use Rattle.rtrb.specs.Ring.{sent};
 ghost use Rattle.book_core.specs.Book.{BookState, IsBook};
 ghost use Rattle.book_core.specs.Open.{connections_ended, connections_opened, open_connections, IsNothingCounted};
 
 /// Where the base is what a legal history left, as of a core that was opened and then answered events, the
-/// journal goes on with that history, and the core is the state after both.
-pub fn journal_goes_on()
+/// records go on with that history, and the core is the state after both.
+pub fn records_go_on()
     ensures legal { (b : BookState) → IsBook b → (p : Plain) → IsWell p → (before : List Entry) → IsLegal p before → b.base ≡ after p before →
-        IsLegal p (history_of b.journal ++ before) }
+        IsLegal p (history_of b.records ++ before) }
     ensures state { (b : BookState) → IsBook b → (p : Plain) → IsWell p → (before : List Entry) → IsLegal p before → b.base ≡ after p before →
-        b.state ≡ after p (history_of b.journal ++ before) }
+        b.state ≡ after p (history_of b.records ++ before) }
+{}
+
+/// The journal begins where the last segment ends.
+pub fn journal_goes_on()
+    ensures first { (b : BookState) → IsBook b → b.made + 1 - length b.journal ≡ 1 + length (joined (sent b.segments)) }
+    ensures numbers { (b : BookState) → IsBook b → AreNumbered (b.made + 1 - length b.journal) b.journal }
 {}
 
 /// Every history can go on from the state of a book, and there are no more connections open than at its base and

@@ -1,7 +1,7 @@
-//! A balancer whose every decision is kept: a core with the journal of its records.
+//! A balancer whose every decision is kept: a core with its records, which go out in segments.
 #![tactic(auto)]
 
-pub use book::{Book, Receipt};
+pub use book::{Book, CutFault, Receipt};
 
 mod book;
 pub mod laws;

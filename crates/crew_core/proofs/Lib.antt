@@ -1,2 +1,3 @@
 pub mod ConnLemmas
 pub mod RecordLemmas
+pub mod OutletLemmas

@@ -1,3 +1,4 @@
 pub mod Crew
 pub mod Leases
 pub mod Conns
+pub mod Outlets

@@ -5,7 +5,7 @@ use crate::calls::Hall;
 use crate::worker::Arrival;
 use book_core::Receipt;
 use conn_model::reply::{Reply, StepFault};
-use desk_core::{Base, Pass};
+use desk_core::{Opening, Pass};
 use link_core::{Clock, Door, Gate, Knock, Link};
 use rtrb::{Producer, PushError};
 use std::sync::Wait;
@@ -37,7 +37,7 @@ fn reply_to(answer: Result<Receipt, StepFault>) -> Result<Reply, StepFault>
 impl<'a, M: Ledger, K: Link, D: Door<Link = K>> Front<'a, M, K, D> {
     /// Takes what comes until the door is closed or the turns are used up, and says how many connections came, and how
     /// many of them no lane had room for. The lanes are given up then, by which the workers learn of it.
-    pub(crate) fn accept_all<O: Ledger, B: Base, G: Gate, C: Clock, R: Wait>(
+    pub(crate) fn accept_all<O: Ledger, B: Opening, G: Gate, C: Clock, R: Wait>(
         self,
         rt: &R,
         hall: &Hall<'_, M, O, B, G, C>,
@@ -67,6 +67,9 @@ impl<'a, M: Ledger, K: Link, D: Door<Link = K>> Front<'a, M, K, D> {
                 Knock::Reload(text) => {
                     let moment = hall.clock.now();
                     let answer = hall.desk.reload(rt, pass, moment, text.as_str());
+                    if let Ok(receipt) = &answer {
+                        hall.note(rt, receipt.number);
+                    }
                     door.report(&reply_to(answer));
                 }
                 Knock::Idle => hall.clock.rest(),

@@ -2,11 +2,12 @@
 ghost use Rattle.std.specs.Prelude.{◌≡◌, ◌≤◌};
 
 use crate::leases::Leases;
+use crate::recorder::Alert;
 use addr_core::Pair;
 use book_core::Receipt;
 use conn_model::event::Why;
 use conn_model::reply::{Reply, Said, StepFault};
-use desk_core::{Base, Drive, Driven, LeaseList, Pass, SharedDesk};
+use desk_core::{Drive, Driven, LeaseList, Opening, Pass, SharedDesk};
 use link_core::{Clock, Gate};
 use std::alloc::Global;
 use std::sync::Wait;
@@ -14,11 +15,12 @@ use std::sync::ledger::Ledger;
 
 /// What all workers share.
 #[derive(Drop)]
-pub(crate) struct Hall<'a, M: Ledger, O: Ledger, B: Base, G, C> {
+pub(crate) struct Hall<'a, M: Ledger, O: Ledger, B: Opening, G, C> {
     pub(crate) alloc: Global,
     pub(crate) desk: &'a SharedDesk<M, O, B>,
     pub(crate) gate: &'a G,
     pub(crate) clock: &'a C,
+    pub(crate) alert: &'a Alert,
     /// How many turns a worker and the acceptor make at the most.
     pub(crate) turns: u64,
 }
@@ -99,7 +101,7 @@ impl<M: Ledger, O: Ledger> Calls<M, O> {
     }
 
     /// A connection came to a listener. Its lease is kept under the key, for which room is made first.
-    pub(crate) fn accept<B: Base, G: Gate, C: Clock, R: Wait>(
+    pub(crate) fn accept<B: Opening, G: Gate, C: Clock, R: Wait>(
         &mut self,
         rt: &R,
         hall: &Hall<'_, M, O, B, G, C>,
@@ -115,7 +117,7 @@ impl<M: Ledger, O: Ledger> Calls<M, O> {
         outcome
     }
 
-    fn ask_accept<B: Base, G: Gate, C: Clock, R: Wait>(
+    fn ask_accept<B: Opening, G: Gate, C: Clock, R: Wait>(
         &mut self,
         rt: &R,
         hall: &Hall<'_, M, O, B, G, C>,
@@ -128,19 +130,22 @@ impl<M: Ledger, O: Ledger> Calls<M, O> {
         }
         let moment = hall.clock.now();
         match hall.desk.accept(rt, &mut self.pass, moment, listener, real) {
-            Ok((receipt, lease)) => match lease {
-                Some(lease) => {
-                    self.leases.put(key, lease);
-                    Outcome::Open(said(receipt))
+            Ok((receipt, lease)) => {
+                hall.note(rt, receipt.number);
+                match lease {
+                    Some(lease) => {
+                        self.leases.put(key, lease);
+                        Outcome::Open(said(receipt))
+                    }
+                    None => Outcome::Ended,
                 }
-                None => Outcome::Ended,
-            },
+            }
             Err(fault) => Outcome::Failed(fault),
         }
     }
 
     /// Something is driven on the connection of a key.
-    pub(crate) fn drive<B: Base, G: Gate, C: Clock, R: Wait>(
+    pub(crate) fn drive<B: Opening, G: Gate, C: Clock, R: Wait>(
         &mut self,
         rt: &R,
         hall: &Hall<'_, M, O, B, G, C>,
@@ -155,7 +160,7 @@ impl<M: Ledger, O: Ledger> Calls<M, O> {
         outcome
     }
 
-    fn ask_drive<B: Base, G: Gate, C: Clock, R: Wait>(
+    fn ask_drive<B: Opening, G: Gate, C: Clock, R: Wait>(
         &mut self,
         rt: &R,
         hall: &Hall<'_, M, O, B, G, C>,
@@ -168,10 +173,12 @@ impl<M: Ledger, O: Ledger> Calls<M, O> {
         let moment = hall.clock.now();
         match hall.desk.drive(rt, &mut self.pass, moment, lease, drive) {
             Driven::Goes(receipt, lease) => {
+                hall.note(rt, receipt.number);
                 self.leases.put(key, lease);
                 Outcome::Open(said(receipt))
             }
             Driven::Over(receipt) => {
+                hall.note(rt, receipt.number);
                 if matches!(said(receipt), Said::Closed { .. }) {
                     self.closed += 1;
                 }
@@ -185,7 +192,7 @@ impl<M: Ledger, O: Ledger> Calls<M, O> {
     }
 
     /// The connection of a key ended.
-    pub(crate) fn close<B: Base, G: Gate, C: Clock, R: Wait>(
+    pub(crate) fn close<B: Opening, G: Gate, C: Clock, R: Wait>(
         &mut self,
         rt: &R,
         hall: &Hall<'_, M, O, B, G, C>,
@@ -201,7 +208,7 @@ impl<M: Ledger, O: Ledger> Calls<M, O> {
     }
 
     /// The connection of a key ended, and the gate is not asked.
-    pub(crate) fn close_at_once<B: Base, G: Gate, C: Clock, R: Wait>(
+    pub(crate) fn close_at_once<B: Opening, G: Gate, C: Clock, R: Wait>(
         &mut self,
         rt: &R,
         hall: &Hall<'_, M, O, B, G, C>,
@@ -213,7 +220,8 @@ impl<M: Ledger, O: Ledger> Calls<M, O> {
         };
         let moment = hall.clock.now();
         match hall.desk.close(rt, &mut self.pass, moment, lease, why) {
-            Ok(_receipt) => {
+            Ok(receipt) => {
+                hall.note(rt, receipt.number);
                 self.closed += 1;
                 Outcome::Ended
             }

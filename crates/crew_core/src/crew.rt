@@ -1,17 +1,22 @@
 //! The crew: the workers, each in a thread of its own, and the acceptor in the caller's.
-ghost use Rattle.std.specs.Prelude.{◌≡◌, ◌<◌, ◌≤◌, ◌+◌, ◌-◌, ◌^◌, [], IfErr, IfOk, sum_by, vec_capacity, vec_len};
+ghost use Rattle.std.specs.Prelude.{◌≡◌, ◌<◌, ◌≤◌, ◌+◌, ◌-◌, ◌^◌, [], Some, IfErr, IfOk, sum_by, vec_capacity, vec_len};
+ghost use Rattle.rtrb.specs.Ring.{received, sent, IsPair};
+ghost use Rattle.book_core.specs.Book.{with_ring};
 ghost use Rattle.book_core.specs.Open.{open_connections};
-ghost use Rattle.desk_core.specs.Books.{IsBase};
+ghost use Rattle.desk_core.specs.Books.{IsOf};
 ghost use Rattle.desk_core.specs.Calls.{calls_of};
 ghost use Rattle.desk_core.specs.Leased.{leases_in};
 ghost use Rattle.crew_core.specs.Crew.{IsIdle};
+ghost use Rattle.crew_core.specs.Outlets.{HasHandedOn};
 
 use crate::acceptor::{Front, LANE};
 use crate::calls::Hall;
+use crate::outlet::{Outlet, Sink, empty};
+use crate::recorder::Alert;
 use crate::table::Table;
 use crate::worker::{Arrival, Bench, REPORTS, Worker};
 use book_core::Book;
-use desk_core::{Base, Desk, Lease, LeaseList, Pass, Shut};
+use desk_core::{Desk, Lease, LeaseList, Opening, Pass, Shut};
 use link_core::{Clock, Dial, Door, FLOW, Gate, Link, Spares};
 use rtrb::{Producer, RingBuffer};
 use std::alloc::{AllocError, Global};
@@ -52,10 +57,12 @@ pub struct Summary {
     pub closed: u64,
     /// All replies.
     pub recorded: u64,
+    /// The segments that the sink refused. They are lost to it.
+    pub sink_failed: u64,
 }
 
 /// What is left of a crew.
-pub struct Crew<M: Ledger, O: Ledger, B: Base, L> {
+pub struct Crew<M: Ledger, O: Ledger, B: Opening, L, S: Sink> {
     pub summary: Summary,
     pub shut: Shut<M, O, B>,
     /// That of the acceptor first, and then those of the workers.
@@ -63,6 +70,7 @@ pub struct Crew<M: Ledger, O: Ledger, B: Base, L> {
     /// For each worker, the last one first, the leases whose connections could not be closed for want of memory.
     pub left: Vec<Vec<Lease<O>>>,
     pub dials: Vec<L>,
+    pub outlet: Outlet<S>,
 }
 
 /// What takes memory before a crew begins.
@@ -178,7 +186,7 @@ fn can_spawn<R: Threads>(rt: &R, alloc: Global, workers: usize) -> Result<(), Cr
 fn attend_each<
     M: Ledger + Send + Sync,
     O: Ledger + Send + Sync,
-    B: Base + Send + Sync,
+    B: Opening + Send + Sync,
     K: Link + Send,
     L: Dial<Link = K> + Send,
     G: Gate + Sync,
@@ -194,7 +202,7 @@ fn attend_each<
 fn work_beside<
     M: Ledger + Send + Sync,
     O: Ledger + Send + Sync,
-    B: Base + Send + Sync,
+    B: Opening + Send + Sync,
     K: Link + Send,
     L: Dial<Link = K> + Send,
     D: Door<Link = K>,
@@ -215,17 +223,65 @@ fn work_beside<
     came
 }
 
+/// What works at the desk: the workers, and the acceptor in front of them.
+#[derive(Drop)]
+struct Team<'a, M: Ledger, O: Ledger, K: Link, L: Dial<Link = K>, D: Door<Link = K>> {
+    workers: &'a mut [Worker<M, O, K, L>],
+    front: Front<'a, M, K, D>,
+}
+
+/// All threads: the team, and the recorder beside it. What the acceptor says, and what is left of the outlet with how many
+/// segments its sink refused.
+fn work_and_record<
+    M: Ledger + Send + Sync,
+    O: Ledger + Send + Sync,
+    B: Opening + Send + Sync,
+    K: Link + Send,
+    L: Dial<Link = K> + Send,
+    D: Door<Link = K>,
+    S: Sink + Send,
+    G: Gate + Sync,
+    C: Clock + Sync,
+    R: Threads + Wait + Sync,
+>(
+    rt: &R,
+    hall: &Hall<'_, M, O, B, G, C>,
+    team: Team<'_, M, O, K, L, D>,
+    outlet: Outlet<S>,
+) -> ((u64, u64), (Outlet<S>, u64))
+    ensures { HasHandedOn S.takes S.refuses (0 < result.1.1) outlet result.1.0 }
+{
+    let (handed, came) = thread::join(
+        rt,
+        move || hall.hand_on(rt, outlet),
+        move || team.work(rt, hall),
+    );
+    (came, handed)
+}
+
+impl<'a, M: Ledger + Send + Sync, O: Ledger + Send + Sync, K: Link + Send, L: Dial<Link = K> + Send, D: Door<Link = K>> Team<'a, M, O, K, L, D> {
+    /// Works until the door is closed, and then ends the recorder.
+    fn work<B: Opening + Send + Sync, G: Gate + Sync, C: Clock + Sync, R: Threads + Wait + Sync>(self, rt: &R, hall: &Hall<'_, M, O, B, G, C>) -> (u64, u64) {
+        let Team { workers, front } = self;
+        let came = work_beside(rt, hall, workers, front);
+        hall.alert.end();
+        came
+    }
+}
+
 /// A crew that did nothing.
-fn idle<M: Ledger, O: Ledger, B: Base, L>(
+fn idle<M: Ledger, O: Ledger, B: Opening, L, S: Sink>(
     alloc: Global,
     desk: Desk<M, O, B>,
     dials: Vec<L>,
-) -> Crew<M, O, B, L>
+    outlet: Outlet<S>,
+) -> Crew<M, O, B, L, S>
     requires { (desk.given ≡ 0) × (M.parts ≡ 65537) }
     ensures idle { IsIdle result.summary }
     ensures nothing { (result.passes.items ≡ []) × (result.left.items ≡ []) × (result.shut.book.made ≡ 0) }
-    ensures base { IsBase B.base result.shut.book.base }
+    ensures opened { IsOf B.opening result.shut.book }
     ensures dials { result.dials ≡ dials }
+    ensures outlet { result.outlet ≡ outlet }
 {
     let mut shut = desk.into_book();
     let mut passes = Vec::new(alloc);
@@ -236,16 +292,18 @@ fn idle<M: Ledger, O: Ledger, B: Base, L>(
             taken: 0,
             closed: 0,
             recorded,
+            sink_failed: 0,
         },
         shut,
         passes,
         left: Vec::new(alloc),
         dials,
+        outlet,
     }
 }
 
 /// Gives each dial its worker. The last worker is the first of the list.
-fn man<M: Ledger, O: Ledger, B: Base, K: Link, L: Dial<Link = K> + Drop>(
+fn man<M: Ledger, O: Ledger, B: Opening, K: Link, L: Dial<Link = K> + Drop>(
     alloc: Global,
     desk: &mut Desk<M, O, B>,
     keeps: bool,
@@ -314,8 +372,8 @@ fn leases_alone<O: Ledger>(lists: Vec<LeaseList<O>>, left: Vec<Vec<Lease<O>>>) -
     left
 }
 
-/// Hands on the leases that were not spent, of which each is an open connection's.
-fn hand_on<M: Ledger, O: Ledger, B: Base>(
+/// Hands back the leases that were not spent, of which each is an open connection's.
+fn hand_back<M: Ledger, O: Ledger, B: Opening>(
     shut: &mut Shut<M, O, B>,
     lists: Vec<LeaseList<O>>,
     left: Vec<Vec<Lease<O>>>,
@@ -337,19 +395,20 @@ fn taken(accepted: u64, waiting: u64) -> u64
     accepted.saturating_sub(waiting)
 }
 
-/// Runs a crew over a book with no record and no open connection, until the door is closed, the gate stops all workers, or the turns
+/// Runs a crew over a book with no record and no open connection, and over the reading end of its ring, until the door is closed, the gate stops all workers, or the turns
 /// are used up; then what is open is closed. Each worker has one of the dials. Of the blanks one becomes the ledger of
 /// calls, the other that of leases. After a fault nothing was done.
 pub fn run_crew<
     R: Threads + Wait + Sync,
     M: Ledger + Send + Sync,
     O: Ledger + Send + Sync,
-    B: Base + Send + Sync,
+    B: Opening + Send + Sync,
     K: Link + Send,
     L: Dial<Link = K> + Send + Drop,
     D: Door<Link = K>,
     G: Gate + Sync,
     C: Clock + Sync,
+    S: Sink + Send,
 >(
     rt: &R,
     alloc: Global,
@@ -358,11 +417,13 @@ pub fn run_crew<
     leases: Blank,
     door: &mut D,
     dials: Vec<L>,
+    outlet: Outlet<S>,
     gate: &G,
     clock: &C,
     setup: Setup,
-) -> Result<Crew<M, O, B, L>, (CrewFault, Crew<M, O, B, L>)>
-    requires base { IsBase B.base book.base }
+) -> Result<Crew<M, O, B, L, S>, (CrewFault, Crew<M, O, B, L, S>)>
+    requires opened { B.opening ≡ Some book }
+    requires ring { IsPair book.segments outlet.segments }
     requires fresh { (book.made ≡ 0) × (open_connections book.state ≡ 0) × (open_connections book.base ≡ 0) }
     requires made_name { made.name ≡ M.name }
     requires made_parts { (made.parts ≡ M.parts) × (made.parts ≡ 65537) }
@@ -375,21 +436,26 @@ pub fn run_crew<
     ensures closed { IfOk result (λ crew. crew.summary.closed ≤ crew.summary.recorded) }
     ensures taken { IfOk result (λ crew. crew.summary.taken ≤ crew.summary.accepted) }
     // The book is over the base of the one that went in.
-    ensures base { IfOk result (λ crew. IsBase B.base crew.shut.book.base) }
+    ensures base { IfOk result (λ crew. crew.shut.book.base ≡ book.base) }
+    // Each segment that was cut came out of the ring and went to the sink, in their order; it refused some only if they are
+    // counted. What was not cut is the journal of the book.
+    ensures sent { IfOk result (λ crew. received crew.outlet.segments ≡ sent crew.shut.book.segments) }
+    ensures handed { IfOk result (λ crew. HasHandedOn S.takes S.refuses (0 < crew.summary.sink_failed) outlet crew.outlet) }
     // No more leases are left than connections are open.
     ensures left { IfOk result (λ crew. sum_by (λ leases. vec_len leases) crew.left.items ≤ open_connections crew.shut.book.state) }
     // After a fault nothing was done.
     ensures idle { IfErr result (λ fault. IsIdle fault.1.summary) }
     ensures nothing { IfErr result (λ fault. (fault.1.passes.items ≡ []) × (fault.1.left.items ≡ []) × (fault.1.shut.book.made ≡ 0)) }
-    ensures base_kept { IfErr result (λ fault. IsBase B.base fault.1.shut.book.base) }
+    ensures base_kept { IfErr result (λ fault. fault.1.shut.book.base ≡ book.base) }
     ensures dials { IfErr result (λ fault. fault.1.dials ≡ dials) }
+    ensures outlet { IfErr result (λ fault. fault.1.outlet ≡ outlet) }
 {
     let mut desk = Desk::<M, O, B>::new(alloc, book, made, leases);
-    if let Err(fault) = can_spawn(rt, alloc, dials.len()) {
-        return Err((fault, idle(alloc, desk, dials)));
+    if let Err(fault) = can_spawn(rt, alloc, dials.len() + 1) {
+        return Err((fault, idle(alloc, desk, dials, outlet)));
     }
     let Ok(rooms) = make_rooms::<M, O, K, L>(alloc, dials.len()) else {
-        return Err((CrewFault::NoMemory, idle(alloc, desk, dials)));
+        return Err((CrewFault::NoMemory, idle(alloc, desk, dials, outlet)));
     };
     let Rooms {
         benches,
@@ -402,11 +468,13 @@ pub fn run_crew<
     } = rooms;
     let mut pass = desk.pass(setup.keeps);
     man(alloc, &mut desk, setup.keeps, benches, dials, &mut workers);
+    let alert = Alert::new();
     let hall = Hall {
         alloc,
         desk: desk.shared(),
         gate,
         clock,
+        alert: &alert,
         turns: setup.turns,
     };
     let front = Front {
@@ -414,22 +482,30 @@ pub fn run_crew<
         lanes,
         pass: &mut pass,
     };
-    let (accepted, held) = work_beside(rt, &hall, workers.as_mut_slice(), front);
+    let team = Team {
+        workers: workers.as_mut_slice(),
+        front,
+    };
+    let (came, handed) = work_and_record(rt, &hall, team, outlet);
+    let ((accepted, held), (mut outlet, refused)) = (came, handed);
     passes.push_reserved(pass);
     let (closed, waiting) = dismiss(workers, &mut passes, &mut lists, &mut dials_back);
     let mut shut = desk.into_book();
     let recorded = shut.count_calls(&mut passes);
-    let left = hand_on(&mut shut, lists, left);
+    let left = hand_back(&mut shut, lists, left);
+    let sink_failed = empty(&mut shut, &mut outlet, refused);
     Ok(Crew {
         summary: Summary {
             accepted,
             taken: taken(accepted, waiting.saturating_add(held)),
             closed,
             recorded,
+            sink_failed,
         },
         shut,
         passes,
         left,
         dials: dials_back,
+        outlet,
     })
 }

@@ -1,5 +1,6 @@
 //! The engine of `serve`: a crew, from the configuration's text to the record.
-ghost use Rattle.std.specs.Prelude.{◌≡◌, ◌⊎◌, ◌≤◌, ◌-◌, ◌^◌, Err, IfOk, IfErr, OnErr, OnOk, Some, vec_len};
+ghost use Rattle.std.specs.Prelude.{◌≡◌, ◌⊎◌, ◌≤◌, ◌-◌, ◌^◌, [], Err, IfOk, IfErr, OnErr, OnOk, Some, vec_len};
+ghost use Rattle.rtrb.specs.Ring.{received, IsPair};
 ghost use Rattle.config_core.specs.Meaning.{meaning};
 ghost use Rattle.conn_core.specs.Machine.{IsOpened};
 ghost use Rattle.book_core.specs.Book.{new_book};
@@ -7,13 +8,17 @@ ghost use Rattle.book_core.specs.Open.{open_connections};
 ghost use Rattle.audit_core.specs.Recording.{IsCutOff, IsRecorded};
 
 use crate::crew::{Crew, CrewFault, Setup, Summary, run_crew};
-use audit_core::{RecordFault, write_journal};
+use crate::outlet::{Outlet, RING};
+use crate::record_sink::RecordSink;
+use audit_core::RecordFault;
 use book_core::Book;
 use book_core::laws::open_connections_change;
 use conn_core::{Core, OpenFault};
-use desk_core::{Base, SettleFault, Settled, settle};
+use desk_core::{Opening, SettleFault, Settled, settle};
 use device_core::Output;
 use link_core::{Clock, Dial, Door, Gate, Link};
+use record_core::Segment;
+use rtrb::{Consumer, RingBuffer};
 use std::alloc::Global;
 use std::marker::Brand;
 use std::sync::Wait;
@@ -21,13 +26,14 @@ use std::sync::ledger::{Blank, Ledger};
 use std::thread::Threads;
 
 /// What was served.
-#[derive(Debug, Drop)]
-pub struct Served {
+#[derive(Drop)]
+pub struct Served<W> {
     pub summary: Summary,
     /// Whether the record was written.
     pub written: Result<(), RecordFault>,
     /// Whether what each thread did adds up to the record.
     pub settled: Result<Settled, SettleFault>,
+    pub writer: W,
 }
 
 /// A gate that lets every call of every worker pass.
@@ -42,72 +48,77 @@ impl Gate for NoGate {
     fn leave(&self, _worker: u16, _nth: u64) {}
 }
 
-/// A book with no record, over the configuration of that text.
-pub fn open_book(alloc: Global, text: &str) -> Result<Book, OpenFault>
-    ensures made { IfOk result (λ book. book.made ≡ 0) }
-    ensures state { IfOk result (λ book. open_connections book.state ≡ 0) }
-    ensures base { IfOk result (λ book. open_connections book.base ≡ 0) }
-    ensures opened { IfOk result (λ book. IsOpened text.now 0 book.base × (book ≡ new_book book.base)) }
+/// A book with no record, over the configuration of that text, and the reading end of the ring for its segments.
+pub fn open_book(alloc: Global, text: &str) -> Result<(Book, Consumer<Segment>), OpenFault>
+    ensures made { IfOk result (λ opened. opened.0.made ≡ 0) }
+    ensures state { IfOk result (λ opened. open_connections opened.0.state ≡ 0) }
+    ensures base { IfOk result (λ opened. open_connections opened.0.base ≡ 0) }
+    ensures opened { IfOk result (λ opened. IsOpened text.now 0 opened.0.base × (opened.0 ≡ new_book opened.0.base opened.0.segments)) }
+    ensures ring { IfOk result (λ opened. IsPair opened.0.segments opened.1 × (received opened.1 ≡ [])) }
     ensures fault { IfErr result (λ f. (f ≡ OpenFault.NoMemory) ⊎ (meaning text.now ≡ Err f)) }
 {
     open_connections_change();
-    match Book::open(alloc, Core::open(alloc, text)?) {
-        Ok(book) => Ok(book),
+    let core = Core::open(alloc, text)?;
+    let Ok((producer, consumer)) = RingBuffer::new(alloc, RING) else {
+        core.end();
+        return Err(OpenFault::NoMemory);
+    };
+    match Book::open(alloc, core, producer) {
+        Ok(book) => Ok((book, consumer)),
         Err(failed) => {
-            failed.value.end();
+            let (core, _producer) = failed.value;
+            core.end();
             Err(OpenFault::NoMemory)
         }
     }
-}
-
-/// Writes the record of a book.
-fn write_book<W: Output>(alloc: Global, book: &Book, writer: &mut W) -> Result<(), RecordFault>
-    ensures record { OnOk result (IsRecorded book.now.base (W.held writer.old) (W.held writer.new)) }
-    ensures front { OnErr result (IsCutOff book.now.base (W.held writer.old) (W.held writer.new)) }
-{
-    write_journal(alloc, book.journal(), writer)
 }
 
 /// Runs the crew. When it ended the record is written, and its accounts are settled.
 fn run<
     M: Ledger + Send + Sync,
     O: Ledger + Send + Sync,
-    B: Base + Send + Sync,
+    B: Opening + Send + Sync,
     R: Threads + Wait + Sync,
     K: Link + Send,
     L: Dial<Link = K> + Send + Drop,
     D: Door<Link = K>,
     C: Clock + Sync,
-    W: Output,
+    W: Output + Send + Drop,
 >(
     rt: &R,
     alloc: Global,
     book: Book,
     made: Blank,
     leases: Blank,
+    segments: Consumer<Segment>,
     door: &mut D,
     dials: Vec<L>,
     clock: &C,
     workers: u16,
-    writer: &mut W,
-) -> Result<Served, CrewFault>
+    writer: W,
+) -> Result<Served<W>, CrewFault>
     requires fresh { (book.made ≡ 0) × (open_connections book.state ≡ 0) × (open_connections book.base ≡ 0) }
+    requires ring { IsPair book.segments segments × (received segments ≡ []) }
     requires made_name { made.name ≡ M.name }
     requires made_parts { (made.parts ≡ M.parts) × (made.parts ≡ 65537) }
     requires leases_name { leases.name ≡ O.name }
     requires leases_parts { (leases.parts ≡ O.parts) × (leases.parts ≡ 2 ^ 64 - 1) }
-    requires base { B.base ≡ Some book.base }
+    requires opened { B.opening ≡ Some book }
     requires workers { (vec_len dials ≡ workers) × (1 ≤ workers) × (workers ≤ 64) }
-    ensures record { IfOk result (λ served. OnOk served.written (IsRecorded book.base (W.held writer.old) (W.held writer.new))) }
-    ensures front { IfOk result (λ served. OnErr served.written (IsCutOff book.base (W.held writer.old) (W.held writer.new))) }
+    ensures record { IfOk result (λ served. OnOk served.written (IsRecorded book.base (W.held writer) (W.held served.writer))) }
+    ensures front { IfOk result (λ served. OnErr served.written (IsCutOff book.base (W.held writer) (W.held served.writer))) }
 {
     let setup = Setup {
         workers,
         turns: u64::MAX,
         keeps: false,
     };
-    let ran = run_crew::<R, M, O, B, K, L, D, NoGate, C>(
-        rt, alloc, book, made, leases, door, dials, &NoGate, clock, setup,
+    let outlet = Outlet {
+        segments,
+        sink: RecordSink::new(alloc, writer),
+    };
+    let ran = run_crew::<R, M, O, B, K, L, D, NoGate, C, RecordSink<W>>(
+        rt, alloc, book, made, leases, door, dials, outlet, &NoGate, clock, setup,
     );
     let (crew, fault) = match ran {
         Ok(crew) => (crew, None),
@@ -119,44 +130,53 @@ fn run<
         passes,
         left,
         dials: _dials,
+        outlet,
     } = crew;
-    let written = write_book(alloc, shut.book(), writer);
-    let settled = settle(shut, passes, left);
+    let Outlet {
+        segments: _segments,
+        sink,
+    } = outlet;
+    let (written, writer) = sink.finish(shut.book());
+    let settled = settle(shut, passes, left, &[]);
     match fault {
         None => Ok(Served {
             summary,
             written,
             settled,
+            writer,
         }),
         Some(fault) => Err(fault),
     }
 }
 
-/// Serves what comes to the door with a worker for each dial, 1 to 64, until the door is closed. Then what is open is
-/// closed, and the record is written. After a fault nothing was served.
+/// Serves what comes to the door with a worker for each dial, 1 to 64, until the door is closed. The record is written by
+/// segments while it does; then what is open is closed, and the rest is written. The segments are the reading end of
+/// the ring of the book. After a fault nothing was served.
 pub fn serve<
     R: Threads + Wait + Sync,
     K: Link + Send,
     L: Dial<Link = K> + Send + Drop,
     D: Door<Link = K>,
     C: Clock + Sync,
-    W: Output,
+    W: Output + Send + Drop,
 >(
     rt: &R,
     alloc: Global,
     book: Book,
+    segments: Consumer<Segment>,
     door: &mut D,
     dials: Vec<L>,
     clock: &C,
     workers: u16,
-    writer: &mut W,
-) -> Result<Served, CrewFault>
+    writer: W,
+) -> Result<Served<W>, CrewFault>
     requires fresh { (book.made ≡ 0) × (open_connections book.state ≡ 0) × (open_connections book.base ≡ 0) }
+    requires ring { IsPair book.segments segments × (received segments ≡ []) }
     requires workers { (vec_len dials ≡ workers) × (1 ≤ workers) × (workers ≤ 64) }
     // What is written is the record of a legal history from the base of the book on.
-    ensures record { IfOk result (λ served. OnOk served.written (IsRecorded book.base (W.held writer.old) (W.held writer.new))) }
+    ensures record { IfOk result (λ served. OnOk served.written (IsRecorded book.base (W.held writer) (W.held served.writer))) }
     // Where the writer fails, it has a front of such a record.
-    ensures front { IfOk result (λ served. OnErr served.written (IsCutOff book.base (W.held writer.old) (W.held writer.new))) }
+    ensures front { IfOk result (λ served. OnErr served.written (IsCutOff book.base (W.held writer) (W.held served.writer))) }
 {
     run::<Brand, Brand, Brand, R, K, L, D, C, W>(
         rt,
@@ -164,6 +184,7 @@ pub fn serve<
         book,
         Blank::new(65_537),
         Blank::new(u64::MAX),
+        segments,
         door,
         dials,
         clock,

@@ -3,6 +3,7 @@
 
 pub use crew::{Crew, CrewFault, Setup, Summary, run_crew};
 pub use engine::{Served, open_book, serve};
+pub use outlet::{Outlet, RING, Sink, SinkFault};
 pub use link_core::{Clock, Dial, Dialled, Door, Gate, Knock, Link, Ready};
 
 mod acceptor;
@@ -11,7 +12,10 @@ mod conn;
 mod crew;
 mod engine;
 mod leases;
+mod outlet;
 mod queue;
+mod record_sink;
+mod recorder;
 mod serving;
 mod table;
 mod worker;

@@ -7,7 +7,7 @@ use crate::worker::{Bench, SERVED, Worker};
 use addr_core::Endpoint;
 use conn_model::event::Why;
 use conn_model::reply::{Said, StepFault};
-use desk_core::{Base, Drive};
+use desk_core::{Drive, Opening};
 use device_core::{Failed, Got};
 use link_core::{Clock, Dial, Dialled, Gate, Link, PIECE, Progress};
 use std::sync::Wait;
@@ -44,7 +44,7 @@ fn read_piece<K: Link>(link: &mut K, buffer: &mut [u8]) -> Result<Got, Failed> {
 
 impl<M: Ledger, O: Ledger, K: Link, L: Dial<Link = K>> Worker<M, O, K, L> {
     /// The next connection of the queue has its turn.
-    pub(crate) fn serve<B: Base, G: Gate, C: Clock, R: Wait>(
+    pub(crate) fn serve<B: Opening, G: Gate, C: Clock, R: Wait>(
         &mut self,
         rt: &R,
         hall: &Hall<'_, M, O, B, G, C>,
@@ -85,7 +85,7 @@ impl<M: Ledger, O: Ledger, K: Link, L: Dial<Link = K>> Worker<M, O, K, L> {
     }
 
     /// Hands the bytes that came to the desk, until the header is whole.
-    fn receive<B: Base, G: Gate, C: Clock, R: Wait>(
+    fn receive<B: Opening, G: Gate, C: Clock, R: Wait>(
         &mut self,
         rt: &R,
         hall: &Hall<'_, M, O, B, G, C>,
@@ -113,7 +113,7 @@ impl<M: Ledger, O: Ledger, K: Link, L: Dial<Link = K>> Worker<M, O, K, L> {
     }
 
     /// A connection was offered a server. What is in the buffer from the one place to the other follows its header.
-    pub(crate) fn offer<B: Base, G: Gate, C: Clock, R: Wait>(
+    pub(crate) fn offer<B: Opening, G: Gate, C: Clock, R: Wait>(
         &mut self,
         rt: &R,
         hall: &Hall<'_, M, O, B, G, C>,
@@ -140,7 +140,7 @@ impl<M: Ledger, O: Ledger, K: Link, L: Dial<Link = K>> Worker<M, O, K, L> {
     }
 
     /// Asks for the link to the server of a connection.
-    fn dial_server<B: Base, G: Gate, C: Clock, R: Wait>(
+    fn dial_server<B: Opening, G: Gate, C: Clock, R: Wait>(
         &mut self,
         rt: &R,
         hall: &Hall<'_, M, O, B, G, C>,
@@ -166,7 +166,7 @@ impl<M: Ledger, O: Ledger, K: Link, L: Dial<Link = K>> Worker<M, O, K, L> {
     }
 
     /// Passes bytes on.
-    fn relay<B: Base, G: Gate, C: Clock, R: Wait>(
+    fn relay<B: Opening, G: Gate, C: Clock, R: Wait>(
         &mut self,
         rt: &R,
         hall: &Hall<'_, M, O, B, G, C>,
@@ -190,7 +190,7 @@ impl<M: Ledger, O: Ledger, K: Link, L: Dial<Link = K>> Worker<M, O, K, L> {
     }
 
     /// Connections that have waited for their header for too long: as many of them as are served in one turn.
-    pub(crate) fn expire<B: Base, G: Gate, C: Clock, R: Wait>(
+    pub(crate) fn expire<B: Opening, G: Gate, C: Clock, R: Wait>(
         &mut self,
         rt: &R,
         hall: &Hall<'_, M, O, B, G, C>,
@@ -222,7 +222,7 @@ impl<M: Ledger, O: Ledger, K: Link, L: Dial<Link = K>> Worker<M, O, K, L> {
     }
 
     /// Ends a connection. Where there is no memory to record that, it is tried again in a later turn.
-    pub(crate) fn close<B: Base, G: Gate, C: Clock, R: Wait>(
+    pub(crate) fn close<B: Opening, G: Gate, C: Clock, R: Wait>(
         &mut self,
         rt: &R,
         hall: &Hall<'_, M, O, B, G, C>,
@@ -240,7 +240,7 @@ impl<M: Ledger, O: Ledger, K: Link, L: Dial<Link = K>> Worker<M, O, K, L> {
     }
 
     /// Closes what is open, and the gate is not asked. A lease whose close is refused is left.
-    pub(crate) fn stop<B: Base, G: Gate, C: Clock, R: Wait>(
+    pub(crate) fn stop<B: Opening, G: Gate, C: Clock, R: Wait>(
         &mut self,
         rt: &R,
         hall: &Hall<'_, M, O, B, G, C>,

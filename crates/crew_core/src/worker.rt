@@ -8,7 +8,7 @@ use crate::table::Table;
 use addr_core::Pair;
 use conn_model::event::{HEADER_WAIT, Why};
 use conn_model::reply::Said;
-use desk_core::{Base, Pass};
+use desk_core::{Opening, Pass};
 use link_core::{Clock, Dial, Gate, Link, Ready, Spares};
 use rtrb::Consumer;
 use std::alloc::Global;
@@ -71,7 +71,7 @@ impl<M: Ledger, O: Ledger, K: Link, L: Dial<Link = K>> Worker<M, O, K, L> {
     }
 
     /// Works until the door is closed, the gate stops it, or its turns are used up. Then what is open is closed.
-    pub(crate) fn work<B: Base, G: Gate, C: Clock, R: Wait>(
+    pub(crate) fn work<B: Opening, G: Gate, C: Clock, R: Wait>(
         &mut self,
         rt: &R,
         hall: &Hall<'_, M, O, B, G, C>,
@@ -87,7 +87,7 @@ impl<M: Ledger, O: Ledger, K: Link, L: Dial<Link = K>> Worker<M, O, K, L> {
     }
 
     /// One turn. It costs what is ready, and not what is open.
-    fn turn<B: Base, G: Gate, C: Clock, R: Wait>(
+    fn turn<B: Opening, G: Gate, C: Clock, R: Wait>(
         &mut self,
         rt: &R,
         hall: &Hall<'_, M, O, B, G, C>,
@@ -123,7 +123,7 @@ impl<M: Ledger, O: Ledger, K: Link, L: Dial<Link = K>> Worker<M, O, K, L> {
         }
     }
 
-    fn take_arrivals<B: Base, G: Gate, C: Clock, R: Wait>(
+    fn take_arrivals<B: Opening, G: Gate, C: Clock, R: Wait>(
         &mut self,
         rt: &R,
         hall: &Hall<'_, M, O, B, G, C>,
@@ -139,7 +139,7 @@ impl<M: Ledger, O: Ledger, K: Link, L: Dial<Link = K>> Worker<M, O, K, L> {
     }
 
     /// A connection came. Where it cannot be kept, it is shut.
-    fn accept<B: Base, G: Gate, C: Clock, R: Wait>(
+    fn accept<B: Opening, G: Gate, C: Clock, R: Wait>(
         &mut self,
         rt: &R,
         hall: &Hall<'_, M, O, B, G, C>,
@@ -161,7 +161,7 @@ impl<M: Ledger, O: Ledger, K: Link, L: Dial<Link = K>> Worker<M, O, K, L> {
     }
 
     /// Keeps an accepted connection under its key.
-    fn keep<B: Base, G: Gate, C: Clock, R: Wait>(
+    fn keep<B: Opening, G: Gate, C: Clock, R: Wait>(
         &mut self,
         rt: &R,
         hall: &Hall<'_, M, O, B, G, C>,

@@ -198,7 +198,7 @@ fn end<M: Ledger, O: Ledger, L: Drop>(
         summary,
         words,
         calls,
-        settled: settle(shut, passes, left),
+        settled: settle(shut, passes, left, &[]),
         is_served: stage.has(Mark::Served),
         is_answered: stage.has(Mark::Answered),
         is_wrong: stage.has(Mark::Wrong),

@@ -5,6 +5,7 @@ use Rattle.conn_model.specs.Answer.{answer_in, reply_of, row_at}
 use Rattle.conn_model.specs.Words.{or_fault}
 use Rattle.conn_model.specs.declared.event.ConnId.{ConnId}
 use Rattle.conn_model.specs.declared.event.Why.{Why}
+use Rattle.conn_model.specs.declared.event.OwnedEvent.{OwnedEvent}
 use Rattle.conn_model.specs.declared.event.OwnedEvent.TheVariants as owned
 use Rattle.conn_model.specs.declared.plain.Plain.{Plain}
 use Rattle.conn_model.specs.declared.reply.Reply.{Reply}
@@ -25,3 +26,7 @@ close_says b moment id why reply is = by (nat_lt b.made MOST_RECORDS) refl
     by : (test : Bool) → nat_lt b.made MOST_RECORDS ≡ test → reply.said ≡ Closed id why
     by true e = closed_says b.state moment id why reply (rw e at is)
     by false e = absurd (let wrong : Err Exhausted ≡ Ok reply = rw e at is in cc)
+
+-- no record can be made
+pub answer_exhausted : (b : BookState) (moment : ℕ) (event : OwnedEvent) → b.made ≡ MOST_RECORDS → book_answer b moment event ≡ Err Exhausted
+answer_exhausted b moment event most = rw most refl

@@ -1,8 +1,11 @@
 pub mod Lists
 pub mod Keeping
+pub mod Segments
 pub mod Once
 pub mod First
 pub mod KeptOf
 pub mod Closing
 pub mod Whole
 pub mod Moments
+pub mod Opened
+pub mod Cutting

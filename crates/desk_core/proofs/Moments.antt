@@ -21,8 +21,8 @@ greatest start h (r ∷ records) zero d l = let more = grows start (entry_of r �
 greatest start h (r ∷ records) (suc k) d l = greatest start (entry_of r ∷ h) records k d (omega arith)
 
 -- one record more, of a moment that is no smaller than the greatest
-pub rise_on : (b : BookState) → IsBook b → MomentsRise b.journal → (e : Entry) → b.state.clock ≤ e.moment → MomentsRise (with_entry b e).journal
+pub rise_on : (b : BookState) → IsBook b → MomentsRise b.records → (e : Entry) → b.state.clock ≤ e.moment → MomentsRise (with_entry b e).records
 rise_on b book rise e late =
     let r : Record = record_of (b.made + 1) e in
-    let clock : b.state.clock ≡ now_of b.base.clock (history_of b.journal) = ap (λ (p : Plain). p.clock) book.state in
-    all_pairs_push (λ (r s : Record). r.moment ≤ s.moment) b.journal r rise (λ k d l. let at = greatest b.base.clock [] b.journal k d l in omega (arith, at, clock, late))
+    let clock : b.state.clock ≡ now_of b.base.clock (history_of b.records) = ap (λ (p : Plain). p.clock) book.state in
+    all_pairs_push (λ (r s : Record). r.moment ≤ s.moment) b.records r rise (λ k d l. let at = greatest b.base.clock [] b.records k d l in omega (arith, at, clock, late))

@@ -13,7 +13,7 @@ use Rattle.std.proofs.lemmas.List.FromFn.{length-range_with_len, get_or-range_wi
 use Rattle.std.proofs.lemmas.Map.Made.{IsDistinct-from_AllPairs, is_member-Decides, length-le_from_is_member}
 use Rattle.std.proofs.lemmas.Option.{get_or_from_slice_get, slice_get_within, slice_get-get_or}
 use Rattle.record_core.specs.declared.record.Record.{Record}
-use Rattle.desk_core.specs.Receipts.{record_under, AreRecordsOf, NumbersRise, HasNumber, ShareNoNumber, HasEarlier, EachIsReceiptOfOneCall}
+use Rattle.desk_core.specs.Receipts.{record_at, AreRecordsOf, NumbersRise, HasNumber, ShareNoNumber, HasEarlier, EachIsReceiptOfOneCall}
 use Rattle.desk_core.proofs.Lists.{rising}
 
 -- the numbers of a pass, and of all passes
@@ -127,16 +127,16 @@ fills made ns differ within full n low high = by_test (is_member eqb ns n) refl
         let size = length-range_with_len 1 made in
         absurd (omega arith)
 
--- the number of a record of the journal is 1 at least, and the number of records at most
-number_within : (journal : List Record) (n : ℕ) (r : Record) → record_under journal n ≡ Some r → (1 ≤ n) × (n ≤ length journal)
-number_within journal n r h = by_test (nat_lt n 1) refl
+-- the number of a record is 1 at least, and the number of records at most
+number_within : (records : List Record) (n : ℕ) (r : Record) → record_at 1 records n ≡ Some r → (1 ≤ n) × (n ≤ length records)
+number_within records n r h = by_test (nat_lt n 1) refl
   where
-    by_test : (b : Bool) → nat_lt n 1 ≡ b → (1 ≤ n) × (n ≤ length journal)
+    by_test : (b : Bool) → nat_lt n 1 ≡ b → (1 ≤ n) × (n ≤ length records)
     by_test true e =
-        let h' : None ≡ Some r = subst (λ (b : Bool). (if b then None else slice_get journal (n - 1)) ≡ Some r) e h in absurd cc
+        let h' : None ≡ Some r = subst (λ (b : Bool). (if b then None else slice_get records (n - 1)) ≡ Some r) e h in absurd cc
     by_test false e =
-        let h' : slice_get journal (n - 1) ≡ Some r = subst (λ (b : Bool). (if b then None else slice_get journal (n - 1)) ≡ Some r) e h in
-        let long = slice_get_within journal (n - 1) r h' in
+        let h' : slice_get records (n - 1) ≡ Some r = subst (λ (b : Bool). (if b then None else slice_get records (n - 1)) ≡ Some r) e h in
+        let long = slice_get_within records (n - 1) r h' in
         let no : n < 1 → ⊥ = λ l. let yes : false ≡ true = sym e ∙ (Decides-ltb n 1).1 l in cc in
         let above : 1 ≤ n = omega (arith, no) in
         (omega arith, omega arith)
@@ -156,10 +156,10 @@ order (suc i) (suc j) = ⊎_elim (λ (t : i < j). inl (omega arith)) (λ (t : (i
 
 -- each record is given once
 pub each_is_receipt_of_one_call : EachIsReceiptOfOneCall
-each_is_receipt_of_one_call journal passes h full n low high =
-    let book = record_under journal in
-    let made = length journal in
-    let inside : All (λ m. (1 ≤ m) × (m ≤ made)) (all_numbers passes) = all_numbers_all (λ m. (1 ≤ m) × (m ≤ made)) passes (λ i p l k r m. number_within journal (get_or (get_or passes i p) k r).number (get_or (get_or passes i p) k r) (h.are_records i p l k r m)) in
+each_is_receipt_of_one_call records passes h full n low high =
+    let book = record_at 1 records in
+    let made = length records in
+    let inside : All (λ m. (1 ≤ m) × (m ≤ made)) (all_numbers passes) = all_numbers_all (λ m. (1 ≤ m) × (m ≤ made)) passes (λ i p l k r m. number_within records (get_or (get_or passes i p) k r).number (get_or (get_or passes i p) k r) (h.are_records i p l k r m)) in
     let there = earlier_from passes n (fills made (all_numbers passes) (all_numbers_differ passes h.rise h.apart) inside (length-all_numbers passes ∙ full) n low high) in
     let is = all_here (λ r. book r.number ≡ Some r) there.1 there.3.0 there.3.1 (all_here (AreRecordsOf book) passes there.0 there.1 h.are_records there.2) there.3.2 in record {
       pass = there.0;

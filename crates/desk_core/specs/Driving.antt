@@ -1,9 +1,9 @@
 -- What an event on an open connection leaves of the pass and of the lease.
 use Rattle.std.specs.Prelude.{◌≡◌, ℕ, true, false, Option, if◌then◌else◌}
+use Rattle.book_core.specs.Book.{BookState}
 use Rattle.book_core.specs.Open.{connections_ended, connections_opened}
 use Rattle.conn_model.specs.declared.event.ConnId.{ConnId}
 use Rattle.conn_model.specs.declared.event.OwnedEvent.{OwnedEvent}
-use Rattle.conn_model.specs.declared.plain.Plain.{Plain}
 use Rattle.conn_model.specs.declared.reply.Said.{Said}
 use Rattle.conn_model.specs.History.{is_last}
 use Rattle.desk_core.specs.Calls.{Calls, IsAnswered, IsRefused}
@@ -21,7 +21,7 @@ driven_event id drives.ConnectFailed = owned.ConnectFailed id
 driven_event id drives.Expire = owned.Expire id
 
 -- The lease comes back unless the reply is a last one, and after a fault, with the pass unchanged.
-abbrev pub IsDriven : {O : Type 0} → Option Plain → Calls → Calls → ℕ → OwnedEvent → ConnId → Driven O → Type 0
+abbrev pub IsDriven : {O : Type 0} → Option BookState → Calls → Calls → ℕ → OwnedEvent → ConnId → Driven O → Type 0
 IsDriven named old new moment event id (Goes receipt lease) = IsAnswered named old new moment event receipt × (is_last receipt.reply.said ≡ false) × (lease.id ≡ id)
 IsDriven named old new moment event id (Over receipt) = IsAnswered named old new moment event receipt × (is_last receipt.reply.said ≡ true)
 IsDriven named old new moment event id (Failed fault lease) = IsRefused named moment event fault × (new ≡ old) × (lease.id ≡ id)

@@ -1,12 +1,38 @@
 use Rattle.std.specs.Prelude.{◌≡◌, ◌≢◌, ℕ, ◌-◌, ◌<◌, ◌≤◌, ◌⊎◌, List, [], ◌∷◌, ◌++◌, length, Option, Some, None, if◌then◌else◌, nat_lt, slice_get, sum_by}
 use Rattle.std.specs.List.{All, AllPairs}
+use Rattle.std.specs.Option.{option_or}
 use Rattle.record_core.specs.declared.record.Record.{Record}
+use Rattle.record_core.specs.declared.segment.Segment.{Segment}
+use Rattle.record_core.specs.Records.{AreChained}
 use Rattle.desk_core.specs.declared.receipts.SettleFault.{SettleFault}
 use Rattle.desk_core.specs.declared.receipts.SettleFault.TheVariants.{Missing, WrongReceipt, Twice, NotAll}
 
--- the record of that number in a journal, whose first record has the number 1
-abbrev pub record_under : List Record → ℕ → Option Record
-record_under journal n = if nat_lt n 1 then None else slice_get journal (n - 1)
+-- the record of that number in records of which the first has the number `first`
+abbrev pub record_at : ℕ → List Record → ℕ → Option Record
+record_at first records n = if nat_lt n first then None else slice_get records (n - first)
+
+-- the record of that number in the first listed segment that has it
+abbrev pub record_listed : List Segment → ℕ → Option Record
+record_listed [] n = None
+record_listed (s ∷ segments) n = option_or (record_at s.first s.records n) (record_listed segments n)
+
+-- each segment follows the one before it
+abbrev pub IsChain : List Segment → Type 0
+IsChain segments = (first : ℕ) × AreChained first segments
+
+-- the record of that number in the first listed segment that has it, or else in the journal, whose first record has the
+-- number `first`
+abbrev pub record_in : List Segment → ℕ → List Record → ℕ → Option Record
+record_in segments first journal n = option_or (record_listed segments n) (record_at first journal n)
+
+-- where records are found
+pub record RecordSources : Type 0 where
+  pub segments : List Segment
+  pub first : ℕ
+  pub journal : List Record
+
+abbrev pub record_from : RecordSources → ℕ → Option Record
+record_from sources = record_in sources.segments sources.first sources.journal
 
 -- each record is the book's record of its number
 abbrev pub AreRecordsOf : (ℕ → Option Record) → List Record → Type 0
@@ -68,11 +94,12 @@ pub record IsReceiptOfOneCall (book : ℕ → Option Record) (passes : List (Lis
   pub is : book n ≡ Some receipt
   pub only : (i k : ℕ) (p : List Record) (r : Record) → slice_get passes i ≡ Some p → slice_get p k ≡ Some r → r.number ≡ n → (i ≡ pass) × (k ≡ place)
 
--- where the passes keep as many receipts as the journal has records, each record is the receipt of exactly one call
+-- where the passes keep as many receipts as there are records, from number 1 on, each record is the receipt of exactly one
+-- call
 abbrev pub EachIsReceiptOfOneCall : Type 0
-EachIsReceiptOfOneCall = (journal : List Record) (passes : List (List Record))
-    → AreReceipts (record_under journal) passes → sum_by (λ p. length p) passes ≡ length journal
-    → (n : ℕ) → 1 ≤ n → n ≤ length journal → IsReceiptOfOneCall (record_under journal) passes n
+EachIsReceiptOfOneCall = (records : List Record) (passes : List (List Record))
+    → AreReceipts (record_at 1 records) passes → sum_by (λ p. length p) passes ≡ length records
+    → (n : ℕ) → 1 ≤ n → n ≤ length records → IsReceiptOfOneCall (record_at 1 records) passes n
 
 -- where the receipts are right none of them has a fault, and else one fault alone is the first
 abbrev pub FirstFaultIsOne : Type 0

@@ -3,10 +3,10 @@ ghost use Rattle.std.specs.Prelude.{◌≡◌, ◌≤◌, ◌+◌, reverse, vec_
 ghost use Rattle.book_core.specs.Open.{open_connections};
 ghost use Rattle.desk_core.specs.Leased.{ids_of, leases_in};
 
-use crate::base::Base;
 use crate::desk::Shut;
 use crate::lease::Lease;
 use crate::lease_list::LeaseList;
+use crate::naming::Opening;
 use conn_model::event::ConnId;
 use std::sync::ledger;
 use std::sync::ledger::{Ledger, Share};
@@ -72,7 +72,7 @@ fn bound<O: Ledger>(book: &mut ledger::Book<O>, units: &mut Share<O>, left: &mut
     left.push_reserved(LeaseList { leases, ids });
 }
 
-impl<M: Ledger, O: Ledger, B: Base> Shut<M, O, B> {
+impl<M: Ledger, O: Ledger, B: Opening> Shut<M, O, B> {
     /// How many connections are open. The leases that are in hand are no more. Nothing is spent, and no memory is taken;
     /// it goes one call deeper for each list, so let the lists be few.
     pub fn count_open(&mut self, left: &mut Vec<LeaseList<O>>) -> u64

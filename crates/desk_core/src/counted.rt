@@ -3,14 +3,14 @@ ghost use Rattle.std.specs.Prelude.{◌≡◌, ◌<◌, ◌≤◌, ◌+◌, ◌^
 ghost use Rattle.conn_model.specs.History.{owned_event};
 ghost use Rattle.conn_model.specs.declared.event.OwnedEvent.TheVariants as owned;
 ghost use Rattle.conn_model.specs.declared.reply.Said.TheVariants.{Closed};
-ghost use Rattle.book_core.specs.Book.{book_answer, MOST_RECORDS};
+ghost use Rattle.book_core.specs.Book.{book_answer};
 ghost use Rattle.book_core.specs.Open.{connections_ended, connections_opened, open_connections};
-ghost use Rattle.desk_core.specs.Books.{moment_in, IsBase, IsDeskBook, MomentsRise};
-ghost use Rattle.desk_core.specs.Calls.{IsAnswered, IsRefused, IsReloaded};
+ghost use Rattle.desk_core.specs.Books.{moment_in, IsDeskBook, IsOf, MomentsRise};
+ghost use Rattle.desk_core.specs.Calls.{IsAnswered, IsCut, IsNotCut, IsRefused, IsReloaded};
 
-use crate::base::Base;
+use crate::naming::Opening;
 use crate::pass::Pass;
-use book_core::{Book, Receipt};
+use book_core::{Book, CutFault, Receipt};
 use conn_model::event::{ConnId, Event, OwnedEvent, Why};
 use conn_model::reply::StepFault;
 use record_core::{Record, copy_event, copy_reply};
@@ -20,25 +20,25 @@ use std::sync::ledger;
 use std::sync::ledger::Ledger;
 
 /// A book that made as many records as the passes' calls come to.
-pub(crate) struct CountedBook<M: Ledger, B: Base> {
+pub(crate) struct CountedBook<M: Ledger, B: Opening> {
     pub(crate) book: Book,
     pub(crate) made: ledger::Book<M>,
     /// The greatest moment so far.
     pub(crate) latest: u64,
     pub(crate) of: PhantomData<B>,
     pub ghost counted: { book.made ≡ made.total },
-    pub ghost base: { IsBase B.base book.base },
+    pub ghost opened: { IsOf B.opening book },
     pub ghost greatest: { latest ≡ book.state.clock },
-    pub ghost rise: { MomentsRise book.journal },
+    pub ghost rise: { MomentsRise book.records },
 }
 
 /// The moment at which a book with no record begins.
 fn first_moment(book: &Book) -> u64
     requires { book.now.made ≡ 0 }
     ensures clock { result ≡ book.now.state.clock }
-    ensures rise { MomentsRise book.now.journal }
+    ensures rise { MomentsRise book.now.records }
 {
-    prove!(book.journal().is_empty());
+    let _journal = book.journal();
     book.base().clock
 }
 
@@ -60,10 +60,10 @@ fn copy_to_keep(
     }
 }
 
-impl<M: Ledger, B: Base> CountedBook<M, B> {
+impl<M: Ledger, B: Opening> CountedBook<M, B> {
     pub(crate) fn new(book: Book, made: ledger::Book<M>) -> CountedBook<M, B>
         requires fresh { (book.made ≡ 0) × (made.total ≡ 0) }
-        requires base { IsBase B.base book.base }
+        requires opened { IsOf B.opening book }
         ensures { result.book ≡ book }
     {
         let latest = first_moment(&book);
@@ -77,28 +77,28 @@ impl<M: Ledger, B: Base> CountedBook<M, B> {
 
     /// Says of the book what is always true of it. It does nothing.
     pub(crate) fn attest(&self)
-        ensures legal { IsDeskBook B.base self.now.book }
-        ensures few { self.now.book.made < MOST_RECORDS }
+        ensures legal { IsDeskBook B.opening self.now.book }
+        ensures counted { self.now.book.made ≡ self.now.made.total }
     {
-        prove!(self.book.journal().len() < usize::MAX);
+        let _journal = self.book.journal();
     }
 
-    /// Answers one event for a pass, at the moment that was handed in or the greatest so far. Of a record that a pass
-    /// keeps, the event is copied and room is made before the book answers.
+    /// Answers one event for a pass, at the moment that was handed in or the greatest so far. `Exhausted` comes first;
+    /// else the event is copied and room is made, if the pass keeps the record, before the book answers.
     pub(crate) fn step(
         &mut self,
         pass: &mut Pass<M>,
         moment: u64,
         event: &Event,
     ) -> Result<Receipt, StepFault>
-        ensures pass { IfOk result (λ r. IsAnswered B.base pass.old pass.new moment (owned_event event.now) r) }
+        ensures pass { IfOk result (λ r. IsAnswered B.opening pass.old pass.new moment (owned_event event.now) r) }
         ensures reply { IfOk result (λ r. book_answer self.old.book (moment_in self.old.book moment) (owned_event event.now) ≡ Ok r.reply) }
         ensures made { IfOk result (λ r. self.new.book.made ≡ self.old.book.made + 1) }
         ensures base { self.new.book.base ≡ self.old.book.base }
         ensures open_connections { IfOk result (λ r. open_connections self.new.book.state + connections_ended (owned_event event.now) r.reply.said
             ≡ open_connections self.old.book.state + connections_opened (owned_event event.now) r.reply.said) }
         ensures few { IfOk result (λ r. (r.number < 2 ^ 64) × (open_connections self.old.book.state < open_connections self.old.book.base + r.number)) }
-        ensures fault { IfErr result (IsRefused B.base moment (owned_event event.now)) }
+        ensures fault { IfErr result (IsRefused B.opening moment (owned_event event.now)) }
         ensures err { OnErr result (self.new.book ≡ self.old.book) }
         ensures unchanged { OnErr result (pass.new ≡ pass.old) }
     {
@@ -116,6 +116,9 @@ impl<M: Ledger, B: Base> CountedBook<M, B> {
             kept,
             share,
         } = pass;
+        if book.made() == u64::MAX {
+            return Err(StepFault::Exhausted);
+        }
         let Ok(copy) = copy_to_keep(*alloc, *keeps, kept, event) else {
             return Err(StepFault::NoMemory);
         };
@@ -144,12 +147,12 @@ impl<M: Ledger, B: Base> CountedBook<M, B> {
         id: ConnId,
         why: Why,
     ) -> Result<Receipt, StepFault>
-        ensures pass { IfOk result (λ r. IsAnswered B.base pass.old pass.new moment (owned.Close id why) r) }
+        ensures pass { IfOk result (λ r. IsAnswered B.opening pass.old pass.new moment (owned.Close id why) r) }
         ensures said { IfOk result (λ r. r.reply.said ≡ Closed id why) }
         ensures made { IfOk result (λ r. self.new.book.made ≡ self.old.book.made + 1) }
         ensures base { self.new.book.base ≡ self.old.book.base }
         ensures open_connections { IfOk result (λ r. open_connections self.new.book.state + 1 ≡ open_connections self.old.book.state) }
-        ensures fault { IfErr result (IsRefused B.base moment (owned.Close id why)) }
+        ensures fault { IfErr result (IsRefused B.opening moment (owned.Close id why)) }
         ensures err { OnErr result (self.new.book ≡ self.old.book) }
         ensures unchanged { OnErr result (pass.new ≡ pass.old) }
     {
@@ -163,14 +166,31 @@ impl<M: Ledger, B: Base> CountedBook<M, B> {
         moment: u64,
         text: &str,
     ) -> Result<Receipt, StepFault>
-        ensures pass { IfOk result (λ r. IsAnswered B.base pass.old pass.new moment (owned.Reload text.now) r) }
+        ensures pass { IfOk result (λ r. IsAnswered B.opening pass.old pass.new moment (owned.Reload text.now) r) }
         ensures said { IfOk result (λ r. IsReloaded r.reply.said) }
         ensures base { self.new.book.base ≡ self.old.book.base }
         ensures open_connections { OnOk result (open_connections self.new.book.state ≡ open_connections self.old.book.state) }
-        ensures fault { IfErr result (IsRefused B.base moment (owned.Reload text.now)) }
+        ensures fault { IfErr result (IsRefused B.opening moment (owned.Reload text.now)) }
         ensures err { OnErr result (self.new.book ≡ self.old.book) }
         ensures unchanged { OnErr result (pass.new ≡ pass.old) }
     {
         self.step(pass, moment, &Event::Reload(text))
+    }
+
+    /// Hands the records in memory over as one segment.
+    pub(crate) fn cut(&mut self) -> Result<(), CutFault>
+        ensures cut { OnOk result (IsCut B.opening) }
+        ensures fault { IfErr result (IsNotCut B.opening) }
+        ensures base { self.new.book.base ≡ self.old.book.base }
+        ensures state { self.new.book.state ≡ self.old.book.state }
+    {
+        self.attest();
+        let CountedBook {
+            book,
+            made: _,
+            latest: _,
+            of: _,
+        } = self;
+        book.cut()
     }
 }

@@ -1,22 +1,26 @@
 //! The desk.
-ghost use Rattle.std.specs.Prelude.{◌≡◌, ◌<◌, ◌-◌, ◌+◌, ◌^◌, [], IfOk, IfErr, OnErr};
+ghost use Rattle.std.specs.Prelude.{◌≡◌, ◌↔◌, ◌<◌, ◌-◌, ◌+◌, ◌^◌, [], ◌∷◌, ◌++◌, length, Err, IfOk, IfErr, OnErr, OnOk};
 ghost use Rattle.std.specs.Option.{option_map};
 ghost use Rattle.conn_model.specs.declared.event.OwnedEvent.TheVariants as owned;
 ghost use Rattle.conn_model.specs.declared.reply.Said.TheVariants.{Closed};
+ghost use Rattle.book_core.specs.Book.{after_cut, segment_of, with_ring};
 ghost use Rattle.book_core.specs.Open.{open_connections};
-ghost use Rattle.desk_core.specs.Books.{IsBase, MomentsRise};
-ghost use Rattle.desk_core.specs.Calls.{open_id, IsAnswered, IsCounted, IsRefused, IsReloaded};
+ghost use Rattle.rtrb.specs.Ring.{known_free, known_items, received, sent, ConsumerLooked, IsPair, ProducerLooked, SameProducer};
+ghost use Rattle.desk_core.specs.Books.{IsOf, MomentsRise};
+ghost use Rattle.desk_core.specs.Calls.{open_id, IsAnswered, IsCounted, IsCut, IsNotCut, IsRefused, IsReloaded};
 
-use crate::base::{AnyBase, Base};
 use crate::counted::CountedBook;
 use crate::lease::{Drive, Driven, Lease};
 use crate::locked::Locked;
+use crate::naming::{AnyOpening, Opening};
 use crate::pass::Pass;
 use addr_core::Pair;
-use book_core::{Book, Receipt};
+use book_core::{Book, CutFault, Receipt};
 use conn_model::ask::{Ask, Counts};
 use conn_model::event::Why;
 use conn_model::reply::StepFault;
+use record_core::Segment;
+use rtrb::Consumer;
 use std::alloc::Global;
 use std::marker::PhantomData;
 use std::sync::ledger::{Blank, Ledger, Share};
@@ -24,11 +28,11 @@ use std::sync::{Mutex, Wait, ledger};
 
 /// The part of a desk that threads share: a book in a lock. Each call is one entry of the history of that book, or
 /// none.
-pub struct SharedDesk<M: Ledger, O: Ledger, B: Base = AnyBase> {
+pub struct SharedDesk<M: Ledger, O: Ledger, B: Opening = AnyOpening> {
     locked: Mutex<Locked<M, O, B>>,
 }
 
-impl<M: Ledger, O: Ledger, B: Base> SharedDesk<M, O, B> {
+impl<M: Ledger, O: Ledger, B: Opening> SharedDesk<M, O, B> {
     ghost use Rattle.desk_core.specs.Driving.{driven_event, IsDriven};
 
     fn into_locked(self) -> Locked<M, O, B> {
@@ -46,9 +50,9 @@ impl<M: Ledger, O: Ledger, B: Base> SharedDesk<M, O, B> {
         listener: u16,
         real: &Pair,
     ) -> Result<(Receipt, Option<Lease<O>>), StepFault>
-        ensures pass { IfOk result (λ r. IsAnswered B.base pass.old pass.new moment (owned.Accept listener real.now) r.0) }
+        ensures pass { IfOk result (λ r. IsAnswered B.opening pass.old pass.new moment (owned.Accept listener real.now) r.0) }
         ensures lease { IfOk result (λ r. option_map (λ lease. lease.id) r.1 ≡ open_id r.0.reply.said) }
-        ensures fault { IfErr result (IsRefused B.base moment (owned.Accept listener real.now)) }
+        ensures fault { IfErr result (IsRefused B.opening moment (owned.Accept listener real.now)) }
         ensures err { OnErr result (pass.new ≡ pass.old) }
     {
         self.locked.lock(rt).accept(pass, moment, listener, real)
@@ -63,7 +67,7 @@ impl<M: Ledger, O: Ledger, B: Base> SharedDesk<M, O, B> {
         lease: Lease<O>,
         drive: &Drive<'_>,
     ) -> Driven<O>
-        ensures { IsDriven B.base pass.old pass.new moment (driven_event lease.id drive.now) lease.id result }
+        ensures { IsDriven B.opening pass.old pass.new moment (driven_event lease.id drive.now) lease.id result }
     {
         self.locked.lock(rt).drive(pass, moment, lease, drive)
     }
@@ -77,9 +81,9 @@ impl<M: Ledger, O: Ledger, B: Base> SharedDesk<M, O, B> {
         lease: Lease<O>,
         why: Why,
     ) -> Result<Receipt, (StepFault, Lease<O>)>
-        ensures pass { IfOk result (λ r. IsAnswered B.base pass.old pass.new moment (owned.Close lease.id why) r) }
+        ensures pass { IfOk result (λ r. IsAnswered B.opening pass.old pass.new moment (owned.Close lease.id why) r) }
         ensures said { IfOk result (λ r. r.reply.said ≡ Closed lease.id why) }
-        ensures fault { IfErr result (λ failed. IsRefused B.base moment (owned.Close lease.id why) failed.0) }
+        ensures fault { IfErr result (λ failed. IsRefused B.opening moment (owned.Close lease.id why) failed.0) }
         ensures err { IfErr result (λ failed. (pass.new ≡ pass.old) × (failed.1.id ≡ lease.id)) }
     {
         self.locked.lock(rt).close(pass, moment, lease, why)
@@ -93,24 +97,32 @@ impl<M: Ledger, O: Ledger, B: Base> SharedDesk<M, O, B> {
         moment: u64,
         text: &str,
     ) -> Result<Receipt, StepFault>
-        ensures pass { IfOk result (λ r. IsAnswered B.base pass.old pass.new moment (owned.Reload text.now) r) }
+        ensures pass { IfOk result (λ r. IsAnswered B.opening pass.old pass.new moment (owned.Reload text.now) r) }
         ensures said { IfOk result (λ r. IsReloaded r.reply.said) }
-        ensures fault { IfErr result (IsRefused B.base moment (owned.Reload text.now)) }
+        ensures fault { IfErr result (IsRefused B.opening moment (owned.Reload text.now)) }
         ensures err { OnErr result (pass.new ≡ pass.old) }
     {
         self.locked.lock(rt).reload(pass, moment, text)
     }
 
+    /// Hands the records that are in memory over as one segment. It takes no memory.
+    pub fn cut<R: Wait>(&self, rt: &R) -> Result<(), CutFault>
+        ensures cut { OnOk result (IsCut B.opening) }
+        ensures fault { IfErr result (IsNotCut B.opening) }
+    {
+        self.locked.lock(rt).cut()
+    }
+
     /// What is open of that which is asked for, if there is such a thing.
     pub fn ask<R: Wait>(&self, rt: &R, ask: &Ask) -> Option<Counts>
-        ensures { IsCounted B.base ask.now result }
+        ensures { IsCounted B.opening ask.now result }
     {
         self.locked.lock(rt).counts(ask)
     }
 }
 
 /// A book that threads share, and its owner's means to give out passes.
-pub struct Desk<M: Ledger, O: Ledger, B: Base = AnyBase> {
+pub struct Desk<M: Ledger, O: Ledger, B: Opening = AnyOpening> {
     alloc: Global,
     shared: SharedDesk<M, O, B>,
     given: u64,
@@ -121,7 +133,7 @@ pub struct Desk<M: Ledger, O: Ledger, B: Base = AnyBase> {
 
 /// What is left of a desk: its book, and the tokens by which the passes' calls are its records, and the leases its open
 /// connections.
-pub struct Shut<M: Ledger, O: Ledger, B: Base = AnyBase> {
+pub struct Shut<M: Ledger, O: Ledger, B: Opening = AnyOpening> {
     pub(crate) book: Book,
     pub(crate) made: ledger::Book<M>,
     pub(crate) leases: ledger::Book<O>,
@@ -130,8 +142,8 @@ pub struct Shut<M: Ledger, O: Ledger, B: Base = AnyBase> {
     pub(crate) given: u64,
     pub(crate) pool: Share<M>,
     pub(crate) of: PhantomData<B>,
-    pub ghost base: { IsBase B.base book.base },
-    pub ghost rise: { MomentsRise book.journal },
+    pub ghost opened: { IsOf B.opening book },
+    pub ghost rise: { MomentsRise book.records },
     pub ghost counted: { book.made ≡ made.total },
     pub ghost leased: { open_connections book.state ≡ leases.total },
     pub ghost lives: { live ≡ leases.total },
@@ -140,22 +152,48 @@ pub struct Shut<M: Ledger, O: Ledger, B: Base = AnyBase> {
     pub ghost no_leases: { idle.amount ≡ 0 },
 }
 
-impl<M: Ledger, O: Ledger, B: Base> Shut<M, O, B> {
-    /// The book with all records.
+impl<M: Ledger, O: Ledger, B: Opening> Shut<M, O, B> {
+    /// The book.
     pub fn book(&self) -> &Book
         ensures book { result.now ≡ self.now.book }
-        ensures base { IsBase B.base result.now.base }
-        ensures rise { MomentsRise result.now.journal }
+        ensures opened { IsOf B.opening result.now }
+        ensures rise { MomentsRise result.now.records }
     {
         &self.book
     }
+
+    /// Hands the records in memory over as one segment, as the book does it.
+    pub fn cut(&mut self) -> Result<(), CutFault>
+        ensures sent { OnOk result (sent self.new.book.segments ≡ sent self.old.book.segments ++ segment_of self.old.book ∷ []) }
+        ensures new { OnOk result (self.new.book ≡ after_cut self.old.book self.new.book.segments) }
+        ensures ring { SameProducer self.old.book.segments self.new.book.segments }
+        ensures nothing { (result ≡ Err CutFault.Nothing) ↔ (self.old.book.journal ≡ []) }
+        ensures full { result ≡ Err CutFault.Full → known_free self.new.book.segments ≡ 0 }
+        ensures err { OnErr result ((self.new.book ≡ with_ring self.old.book self.new.book.segments) × ProducerLooked self.old.book.segments self.new.book.segments) }
+        ensures given { self.new.given ≡ self.old.given }
+    {
+        self.book.cut()
+    }
+
+    /// How many segments are still in the ring, for whoever has its other end. Then it is known which they are.
+    pub fn left(&mut self, segments: &mut Consumer<Segment>) -> usize
+        requires { IsPair self.old.book.segments segments.old }
+        ensures value { result ≡ length (known_items segments.new) }
+        ensures fifo { received segments.new ++ known_items segments.new ≡ sent self.new.book.segments }
+        ensures consumer { ConsumerLooked segments.old segments.new }
+        ensures producer { ProducerLooked self.old.book.segments self.new.book.segments }
+        ensures new { self.new.book ≡ with_ring self.old.book self.new.book.segments }
+        ensures given { self.new.given ≡ self.old.given }
+    {
+        self.book.left(segments)
+    }
 }
 
-impl<M: Ledger, O: Ledger, B: Base> Desk<M, O, B> {
+impl<M: Ledger, O: Ledger, B: Opening> Desk<M, O, B> {
     /// A desk over a book with no record and no open connection. Of the blanks one becomes the ledger of calls, the
     /// other that of leases.
     pub fn new(alloc: Global, book: Book, made: Blank, leases: Blank) -> Desk<M, O, B>
-        requires base { IsBase B.base book.base }
+        requires opened { IsOf B.opening book }
         requires fresh { (book.made ≡ 0) × (open_connections book.state ≡ 0) × (open_connections book.base ≡ 0) }
         requires made_name { made.name ≡ M.name }
         requires made_parts { (made.parts ≡ M.parts) × (made.parts ≡ 65537) }
@@ -212,8 +250,8 @@ impl<M: Ledger, O: Ledger, B: Base> Desk<M, O, B> {
     /// Ends the calls.
     pub fn into_book(self) -> Shut<M, O, B>
         ensures given { result.given ≡ self.given }
-        ensures base { IsBase B.base result.book.base }
-        ensures rise { MomentsRise result.book.journal }
+        ensures opened { IsOf B.opening result.book }
+        ensures rise { MomentsRise result.book.records }
     {
         let Desk {
             alloc: _,

@@ -1,7 +1,7 @@
 //! Laws of receipts.
 ghost use Rattle.desk_core.specs.Receipts.{EachIsReceiptOfOneCall, FirstFaultIsOne};
 
-/// Where the passes keep as many receipts as the journal has records, each record is the receipt of exactly one call.
+/// Where the passes keep as many receipts as there are records, each record is the receipt of exactly one call.
 pub fn each_is_receipt_of_one_call()
     ensures { EachIsReceiptOfOneCall }
 {}

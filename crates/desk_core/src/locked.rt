@@ -1,18 +1,18 @@
 //! What the lock of a desk guards.
-ghost use Rattle.std.specs.Prelude.{◌≡◌, ◌-◌, ◌+◌, ◌^◌, IfOk, IfErr, OnErr};
+ghost use Rattle.std.specs.Prelude.{◌≡◌, ◌-◌, ◌+◌, ◌^◌, IfOk, IfErr, OnErr, OnOk};
 ghost use Rattle.std.specs.Option.{option_map};
 ghost use Rattle.conn_model.specs.History.{is_last, owned_event};
 ghost use Rattle.conn_model.specs.declared.event.OwnedEvent.TheVariants as owned;
 ghost use Rattle.conn_model.specs.declared.reply.Said.TheVariants.{Closed};
 ghost use Rattle.book_core.specs.Open.{open_connections};
-ghost use Rattle.desk_core.specs.Calls.{open_id, IsAnswered, IsCounted, IsRefused, IsReloaded};
+ghost use Rattle.desk_core.specs.Calls.{open_id, IsAnswered, IsCounted, IsCut, IsNotCut, IsRefused, IsReloaded};
 
-use crate::base::Base;
 use crate::counted::CountedBook;
 use crate::lease::{Drive, Driven, Lease};
+use crate::naming::Opening;
 use crate::pass::Pass;
 use addr_core::Pair;
-use book_core::Receipt;
+use book_core::{CutFault, Receipt};
 use conn_model::ask::{Ask, Counts};
 use conn_model::event::{ConnId, Event, Why};
 use conn_model::reply::{Said, StepFault};
@@ -38,7 +38,7 @@ fn is_end(said: &Said) -> bool
 }
 
 /// What the lock guards. Whenever it is free, as many connections are open as leases are out.
-pub(crate) struct Locked<M: Ledger, O: Ledger, B: Base> {
+pub(crate) struct Locked<M: Ledger, O: Ledger, B: Opening> {
     pub(crate) counted: CountedBook<M, B>,
     pub(crate) leases: ledger::Book<O>,
     pub(crate) idle: Share<O>,
@@ -51,7 +51,7 @@ pub(crate) struct Locked<M: Ledger, O: Ledger, B: Base> {
     pub ghost parts: { idle.parts + leases.total ≡ 2 ^ 64 - 1 },
 }
 
-impl<M: Ledger, O: Ledger, B: Base> Locked<M, O, B> {
+impl<M: Ledger, O: Ledger, B: Opening> Locked<M, O, B> {
     ghost use Rattle.desk_core.specs.Driving.{driven_event, EndsOnly, IsDriven};
 
     pub(crate) fn accept(
@@ -61,9 +61,9 @@ impl<M: Ledger, O: Ledger, B: Base> Locked<M, O, B> {
         listener: u16,
         real: &Pair,
     ) -> Result<(Receipt, Option<Lease<O>>), StepFault>
-        ensures pass { IfOk result (λ r. IsAnswered B.base pass.old pass.new moment (owned.Accept listener real.now) r.0) }
+        ensures pass { IfOk result (λ r. IsAnswered B.opening pass.old pass.new moment (owned.Accept listener real.now) r.0) }
         ensures lease { IfOk result (λ r. option_map (λ lease. lease.id) r.1 ≡ open_id r.0.reply.said) }
-        ensures fault { IfErr result (IsRefused B.base moment (owned.Accept listener real.now)) }
+        ensures fault { IfErr result (IsRefused B.opening moment (owned.Accept listener real.now)) }
         ensures err { OnErr result (pass.new ≡ pass.old) }
     {
         let Locked {
@@ -92,7 +92,7 @@ impl<M: Ledger, O: Ledger, B: Base> Locked<M, O, B> {
         event: &Event,
     ) -> Driven<O>
         requires { EndsOnly (owned_event event.now) }
-        ensures { IsDriven B.base pass.old pass.new moment (owned_event event.now) lease.id result }
+        ensures { IsDriven B.opening pass.old pass.new moment (owned_event event.now) lease.id result }
     {
         let Locked {
             counted,
@@ -123,7 +123,7 @@ impl<M: Ledger, O: Ledger, B: Base> Locked<M, O, B> {
         lease: Lease<O>,
         drive: &Drive<'_>,
     ) -> Driven<O>
-        ensures { IsDriven B.base pass.old pass.new moment (driven_event lease.id drive.now) lease.id result }
+        ensures { IsDriven B.opening pass.old pass.new moment (driven_event lease.id drive.now) lease.id result }
     {
         let id = lease.id;
         match *drive {
@@ -141,9 +141,9 @@ impl<M: Ledger, O: Ledger, B: Base> Locked<M, O, B> {
         lease: Lease<O>,
         why: Why,
     ) -> Result<Receipt, (StepFault, Lease<O>)>
-        ensures pass { IfOk result (λ r. IsAnswered B.base pass.old pass.new moment (owned.Close lease.id why) r) }
+        ensures pass { IfOk result (λ r. IsAnswered B.opening pass.old pass.new moment (owned.Close lease.id why) r) }
         ensures said { IfOk result (λ r. r.reply.said ≡ Closed lease.id why) }
-        ensures fault { IfErr result (λ failed. IsRefused B.base moment (owned.Close lease.id why) failed.0) }
+        ensures fault { IfErr result (λ failed. IsRefused B.opening moment (owned.Close lease.id why) failed.0) }
         ensures err { IfErr result (λ failed. (pass.new ≡ pass.old) × (failed.1.id ≡ lease.id)) }
     {
         let Locked {
@@ -170,16 +170,23 @@ impl<M: Ledger, O: Ledger, B: Base> Locked<M, O, B> {
         moment: u64,
         text: &str,
     ) -> Result<Receipt, StepFault>
-        ensures pass { IfOk result (λ r. IsAnswered B.base pass.old pass.new moment (owned.Reload text.now) r) }
+        ensures pass { IfOk result (λ r. IsAnswered B.opening pass.old pass.new moment (owned.Reload text.now) r) }
         ensures said { IfOk result (λ r. IsReloaded r.reply.said) }
-        ensures fault { IfErr result (IsRefused B.base moment (owned.Reload text.now)) }
+        ensures fault { IfErr result (IsRefused B.opening moment (owned.Reload text.now)) }
         ensures err { OnErr result (pass.new ≡ pass.old) }
     {
         self.counted.reload(pass, moment, text)
     }
 
+    pub(crate) fn cut(&mut self) -> Result<(), CutFault>
+        ensures cut { OnOk result (IsCut B.opening) }
+        ensures fault { IfErr result (IsNotCut B.opening) }
+    {
+        self.counted.cut()
+    }
+
     pub(crate) fn counts(&self, ask: &Ask) -> Option<Counts>
-        ensures { IsCounted B.base ask.now result }
+        ensures { IsCounted B.opening ask.now result }
     {
         self.counted.attest();
         self.counted.book.counts(ask)

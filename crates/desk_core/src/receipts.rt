@@ -1,10 +1,11 @@
-//! Whether the receipts that passes keep are the records of a journal.
-ghost use Rattle.std.specs.Prelude.{◌≡◌, ◌++◌, ◌∷◌, ◌↔◌, [], Some, None, IsTrue, OnOk, IfErr, MatchOption};
+//! Whether the receipts that passes keep are the records of a book.
+ghost use Rattle.std.specs.Prelude.{◌++◌, ◌∷◌, ◌↔◌, [], IsTrue, OnOk, IfErr};
 ghost use Rattle.std.specs.List.{All};
 ghost use Rattle.desk_core.specs.Calls.{kept_of};
-ghost use Rattle.desk_core.specs.Receipts.{record_under, AreBelow, AreReceipts, HasEarlier, HasNumber, IsFaultOf, IsFirstFault, NumbersRise};
+ghost use Rattle.desk_core.specs.Receipts.{record_from, AreBelow, AreReceipts, HasEarlier, HasNumber, IsFaultOf, IsFirstFault, NumbersRise};
 
 use crate::pass::Pass;
+use crate::records::Records;
 use crate::same::same_record;
 use record_core::Record;
 use std::sync::ledger::Ledger;
@@ -20,17 +21,6 @@ pub enum SettleFault {
     Twice(u64),
     /// The passes are not as many as were given out, or the leases not as many as the open connections.
     NotAll,
-}
-
-/// The record of that number.
-fn find(journal: &[Record], number: u64) -> Option<&Record>
-    ensures { MatchOption result (record_under journal.now number ≡ None) (λ r. record_under journal.now number ≡ Some r.now) }
-{
-    if number < 1 {
-        None
-    } else {
-        journal.get((number - 1) as usize)
-    }
 }
 
 /// Whether a record of the pass has the number, by halving.
@@ -81,17 +71,17 @@ fn is_above(part: &[Record], number: u64) -> bool
 
 /// Whether a receipt is right that comes after these passes and this part of its own.
 fn check_receipt<M: Ledger>(
-    journal: &[Record],
+    records: &Records<'_>,
     before: &[Pass<M>],
     part: &[Record],
     receipt: &Record,
 ) -> Result<(), SettleFault>
-    requires { AreReceipts (record_under journal.now) (kept_of before.now ++ part.now ∷ []) }
-    ensures ok { OnOk result (AreReceipts (record_under journal.now) (kept_of before.now ++ (part.now ++ receipt.now ∷ []) ∷ [])) }
-    ensures bad { IfErr result (λ f. IsFaultOf (record_under journal.now) (kept_of before.now) part.now receipt.now f) }
+    requires { AreReceipts (record_from records.now) (kept_of before.now ++ part.now ∷ []) }
+    ensures ok { OnOk result (AreReceipts (record_from records.now) (kept_of before.now ++ (part.now ++ receipt.now ∷ []) ∷ [])) }
+    ensures bad { IfErr result (λ f. IsFaultOf (record_from records.now) (kept_of before.now) part.now receipt.now f) }
 {
     let number = receipt.number;
-    let Some(record) = find(journal, number) else {
+    let Some(record) = records.find(number) else {
         return Err(SettleFault::Missing(number));
     };
     if !same_record(record, receipt) {
@@ -108,17 +98,17 @@ fn check_receipt<M: Ledger>(
 
 /// Whether the receipts of one more pass are right.
 fn check_pass<M: Ledger>(
-    journal: &[Record],
+    records: &Records<'_>,
     before: &[Pass<M>],
     pass: &[Record],
 ) -> Result<(), SettleFault>
-    requires { AreReceipts (record_under journal.now) (kept_of before.now) }
-    ensures ok { OnOk result (AreReceipts (record_under journal.now) (kept_of before.now ++ pass.now ∷ [])) }
-    ensures bad { IfErr result (λ f. IsFirstFault (record_under journal.now) (kept_of before.now ++ pass.now ∷ []) f) }
+    requires { AreReceipts (record_from records.now) (kept_of before.now) }
+    ensures ok { OnOk result (AreReceipts (record_from records.now) (kept_of before.now ++ pass.now ∷ [])) }
+    ensures bad { IfErr result (λ f. IsFirstFault (record_from records.now) (kept_of before.now ++ pass.now ∷ []) f) }
 {
     for at in 0..pass.len() {
         let receipt = &pass[at];
-        if let Err(fault) = check_receipt(journal, before, &pass[..at], receipt) {
+        if let Err(fault) = check_receipt(records, before, &pass[..at], receipt) {
             return Err(fault);
         }
     }
@@ -127,15 +117,15 @@ fn check_pass<M: Ledger>(
 
 /// Whether the receipts that the passes keep are the records of their numbers, each the receipt of one call alone.
 pub(crate) fn check_receipts<M: Ledger>(
-    journal: &[Record],
+    records: &Records<'_>,
     passes: &[Pass<M>],
 ) -> Result<(), SettleFault>
-    ensures ok { OnOk result (AreReceipts (record_under journal.now) (kept_of passes.now)) }
-    ensures bad { IfErr result (λ f. IsFirstFault (record_under journal.now) (kept_of passes.now) f) }
+    ensures ok { OnOk result (AreReceipts (record_from records.now) (kept_of passes.now)) }
+    ensures bad { IfErr result (λ f. IsFirstFault (record_from records.now) (kept_of passes.now) f) }
 {
     for at in 0..passes.len() {
         let pass = passes[at].kept();
-        if let Err(fault) = check_pass(journal, &passes[..at], pass) {
+        if let Err(fault) = check_pass(records, &passes[..at], pass) {
             return Err(fault);
         }
     }

@@ -2,8 +2,8 @@
 ghost use Rattle.std.specs.Prelude.{◌≡◌, ◌+◌, vec_capacity, vec_len};
 ghost use Rattle.desk_core.specs.Calls.{calls_of};
 
-use crate::base::Base;
 use crate::desk::Shut;
+use crate::naming::Opening;
 use crate::pass::Pass;
 use std::sync::ledger;
 use std::sync::ledger::{Ledger, Share};
@@ -40,7 +40,7 @@ fn recount<M: Ledger>(made: &mut ledger::Book<M>, pool: &mut Share<M>, passes: &
     });
 }
 
-impl<M: Ledger, O: Ledger, B: Base> Shut<M, O, B> {
+impl<M: Ledger, O: Ledger, B: Opening> Shut<M, O, B> {
     /// How many calls were answered. Where all passes are there, it is the sum of theirs. Nothing is spent.
     pub fn count_calls(&mut self, passes: &mut Vec<Pass<M>>) -> u64
         requires { M.parts ≡ 65537 }
@@ -60,6 +60,6 @@ impl<M: Ledger, O: Ledger, B: Base> Shut<M, O, B> {
             of: _,
         } = self;
         recount(made, pool, passes);
-        book.journal().len() as u64
+        book.made()
     }
 }

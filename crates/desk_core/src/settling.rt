@@ -2,15 +2,18 @@
 ghost use Rattle.std.specs.Prelude.{◌≡◌, ◌≤◌, ◌+◌, ◌^◌, ◌↔◌, IfOk, IfErr, IsTrue, MatchOption, OnOk, ℕ, sum_by, vec_len};
 ghost use Rattle.book_core.specs.Open.{open_connections, IsNothingCounted};
 ghost use Rattle.desk_core.specs.Calls.{calls_of, kept_of, AllKeep, AreWhole};
-ghost use Rattle.desk_core.specs.Receipts.{record_under, AreReceipts, IsReceiptOfOneCall};
-ghost use Rattle.desk_core.specs.Settling.{AreAll, IsSettleFault};
+ghost use Rattle.desk_core.specs.Receipts.{AreReceipts, IsFirstFault, IsReceiptOfOneCall};
+ghost use Rattle.desk_core.specs.Settling.{book_record, AreAll, HaveAllRecords, IsSettleFault};
 
-use crate::base::Base;
 use crate::desk::Shut;
 use crate::lease::Lease;
+use crate::naming::Opening;
 use crate::pass::Pass;
 use crate::receipts::{SettleFault, check_receipts};
+use crate::records::Records;
+use book_core::Book;
 use book_core::laws::nothing_is_counted;
+use record_core::Segment;
 use std::sync::ledger::{Ledger, Share};
 
 /// What passes and leases account for.
@@ -71,11 +74,28 @@ fn gather<M: Ledger>(pool: &mut Share<M>, mut passes: Vec<Pass<M>>)
     }
 }
 
-/// Whether the passes and the leases of a desk account for its book. It spends them, and ends the book.
-pub fn settle<M: Ledger, O: Ledger, B: Base>(
+/// Whether the receipts that the passes keep are records of the book, of which these segments were handed on.
+fn check_book<M: Ledger>(
+    book: &Book,
+    segments: &[Segment],
+    passes: &[Pass<M>],
+) -> Result<(), SettleFault>
+    ensures ok { OnOk result (AreReceipts (book_record segments.now book.now) (kept_of passes.now)) }
+    ensures bad { IfErr result (IsFirstFault (book_record segments.now book.now) (kept_of passes.now)) }
+{
+    let journal = book.journal();
+    let before = book.made() - journal.len() as u64;
+    let records = Records::new(segments, before, journal);
+    check_receipts(&records, passes)
+}
+
+/// Whether the passes and the leases of a desk account for its book, of which these segments were handed on. It spends
+/// them, and ends the book.
+pub fn settle<M: Ledger, O: Ledger, B: Opening>(
     shut: Shut<M, O, B>,
     passes: Vec<Pass<M>>,
     left: Vec<Vec<Lease<O>>>,
+    segments: &[Segment],
 ) -> Result<Settled, SettleFault>
     requires { M.parts ≡ 65537 }
     // All passes are there, and their calls are the records.
@@ -86,11 +106,13 @@ pub fn settle<M: Ledger, O: Ledger, B: Base>(
     // With no lease left nothing is counted, whatever is asked for.
     ensures nothing { IfOk result (λ s. s.live ≡ 0 → IsNothingCounted shut.book.state) }
     // Each receipt that is kept is the record of its number, and that of no other call.
-    ensures receipts { OnOk result (AreReceipts (record_under shut.book.journal) (kept_of passes.items)) }
-    // Where all passes keep their records, each record is the receipt of exactly one call.
-    ensures once { OnOk result (AllKeep passes.items → (n : ℕ) → 1 ≤ n → n ≤ shut.book.made → IsReceiptOfOneCall (record_under shut.book.journal) (kept_of passes.items) n) }
+    ensures receipts { OnOk result (AreReceipts (book_record segments.now shut.book) (kept_of passes.items)) }
+    // Where all passes keep their records, and the segments and the journal have all records, each record is the receipt of
+    // exactly one call.
+    ensures once { OnOk result (AllKeep passes.items → HaveAllRecords segments.now shut.book → (n : ℕ) → 1 ≤ n → n ≤ shut.book.made
+        → IsReceiptOfOneCall (book_record segments.now shut.book) (kept_of passes.items) n) }
     // Else it is the first fault.
-    ensures fault { IfErr result (IsSettleFault (AreAll (vec_len passes) shut.given (sum_by (λ leases. vec_len leases) left.items) (open_connections shut.book.state)) (record_under shut.book.journal) (kept_of passes.items)) }
+    ensures fault { IfErr result (IsSettleFault (AreAll (vec_len passes) shut.given (sum_by (λ leases. vec_len leases) left.items) (open_connections shut.book.state)) (book_record segments.now shut.book) (kept_of passes.items)) }
 {
     nothing_is_counted();
     let Shut {
@@ -106,11 +128,11 @@ pub fn settle<M: Ledger, O: Ledger, B: Base>(
     let all_passes = passes.len() as u64 == given;
     let all_leases = are_as_many(left, live);
     let verdict = if all_passes && all_leases {
-        check_receipts(book.journal(), passes.as_slice())
+        check_book(&book, segments, passes.as_slice())
     } else {
         Err(SettleFault::NotAll)
     };
-    let count = book.journal().len() as u64;
+    let count = book.made();
     gather(&mut pool, passes);
     made.audit(&mut pool);
     book.end();

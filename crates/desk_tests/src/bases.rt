@@ -4,7 +4,7 @@ ghost use Rattle.book_core.specs.Open.{open_connections};
 
 use crate::books::open_book;
 use book_core::Book;
-use desk_core::{Base, Desk, settle};
+use desk_core::{Opening, Desk, settle};
 use std::alloc::Global;
 use std::marker::Brand;
 use std::sync::ledger::{Blank, Ledger};
@@ -13,7 +13,7 @@ use std::test::Fail;
 const PLAIN: &str =
     "frontend web\nbind 127.0.0.1:8080\ndefault_backend app\nbackend app\nserver s1 10.0.0.11:443\n";
 
-fn clock_after<M: Ledger, O: Ledger, B: Base>(
+fn clock_after<M: Ledger, O: Ledger, B: Opening>(
     alloc: Global,
     book: Book,
     made: Blank,
@@ -24,7 +24,7 @@ fn clock_after<M: Ledger, O: Ledger, B: Base>(
     requires made_parts { (made.parts ≡ M.parts) × (made.parts ≡ 65537) }
     requires units_name { units.name ≡ O.name }
     requires units_parts { (units.parts ≡ O.parts) × (units.parts ≡ 2 ^ 64 - 1) }
-    requires base { B.base ≡ Some book.base }
+    requires base { B.opening ≡ Some book }
     ensures { result ≡ book.base.clock }
 {
     let desk = Desk::<M, O, B>::new(alloc, book, made, units);

@@ -7,6 +7,7 @@ use book_core::Book;
 use book_core::laws::open_connections_change;
 use conn_core::Core;
 use desk_core::Lease;
+use rtrb::RingBuffer;
 use std::alloc::Global;
 use std::sync::ledger::Ledger;
 use std::test::Fail;
@@ -21,10 +22,15 @@ pub fn open_book(alloc: Global, text: &str) -> Option<Book>
     let Ok(core) = Core::open(alloc, text) else {
         return None;
     };
-    match Book::open(alloc, core) {
+    let Ok((segments, _taken)) = RingBuffer::new(alloc, 1) else {
+        core.end();
+        return None;
+    };
+    match Book::open(alloc, core, segments) {
         Ok(book) => Some(book),
         Err(failed) => {
-            failed.value.end();
+            let (core, _segments) = failed.value;
+            core.end();
             None
         }
     }

@@ -13,6 +13,8 @@ mod leases;
 #[cfg(test)]
 mod reloads;
 #[cfg(test)]
+mod segments;
+#[cfg(test)]
 mod servers;
 #[cfg(test)]
 mod threads;

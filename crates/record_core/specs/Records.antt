@@ -1,7 +1,8 @@
 -- Records as a history.
-use Rattle.std.specs.Prelude.{◌≡◌, ℕ, ◌+◌, List, [], ◌∷◌}
+use Rattle.std.specs.Prelude.{◌≡◌, ℕ, ◌+◌, List, [], ◌∷◌, ◌++◌, length}
 use Rattle.conn_model.specs.History.{Entry, entry}
 use Rattle.record_core.specs.declared.record.Record.{Record}
+use Rattle.record_core.specs.declared.segment.Segment.{Segment}
 
 -- the record of an answered event
 abbrev pub record_of : ℕ → Entry → Record
@@ -23,3 +24,13 @@ history_of records = history_on [] records
 abbrev pub AreNumbered : ℕ → List Record → Type 0
 AreNumbered first [] = Unit {0}
 AreNumbered first (r ∷ records) = (r.number ≡ first) × AreNumbered (first + 1) records
+
+-- the records of segments in a row, the oldest first
+abbrev pub joined : List Segment → List Record
+joined [] = []
+joined (s ∷ segments) = s.records ++ joined segments
+
+-- the first segment begins with that number, and each next one follows the one before
+abbrev pub AreChained : ℕ → List Segment → Type 0
+AreChained first [] = Unit {0}
+AreChained first (s ∷ segments) = (s.first ≡ first) × AreChained (first + length s.records) segments

@@ -7,5 +7,5 @@ ghosts-run-M-Ledger g a = record { name = a.made.name; parts = a.made.parts }
 abbrev pub ghosts-run-O-Ledger : goal.ghosts-run-O-Ledger
 ghosts-run-O-Ledger g a = record { name = a.leases.name; parts = a.leases.parts }
 
-abbrev pub ghosts-run-B-Base : goal.ghosts-run-B-Base
-ghosts-run-B-Base g a = record { base = Some a.book.base }
+abbrev pub ghosts-run-B-Opening : goal.ghosts-run-B-Opening
+ghosts-run-B-Opening g a = record { opening = Some a.book }

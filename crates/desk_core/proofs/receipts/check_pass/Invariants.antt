@@ -1,7 +1,7 @@
 use Rattle.std.proofs.Common.{◌++◌, ◌∷◌, [], take}
 use Rattle.desk_core.specs.Calls.{kept_of}
-use Rattle.desk_core.specs.Receipts.{AreReceipts, record_under}
+use Rattle.desk_core.specs.Receipts.{AreReceipts, record_from}
 use Rattle.desk_core.proofs.receipts.check_pass.Given as goal
 
 abbrev pub invariant-loop-at : goal.invariant-loop-at
-invariant-loop-at g l = AreReceipts (record_under l.journal) (kept_of l.before ++ take l.at l.pass ∷ [])
+invariant-loop-at g l = AreReceipts (record_from l.records) (kept_of l.before ++ take l.at l.pass ∷ [])

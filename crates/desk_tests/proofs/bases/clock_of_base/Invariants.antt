@@ -7,5 +7,5 @@ ghosts-clock_after-M-Ledger a = record { name = a.made.name; parts = a.made.part
 abbrev pub ghosts-clock_after-O-Ledger : goal.ghosts-clock_after-O-Ledger
 ghosts-clock_after-O-Ledger a = record { name = a.units.name; parts = a.units.parts }
 
-abbrev pub ghosts-clock_after-B-Base : goal.ghosts-clock_after-B-Base
-ghosts-clock_after-B-Base a = record { base = Some a.book.base }
+abbrev pub ghosts-clock_after-B-Opening : goal.ghosts-clock_after-B-Opening
+ghosts-clock_after-B-Opening a = record { opening = Some a.book }

@@ -1,31 +1,38 @@
-use Rattle.std.proofs.Common.{rules, ◌≡◌, ◌≤◌, ◌+◌, ap, arith}
-use Rattle.conn_model.specs.History.{owned_event}
+use Rattle.std.proofs.Common.{rules, ◌≡◌, ◌≤◌, ◌+◌, ap, arith, ◌∙◌}
+use Rattle.conn_model.specs.History.{entry, owned_event, Entry}
 use Rattle.record_core.specs.Records.{history_of}
 use Rattle.book_core.specs.Open.{open_connections}
-use Rattle.book_core.specs.Book.{state_of, BookState}
-use Rattle.book_core.proofs.BookLemmas.{book_goes_on, state_few, state_well}
+use Rattle.book_core.specs.Book.{state_of, with_entry, BookState}
+use Rattle.book_core.proofs.BookLemmas.{book_goes_on, made_by_step, state_few, state_well}
 use Rattle.book_core.proofs.OpenLemmas.{open_after_answer}
 use Rattle.book_core.proofs.book.Book.step.Goals as goal
 
 pub invariant_of-self-2 : goal.invariant_of-self-2
 invariant_of-self-2 c =
-    let before : BookState = state_of c.self.inside.base c.self.inside.journal.items c.self.inside.core c.self.inside.made in
-    let stepped = c.in_ok-reply.ensures.reply c.self.inside.base (history_of c.self.inside.journal.items) c.self.invariant.well c.self.invariant.legal c.self.invariant.state in
+    let before : BookState = state_of c.self.inside.base c.self.inside.journal.items c.self.inside.segments c.self.inside.core c.self.inside.made in
+    let stepped = c.in_ok-reply.ensures.reply c.self.inside.base (history_of before.records) c.self.invariant.well c.self.invariant.legal c.self.invariant.state in
     rw (c.push_reserved.ensures.items, c.reserve.ensures.items, c.in-Ok-copy_event.ensures)
     (book_goes_on before c.args.moment (owned_event c.args.event.now) c.in_ok-reply.reply c.step.new.self c.self.invariant stepped.0 stepped.1)
+
+pub returns-clause-new : goal.returns-clause-new
+returns-clause-new c =
+    let before : BookState = state_of c.self.inside.base c.self.inside.journal.items c.self.inside.segments c.self.inside.core c.self.inside.made in
+    let e : Entry = entry c.args.moment (owned_event c.args.event.now) c.in_ok-reply.reply in
+    rw (c.push_reserved.ensures.items, c.reserve.ensures.items, c.in-Ok-copy_event.ensures, c.copy_reply.ensures)
+    (made_by_step before e c.step.new.self c.self.invariant c.in_ok-reply.ensures.plain_new ∙ ap (λ b. with_entry b e) c.self.view_is)
 
 pub returns-clause-legal : goal.returns-clause-legal
 returns-clause-legal c = invariant_of-self-2 c
 
 pub returns-clause-open_connections : goal.returns-clause-open_connections
 returns-clause-open_connections c =
-    let before : BookState = state_of c.self.inside.base c.self.inside.journal.items c.self.inside.core c.self.inside.made in
+    let before : BookState = state_of c.self.inside.base c.self.inside.journal.items c.self.inside.segments c.self.inside.core c.self.inside.made in
     let state : c.self.inside.core ≡ c.args.self.now.state = ap (λ b. b.state) c.self.view_is in
     rw (c.copy_reply.ensures, c.in_ok-reply.ensures.plain_new, ← state)
     (open_after_answer c.self.inside.core (state_well before c.self.invariant) c.args.moment (owned_event c.args.event.now) c.in_ok-reply.reply c.in_ok-reply.ensures.plain_reply)
 
 pub returns-clause-few : goal.returns-clause-few
 returns-clause-few c =
-    let before : BookState = state_of c.self.inside.base c.self.inside.journal.items c.self.inside.core c.self.inside.made in
+    let before : BookState = state_of c.self.inside.base c.self.inside.journal.items c.self.inside.segments c.self.inside.core c.self.inside.made in
     let few : open_connections before.state ≤ open_connections before.base + before.made = state_few before c.self.invariant in
     rw (← c.self.view_is) (search rules, omega (arith, few))

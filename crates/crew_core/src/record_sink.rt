@@ -1,0 +1,76 @@
+//! A writer of the record.
+ghost use Rattle.std.specs.Prelude.{◌≡◌, ◌⊎◌, IsSome, None, OnErr, OnOk};
+ghost use Rattle.std.specs.Io.KnownBytes.{Appends};
+ghost use Rattle.audit_core.specs.Recording.{records_text, AppendsFront};
+ghost use Rattle.book_core.specs.Book.{IsBook};
+
+use crate::outlet::{Sink, SinkFault};
+use audit_core::{RecordFault, write_journal};
+use book_core::Book;
+use device_core::Output;
+use record_core::Segment;
+use std::alloc::Global;
+
+/// Writes segments as text, up to the first that the writer does not take whole. A record with a gap could not be checked,
+/// so all after that one are refused.
+#[derive(Drop)]
+pub(crate) struct RecordSink<W: Output> {
+    alloc: Global,
+    writer: W,
+    fault: Option<RecordFault>,
+}
+
+impl<W: Output + Drop> RecordSink<W> {
+    pub(crate) fn new(alloc: Global, writer: W) -> RecordSink<W>
+        ensures writer { result.writer ≡ writer }
+        ensures fault { result.fault ≡ None }
+    {
+        RecordSink {
+            alloc,
+            writer,
+            fault: None,
+        }
+    }
+
+    /// Writes what the book has in memory, unless a segment was refused.
+    pub(crate) fn finish(self, book: &Book) -> (Result<(), RecordFault>, W)
+        ensures ok { OnOk result.0 ((self.fault ≡ None) × Appends (W.held self.writer) (W.held result.1) (records_text book.now.journal)) }
+        ensures front { OnErr result.0 ((IsSome self.fault × (result.1 ≡ self.writer)) ⊎ ((self.fault ≡ None) × AppendsFront (W.held self.writer) (W.held result.1) (records_text book.now.journal))) }
+        ensures legal { IsBook book.now }
+    {
+        let RecordSink {
+            alloc,
+            mut writer,
+            fault,
+        } = self;
+        let journal = book.journal();
+        let written = match fault {
+            Some(fault) => Err(fault),
+            None => write_journal(alloc, journal, &mut writer),
+        };
+        (written, writer)
+    }
+}
+
+impl<W: Output + Drop> Sink for RecordSink<W> {
+    ghost use Rattle.std.specs.Prelude.{◌≡◌, IsSome, None};
+    ghost use Rattle.std.specs.Io.KnownBytes.{Appends};
+    ghost use Rattle.audit_core.specs.Recording.{records_text, AppendsFront};
+
+    ghost takes = { λ old segment new. (old.fault ≡ None) × (new.fault ≡ None) × Appends (W.held old.writer) (W.held new.writer) (records_text segment.records) };
+
+    ghost refuses = { λ old segment new. IsSome new.fault × (old.fault ≡ None → AppendsFront (W.held old.writer) (W.held new.writer) (records_text segment.records)) × (IsSome old.fault → new.writer ≡ old.writer) };
+
+    fn take(&mut self, segment: Segment) -> Result<(), SinkFault> {
+        if self.fault.is_some() {
+            return Err(SinkFault);
+        }
+        match write_journal(self.alloc, segment.records.as_slice(), &mut self.writer) {
+            Ok(()) => Ok(()),
+            Err(fault) => {
+                self.fault = Some(fault);
+                Err(SinkFault)
+            }
+        }
+    }
+}
