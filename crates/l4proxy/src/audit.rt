@@ -55,7 +55,11 @@ fn say_broken_off<R: Files + AllocGlobal + Eprint>(rt: &R, record: &str, line: u
     let Some(whole) = whole_entries(rt, record, line) else {
         return;
     };
-    let entries = if whole == 1 { "entry is" } else { "entries are" };
+    let entries = if whole == 1 {
+        "entry is"
+    } else {
+        "entries are"
+    };
     let _written = eprintln!(rt;
         "l4proxy: {record}: it ends in the midst of an entry: {whole} whole {entries} right, and it breaks off at line {line}"
     );
