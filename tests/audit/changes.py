@@ -3,8 +3,9 @@
 
     tests/audit/changes.py PROGRAM
 
-What `audit` has to say of each is worked out here, by a model of the one configuration below and of the form of records,
-and without the program. Prints what differs, and how many texts were tried; the exit status is 0 if nothing differs.
+What `audit` has to write of each on standard output and on standard error is worked out here, by a model of the one
+configuration below and of the form of records, and without the program. Prints what differs, and how many texts were tried;
+the exit status is 0 if nothing differs.
 """
 import concurrent.futures
 import ipaddress
@@ -45,6 +46,7 @@ conn 0.1 real 192.0.2.5:4000 src 192.0.2.5:4000 line 9 closed done
 conn 0.4 real 192.0.2.5:4002 src 192.0.2.5:4002 line 9 closed failed
 checked 7 open 0
 """
+FAULT = re.compile(rb'line (\d+): (?:Format|WrongReply)\n')
 DECIMAL = re.compile(rb'0|[1-9][0-9]*')
 FAR = ipaddress.ip_network('198.51.100.0/24')
 
@@ -164,6 +166,17 @@ def audit(text):
     return ends + b'checked %d open %d\n' % (len(lines) // 2, len(balancer.open)), 0
 
 
+def broken_off(name, text, out):
+    """What `audit` says of a text that ends before the line of its fault does, or nothing."""
+    fault = FAULT.fullmatch(out)
+    if not fault or int(fault.group(1)) <= text.count(b'\n'):
+        return b''
+    line = int(fault.group(1))
+    whole = sum(part.startswith(b'= ') for part in text.split(b'\n')[:line - 1])
+    right = b'%d whole %s right' % (whole, b'entry is' if whole == 1 else b'entries are')
+    return b'l4proxy: %s: it ends in the midst of an entry: %s, and it breaks off at line %d\n' % (name, right, line)
+
+
 def texts():
     """Each front of the record, and each text that differs from it in one byte: by its lowest bit, by a line feed (or
     else a space), and by a byte that no text has."""
@@ -186,8 +199,10 @@ def main():
             record.write_bytes(text)
             done = subprocess.run([program, 'audit', config, record], stdin=subprocess.DEVNULL, capture_output=True)
             record.unlink()
-            expected = audit(text)
-            return expected[1], None if (done.stdout, done.returncode) == expected else f'{title}: {done.stdout!r}, not {expected!r}'
+            out, status = audit(text)
+            expected = out, status, broken_off(str(record).encode(), text, out)
+            got = done.stdout, done.returncode, done.stderr
+            return status, None if got == expected else f'{title}: {got!r}, not {expected!r}'
 
         results = list(pool.map(tried, enumerate(texts())))
     wrong = [what for _, what in results if what]

@@ -1,3 +1,4 @@
 pub mod ConnLemmas
 pub mod RecordLemmas
 pub mod OutletLemmas
+pub mod SinkLemmas

@@ -2,3 +2,4 @@ pub mod Crew
 pub mod Leases
 pub mod Conns
 pub mod Outlets
+pub mod Writers

@@ -47,6 +47,9 @@ impl<'a, M: Ledger, K: Link, D: Door<Link = K>> Front<'a, M, K, D> {
         let mut accepted = 0u64;
         let mut held = None;
         for _turn in 0..hall.turns {
+            if let Some(backlog) = hall.alert.backlog() {
+                door.warn(&backlog);
+            }
             if let Some(arrival) = held {
                 held = hand_over(&mut lanes, accepted, arrival);
                 if held.is_some() {

@@ -22,8 +22,9 @@ pub(crate) enum Stage {
 /// A connection that is open.
 #[derive(Drop)]
 pub(crate) struct Conn<K: Link> {
-    pub(crate) client: K,
+    // It is dropped before the client, whose end makes room for another connection.
     server: Option<K>,
+    pub(crate) client: K,
     /// None while no byte is held and neither end has come.
     relay: Option<Relay>,
     pub(crate) stage: Stage,
@@ -41,8 +42,8 @@ fn is_over(relay: &Relay) -> bool
 impl<K: Link> Conn<K> {
     pub(crate) fn new(client: K) -> Conn<K> {
         Conn {
-            client,
             server: None,
+            client,
             relay: None,
             stage: Stage::Header,
             client_flags: Flags::of_client(),
@@ -56,6 +57,11 @@ impl<K: Link> Conn<K> {
         } else {
             self.client_flags.raise(ready);
         }
+    }
+
+    /// Whether one of its links failed, as far as the dial reported it.
+    pub(crate) fn is_reset(&self) -> bool {
+        self.client_flags.is_reset || self.server_flags.is_reset
     }
 
     /// It was offered a server, which is sent `send` before the stream; `rest` is what the client sent after its own

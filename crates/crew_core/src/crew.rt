@@ -197,8 +197,8 @@ fn attend_each<
     thread::for_each_mut(rt, workers, threads, &|_, worker| worker.work(rt, hall));
 }
 
-/// The workers, and the acceptor beside them in the caller's thread. It says how many connections came, and how many of
-/// them no lane had room for.
+/// The workers, and the acceptor beside them in the caller's thread. When all of them have ended, so does the recorder. It
+/// says how many connections came, and how many of them no lane had room for.
 fn work_beside<
     M: Ledger + Send + Sync,
     O: Ledger + Send + Sync,
@@ -212,26 +212,20 @@ fn work_beside<
 >(
     rt: &R,
     hall: &Hall<'_, M, O, B, G, C>,
-    workers: &mut [Worker<M, O, K, L>],
     front: Front<'_, M, K, D>,
+    workers: &mut [Worker<M, O, K, L>],
 ) -> (u64, u64) {
     let (_all, came) = thread::join(
         rt,
         || attend_each(rt, hall, workers),
         move || front.accept_all(rt, hall),
     );
+    hall.alert.end();
     came
 }
 
-/// What works at the desk: the workers, and the acceptor in front of them.
-#[derive(Drop)]
-struct Team<'a, M: Ledger, O: Ledger, K: Link, L: Dial<Link = K>, D: Door<Link = K>> {
-    workers: &'a mut [Worker<M, O, K, L>],
-    front: Front<'a, M, K, D>,
-}
-
-/// All threads: the team, and the recorder beside it. What the acceptor says, and what is left of the outlet with how many
-/// segments its sink refused.
+/// All threads: the workers with the acceptor, and the recorder beside them. What the acceptor says, and what is left of the
+/// outlet with how many segments its sink refused.
 fn work_and_record<
     M: Ledger + Send + Sync,
     O: Ledger + Send + Sync,
@@ -246,27 +240,18 @@ fn work_and_record<
 >(
     rt: &R,
     hall: &Hall<'_, M, O, B, G, C>,
-    team: Team<'_, M, O, K, L, D>,
+    front: Front<'_, M, K, D>,
+    workers: &mut [Worker<M, O, K, L>],
     outlet: Outlet<S>,
 ) -> ((u64, u64), (Outlet<S>, u64))
-    ensures { HasHandedOn S.takes S.refuses (0 < result.1.1) outlet result.1.0 }
+    ensures { HasHandedOn S.takes S.refuses 0 outlet result.1.1 result.1.0 }
 {
     let (handed, came) = thread::join(
         rt,
         move || hall.hand_on(rt, outlet),
-        move || team.work(rt, hall),
+        move || work_beside(rt, hall, front, workers),
     );
     (came, handed)
-}
-
-impl<'a, M: Ledger + Send + Sync, O: Ledger + Send + Sync, K: Link + Send, L: Dial<Link = K> + Send, D: Door<Link = K>> Team<'a, M, O, K, L, D> {
-    /// Works until the door is closed, and then ends the recorder.
-    fn work<B: Opening + Send + Sync, G: Gate + Sync, C: Clock + Sync, R: Threads + Wait + Sync>(self, rt: &R, hall: &Hall<'_, M, O, B, G, C>) -> (u64, u64) {
-        let Team { workers, front } = self;
-        let came = work_beside(rt, hall, workers, front);
-        hall.alert.end();
-        came
-    }
 }
 
 /// A crew that did nothing.
@@ -395,9 +380,10 @@ fn taken(accepted: u64, waiting: u64) -> u64
     accepted.saturating_sub(waiting)
 }
 
-/// Runs a crew over a book with no record and no open connection, and over the reading end of its ring, until the door is closed, the gate stops all workers, or the turns
-/// are used up; then what is open is closed. Each worker has one of the dials. Of the blanks one becomes the ledger of
-/// calls, the other that of leases. After a fault nothing was done.
+/// Runs a crew over a book with no record and no open connection, until the door is closed, the gate stops all workers, or
+/// the turns are used up; then what is open is closed. Each worker has one of the dials. The outlet has the reading end of
+/// the book's ring: while the crew works one more thread hands the book's segments to the sink. Of the blanks one becomes
+/// the ledger of calls, the other that of leases. After a fault nothing was done.
 pub fn run_crew<
     R: Threads + Wait + Sync,
     M: Ledger + Send + Sync,
@@ -437,10 +423,10 @@ pub fn run_crew<
     ensures taken { IfOk result (λ crew. crew.summary.taken ≤ crew.summary.accepted) }
     // The book is over the base of the one that went in.
     ensures base { IfOk result (λ crew. crew.shut.book.base ≡ book.base) }
-    // Each segment that was cut came out of the ring and went to the sink, in their order; it refused some only if they are
+    // Each segment that was cut came out of the ring and went to the sink, in their order, and those that it refused are
     // counted. What was not cut is the journal of the book.
     ensures sent { IfOk result (λ crew. received crew.outlet.segments ≡ sent crew.shut.book.segments) }
-    ensures handed { IfOk result (λ crew. HasHandedOn S.takes S.refuses (0 < crew.summary.sink_failed) outlet crew.outlet) }
+    ensures handed { IfOk result (λ crew. HasHandedOn S.takes S.refuses 0 outlet crew.summary.sink_failed crew.outlet) }
     // No more leases are left than connections are open.
     ensures left { IfOk result (λ crew. sum_by (λ leases. vec_len leases) crew.left.items ≤ open_connections crew.shut.book.state) }
     // After a fault nothing was done.
@@ -482,11 +468,7 @@ pub fn run_crew<
         lanes,
         pass: &mut pass,
     };
-    let team = Team {
-        workers: workers.as_mut_slice(),
-        front,
-    };
-    let (came, handed) = work_and_record(rt, &hall, team, outlet);
+    let (came, handed) = work_and_record(rt, &hall, front, workers.as_mut_slice(), outlet);
     let ((accepted, held), (mut outlet, refused)) = (came, handed);
     passes.push_reserved(pass);
     let (closed, waiting) = dismiss(workers, &mut passes, &mut lists, &mut dials_back);

@@ -8,7 +8,7 @@ ghost use Rattle.book_core.specs.Open.{open_connections};
 ghost use Rattle.audit_core.specs.Recording.{IsCutOff, IsRecorded};
 
 use crate::crew::{Crew, CrewFault, Setup, Summary, run_crew};
-use crate::outlet::{Outlet, RING};
+use crate::outlet::{Outlet, RING, Sink};
 use crate::record_sink::RecordSink;
 use audit_core::RecordFault;
 use book_core::Book;
@@ -73,7 +73,20 @@ pub fn open_book(alloc: Global, text: &str) -> Result<(Book, Consumer<Segment>),
     }
 }
 
-/// Runs the crew. When it ended the record is written, and its accounts are settled.
+/// Ends what is left of a crew that did nothing.
+fn settle_idle<M: Ledger, O: Ledger, B: Opening, L: Drop, S: Sink>(crew: Crew<M, O, B, L, S>) {
+    let Crew {
+        summary: _,
+        shut,
+        passes,
+        left,
+        dials: _dials,
+        outlet: _outlet,
+    } = crew;
+    let _settled = settle(shut, passes, left, &[]);
+}
+
+/// Runs the crew. When it ended, the rest of the record is written, and its accounts are settled.
 fn run<
     M: Ledger + Send + Sync,
     O: Ledger + Send + Sync,
@@ -120,9 +133,12 @@ fn run<
     let ran = run_crew::<R, M, O, B, K, L, D, NoGate, C, RecordSink<W>>(
         rt, alloc, book, made, leases, door, dials, outlet, &NoGate, clock, setup,
     );
-    let (crew, fault) = match ran {
-        Ok(crew) => (crew, None),
-        Err((fault, crew)) => (crew, Some(fault)),
+    let crew = match ran {
+        Ok(crew) => crew,
+        Err((fault, crew)) => {
+            settle_idle(crew);
+            return Err(fault);
+        }
     };
     let Crew {
         summary,
@@ -138,15 +154,12 @@ fn run<
     } = outlet;
     let (written, writer) = sink.finish(shut.book());
     let settled = settle(shut, passes, left, &[]);
-    match fault {
-        None => Ok(Served {
-            summary,
-            written,
-            settled,
-            writer,
-        }),
-        Some(fault) => Err(fault),
-    }
+    Ok(Served {
+        summary,
+        written,
+        settled,
+        writer,
+    })
 }
 
 /// Serves what comes to the door with a worker for each dial, 1 to 64, until the door is closed. The record is written by

@@ -3,8 +3,8 @@
 
 pub use crew::{Crew, CrewFault, Setup, Summary, run_crew};
 pub use engine::{Served, open_book, serve};
+pub use link_core::{Backlog, Clock, Dial, Dialled, Door, Gate, Knock, Link, Ready};
 pub use outlet::{Outlet, RING, Sink, SinkFault};
-pub use link_core::{Clock, Dial, Dialled, Door, Gate, Knock, Link, Ready};
 
 mod acceptor;
 mod calls;

@@ -39,9 +39,8 @@ pub struct Outlet<S: Sink> {
 
 /// The next segment of the ring, if there is one, goes to the sink. How many the sink refused, with those before.
 fn hand_next<S: Sink>(outlet: &mut Outlet<S>, refused: u64) -> Option<u64>
-    ensures some { IfSome result (λ n. HasHandedOn S.takes S.refuses (0 < n) outlet.old outlet.new) }
-    ensures more { IfSome result (λ n. 0 < refused → 0 < n) }
-    ensures none { IfNone result (HasHandedOn S.takes S.refuses (0 < refused) outlet.old outlet.new) }
+    ensures some { IfSome result (λ total. HasHandedOn S.takes S.refuses refused outlet.old total outlet.new) }
+    ensures none { IfNone result (HasHandedOn S.takes S.refuses refused outlet.old refused outlet.new) }
 {
     let Ok(segment) = outlet.segments.pop() else {
         return None;
@@ -54,24 +53,22 @@ fn hand_next<S: Sink>(outlet: &mut Outlet<S>, refused: u64) -> Option<u64>
 
 /// The segments of the ring go to the sink, `RING` at the most. How many of them it refused, with those before.
 pub(crate) fn drain<S: Sink>(outlet: &mut Outlet<S>, refused: u64) -> u64
-    ensures handed { HasHandedOn S.takes S.refuses (0 < result) outlet.old outlet.new }
-    ensures more { 0 < refused → 0 < result }
+    ensures { HasHandedOn S.takes S.refuses refused outlet.old result outlet.new }
 {
-    let mut refused = refused;
+    let mut total = refused;
     for _segment in 0..RING {
-        match hand_next(outlet, refused) {
-            Some(count) => refused = count,
+        match hand_next(outlet, total) {
+            Some(count) => total = count,
             None => break,
         }
     }
-    refused
+    total
 }
 
 /// The next segment of the ring, which is known to be there, goes to the sink. How many the sink refused, with those before.
 fn hand_known<S: Sink>(outlet: &mut Outlet<S>, refused: u64) -> u64
     requires { 0 < length (known_items outlet.old.segments) }
-    ensures handed { HasHandedOn S.takes S.refuses (0 < result) outlet.old outlet.new }
-    ensures more { 0 < refused → 0 < result }
+    ensures handed { HasHandedOn S.takes S.refuses refused outlet.old result outlet.new }
     ensures rest { received outlet.new.segments ++ known_items outlet.new.segments ≡ received outlet.old.segments ++ known_items outlet.old.segments }
     ensures fewer { length (known_items outlet.new.segments) + 1 ≡ length (known_items outlet.old.segments) }
 {
@@ -89,14 +86,13 @@ pub(crate) fn empty<M: Ledger, O: Ledger, B: Opening, S: Sink>(
     refused: u64,
 ) -> u64
     requires { IsPair shut.old.book.segments outlet.old.segments }
-    ensures handed { HasHandedOn S.takes S.refuses (0 < result) outlet.old outlet.new }
-    ensures more { 0 < refused → 0 < result }
+    ensures handed { HasHandedOn S.takes S.refuses refused outlet.old result outlet.new }
     ensures all { received outlet.new.segments ≡ sent shut.new.book.segments }
     ensures same { (shut.new.book ≡ with_ring shut.old.book shut.new.book.segments) × (shut.new.given ≡ shut.old.given) }
 {
-    let mut refused = refused;
+    let mut total = refused;
     for _segment in 0..shut.left(&mut outlet.segments) {
-        refused = hand_known(outlet, refused);
+        total = hand_known(outlet, total);
     }
-    refused
+    total
 }

@@ -34,8 +34,10 @@ impl<W: Output + Drop> RecordSink<W> {
 
     /// Writes what the book has in memory, unless a segment was refused.
     pub(crate) fn finish(self, book: &Book) -> (Result<(), RecordFault>, W)
-        ensures ok { OnOk result.0 ((self.fault ≡ None) × Appends (W.held self.writer) (W.held result.1) (records_text book.now.journal)) }
-        ensures front { OnErr result.0 ((IsSome self.fault × (result.1 ≡ self.writer)) ⊎ ((self.fault ≡ None) × AppendsFront (W.held self.writer) (W.held result.1) (records_text book.now.journal))) }
+        ensures written { OnOk result.0 (self.fault ≡ None) }
+        ensures ok { OnOk result.0 (Appends (W.held self.writer) (W.held result.1) (records_text book.now.journal)) }
+        ensures refused { IsSome self.fault → result.1 ≡ self.writer }
+        ensures front { OnErr result.0 (self.fault ≡ None → AppendsFront (W.held self.writer) (W.held result.1) (records_text book.now.journal)) }
         ensures legal { IsBook book.now }
     {
         let RecordSink {
@@ -53,13 +55,11 @@ impl<W: Output + Drop> RecordSink<W> {
 }
 
 impl<W: Output + Drop> Sink for RecordSink<W> {
-    ghost use Rattle.std.specs.Prelude.{◌≡◌, IsSome, None};
-    ghost use Rattle.std.specs.Io.KnownBytes.{Appends};
-    ghost use Rattle.audit_core.specs.Recording.{records_text, AppendsFront};
+    ghost use Rattle.crew_core.specs.Writers.{Refuses, Writes};
 
-    ghost takes = { λ old segment new. (old.fault ≡ None) × (new.fault ≡ None) × Appends (W.held old.writer) (W.held new.writer) (records_text segment.records) };
+    ghost takes = { Writes W.held };
 
-    ghost refuses = { λ old segment new. IsSome new.fault × (old.fault ≡ None → AppendsFront (W.held old.writer) (W.held new.writer) (records_text segment.records)) × (IsSome old.fault → new.writer ≡ old.writer) };
+    ghost refuses = { Refuses W.held };
 
     fn take(&mut self, segment: Segment) -> Result<(), SinkFault> {
         if self.fault.is_some() {

@@ -1,28 +1,33 @@
 //! The thread that hands segments on while a crew works.
-ghost use Rattle.std.specs.Prelude.{◌≡◌, ◌<◌};
+ghost use Rattle.std.specs.Prelude.{◌≡◌};
 ghost use Rattle.crew_core.specs.Outlets.{HasHandedOn};
 
 use crate::calls::Hall;
 use crate::outlet::{Outlet, Sink, drain};
+use book_core::CutFault;
 use desk_core::Opening;
-use link_core::{Clock, Gate};
+use link_core::{Backlog, Clock, Gate};
 use std::sync::Wait;
-use std::sync::atomic::{AtomicBool, Ordering};
+use std::sync::atomic::{AtomicBool, AtomicU64, Ordering};
 use std::sync::ledger::Ledger;
 use std::thread::Parker;
 use std::time::Duration;
 
-/// After so many ms the records in memory are handed over where fewer of them come than a segment has.
+/// Where fewer records come than a segment has, those in memory are handed on after so many ms.
 const LONGEST: u64 = 1_000;
 
 /// A record whose number is a multiple of this one ends a segment.
 const SEGMENT: u64 = 256;
 
-/// What wakes the recorder, and what ends it.
+/// What wakes the recorder, what ends it, and what it has to report.
 #[derive(Drop)]
 pub(crate) struct Alert {
     parker: Parker,
     is_over: AtomicBool,
+    /// How many segments the sink refused so far.
+    refused: AtomicU64,
+    /// How many records at least are in memory because the ring has no room.
+    waiting: AtomicU64,
 }
 
 impl Alert {
@@ -30,6 +35,8 @@ impl Alert {
         Alert {
             parker: Parker::new(),
             is_over: AtomicBool::new(false),
+            refused: AtomicU64::new(0),
+            waiting: AtomicU64::new(0),
         }
     }
 
@@ -38,40 +45,73 @@ impl Alert {
         self.is_over.store(true, Ordering::SeqCst);
         self.parker.unpark();
     }
+
+    /// What keeps the record from going out, if anything does.
+    pub(crate) fn backlog(&self) -> Option<Backlog> {
+        let backlog = Backlog {
+            refused: self.refused.load(Ordering::SeqCst),
+            waiting: self.waiting.load(Ordering::SeqCst),
+        };
+        if backlog.refused == 0 && backlog.waiting == 0 {
+            None
+        } else {
+            Some(backlog)
+        }
+    }
 }
 
 impl<'a, M: Ledger, O: Ledger, B: Opening, G: Gate, C: Clock> Hall<'a, M, O, B, G, C> {
-    /// A record of that number was made. Those in memory go to the recorder where it ends a segment. Where the ring has no
-    /// room they stay in memory, and go with a later segment.
+    /// A record of that number was made. Where it ends a segment, those in memory are handed to the recorder.
     pub(crate) fn note<R: Wait>(&self, rt: &R, number: u64) {
-        if number % SEGMENT == 0 && self.desk.cut(rt).is_ok() {
-            self.alert.parker.unpark();
+        if number % SEGMENT == 0 {
+            self.cut(rt, SEGMENT);
         }
     }
 
-    /// Hands the segments of the ring to the sink until the crew's work is over, and cuts the records in memory where few
-    /// of them come. How many segments the sink refused.
+    /// Hands the records in memory to the recorder. Where the ring has no room they stay in memory, so many more than
+    /// before, and are handed on with a later segment.
+    fn cut<R: Wait>(&self, rt: &R, more: u64) {
+        match self.desk.cut(rt) {
+            Ok(()) => {
+                self.alert.waiting.store(0, Ordering::SeqCst);
+                self.alert.parker.unpark();
+            }
+            Err(CutFault::Full) => {
+                self.alert.waiting.fetch_add(more, Ordering::SeqCst);
+            }
+            Err(CutFault::Nothing) => {}
+        }
+    }
+
+    /// Waits for a segment, and cuts the records in memory where few of them come. It is handed, and gives back, the moment
+    /// of its last cut, in ms.
+    fn wait_for_segment<R: Wait>(&self, rt: &R, latest: u64) -> u64 {
+        let now = self.clock.now();
+        let left = LONGEST.saturating_sub(now.saturating_sub(latest));
+        if left > 0 {
+            let pause = Duration::from_millis(left);
+            self.alert.parker.park_timeout(rt, pause);
+            return latest;
+        }
+        self.cut(rt, 0);
+        now
+    }
+
+    /// Hands the segments of the ring to the sink until the crew's work is over. How many of them the sink refused.
     pub(crate) fn hand_on<S: Sink, R: Wait>(&self, rt: &R, outlet: Outlet<S>) -> (Outlet<S>, u64)
-        ensures { HasHandedOn S.takes S.refuses (0 < result.1) outlet result.0 }
+        ensures { HasHandedOn S.takes S.refuses 0 outlet result.1 result.0 }
     {
         let mut outlet = outlet;
         let mut refused = 0u64;
         let mut latest = self.clock.now();
-        for _turn in 0..self.turns {
+        for _round in rt.forever() {
             refused = drain(&mut outlet, refused);
+            self.alert.refused.store(refused, Ordering::SeqCst);
             if self.alert.is_over.load(Ordering::SeqCst) {
-                break;
+                return (outlet, refused);
             }
-            let now = self.clock.now();
-            let left = LONGEST.saturating_sub(now.saturating_sub(latest));
-            if left > 0 {
-                let pause = Duration::from_millis(left);
-                self.alert.parker.park_timeout(rt, pause);
-            } else {
-                latest = now;
-                let _cut = self.desk.cut(rt);
-            }
+            latest = self.wait_for_segment(rt, latest);
         }
-        (outlet, refused)
+        unreachable!()
     }
 }

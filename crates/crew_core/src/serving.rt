@@ -58,6 +58,7 @@ impl<M: Ledger, O: Ledger, K: Link, L: Dial<Link = K>> Worker<M, O, K, L> {
         };
         match conn.stage {
             Stage::Header => self.receive(rt, hall, key),
+            Stage::Server(_) if conn.is_reset() => self.close(rt, hall, key, Why::Fault),
             Stage::Server(to) => self.dial_server(rt, hall, key, &to),
             Stage::Bytes => self.relay(rt, hall, key),
         }
@@ -185,6 +186,8 @@ impl<M: Ledger, O: Ledger, K: Link, L: Dial<Link = K>> Worker<M, O, K, L> {
             None => self.close(rt, hall, key, Why::Done),
             Some(Progress::Fault) => self.close(rt, hall, key, Why::Fault),
             Some(Progress::More) => self.bench.table.enqueue(key),
+            // One side is gone while the other takes nothing: no read would ever find that out.
+            Some(Progress::Idle) if conn.is_reset() => self.close(rt, hall, key, Why::Fault),
             Some(Progress::Idle) => {}
         }
     }
@@ -203,6 +206,10 @@ impl<M: Ledger, O: Ledger, K: Link, L: Dial<Link = K>> Worker<M, O, K, L> {
             let Some(wait) = self.bench.table.due(now) else {
                 return;
             };
+            // What came in time is read first: all threads may have been stopped meanwhile.
+            if self.bench.table.waits_for_header(&wait) {
+                self.receive(rt, hall, wait.key);
+            }
             if !self.bench.table.waits_for_header(&wait) {
                 continue;
             }

@@ -2,7 +2,8 @@
 use crate::{DONE, REFUSED, USAGE, explain_refusal, open_script, unreadable};
 use audit_core::{CheckKind, run_audit};
 use clap::ArgMatches;
-use device_core::{FromRead, ToWrite};
+use device_core::{FromRead, Input, ToWrite};
+use line_reader::{LineFault, LineReader, Next};
 use replay_core::PrintFault;
 use std::rt::Files;
 use std::{fs, io};
@@ -14,6 +15,54 @@ fn place<'a>(fault: &PrintFault, file: &'a str, record: &'a str) -> &'a str {
         PrintFault::NoMemory => file,
         PrintFault::Write => "standard output",
     }
+}
+
+/// Whether a whole line came, unless the record cannot be read.
+fn is_whole(next: Result<Next, LineFault>) -> Option<bool> {
+    match next {
+        Ok(Next::Line) => Some(true),
+        Ok(Next::LastLine | Next::End) => Some(false),
+        Err(LineFault::TooLong | LineFault::Read | LineFault::NoMemory) => None,
+    }
+}
+
+/// How many whole entries come before the line of that number, if the record ends before that line does.
+fn entries_before<I: Input>(lines: &mut LineReader, reader: &mut I, line: u64) -> Option<u64> {
+    let mut entries = 0u64;
+    for _before in 1..line {
+        if !is_whole(lines.advance(reader))? {
+            return Some(entries);
+        }
+        if lines.line().starts_with(b"= ") {
+            entries = entries.saturating_add(1);
+        }
+    }
+    if is_whole(lines.advance(reader))? {
+        return None;
+    }
+    Some(entries)
+}
+
+/// The same of a record that is read once more, by a reader of its own.
+fn whole_entries<R: Files + AllocGlobal>(rt: &R, record: &str, line: u64) -> Option<u64> {
+    let mut reader = FromRead::of(open_script(rt, record)?);
+    let mut lines = LineReader::new(rt.alloc()).ok()?;
+    entries_before(&mut lines, &mut reader, line)
+}
+
+/// Says how far a record is right that breaks off at the line of that number, which is the first wrong one.
+fn say_broken_off<R: Files + AllocGlobal + Eprint>(rt: &R, record: &str, line: u64) {
+    let Some(whole) = whole_entries(rt, record, line) else {
+        return;
+    };
+    let entries = if whole == 1 {
+        "entry is"
+    } else {
+        "entries are"
+    };
+    let _written = eprintln!(rt;
+        "l4proxy: {record}: it ends in the midst of an entry: {whole} whole {entries} right, and it breaks off at line {line}"
+    );
 }
 
 /// Checks a record, and writes a line for each connection that ended. The configuration is read before the record is
@@ -40,8 +89,10 @@ fn audit_files<R: Files + AllocGlobal + Print + Eprint>(rt: &R, file: &str, reco
     ) {
         Ok(None) => DONE,
         Ok(Some(fault)) => {
-            if let CheckKind::Config(refused) = &fault.kind {
-                explain_refusal(rt, file, text.as_str(), refused);
+            match &fault.kind {
+                CheckKind::Config(refused) => explain_refusal(rt, file, text.as_str(), refused),
+                CheckKind::Format | CheckKind::WrongReply => say_broken_off(rt, record, fault.line),
+                CheckKind::NoMemory | CheckKind::Read | CheckKind::TooLong => {}
             }
             REFUSED
         }

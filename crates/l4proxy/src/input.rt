@@ -1,10 +1,19 @@
 //! What standard input says while `l4proxy serve` runs.
+use arrayvec::ArrayVec;
 use crew_core::Clock;
 use log::{Log, warn};
 use socket_core::{Bell, Pace, SystemClock, Word};
+use std::io::Read;
 use std::rt::Files;
 use std::time::Duration;
 use std::{fs, io, rt, thread};
+
+/// How many bytes of standard input are read at a time.
+const BLOCK: usize = 4_096;
+
+/// So many bytes of a line are kept: more than a word and a carriage return have, so that no longer line is taken for a
+/// word.
+const KEPT: usize = 8;
 
 /// How often a word is handed in where the door has no room for it, 10 ms apart.
 const MOST_TRIES: u32 = 1_000;
@@ -48,15 +57,51 @@ impl<'a, R: Files + AllocGlobal + rt::Clock + Log> Ear<'a, R> {
         false
     }
 
-    fn skip(&mut self) {
-        if self.unknown.allows(self.clock.now()) {
-            warn!(self.rt; "a line of standard input is skipped: it is neither `reload` nor `quit`");
+    /// Does what a line says; whether another line may follow.
+    fn hear(&mut self, line: &[u8]) -> bool {
+        match line.strip_suffix(b"\r").unwrap_or(line) {
+            b"reload" => self.reload(),
+            b"quit" => return false,
+            _ => {
+                if self.unknown.allows(self.clock.now()) {
+                    warn!(self.rt; "a line of standard input is skipped: it is neither `reload` nor `quit`");
+                }
+            }
+        }
+        true
+    }
+
+    /// Hears the lines of the input one after another, up to `quit` or the end. The last line may lack its line feed.
+    fn listen(&mut self, input: &mut impl Read) {
+        let mut block = [0u8; BLOCK];
+        let mut line = ArrayVec::<u8, KEPT>::new();
+        for _block in 0..u64::MAX {
+            let count = match input.read(&mut block) {
+                Ok(count) => count,
+                Err(error) if error.kind() == io::ErrorKind::Interrupted => continue,
+                Err(_) => 0,
+            };
+            if count == 0 {
+                break;
+            }
+            for byte in block.iter().take(count) {
+                if *byte != b'\n' {
+                    let _is_kept = line.try_push(*byte);
+                } else if self.hear(line.as_slice()) {
+                    line.clear();
+                } else {
+                    return;
+                }
+            }
+        }
+        if !line.is_empty() {
+            let _goes_on = self.hear(line.as_slice());
         }
     }
 }
 
 /// Hands the words of standard input to the door: `reload` reads the file again, `quit` and the end of the input close
-/// the door. Other lines are skipped.
+/// the door. Other lines are skipped, whatever their length.
 pub fn read_words<'a, R: Files + AllocGlobal + io::Input + rt::Clock + Log>(
     rt: &'a R,
     file: &'a str,
@@ -75,16 +120,6 @@ pub fn read_words<'a, R: Files + AllocGlobal + io::Input + rt::Clock + Log>(
         unreadable: Pace::new(),
         full: Pace::new(),
     };
-    for line in rt.lines(rt.alloc()) {
-        match line {
-            Ok(line) => match line.as_str() {
-                "reload" => ear.reload(),
-                "quit" => break,
-                _ => ear.skip(),
-            },
-            Err(error) if error.kind() == io::ErrorKind::InvalidData => ear.skip(),
-            Err(_) => break,
-        }
-    }
+    ear.listen(&mut rt.reader());
     let _is_in = ear.bell.ring(Word::Quit);
 }

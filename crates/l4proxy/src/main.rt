@@ -5,7 +5,7 @@
 //! line each, on standard output. `l4proxy pipe FILE FRONTEND PEER LOCAL` passes one connection on, from
 //! standard input to standard output. `l4proxy audit FILE RECORD` answers the events of RECORD again and
 //! compares each reply. `l4proxy serve FILE` takes connections and passes them on, and writes the record of them on
-//! standard output when standard input says `quit` or ends. The exit status is 0 when that is done, 1 where the configuration or the
+//! standard output, until standard input says `quit` or ends. The exit status is 0 when that is done, 1 where the configuration or the
 //! connection is refused, a line of the script hands in no event or one of the record is wrong, 2 for
 //! words that are no command, and 3 where something cannot be read or written, or memory ran out.
 #![tactic(auto)]
@@ -191,6 +191,7 @@ fn main(rt: HostRuntime) -> ExitCode {
     };
     let Stand {
         book,
+        segments,
         mut door,
         bell,
         dials,
@@ -209,7 +210,7 @@ fn main(rt: HostRuntime) -> ExitCode {
         book.end();
         return ExitCode::from(serve::fail(&rt, &CrewFault::Spawn));
     }
-    ExitCode::from(serve::attend(&rt, &clock, book, &mut door, dials, workers))
+    ExitCode::from(serve::attend(&rt, &clock, book, segments, &mut door, dials, workers))
 }
 
 /// Prints why the words are no command, or the help that they ask for.

@@ -1,5 +1,6 @@
 //! `l4proxy serve`: connections of sockets, until standard input says `quit` or ends.
-ghost use Rattle.std.specs.Prelude.{◌≡◌, ◌≤◌, IfOk, vec_len};
+ghost use Rattle.std.specs.Prelude.{◌≡◌, ◌≤◌, [], IfOk, vec_len};
+ghost use Rattle.rtrb.specs.Ring.{received, IsPair};
 ghost use Rattle.book_core.specs.Open.{open_connections};
 
 use crate::{DEVICE, DONE, REFUSED, explain_refusal, unreadable};
@@ -8,10 +9,12 @@ use book_core::Book;
 use command_line::ServeWords;
 use conn_core::OpenFault;
 use conn_model::reply::{Reply, StepFault};
-use crew_core::{Clock, Dial, Door, Knock, Served, open_book, serve};
+use crew_core::{Backlog, Clock, Dial, Door, Knock, Served, open_book, serve};
 use desk_core::SettleFault;
 use device_core::ToWrite;
 use log::Log;
+use record_core::Segment;
+use rtrb::Consumer;
 use socket_core::{
     Bell, DialFault, Listeners, SocketDial, SocketDoor, SocketLink, SystemClock, listen, make_dials,
 };
@@ -28,6 +31,8 @@ const OTHER_FILES: u64 = 12;
 /// What is ready before the first connection is taken.
 pub struct Stand<'a, R: Net + Log + rt::Clock> {
     pub book: Book,
+    /// The reading end of the ring of the book.
+    pub segments: Consumer<Segment>,
     pub door: SocketDoor<'a, R, SystemClock<'a, R>>,
     pub bell: Bell,
     pub dials: Vec<SocketDial<'a, R>>,
@@ -39,17 +44,21 @@ pub fn fail<F: fmt::Display>(rt: &impl Eprint, fault: &F) -> u8 {
     DEVICE
 }
 
-/// A book over the configuration of the file.
-fn read_book<R: Files + AllocGlobal + Eprint>(rt: &R, file: &str) -> Result<Book, u8>
-    ensures made { IfOk result (λ book. book.made ≡ 0) }
-    ensures state { IfOk result (λ book. open_connections book.state ≡ 0) }
-    ensures base { IfOk result (λ book. open_connections book.base ≡ 0) }
+/// A book over the configuration of the file, and the reading end of its ring.
+fn read_book<R: Files + AllocGlobal + Eprint>(
+    rt: &R,
+    file: &str,
+) -> Result<(Book, Consumer<Segment>), u8>
+    ensures made { IfOk result (λ opened. opened.0.made ≡ 0) }
+    ensures state { IfOk result (λ opened. open_connections opened.0.state ≡ 0) }
+    ensures base { IfOk result (λ opened. open_connections opened.0.base ≡ 0) }
+    ensures ring { IfOk result (λ opened. IsPair opened.0.segments opened.1 × (received opened.1 ≡ [])) }
 {
     let Ok(text) = fs::read_to_string(rt, file) else {
         return Err(unreadable(rt, file));
     };
     match open_book(rt.alloc(), text.as_str()) {
-        Ok(book) => Ok(book),
+        Ok(opened) => Ok(opened),
         Err(fault) => {
             explain_refusal(rt, file, text.as_str(), &fault);
             match fault {
@@ -153,12 +162,14 @@ pub fn open<'a, R: Files + Net + Log + rt::Clock + AllocGlobal + Eprint>(
     ensures made { IfOk result (λ stand. stand.book.made ≡ 0) }
     ensures state { IfOk result (λ stand. open_connections stand.book.state ≡ 0) }
     ensures base { IfOk result (λ stand. open_connections stand.book.base ≡ 0) }
+    ensures ring { IfOk result (λ stand. IsPair stand.book.segments stand.segments × (received stand.segments ≡ [])) }
     ensures dials { IfOk result (λ stand. vec_len stand.dials ≡ words.now.workers) }
 {
-    let book = read_book(rt, words.file.as_str())?;
+    let (book, segments) = read_book(rt, words.file.as_str())?;
     match open_sockets(rt, clock, &book, words.workers) {
         Ok((door, bell, dials)) => Ok(Stand {
             book,
+            segments,
             door,
             bell,
             dials,
@@ -171,7 +182,7 @@ pub fn open<'a, R: Files + Net + Log + rt::Clock + AllocGlobal + Eprint>(
 }
 
 /// Says what was served.
-fn say_served(rt: &impl Eprint, served: &Served) -> u8 {
+fn say_served<W>(rt: &impl Eprint, served: &Served<W>) -> u8 {
     if let Err(fault) = &served.written {
         let _written = eprintln!(rt; "l4proxy: standard output: {fault}");
     }
@@ -228,16 +239,29 @@ impl<'a, R: Eprint, D: Door<Link = SocketLink>> Door for ReadyDoor<'a, R, D> {
     fn report(&mut self, answer: &Result<Reply, StepFault>) {
         self.door.report(answer);
     }
+
+    fn warn(&mut self, backlog: &Backlog) {
+        self.door.warn(backlog);
+    }
 }
 
-/// Serves until the door is closed; then writes the record on standard output, and says what was served.
+/// Serves until the door is closed, and writes the record on standard output meanwhile. Then says what was served.
 pub fn attend<
     R: Threads + Wait + AllocGlobal + Print + Eprint + Sync,
     L: Dial<Link = SocketLink> + Send + Drop,
     D: Door<Link = SocketLink>,
     C: Clock + Sync,
->(rt: &R, clock: &C, book: Book, door: &mut D, dials: Vec<L>, workers: u16) -> u8
+>(
+    rt: &R,
+    clock: &C,
+    book: Book,
+    segments: Consumer<Segment>,
+    door: &mut D,
+    dials: Vec<L>,
+    workers: u16,
+) -> u8
     requires fresh { (book.made ≡ 0) × (open_connections book.state ≡ 0) × (open_connections book.base ≡ 0) }
+    requires ring { IsPair book.segments segments × (received segments ≡ []) }
     requires workers { (vec_len dials ≡ workers) × (1 ≤ workers) × (workers ≤ 64) }
 {
     let mut door = ReadyDoor {
@@ -245,16 +269,17 @@ pub fn attend<
         door,
         is_ready: false,
     };
-    let mut writer = ToWrite::of(io::writer(rt));
+    let writer = ToWrite::of(io::writer(rt));
     match serve(
         rt,
         rt.alloc(),
         book,
+        segments,
         &mut door,
         dials,
         clock,
         workers,
-        &mut writer,
+        writer,
     ) {
         Ok(served) => say_served(rt, &served),
         Err(fault) => fail(rt, &fault),

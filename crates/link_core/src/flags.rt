@@ -9,6 +9,8 @@ pub struct Flags {
     pub reads: bool,
     pub writes: bool,
     pub is_closed: bool,
+    /// The link failed. That is known also while it is not read.
+    pub is_reset: bool,
 }
 
 impl Flags {
@@ -18,6 +20,7 @@ impl Flags {
             reads: true,
             writes: true,
             is_closed: false,
+            is_reset: false,
         }
     }
 
@@ -27,6 +30,7 @@ impl Flags {
             reads: false,
             writes: true,
             is_closed: false,
+            is_reset: false,
         }
     }
 
@@ -34,6 +38,7 @@ impl Flags {
         self.reads |= ready.reads;
         self.writes |= ready.writes;
         self.is_closed |= ready.is_closed;
+        self.is_reset |= ready.is_reset;
     }
 
     /// So many bytes were read where so many were asked for.

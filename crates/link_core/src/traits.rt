@@ -27,6 +27,15 @@ pub enum Knock<K> {
     Closed,
 }
 
+/// What keeps the record of the decisions from going out.
+#[derive(Clone, Copy, Debug, PartialEq, Eq)]
+pub struct Backlog {
+    /// How many segments of it were refused so far. They are lost.
+    pub refused: u64,
+    /// How many records at least wait in memory, since the segments before them are not taken yet.
+    pub waiting: u64,
+}
+
 /// Where connections come in. One thread alone uses it.
 pub trait Door {
     type Link: Link;
@@ -36,6 +45,9 @@ pub trait Door {
 
     /// What became of the reload that was last handed out.
     fn report(&mut self, answer: &Result<Reply, StepFault>);
+
+    /// The record does not go out as it should. This is called again and again while it is so.
+    fn warn(&mut self, backlog: &Backlog);
 }
 
 /// What became of a connection to a server.
@@ -58,6 +70,8 @@ pub struct Ready {
     pub writes: bool,
     /// The other side will write no more, so that the end follows the bytes that are still to be read.
     pub is_closed: bool,
+    /// The link failed, as by a reset of the other side.
+    pub is_reset: bool,
 }
 
 /// One worker's way out to the servers, and its watch over the links that it keeps. No other thread uses it.

@@ -51,6 +51,7 @@ fn ready_of(event: &Event) -> Option<Ready> {
         reads: event.is_readable() || event.is_read_closed() || event.is_error(),
         writes: event.is_writable() || event.is_write_closed() || event.is_error(),
         is_closed: event.is_read_closed(),
+        is_reset: event.is_error(),
     })
 }
 

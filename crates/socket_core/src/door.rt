@@ -7,7 +7,7 @@ use crate::ports::{Arrival, Ports};
 use crate::seats::{Seat, Seats};
 use crate::words::{Bell, MOST_WORDS, Word};
 use conn_model::reply::{Reply, Said, StepFault};
-use link_core::{Clock, Door, Knock};
+use link_core::{Backlog, Clock, Door, Knock};
 use log::{Log, info, warn};
 use mio::Waker;
 use rtrb::{Consumer, RingBuffer};
@@ -20,7 +20,7 @@ use std::sync::Arc;
 /// in ms.
 const WAIT: u64 = 100;
 
-/// How long the door waits where nothing is accepted, in ms.
+/// How long the door waits where nothing is accepted after the system refused to give a connection, in ms.
 const PAUSE: u64 = 10;
 
 /// Where connections come in, and words.
@@ -41,10 +41,16 @@ pub struct SocketDoor<'a, R: Log, C: Clock> {
     /// Until when nothing is accepted.
     resumes: Option<u64>,
     is_closed: bool,
+    /// Whether as many connections are open as may be.
+    is_full: bool,
     seats: Arc<Seats, Global>,
     full: Pace,
     refused: Pace,
     lost: Pace,
+    slow: Pace,
+    unwritten: Pace,
+    /// How many lost segments of the record were reported.
+    segments: u64,
 }
 
 impl<'a, R: Log + Net, C: Clock> SocketDoor<'a, R, C> {
@@ -61,6 +67,7 @@ impl<'a, R: Log + Net, C: Clock> SocketDoor<'a, R, C> {
         let waker = ports.waker(alloc)?;
         let (to_door, words) = RingBuffer::new(alloc, MOST_WORDS)?;
         let bell = Bell::new(to_door, Arc::try_clone(&waker)?);
+        let seats = Seats::new(most, Arc::try_clone(&waker)?);
         let door = SocketDoor {
             rt,
             clock,
@@ -72,10 +79,14 @@ impl<'a, R: Log + Net, C: Clock> SocketDoor<'a, R, C> {
             owes_wake: false,
             resumes: None,
             is_closed: false,
-            seats: Arc::new(alloc, Seats::new(most)).map_err(|_| ListenFault::NoMemory)?,
+            is_full: false,
+            seats: Arc::new(alloc, seats).map_err(|_| ListenFault::NoMemory)?,
             full: Pace::new(),
             refused: Pace::new(),
             lost: Pace::new(),
+            slow: Pace::new(),
+            unwritten: Pace::new(),
+            segments: 0,
         };
         Ok((door, bell))
     }
@@ -136,23 +147,22 @@ impl<'a, R: Log, C: Clock> SocketDoor<'a, R, C> {
         self.resumes = Some(now.saturating_add(WAIT));
     }
 
-    /// Nothing is accepted until a connection ends. What waits stays with the system.
-    fn hold(&mut self) {
-        let now = self.clock.now();
-        if self.full.allows(now) {
+    /// A seat for the next connection. Where there is none, nothing is accepted until a connection ends, which wakes the
+    /// door. What waits stays with the system.
+    fn seat(&mut self) -> Option<Seat> {
+        let seat = Seat::ask(&self.seats);
+        self.is_full = seat.is_none();
+        if self.is_full && self.full.allows(self.clock.now()) {
             warn!(self.rt; "no connection is accepted: as many are open as the limit of open files allows");
         }
-        self.resumes = Some(now.saturating_add(PAUSE));
+        seat
     }
 
     fn accept(&mut self) -> Option<Knock<SocketLink>> {
         if self.is_paused() {
             return None;
         }
-        let Some(seat) = Seat::take(&self.seats) else {
-            self.hold();
-            return None;
-        };
+        let seat = self.seat()?;
         match self.ports.accept() {
             Arrival::Conn(listener, pair, link) => {
                 self.given = self.given.wrapping_add(1);
@@ -201,7 +211,7 @@ impl<'a, R: Log, C: Clock> Door for SocketDoor<'a, R, C> {
         }
         let limit = if self.is_paused() {
             PAUSE
-        } else if self.ports.may_accept() {
+        } else if self.ports.may_accept() && !self.is_full {
             0
         } else {
             WAIT
@@ -223,6 +233,20 @@ impl<'a, R: Log, C: Clock> Door for SocketDoor<'a, R, C> {
                 warn!(self.rt; "the reload is refused: it binds other addresses than are in force")
             }
             Err(fault) => warn!(self.rt; "the reload is refused: {fault:?}"),
+        }
+    }
+
+    /// Says that records wait or are lost, in at most one line a second for each of the two. Lost segments are reported
+    /// again only where there are more of them.
+    fn warn(&mut self, backlog: &Backlog) {
+        let Backlog { refused, waiting } = *backlog;
+        let now = self.clock.now();
+        if waiting > 0 && self.slow.allows(now) {
+            warn!(self.rt; "standard output is slow: at least {waiting} records wait in memory");
+        }
+        if refused > self.segments && self.unwritten.allows(now) {
+            self.segments = refused;
+            warn!(self.rt; "standard output cannot be written: {refused} segments of the record are lost");
         }
     }
 }

@@ -1,0 +1,64 @@
+-- What a writer of the record has written after segments in a row.
+use Rattle.std.proofs.Common.{◌≡◌, ◌⊎◌, ◌++◌, ◌∷◌, [], ℕ, List, Option, None, refl, ap, subst, sym, ◌∙◌, inl, inr}
+use Rattle.std.specs.Prelude.{IsSome}
+use Rattle.std.specs.Io.KnownBytes.{Appends}
+use Rattle.record_core.specs.declared.record.Record.{Record}
+use Rattle.record_core.specs.declared.segment.Segment.{Segment}
+use Rattle.record_core.specs.Records.{joined}
+use Rattle.device_core.specs.Device.{raised}
+use Rattle.rtrb.specs.Ring.{sent}
+use Rattle.book_core.specs.Book.{BookState, IsBook}
+use Rattle.audit_core.specs.Recording.{records_text, AppendsFront, IsCutOff, IsRecorded}
+use Rattle.crew_core.proofs.RecordLemmas.{journal_cut_off, longer_front, parts_recorded, segments_cut_off, wrote_both, wrote_front, wrote_nothing}
+use Rattle.crew_core.specs.Outlets.{AreHandedOn}
+use Rattle.crew_core.specs.Writers.{Refuses, Writes}
+use Rattle.crew_core.specs.declared.record_sink.RecordSink.{RecordSink}
+
+-- All records are written; or a front of them, and it refuses from now on.
+abbrev pub HasWritten : {W : Type 0} → (W → Option (List ℕ)) → RecordSink W → RecordSink W → List Record → Type 0
+HasWritten held old new' records =
+    ((new'.fault ≡ None) × Appends (held old.writer) (held new'.writer) (records_text records))
+    ⊎ (IsSome new'.fault × AppendsFront (held old.writer) (held new'.writer) (records_text records))
+
+-- once it refused a segment it refuses all
+refused_on : {W : Type 0} (held : W → Option (List ℕ)) (n : ℕ) (old : RecordSink W) (segments : List Segment) (m : ℕ) (new' : RecordSink W) → IsSome old.fault
+    → AreHandedOn (Writes held) (Refuses held) n old segments m new' → IsSome new'.fault × (new'.writer ≡ old.writer)
+refused_on held n old [] m new' some (count, same) = (subst (λ s. IsSome s.fault) (sym same) some, ap (λ s. s.writer) same)
+refused_on held n old (s ∷ segments) m new' some (between, inl (wrote, rest)) = absurd (grind (some, wrote.0))
+refused_on held n old (s ∷ segments) m new' some (between, inr (refused, rest)) =
+    let then : IsSome new'.fault × (new'.writer ≡ between.writer) = refused_on held (raised n) between segments m new' refused.0 rest in
+    (then.0, then.1 ∙ refused.2 some)
+
+pub handed_to_writer : {W : Type 0} (held : W → Option (List ℕ)) (n : ℕ) (old : RecordSink W) (segments : List Segment) (m : ℕ) (new' : RecordSink W) → old.fault ≡ None
+    → AreHandedOn (Writes held) (Refuses held) n old segments m new' → HasWritten held old new' (joined segments)
+handed_to_writer held n old [] m new' none (count, same) =
+    inl (ap (λ s. s.fault) same ∙ none, subst (λ s. Appends (held old.writer) (held s.writer) []) (sym same) (wrote_nothing (held old.writer)))
+handed_to_writer held n old (s ∷ segments) m new' none (between, inl (wrote, rest)) =
+    elim (handed_to_writer held n between segments m new' wrote.1 rest) [
+      | inl all ↦ inl (all.0, wrote_both (held old.writer) (held between.writer) (held new'.writer) s.records (joined segments) wrote.2 all.1)
+      | inr part ↦ inr (part.0, wrote_front (held old.writer) (held between.writer) (held new'.writer) s.records (joined segments) wrote.2 part.1)
+    ]
+handed_to_writer held n old (s ∷ segments) m new' none (between, inr (refused, rest)) =
+    let then : IsSome new'.fault × (new'.writer ≡ between.writer) = refused_on held (raised n) between segments m new' refused.0 rest in
+    inr (
+      then.0,
+      longer_front (held old.writer) (held new'.writer) s.records (joined segments)
+          (subst (λ w. AppendsFront (held old.writer) (held w) (records_text s.records)) (sym then.1) (refused.1 none)),
+    )
+
+-- The segments of a book were written, and then its journal.
+pub book_recorded : {W : Type 0} (held : W → Option (List ℕ)) (b : BookState) (segments : List Segment) (old mid : RecordSink W) (new' : W) → IsBook b → segments ≡ sent b.segments
+    → HasWritten held old mid (joined segments) → mid.fault ≡ None → Appends (held mid.writer) (held new') (records_text b.journal) → IsRecorded b.base (held old.writer) (held new')
+book_recorded held b segments old mid new' book are (inl all) none then =
+    parts_recorded b segments (held old.writer) (held mid.writer) (held new') book are all.1 then
+book_recorded held b segments old mid new' book are (inr part) none then = absurd (grind (part.0, none))
+
+-- A front of them was written.
+pub book_cut_off : {W : Type 0} (held : W → Option (List ℕ)) (b : BookState) (segments : List Segment) (old mid : RecordSink W) (new' : W) → IsBook b → segments ≡ sent b.segments
+    → HasWritten held old mid (joined segments) → (IsSome mid.fault → new' ≡ mid.writer) → (mid.fault ≡ None → AppendsFront (held mid.writer) (held new') (records_text b.journal))
+    → IsCutOff b.base (held old.writer) (held new')
+book_cut_off held b segments old mid new' book are (inl all) refused front =
+    journal_cut_off b segments (held old.writer) (held mid.writer) (held new') book are all.1 (front all.0)
+book_cut_off held b segments old mid new' book are (inr part) refused front =
+    segments_cut_off b segments (held old.writer) (held new') book are
+    (subst (λ w. AppendsFront (held old.writer) (held w) (records_text (joined segments))) (sym (refused part.0)) part.1)

@@ -1,0 +1,16 @@
+-- What a writer of the record does with a segment.
+use Rattle.std.specs.Prelude.{◌≡◌, ℕ, List, Option, None, IsSome}
+use Rattle.std.specs.Io.KnownBytes.{Appends}
+use Rattle.record_core.specs.declared.segment.Segment.{Segment}
+use Rattle.audit_core.specs.Recording.{records_text, AppendsFront}
+use Rattle.crew_core.specs.declared.record_sink.RecordSink.{RecordSink}
+
+-- nothing was refused, and its records are written
+abbrev pub Writes : {W : Type 0} → (W → Option (List ℕ)) → RecordSink W → Segment → RecordSink W → Type 0
+Writes held old segment new = (old.fault ≡ None) × (new.fault ≡ None) × Appends (held old.writer) (held new.writer) (records_text segment.records)
+
+-- A segment is refused from now on. Where it is the first, a front of its records is written, and else nothing.
+abbrev pub Refuses : {W : Type 0} → (W → Option (List ℕ)) → RecordSink W → Segment → RecordSink W → Type 0
+Refuses held old segment new = IsSome new.fault
+    × (old.fault ≡ None → AppendsFront (held old.writer) (held new.writer) (records_text segment.records))
+    × (IsSome old.fault → new.writer ≡ old.writer)
