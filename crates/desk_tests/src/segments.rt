@@ -109,8 +109,13 @@ fn settled<M: Ledger, O: Ledger, R: Wait>(
     let mut owner = Desk::<M, O>::new(alloc, book, made, units);
     let mut pass = owner.pass(true);
     let (real, rejected) = pairs;
-    let ([new, three, full], (one, none, other)) =
-        steps(rt, owner.shared(), &mut pass, &real, &rejected);
+    let ([new, three, full], (one, none, other)) = steps(
+        rt,
+        owner.shared(),
+        &mut pass,
+        &real,
+        &rejected,
+    );
     put(&mut leases, one);
     put(&mut leases, none);
     put(&mut leases, other);
@@ -169,12 +174,7 @@ fn receipts_are_found_in_the_segments_of_a_desk(rt: HostRuntime) -> Result<(), F
         };
         assert_eq!(rt;
             seen.cuts,
-            [
-                Err(CutFault::Nothing),
-                Ok(()),
-                Err(CutFault::Full),
-                Ok(())
-            ]
+            [Err(CutFault::Nothing), Ok(()), Err(CutFault::Full), Ok(())]
         );
         assert_eq!(rt; seen.segments, [(1, 3), (4, 1)]);
         assert!(rt; seen.follows, "the second segment follows the first");
