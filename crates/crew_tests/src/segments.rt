@@ -52,7 +52,13 @@ fn segments_of_two_workers_have_all_records_in_a_row(rt: HostRuntime) {
     assert!(rt; segments >= 2, "there are {segments} segments");
     assert_eq!(rt; ended.shelf.gaps, 0);
     assert_eq!(rt; ended.words.len(), 2_000);
-    assert_eq!(rt; ended.settled, Ok(Settled { made: 2_000, live: 0 }));
+    assert_eq!(rt;
+        ended.settled,
+        Ok(Settled {
+            made: 2_000,
+            live: 0
+        })
+    );
 }
 
 /// With one worker a segment has 256 records. The door is not closed before it knows of the one that is lost.
