@@ -2,3 +2,4 @@ pub mod ConnLemmas
 pub mod RecordLemmas
 pub mod OutletLemmas
 pub mod SinkLemmas
+pub mod CrewLemmas

@@ -1,5 +1,5 @@
 -- Segments that go to a sink in parts.
-use Rattle.std.specs.Prelude.{◌≡◌, ◌⊎◌, ℕ, List, [], ◌∷◌, ◌++◌}
+use Rattle.std.specs.Prelude.{◌≡◌, ℕ, List, [], ◌∷◌, ◌++◌}
 use Rattle.std.proofs.Common.{ap, append-nil, append_assoc, sym, subst, refl, ◌∙◌, inl, inr}
 use Rattle.device_core.specs.Device.{raised}
 use Rattle.record_core.specs.declared.segment.Segment.{Segment}

@@ -1,5 +1,5 @@
 -- What a writer of the record has written after segments in a row.
-use Rattle.std.proofs.Common.{◌≡◌, ◌⊎◌, ◌++◌, ◌∷◌, [], ℕ, List, Option, None, refl, ap, subst, sym, ◌∙◌, inl, inr}
+use Rattle.std.proofs.Common.{◌≡◌, ◌⊎◌, ◌∷◌, [], ℕ, List, Option, None, ap, subst, sym, ◌∙◌, inl, inr, arith}
 use Rattle.std.specs.Prelude.{IsSome}
 use Rattle.std.specs.Io.KnownBytes.{Appends}
 use Rattle.record_core.specs.declared.record.Record.{Record}
@@ -24,7 +24,7 @@ HasWritten held old new' records =
 refused_on : {W : Type 0} (held : W → Option (List ℕ)) (n : ℕ) (old : RecordSink W) (segments : List Segment) (m : ℕ) (new' : RecordSink W) → IsSome old.fault
     → AreHandedOn (Writes held) (Refuses held) n old segments m new' → IsSome new'.fault × (new'.writer ≡ old.writer)
 refused_on held n old [] m new' some (count, same) = (subst (λ s. IsSome s.fault) (sym same) some, ap (λ s. s.writer) same)
-refused_on held n old (s ∷ segments) m new' some (between, inl (wrote, rest)) = absurd (grind (some, wrote.0))
+refused_on held n old (s ∷ segments) m new' some (between, inl (wrote, rest)) = absurd (grind (arith, some, wrote.0))
 refused_on held n old (s ∷ segments) m new' some (between, inr (refused, rest)) =
     let then : IsSome new'.fault × (new'.writer ≡ between.writer) = refused_on held (raised n) between segments m new' refused.0 rest in
     (then.0, then.1 ∙ refused.2 some)
@@ -51,7 +51,7 @@ pub book_recorded : {W : Type 0} (held : W → Option (List ℕ)) (b : BookState
     → HasWritten held old mid (joined segments) → mid.fault ≡ None → Appends (held mid.writer) (held new') (records_text b.journal) → IsRecorded b.base (held old.writer) (held new')
 book_recorded held b segments old mid new' book are (inl all) none then =
     parts_recorded b segments (held old.writer) (held mid.writer) (held new') book are all.1 then
-book_recorded held b segments old mid new' book are (inr part) none then = absurd (grind (part.0, none))
+book_recorded held b segments old mid new' book are (inr part) none then = absurd (grind (arith, part.0, none))
 
 -- A front of them was written.
 pub book_cut_off : {W : Type 0} (held : W → Option (List ℕ)) (b : BookState) (segments : List Segment) (old mid : RecordSink W) (new' : W) → IsBook b → segments ≡ sent b.segments

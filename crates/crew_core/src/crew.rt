@@ -1,5 +1,6 @@
 //! The crew: the workers, each in a thread of its own, and the acceptor in the caller's.
 ghost use Rattle.std.specs.Prelude.{◌≡◌, ◌<◌, ◌≤◌, ◌+◌, ◌-◌, ◌^◌, [], Some, IfErr, IfOk, sum_by, vec_capacity, vec_len};
+ghost use Rattle.std.specs.Thread.{IsSend};
 ghost use Rattle.rtrb.specs.Ring.{received, sent, IsPair};
 ghost use Rattle.book_core.specs.Book.{with_ring};
 ghost use Rattle.book_core.specs.Open.{open_connections};
@@ -197,6 +198,13 @@ fn attend_each<
     thread::for_each_mut(rt, workers, threads, &|_, worker| worker.work(rt, hall));
 }
 
+/// What works at the desk: the workers, and the acceptor in front of them.
+#[derive(Drop)]
+struct Team<'a, M: Ledger, O: Ledger, K: Link, L: Dial<Link = K>, D: Door<Link = K>> {
+    workers: &'a mut [Worker<M, O, K, L>],
+    front: Front<'a, M, K, D>,
+}
+
 /// The workers, and the acceptor beside them in the caller's thread. When all of them have ended, so does the recorder. It
 /// says how many connections came, and how many of them no lane had room for.
 fn work_beside<
@@ -209,12 +217,8 @@ fn work_beside<
     G: Gate + Sync,
     C: Clock + Sync,
     R: Threads + Wait + Sync,
->(
-    rt: &R,
-    hall: &Hall<'_, M, O, B, G, C>,
-    front: Front<'_, M, K, D>,
-    workers: &mut [Worker<M, O, K, L>],
-) -> (u64, u64) {
+>(rt: &R, hall: &Hall<'_, M, O, B, G, C>, team: Team<'_, M, O, K, L, D>) -> (u64, u64) {
+    let Team { workers, front } = team;
     let (_all, came) = thread::join(
         rt,
         || attend_each(rt, hall, workers),
@@ -224,8 +228,8 @@ fn work_beside<
     came
 }
 
-/// All threads: the workers with the acceptor, and the recorder beside them. What the acceptor says, and what is left of the
-/// outlet with how many segments its sink refused.
+/// All threads: the team, and the recorder beside it. What the acceptor says, and what is left of the outlet with how many
+/// segments its sink refused.
 fn work_and_record<
     M: Ledger + Send + Sync,
     O: Ledger + Send + Sync,
@@ -240,8 +244,7 @@ fn work_and_record<
 >(
     rt: &R,
     hall: &Hall<'_, M, O, B, G, C>,
-    front: Front<'_, M, K, D>,
-    workers: &mut [Worker<M, O, K, L>],
+    team: Team<'_, M, O, K, L, D>,
     outlet: Outlet<S>,
 ) -> ((u64, u64), (Outlet<S>, u64))
     ensures { HasHandedOn S.takes S.refuses 0 outlet result.1.1 result.1.0 }
@@ -249,7 +252,9 @@ fn work_and_record<
     let (handed, came) = thread::join(
         rt,
         move || hall.hand_on(rt, outlet),
-        move || work_beside(rt, hall, front, workers),
+        move ||
+            requires { IsSend M.row × IsSend O.row × IsSend B.row × IsSend K.row × IsSend L.row }
+        { work_beside(rt, hall, team) },
     );
     (came, handed)
 }
@@ -468,7 +473,11 @@ pub fn run_crew<
         lanes,
         pass: &mut pass,
     };
-    let (came, handed) = work_and_record(rt, &hall, front, workers.as_mut_slice(), outlet);
+    let team = Team {
+        workers: workers.as_mut_slice(),
+        front,
+    };
+    let (came, handed) = work_and_record(rt, &hall, team, outlet);
     let ((accepted, held), (mut outlet, refused)) = (came, handed);
     passes.push_reserved(pass);
     let (closed, waiting) = dismiss(workers, &mut passes, &mut lists, &mut dials_back);

@@ -74,7 +74,9 @@ pub fn open_book(alloc: Global, text: &str) -> Result<(Book, Consumer<Segment>),
 }
 
 /// Ends what is left of a crew that did nothing.
-fn settle_idle<M: Ledger, O: Ledger, B: Opening, L: Drop, S: Sink>(crew: Crew<M, O, B, L, S>) {
+fn settle_idle<M: Ledger, O: Ledger, B: Opening, L: Drop, S: Sink>(crew: Crew<M, O, B, L, S>)
+    requires { M.parts ≡ 65537 }
+{
     let Crew {
         summary: _,
         shut,

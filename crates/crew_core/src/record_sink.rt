@@ -1,5 +1,5 @@
 //! A writer of the record.
-ghost use Rattle.std.specs.Prelude.{◌≡◌, ◌⊎◌, IsSome, None, OnErr, OnOk};
+ghost use Rattle.std.specs.Prelude.{◌≡◌, IsSome, None, OnErr, OnOk};
 ghost use Rattle.std.specs.Io.KnownBytes.{Appends};
 ghost use Rattle.audit_core.specs.Recording.{records_text, AppendsFront};
 ghost use Rattle.book_core.specs.Book.{IsBook};
@@ -34,8 +34,7 @@ impl<W: Output + Drop> RecordSink<W> {
 
     /// Writes what the book has in memory, unless a segment was refused.
     pub(crate) fn finish(self, book: &Book) -> (Result<(), RecordFault>, W)
-        ensures written { OnOk result.0 (self.fault ≡ None) }
-        ensures ok { OnOk result.0 (Appends (W.held self.writer) (W.held result.1) (records_text book.now.journal)) }
+        ensures ok { OnOk result.0 ((self.fault ≡ None) × Appends (W.held self.writer) (W.held result.1) (records_text book.now.journal)) }
         ensures refused { IsSome self.fault → result.1 ≡ self.writer }
         ensures front { OnErr result.0 (self.fault ≡ None → AppendsFront (W.held self.writer) (W.held result.1) (records_text book.now.journal)) }
         ensures legal { IsBook book.now }
