@@ -58,7 +58,7 @@ impl<M: Ledger, O: Ledger, K: Link, L: Dial<Link = K>> Worker<M, O, K, L> {
         };
         match conn.stage {
             Stage::Header => self.receive(rt, hall, key),
-            Stage::Server(_) if conn.is_reset() => self.close(rt, hall, key, Why::Fault),
+            Stage::Server(_) if conn.client_flags.is_reset => self.close(rt, hall, key, Why::Fault),
             Stage::Server(to) => self.dial_server(rt, hall, key, &to),
             Stage::Bytes => self.relay(rt, hall, key),
         }

@@ -3,7 +3,7 @@
 use crate::link::FakeLink;
 use crate::stage::{Mark, Stage};
 use conn_model::reply::{Reply, StepFault};
-use crew_core::{Door, Knock};
+use crew_core::{Backlog, Door, Knock};
 use std::sync::Arc;
 
 /// A door that hands out its knocks, the last of the list first. Then it is closed once that mark is set.
@@ -14,6 +14,8 @@ pub struct FakeDoor {
     pub closes_after: Option<Mark>,
     /// How many reloads went well, and how many did not.
     pub reloads: (u32, u32),
+    /// What it was last told of a record that does not go out.
+    pub warned: Option<Backlog>,
 }
 
 impl Door for FakeDoor {
@@ -33,5 +35,10 @@ impl Door for FakeDoor {
             Ok(_) => (well.saturating_add(1), badly),
             Err(_) => (well, badly.saturating_add(1)),
         };
+    }
+
+    fn warn(&mut self, backlog: &Backlog) {
+        self.warned = Some(*backlog);
+        self.stage.set(Mark::Warned);
     }
 }

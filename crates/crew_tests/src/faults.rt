@@ -52,7 +52,8 @@ fn dial_that_fails_ends_its_connection_alone(rt: HostRuntime) {
             accepted: 2,
             taken: 2,
             closed: 2,
-            recorded: 7
+            recorded: 7,
+            sink_failed: 0
         }
     );
     assert!(rt;
@@ -112,7 +113,8 @@ fn header_that_does_not_come_in_time(rt: HostRuntime) {
             accepted: 1,
             taken: 1,
             closed: 0,
-            recorded: 3
+            recorded: 3,
+            sink_failed: 0
         }
     );
     assert_eq!(rt; ended.settled, Ok(Settled { made: 3, live: 0 }));

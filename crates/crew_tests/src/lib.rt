@@ -13,6 +13,10 @@ mod play;
 #[cfg(test)]
 mod reloads;
 #[cfg(test)]
+mod segments;
+#[cfg(test)]
+mod shelf;
+#[cfg(test)]
 mod stage;
 #[cfg(test)]
 mod stops;

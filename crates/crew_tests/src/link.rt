@@ -239,6 +239,7 @@ fn report(ready: &mut Vec<Ready>, key: usize, of_server: bool) {
             reads: true,
             writes: true,
             is_closed: false,
+            is_reset: false,
         });
     }
 }

@@ -1,18 +1,18 @@
 //! A whole run of a crew, and what came of it.
-ghost use Rattle.std.specs.Prelude.{◌≡◌, ◌≤◌, ◌-◌, ◌^◌, IfSome, vec_len};
+ghost use Rattle.std.specs.Prelude.{◌≡◌, ◌≤◌, ◌-◌, ◌^◌, IfSome, Some, vec_len};
 ghost use Rattle.book_core.specs.Open.{open_connections};
+ghost use Rattle.rtrb.specs.Ring.{IsPair};
 
 use crate::door::FakeDoor;
 use crate::link::{FakeDial, FakeLink, Script};
+use crate::shelf::Shelf;
 use crate::stage::{FakeClock, FakeGate, Mark, Stage};
 use addr_core::{Addr, Endpoint, Pair};
 use book_core::Book;
-use book_core::laws::open_connections_change;
-use conn_core::Core;
 use conn_model::event::Why;
 use conn_model::reply::{Cause, Said};
-use crew_core::{Crew, CrewFault, Knock, Setup, Summary, run_crew};
-use desk_core::{AnyBase, Pass, SettleFault, Settled, settle};
+use crew_core::{Backlog, Crew, CrewFault, Knock, Outlet, Setup, Summary, open_book, run_crew};
+use desk_core::{Opening, Pass, SettleFault, Settled, settle};
 use record_core::Record;
 use std::alloc::Global;
 use std::marker::Brand;
@@ -58,6 +58,8 @@ pub struct Play<'a> {
     pub is_late: bool,
     /// When the door is closed.
     pub closes_after: Option<Mark>,
+    /// How many segments the sink refuses before it takes one.
+    pub refusals: u32,
     /// How many calls the gate lets each worker make, and whether it holds the first of worker 0 back.
     pub calls: u64,
     pub holds: bool,
@@ -72,7 +74,9 @@ pub struct Play<'a> {
 pub struct Ended {
     pub fault: Option<CrewFault>,
     pub summary: Summary,
+    /// The records of the sink, and after them those of the journal.
     pub words: Vec<Word>,
+    pub shelf: Shelf,
     /// The calls of all passes.
     pub calls: u64,
     pub settled: Result<Settled, SettleFault>,
@@ -82,25 +86,8 @@ pub struct Ended {
     pub is_wrong: bool,
     /// How many reloads went well, and how many did not.
     pub reloads: (u32, u32),
-}
-
-/// A book over the configuration, if it opens.
-fn open_book(alloc: Global, text: &str) -> Option<Book>
-    ensures made { IfSome result (λ book. book.made ≡ 0) }
-    ensures state { IfSome result (λ book. open_connections book.state ≡ 0) }
-    ensures base { IfSome result (λ book. open_connections book.base ≡ 0) }
-{
-    open_connections_change();
-    let Ok(core) = Core::open(alloc, text) else {
-        return None;
-    };
-    match Book::open(alloc, core) {
-        Ok(book) => Some(book),
-        Err(failed) => {
-            failed.value.end();
-            None
-        }
-    }
+    /// What the door was last told of a record that does not go out.
+    pub warned: Option<Backlog>,
 }
 
 /// The addresses of a connection from 10.1.1.1 to 127.0.0.1:8080.
@@ -158,11 +145,19 @@ fn dials<H: Clock + Copy + Drop>(
     Some(dials)
 }
 
-fn words_of(alloc: Global, journal: &[Record]) -> Vec<Word> {
-    let mut words = Vec::new(alloc);
-    for record in journal {
+fn add_words(words: &mut Vec<Word>, records: &[Record]) {
+    for record in records {
         let _ = words.push(word_of(&record.reply.said));
     }
+}
+
+/// Those of the sink, and after them those of the journal.
+fn words_of(alloc: Global, shelf: &Shelf, journal: &[Record]) -> Vec<Word> {
+    let mut words = Vec::new(alloc);
+    for segment in &shelf.segments {
+        add_words(&mut words, segment.records.as_slice());
+    }
+    add_words(&mut words, journal);
     words
 }
 
@@ -175,12 +170,12 @@ fn calls_of<M: Ledger>(passes: &[Pass<M>]) -> u64 {
 }
 
 /// Takes apart what is left of a crew.
-fn end<M: Ledger, O: Ledger, L: Drop>(
+fn end<M: Ledger, O: Ledger, B: Opening, L: Drop>(
     alloc: Global,
     stage: &Stage,
     fault: Option<CrewFault>,
-    crew: Crew<M, O, AnyBase, L>,
-    reloads: (u32, u32),
+    crew: Crew<M, O, B, L, Shelf>,
+    door: &FakeDoor,
 ) -> Ended
     requires { M.parts ≡ 65537 }
 {
@@ -190,19 +185,26 @@ fn end<M: Ledger, O: Ledger, L: Drop>(
         passes,
         left,
         dials: _,
+        outlet,
     } = crew;
-    let words = words_of(alloc, shut.book().journal());
+    let Outlet {
+        segments: _segments,
+        sink: shelf,
+    } = outlet;
+    let words = words_of(alloc, &shelf, shut.book().journal());
     let calls = calls_of(passes.as_slice());
     Ended {
         fault,
         summary,
         words,
         calls,
-        settled: settle(shut, passes, left, &[]),
+        settled: settle(shut, passes, left, shelf.segments.as_slice()),
+        shelf,
         is_served: stage.has(Mark::Served),
         is_answered: stage.has(Mark::Answered),
         is_wrong: stage.has(Mark::Wrong),
-        reloads,
+        reloads: door.reloads,
+        warned: door.warned,
     }
 }
 
@@ -217,6 +219,7 @@ struct Fakes<H: Clock> {
 fn act<
     M: Ledger + Send + Sync,
     O: Ledger + Send + Sync,
+    B: Opening + Send + Sync,
     R: Threads + Wait + Sync,
     H: Clock + Send + Sync + Drop,
 >(
@@ -228,8 +231,11 @@ fn act<
     stage: &Stage,
     fakes: Fakes<H>,
     dials: Vec<FakeDial<H>>,
+    outlet: Outlet<Shelf>,
     setup: Setup,
 ) -> Ended
+    requires opened { B.opening ≡ Some book }
+    requires ring { IsPair book.segments outlet.segments }
     requires fresh { (book.made ≡ 0) × (open_connections book.state ≡ 0) × (open_connections book.base ≡ 0) }
     requires made_name { made.name ≡ M.name }
     requires made_parts { (made.parts ≡ M.parts) × (made.parts ≡ 65537) }
@@ -246,20 +252,21 @@ fn act<
         R,
         M,
         O,
-        AnyBase,
+        B,
         FakeLink,
         FakeDial<H>,
         FakeDoor,
         FakeGate<H>,
         FakeClock<H>,
+        Shelf,
     >(
-        rt, alloc, book, made, units, &mut door, dials, &gate, &clock, setup,
+        rt, alloc, book, made, units, &mut door, dials, outlet, &gate, &clock, setup,
     );
     let (fault, crew) = match ended {
         Ok(crew) => (None, crew),
         Err((fault, crew)) => (Some(fault), crew),
     };
-    end(alloc, stage, fault, crew, door.reloads)
+    end(alloc, stage, fault, crew, &door)
 }
 
 fn make_fakes<H: Clock + Copy + Drop>(
@@ -274,6 +281,7 @@ fn make_fakes<H: Clock + Copy + Drop>(
             knocks: knocks(alloc, stage, play)?,
             closes_after: play.closes_after,
             reloads: (0, 0),
+            warned: None,
         },
         gate: FakeGate {
             sleeper,
@@ -307,8 +315,14 @@ pub fn run<R: Threads + Wait + Sync, H: Clock + Copy + Send + Sync + Drop>(
         turns: play.turns,
         keeps: true,
     };
-    let book = open_book(alloc, play.text)?;
-    Some(act::<Brand, Brand, R, H>(
+    let Ok((book, segments)) = open_book(alloc, play.text) else {
+        return None;
+    };
+    let outlet = Outlet {
+        segments,
+        sink: Shelf::new(alloc, play.refusals),
+    };
+    Some(act::<Brand, Brand, Brand, R, H>(
         rt,
         alloc,
         book,
@@ -317,6 +331,7 @@ pub fn run<R: Threads + Wait + Sync, H: Clock + Copy + Send + Sync + Drop>(
         &stage,
         fakes,
         dials,
+        outlet,
         setup,
     ))
 }

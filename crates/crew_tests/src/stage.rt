@@ -21,6 +21,8 @@ pub enum Mark {
     FirstOver,
     /// The link of the second client was dropped.
     SecondOver,
+    /// The door was told that the record does not go out as it should.
+    Warned,
 }
 
 /// The marks and the time.
@@ -32,6 +34,7 @@ pub struct Stage {
     wrong: AtomicBool,
     first_over: AtomicBool,
     second_over: AtomicBool,
+    warned: AtomicBool,
     now: AtomicU64,
     /// By how many ms the time goes on when a dial waits.
     step: u64,
@@ -46,6 +49,7 @@ impl Stage {
             wrong: AtomicBool::new(false),
             first_over: AtomicBool::new(false),
             second_over: AtomicBool::new(false),
+            warned: AtomicBool::new(false),
             now: AtomicU64::new(0),
             step,
         }
@@ -59,6 +63,7 @@ impl Stage {
             Mark::Wrong => &self.wrong,
             Mark::FirstOver => &self.first_over,
             Mark::SecondOver => &self.second_over,
+            Mark::Warned => &self.warned,
         }
     }
 

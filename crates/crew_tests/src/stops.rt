@@ -20,7 +20,8 @@ fn gate_that_is_shut_lets_no_call_pass(rt: HostRuntime) {
             accepted: 1,
             taken: 1,
             closed: 0,
-            recorded: 0
+            recorded: 0,
+            sink_failed: 0
         }
     );
     assert_eq!(rt; ended.settled, Ok(Settled { made: 0, live: 0 }));

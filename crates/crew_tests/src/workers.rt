@@ -40,6 +40,7 @@ pub const PLAIN: Play<'static> = Play {
     fails: 0,
     is_late: false,
     closes_after: Some(Mark::FirstOver),
+    refusals: 0,
     calls: u64::MAX,
     holds: false,
     workers: 1,
@@ -116,7 +117,8 @@ fn second_worker_sees_the_first_ones_connection(rt: HostRuntime) {
             accepted: 2,
             taken: 2,
             closed: 1,
-            recorded: 6
+            recorded: 6,
+            sink_failed: 0
         }
     );
     assert_eq!(rt; ended.calls, 6);

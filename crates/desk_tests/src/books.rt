@@ -1,50 +1,73 @@
 //! Books with no record yet.
 ghost use Rattle.std.specs.Prelude.{◌≡◌, ◌<◌, ◌≤◌, ◌+◌, IfSome, vec_capacity, vec_len};
 ghost use Rattle.book_core.specs.Open.{open_connections};
+ghost use Rattle.rtrb.specs.Ring.{IsPair};
 
 use addr_core::{Addr, Endpoint, Pair};
 use book_core::Book;
 use book_core::laws::open_connections_change;
 use conn_core::Core;
 use desk_core::Lease;
-use rtrb::RingBuffer;
+use record_core::Segment;
+use rtrb::{Consumer, RingBuffer};
 use std::alloc::Global;
 use std::sync::ledger::Ledger;
 use std::test::Fail;
 
-/// A book over the configuration, if it opens.
-pub fn open_book(alloc: Global, text: &str) -> Option<Book>
-    ensures made { IfSome result (λ book. book.made ≡ 0) }
-    ensures state { IfSome result (λ book. open_connections book.state ≡ 0) }
-    ensures base { IfSome result (λ book. open_connections book.base ≡ 0) }
+/// A frontend that rejects 198.51.100.0/24 by its third line.
+pub const RULE: &str =
+    "frontend f\nbind 127.0.0.1:9000\ntcp-request connection reject if { src 198.51.100.0/24 }\ndefault_backend b\nbackend b\nserver s 10.0.0.20:80\n";
+
+/// A book over the configuration, if it opens, and the other end of its ring, which has room for so many segments.
+pub fn open_with_ring(
+    alloc: Global,
+    text: &str,
+    segments: usize,
+) -> Option<(Book, Consumer<Segment>)>
+    ensures made { IfSome result (λ opened. opened.0.made ≡ 0) }
+    ensures state { IfSome result (λ opened. open_connections opened.0.state ≡ 0) }
+    ensures base { IfSome result (λ opened. open_connections opened.0.base ≡ 0) }
+    ensures ring { IfSome result (λ opened. IsPair opened.0.segments opened.1) }
 {
     open_connections_change();
     let Ok(core) = Core::open(alloc, text) else {
         return None;
     };
-    let Ok((segments, _taken)) = RingBuffer::new(alloc, 1) else {
+    let Ok((producer, consumer)) = RingBuffer::new(alloc, segments) else {
         core.end();
         return None;
     };
-    match Book::open(alloc, core, segments) {
-        Ok(book) => Some(book),
+    match Book::open(alloc, core, producer) {
+        Ok(book) => Some((book, consumer)),
         Err(failed) => {
-            let (core, _segments) = failed.value;
+            let (core, _producer) = failed.value;
             core.end();
             None
         }
     }
 }
 
-/// The addresses of a connection from port 4000 of that address to a port of 127.0.0.1.
-pub fn pair_from(source: u32, port: u16) -> Result<Pair, Fail> {
+/// A book over the configuration, if it opens, of which no segment is taken.
+pub fn open_book(alloc: Global, text: &str) -> Option<Book>
+    ensures made { IfSome result (λ book. book.made ≡ 0) }
+    ensures state { IfSome result (λ book. open_connections book.state ≡ 0) }
+    ensures base { IfSome result (λ book. open_connections book.base ≡ 0) }
+{
+    match open_with_ring(alloc, text, 1) {
+        Some((book, _segments)) => Some(book),
+        None => None,
+    }
+}
+
+/// The addresses of a connection from a port of that address to a port of 127.0.0.1.
+pub fn pair_from(source: u32, from: u16, to: u16) -> Result<Pair, Fail> {
     let source = Endpoint {
         addr: Addr::V4(source),
-        port: 4000,
+        port: from,
     };
     let destination = Endpoint {
         addr: Addr::V4(0x7f00_0001),
-        port,
+        port: to,
     };
     Ok(Pair::of(source, destination).ok_or("two families")?)
 }

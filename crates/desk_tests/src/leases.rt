@@ -78,12 +78,12 @@ fn header_and_expiry<M: Ledger, O: Ledger, R: Wait>(
     Some(Seen {
         words: [first, second, third, fourth],
         entries: [before, meanwhile, after],
-        settled: settle(owner.into_book(), passes, left),
+        settled: settle(owner.into_book(), passes, left, &[]),
     })
 }
 
 fn run<R: Wait>(rt: &R, alloc: Global) -> Result<Option<Seen>, Fail> {
-    let real = pair_from(0x0a01_0101, 8080)?;
+    let real = pair_from(0x0a01_0101, 4000, 8080)?;
     let Some(book) = open_book(alloc, TABLE) else {
         return Ok(None);
     };

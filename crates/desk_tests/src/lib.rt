@@ -3,13 +3,15 @@
 #![tactic(auto)]
 
 #[cfg(test)]
-mod bases;
-#[cfg(test)]
 mod books;
 #[cfg(test)]
 mod calls;
 #[cfg(test)]
+mod cuts;
+#[cfg(test)]
 mod leases;
+#[cfg(test)]
+mod openings;
 #[cfg(test)]
 mod reloads;
 #[cfg(test)]

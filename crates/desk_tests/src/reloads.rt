@@ -91,14 +91,14 @@ fn settled<M: Ledger, O: Ledger, R: Wait>(
     put(&mut leases, other);
     put(&mut leases, new);
     left.push_reserved(leases);
-    Some((seen, settle(owner.into_book(), passes, left)))
+    Some((seen, settle(owner.into_book(), passes, left, &[])))
 }
 
 fn run<R: Wait>(
     rt: &R,
     alloc: Global,
 ) -> Result<Option<(Seen, Result<Settled, SettleFault>)>, Fail> {
-    let real = pair_from(0x0a01_0101, 8080)?;
+    let real = pair_from(0x0a01_0101, 4000, 8080)?;
     let Some(book) = open_book(alloc, OLD) else {
         return Ok(None);
     };

@@ -1,174 +1,184 @@
-//! Segments that `settle` is handed, made by hand of what a desk answered.
+//! Segments that a desk hands over, and what `settle` says of receipts over them.
 ghost use Rattle.std.specs.Prelude.{◌≡◌, ◌<◌, ◌-◌, ◌+◌, ◌^◌};
 ghost use Rattle.book_core.specs.Open.{open_connections};
 
-use crate::books::{open_book, pair_from, put, room};
+use crate::books::{RULE, open_with_ring, pair_from, put, room};
+use crate::calls::{accept, close};
 use addr_core::Pair;
-use book_core::{Book, Receipt};
-use conn_model::event::{OwnedEvent, Why};
+use book_core::{Book, CutFault};
 use conn_model::reply::{Cause, Said};
 use desk_core::{Desk, Lease, Pass, SettleFault, Settled, SharedDesk, settle};
 use list_core::Seq;
-use record_core::{Record, Segment};
+use record_core::Segment;
+use rtrb::Consumer;
 use std::alloc::Global;
 use std::marker::Brand;
 use std::sync::Wait;
 use std::sync::ledger::{Blank, Ledger};
 use std::test::Fail;
 
-const ONE_AT_ONCE: &str =
-    "frontend f\nbind 127.0.0.1:9000\nmaxconn 1\ndefault_backend b\nbackend b\nserver s 10.0.0.20:80\n";
-
-fn keep(records: &mut Vec<Record>, event: OwnedEvent, receipt: Receipt) {
-    let Receipt { number, reply } = receipt;
-    let _ = records.push(Record {
-        number,
-        moment: 0,
-        event,
-        reply,
-    });
+/// How the two segments are handed in.
+#[derive(Clone, Copy, Debug, PartialEq, Eq)]
+enum Hands {
+    InOrder,
+    TurnedRound,
+    SecondAlone,
+    /// The second record names another line.
+    Forged,
 }
 
-/// A connection came to the first listener. Its record is kept.
-fn accept<M: Ledger, O: Ledger, R: Wait>(
+/// What the cuts come to, the first number and the length of each segment, whether the second follows the first, and what
+/// was settled.
+#[derive(Drop)]
+struct Seen {
+    cuts: [Result<(), CutFault>; 4],
+    segments: [(u64, usize); 2],
+    follows: bool,
+    settled: Result<Settled, SettleFault>,
+}
+
+type Cuts = [Result<(), CutFault>; 3];
+
+type Three<O> = (Option<Lease<O>>, Option<Lease<O>>, Option<Lease<O>>);
+
+/// A cut; an accept, one that is rejected, a close and a cut; an accept, and a cut for which the ring has no room.
+fn steps<M: Ledger, O: Ledger, R: Wait>(
     rt: &R,
     desk: &SharedDesk<M, O>,
     pass: &mut Pass<M>,
     real: &Pair,
-    records: &mut Vec<Record>,
-) -> Option<Lease<O>> {
-    match desk.accept(rt, pass, 0, 0, real) {
-        Ok((receipt, lease)) => {
-            keep(records, OwnedEvent::Accept(0, *real), receipt);
-            lease
-        }
-        Err(_fault) => None,
+    rejected: &Pair,
+) -> (Cuts, Three<O>) {
+    let new = desk.cut(rt);
+    let one = accept(rt, desk, pass, 0, real);
+    let none = accept(rt, desk, pass, 1, rejected);
+    let one = close(rt, desk, pass, 2, one);
+    let front = desk.cut(rt);
+    let other = accept(rt, desk, pass, 3, real);
+    let full = desk.cut(rt);
+    ([new, front, full], (one, none, other))
+}
+
+/// The next segment of the ring, or an empty one where there is none.
+fn next(alloc: Global, segments: &mut Consumer<Segment>) -> Segment {
+    match segments.pop() {
+        Ok(segment) => segment,
+        Err(_empty) => Segment {
+            first: 0,
+            records: Seq::of(Vec::new(alloc)),
+        },
     }
 }
 
-/// The connection of the lease ended. The record is kept.
-fn close<M: Ledger, O: Ledger, R: Wait>(
-    rt: &R,
-    desk: &SharedDesk<M, O>,
-    pass: &mut Pass<M>,
-    lease: Option<Lease<O>>,
-    records: &mut Vec<Record>,
-) -> Option<Lease<O>> {
-    match lease {
-        Some(lease) => {
-            let id = lease.id();
-            match desk.close(rt, pass, 0, lease, Why::Done) {
-                Ok(receipt) => {
-                    keep(records, OwnedEvent::Close(id, Why::Done), receipt);
-                    None
-                }
-                Err((_fault, lease)) => Some(lease),
-            }
-        }
-        None => None,
-    }
-}
-
-/// The refusal of the second record names another line.
-fn forge(records: &mut Vec<Record>) {
+/// The refusal in the second record names the fourth line.
+fn forged(segment: Segment) -> Segment {
+    let Segment { first, records } = segment;
+    let mut records = records.into_vec();
     if let Some(record) = records.get_mut(1) {
         if let Said::Refuse { cause, .. } = &mut record.reply.said {
-            *cause = Cause::Line(9);
+            *cause = Cause::Line(4);
         }
+    }
+    Segment {
+        first,
+        records: Seq::of(records),
     }
 }
 
-/// How the segments are handed in.
-#[derive(Clone, Copy, PartialEq, Eq)]
-enum Hands {
-    InOrder,
-    TurnedRound,
-    Forged,
-}
-
-/// An accept, one that is refused, a close and an accept: the first three records are a segment, and the last is another.
+/// The steps, and one cut more when the desk is shut and its ring has room again.
 fn settled<M: Ledger, O: Ledger, R: Wait>(
     rt: &R,
     alloc: Global,
-    book: Book,
+    opened: (Book, Consumer<Segment>),
     made: Blank,
     units: Blank,
-    real: Pair,
+    pairs: (Pair, Pair),
     hands: Hands,
-) -> Option<Result<Settled, SettleFault>>
-    requires fresh { (book.made ≡ 0) × (open_connections book.state ≡ 0) × (open_connections book.base ≡ 0) }
+) -> Option<Seen>
+    requires fresh { (opened.0.made ≡ 0) × (open_connections opened.0.state ≡ 0) × (open_connections opened.0.base ≡ 0) }
     requires made_name { made.name ≡ M.name }
     requires made_parts { (made.parts ≡ M.parts) × (made.parts ≡ 65537) }
     requires units_name { units.name ≡ O.name }
     requires units_parts { (units.parts ≡ O.parts) × (units.parts ≡ 2 ^ 64 - 1) }
 {
+    let (book, mut segments) = opened;
     let Some((mut leases, mut left)) = room(alloc) else {
         book.end();
         return None;
     };
     let mut owner = Desk::<M, O>::new(alloc, book, made, units);
     let mut pass = owner.pass(true);
-    let desk = owner.shared();
-    let mut three = Vec::new(alloc);
-    let mut last = Vec::new(alloc);
-    let one = accept(rt, desk, &mut pass, &real, &mut three);
-    let refused = accept(rt, desk, &mut pass, &real, &mut three);
-    let one = close(rt, desk, &mut pass, one, &mut three);
-    let other = accept(rt, desk, &mut pass, &real, &mut last);
+    let (real, rejected) = pairs;
+    let ([new, three, full], (one, none, other)) = steps(
+        rt,
+        owner.shared(),
+        &mut pass,
+        &real,
+        &rejected,
+    );
     put(&mut leases, one);
-    put(&mut leases, refused);
+    put(&mut leases, none);
     put(&mut leases, other);
     left.push_reserved(leases);
     let mut passes = Vec::new(alloc);
     let _ = passes.push(pass);
-    if hands == Hands::Forged {
-        forge(&mut three);
-    }
-    let front = Segment {
-        first: 1,
-        records: Seq::of(three),
-    };
-    let back = Segment {
-        first: 4,
-        records: Seq::of(last),
-    };
-    let segments = if hands == Hands::TurnedRound {
-        [back, front]
-    } else {
-        [front, back]
-    };
-    Some(settle(owner.into_book(), passes, left, &segments))
+    let mut shut = owner.into_book();
+    let front = next(alloc, &mut segments);
+    let last = shut.cut();
+    let back = next(alloc, &mut segments);
+    Some(Seen {
+        cuts: [new, three, full, last],
+        segments: [
+            (front.first, front.records.len()),
+            (back.first, back.records.len()),
+        ],
+        follows: back.follows(&front),
+        settled: match hands {
+            Hands::InOrder => settle(shut, passes, left, &[front, back]),
+            Hands::TurnedRound => settle(shut, passes, left, &[back, front]),
+            Hands::SecondAlone => settle(shut, passes, left, &[back]),
+            Hands::Forged => settle(shut, passes, left, &[forged(front), back]),
+        },
+    })
 }
 
-fn run<R: Wait>(
-    rt: &R,
-    alloc: Global,
-    hands: Hands,
-) -> Result<Option<Result<Settled, SettleFault>>, Fail> {
-    let real = pair_from(0x0a01_0101, 9000)?;
-    let Some(book) = open_book(alloc, ONE_AT_ONCE) else {
+fn run<R: Wait>(rt: &R, alloc: Global, hands: Hands) -> Result<Option<Seen>, Fail> {
+    let real = pair_from(0xc000_0205, 4000, 9000)?;
+    let rejected = pair_from(0xc633_6409, 4001, 9000)?;
+    let Some(opened) = open_with_ring(alloc, RULE, 1) else {
         return Ok(None);
     };
     Ok(settled::<Brand, Brand, R>(
         rt,
         alloc,
-        book,
+        opened,
         Blank::new(65_537),
         Blank::new(u64::MAX),
-        real,
+        (real, rejected),
         hands,
     ))
 }
 
 #[test]
-fn receipts_are_found_in_segments(rt: HostRuntime) -> Result<(), Fail> {
-    let alloc = rt.alloc();
-    let all = Some(Ok(Settled { made: 4, live: 1 }));
-    assert_eq!(rt; run(&rt, alloc, Hands::InOrder)?, all);
-    assert_eq!(rt; run(&rt, alloc, Hands::TurnedRound)?, all);
-    assert_eq!(rt;
-        run(&rt, alloc, Hands::Forged)?,
-        Some(Err(SettleFault::WrongReceipt(2)))
-    );
+fn receipts_are_found_in_the_segments_of_a_desk(rt: HostRuntime) -> Result<(), Fail> {
+    let table = [
+        (Hands::InOrder, Ok(Settled { made: 4, live: 1 })),
+        (Hands::TurnedRound, Ok(Settled { made: 4, live: 1 })),
+        (Hands::SecondAlone, Err(SettleFault::Missing(1))),
+        (Hands::Forged, Err(SettleFault::WrongReceipt(2))),
+    ];
+    for (hands, settled) in table {
+        let Some(seen) = run(&rt, rt.alloc(), hands)? else {
+            assert!(rt; false, "there is memory");
+            return Ok(());
+        };
+        assert_eq!(rt;
+            seen.cuts,
+            [Err(CutFault::Nothing), Ok(()), Err(CutFault::Full), Ok(())]
+        );
+        assert_eq!(rt; seen.segments, [(1, 3), (4, 1)]);
+        assert!(rt; seen.follows, "the second segment follows the first");
+        assert_eq!(rt; seen.settled, settled, "at {hands:?}");
+    }
     Ok(())
 }

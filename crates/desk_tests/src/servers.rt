@@ -93,14 +93,14 @@ fn settled<M: Ledger, O: Ledger, R: Wait>(
     put(&mut leases, one);
     put(&mut leases, other);
     left.push_reserved(leases);
-    Some((seen, settle(owner.into_book(), passes, left)))
+    Some((seen, settle(owner.into_book(), passes, left, &[])))
 }
 
 fn run<R: Wait>(
     rt: &R,
     alloc: Global,
 ) -> Result<Option<(Seen, Result<Settled, SettleFault>)>, Fail> {
-    let real = pair_from(0xc000_0205, 9000)?;
+    let real = pair_from(0xc000_0205, 4000, 9000)?;
     let Some(book) = open_book(alloc, SERVER) else {
         return Ok(None);
     };

@@ -2,7 +2,7 @@
 ghost use Rattle.std.specs.Prelude.{◌≡◌, ◌<◌, ◌-◌, ◌+◌, ◌^◌};
 ghost use Rattle.book_core.specs.Open.{open_connections};
 
-use crate::books::{open_book, pair_from, put, room};
+use crate::books::{RULE, open_book, pair_from, put, room};
 use addr_core::Pair;
 use book_core::Book;
 use conn_model::event::Why;
@@ -14,9 +14,6 @@ use std::sync::ledger::{Blank, Ledger};
 use std::test::Fail;
 use std::thread;
 use std::thread::Threads;
-
-const RULE: &str =
-    "frontend f\nbind 127.0.0.1:9000\ntcp-request connection reject if { src 198.51.100.0/24 }\ndefault_backend b\nbackend b\nserver s 10.0.0.20:80\n";
 
 type Back<M, O> = (Pass<M>, Option<Lease<O>>);
 
@@ -92,7 +89,7 @@ fn both<M: Ledger + Send + Sync, O: Ledger + Send + Sync, R: Threads + Wait + Sy
     if !withhold {
         let _ = passes.push(other);
     }
-    Some(settle(desk.into_book(), passes, left))
+    Some(settle(desk.into_book(), passes, left, &[]))
 }
 
 fn two_threads<R: Threads + Wait + Sync>(
@@ -101,7 +98,7 @@ fn two_threads<R: Threads + Wait + Sync>(
     calls: u32,
     withhold: bool,
 ) -> Result<Option<Result<Settled, SettleFault>>, Fail> {
-    let real = pair_from(0xc000_0205, 9000)?;
+    let real = pair_from(0xc000_0205, 4000, 9000)?;
     let Some(book) = open_book(alloc, RULE) else {
         return Ok(None);
     };

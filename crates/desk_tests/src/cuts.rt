@@ -1,0 +1,58 @@
+//! Cuts of a book alone.
+ghost use Rattle.rtrb.specs.Ring.{IsPair};
+
+use crate::books::{RULE, open_with_ring, pair_from};
+use addr_core::Pair;
+use book_core::{Book, CutFault};
+use conn_model::event::Event;
+use record_core::Segment;
+use rtrb::Consumer;
+use std::test::Fail;
+
+/// What three cuts come to, how many segments are in the ring then, and the first number and the length of the first.
+#[derive(Drop)]
+struct Seen {
+    cuts: [Result<(), CutFault>; 3],
+    left: usize,
+    segment: Option<(u64, usize)>,
+}
+
+/// A cut before the first step, one after it, and one after another step, for which the ring has no room.
+fn cut_thrice(book: Book, segments: Consumer<Segment>, real: &Pair) -> Seen
+    requires { IsPair book.segments segments }
+{
+    let (mut book, mut segments) = (book, segments);
+    let new = book.cut();
+    let _ = book.step(0, &Event::Accept(0, *real));
+    let stepped = book.cut();
+    let _ = book.step(0, &Event::Accept(0, *real));
+    let full = book.cut();
+    let left = book.left(&mut segments);
+    book.end();
+    let segment = match segments.pop() {
+        Ok(segment) => Some((segment.first, segment.records.len())),
+        Err(_empty) => None,
+    };
+    Seen {
+        cuts: [new, stepped, full],
+        left,
+        segment,
+    }
+}
+
+#[test]
+fn cut_needs_a_record_and_room_in_the_ring(rt: HostRuntime) -> Result<(), Fail> {
+    let real = pair_from(0xc000_0205, 4000, 9000)?;
+    let Some((book, segments)) = open_with_ring(rt.alloc(), RULE, 1) else {
+        assert!(rt; false, "there is memory");
+        return Ok(());
+    };
+    let seen = cut_thrice(book, segments, &real);
+    assert_eq!(rt;
+        seen.cuts,
+        [Err(CutFault::Nothing), Ok(()), Err(CutFault::Full)]
+    );
+    assert_eq!(rt; seen.left, 1);
+    assert_eq!(rt; seen.segment, Some((1, 1)));
+    Ok(())
+}
