@@ -79,7 +79,7 @@ impl<'a, M: Ledger, O: Ledger, B: Opening, G: Gate, C: Clock> Hall<'a, M, O, B, 
             Err(CutFault::Full) => {
                 self.alert.waiting.fetch_add(more, Ordering::SeqCst);
             }
-            Err(CutFault::Nothing) => {}
+            Err(CutFault::Nothing) => self.alert.waiting.store(0, Ordering::SeqCst),
         }
     }
 

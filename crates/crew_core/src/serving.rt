@@ -206,9 +206,8 @@ impl<M: Ledger, O: Ledger, K: Link, L: Dial<Link = K>> Worker<M, O, K, L> {
             let Some(wait) = self.bench.table.due(now) else {
                 return;
             };
-            // What came in time is read first: all threads may have been stopped meanwhile.
             if self.bench.table.waits_for_header(&wait) {
-                self.receive(rt, hall, wait.key);
+                self.receive_late(rt, hall, wait.key);
             }
             if !self.bench.table.waits_for_header(&wait) {
                 continue;
@@ -220,6 +219,20 @@ impl<M: Ledger, O: Ledger, K: Link, L: Dial<Link = K>> Worker<M, O, K, L> {
                 Outcome::Failed(_) => self.close(rt, hall, wait.key, Why::Failed),
             }
         }
+    }
+
+    /// Reads what has come of a header that is due. All threads may have been stopped since the dial was last asked, so the
+    /// link is read whether it was reported or not.
+    fn receive_late<B: Opening, G: Gate, C: Clock, R: Wait>(
+        &mut self,
+        rt: &R,
+        hall: &Hall<'_, M, O, B, G, C>,
+        key: usize,
+    ) {
+        if let Some(conn) = self.bench.table.conn(key) {
+            conn.client_flags.reads = true;
+        }
+        self.receive(rt, hall, key);
     }
 
     /// A connection that was reported to have ended is not kept any longer.

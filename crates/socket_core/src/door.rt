@@ -246,7 +246,12 @@ impl<'a, R: Log, C: Clock> Door for SocketDoor<'a, R, C> {
         }
         if refused > self.segments && self.unwritten.allows(now) {
             self.segments = refused;
-            warn!(self.rt; "standard output cannot be written: {refused} segments of the record are lost");
+            let are_lost = if refused == 1 {
+                "segment of the record is lost"
+            } else {
+                "segments of the record are lost"
+            };
+            warn!(self.rt; "standard output cannot be written: {refused} {are_lost}");
         }
     }
 }
