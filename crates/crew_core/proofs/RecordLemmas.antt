@@ -1,9 +1,8 @@
 -- What is written of a book.
-use Rattle.std.proofs.Common.{◌≡◌, ◌++◌, [], ℕ, List, Option, None, Some, take, drop, ap, subst, sym, ◌∙◌, append-nil, append_assoc}
+use Rattle.std.proofs.Common.{◌++◌, [], ℕ, List, Option, None, Some, take, drop, ap, subst, sym, ◌∙◌, append-nil, append_assoc}
 use Rattle.std.proofs.lemmas.List.{take-append-drop}
 use Rattle.std.specs.Io.KnownBytes.{Appends}
 use Rattle.record_core.specs.declared.record.Record.{Record}
-use Rattle.record_core.specs.declared.segment.Segment.{Segment}
 use Rattle.record_core.specs.Records.{history_of, joined}
 use Rattle.rtrb.specs.Ring.{sent}
 use Rattle.book_core.specs.Book.{BookState, IsBook}
@@ -36,36 +35,29 @@ longer_front old new' front rest (count, part) =
     (sym (append_assoc (take count (records_text front)) (drop count (records_text front)) (records_text rest))
     ∙ ap (λ text. text ++ records_text rest) (take-append-drop count (records_text front)) ∙ sym (records_append front rest))
 
--- the segments that went out and the journal are all records
-whole : (b : BookState) (segments : List Segment) → IsBook b → segments ≡ sent b.segments → joined segments ++ b.journal ≡ b.records
-whole b segments book are = ap (λ xs. joined xs ++ b.journal) are ∙ sym book.parts
-
--- The segments were written, and then the rest of the book.
-pub parts_recorded : (b : BookState) (segments : List Segment) (old mid new' : Option (List ℕ)) → IsBook b → segments ≡ sent b.segments
-    → Appends old mid (records_text (joined segments)) → Appends mid new' (records_text b.journal) → IsRecorded b.base old new'
-parts_recorded b segments old mid new' book are first then = record {
+-- The segments of a book were written, and then its journal.
+pub parts_recorded : (b : BookState) (old mid new' : Option (List ℕ)) → IsBook b → Appends old mid (records_text (joined (sent b.segments)))
+    → Appends mid new' (records_text b.journal) → IsRecorded b.base old new'
+parts_recorded b old mid new' book first then = record {
   history = history_of b.records;
   legal = book.legal;
   appended =
-      subst (Appends old new') (ap records_text (whole b segments book are) ∙ records_history b.records book.numbers)
-      (wrote_both old mid new' (joined segments) b.journal first then);
+      subst (Appends old new') (ap records_text (sym book.parts) ∙ records_history b.records book.numbers)
+      (wrote_both old mid new' (joined (sent b.segments)) b.journal first then);
 }
 
-front_recorded : (b : BookState) (segments : List Segment) (old new' : Option (List ℕ)) → IsBook b → segments ≡ sent b.segments
-    → AppendsFront old new' (records_text (joined segments ++ b.journal)) → IsCutOff b.base old new'
-front_recorded b segments old new' book are part = record {
+front_recorded : (b : BookState) (old new' : Option (List ℕ)) → IsBook b → AppendsFront old new' (records_text (joined (sent b.segments) ++ b.journal)) → IsCutOff b.base old new'
+front_recorded b old new' book part = record {
   history = history_of b.records;
   legal = book.legal;
-  appended = subst (AppendsFront old new') (ap records_text (whole b segments book are) ∙ records_history b.records book.numbers) part;
+  appended = subst (AppendsFront old new') (ap records_text (sym book.parts) ∙ records_history b.records book.numbers) part;
 }
 
 -- a front of the segments was written
-pub segments_cut_off : (b : BookState) (segments : List Segment) (old new' : Option (List ℕ)) → IsBook b → segments ≡ sent b.segments
-    → AppendsFront old new' (records_text (joined segments)) → IsCutOff b.base old new'
-segments_cut_off b segments old new' book are part = front_recorded b segments old new' book are (longer_front old new' (joined segments) b.journal part)
+pub segments_cut_off : (b : BookState) (old new' : Option (List ℕ)) → IsBook b → AppendsFront old new' (records_text (joined (sent b.segments))) → IsCutOff b.base old new'
+segments_cut_off b old new' book part = front_recorded b old new' book (longer_front old new' (joined (sent b.segments)) b.journal part)
 
--- The segments were written, and then a front of the rest of the book.
-pub journal_cut_off : (b : BookState) (segments : List Segment) (old mid new' : Option (List ℕ)) → IsBook b → segments ≡ sent b.segments
-    → Appends old mid (records_text (joined segments)) → AppendsFront mid new' (records_text b.journal) → IsCutOff b.base old new'
-journal_cut_off b segments old mid new' book are first part =
-    front_recorded b segments old new' book are (wrote_front old mid new' (joined segments) b.journal first part)
+-- The segments were written, and then a front of the journal.
+pub journal_cut_off : (b : BookState) (old mid new' : Option (List ℕ)) → IsBook b → Appends old mid (records_text (joined (sent b.segments)))
+    → AppendsFront mid new' (records_text b.journal) → IsCutOff b.base old new'
+journal_cut_off b old mid new' book first part = front_recorded b old new' book (wrote_front old mid new' (joined (sent b.segments)) b.journal first part)
