@@ -8,10 +8,10 @@ use Rattle.record_core.specs.Records.{joined}
 use Rattle.device_core.specs.Device.{raised}
 use Rattle.rtrb.specs.Ring.{received, sent}
 use Rattle.book_core.specs.Book.{BookState, IsBook}
-use Rattle.audit_core.specs.Recording.{records_text, AppendsFront, IsCutOff, IsRecorded}
+use Rattle.audit_core.specs.Recording.{records_text, AppendsFront}
 use Rattle.crew_core.proofs.RecordLemmas.{journal_cut_off, longer_front, parts_recorded, segments_cut_off, wrote_both, wrote_front, wrote_nothing}
 use Rattle.crew_core.specs.Outlets.{AreHandedOn, HasHandedOn}
-use Rattle.crew_core.specs.Writers.{Refuses, Writes}
+use Rattle.crew_core.specs.Writers.{RecordsAll, RecordsFront, Refuses, Writes}
 use Rattle.crew_core.specs.declared.outlet.Outlet.{Outlet}
 use Rattle.crew_core.specs.declared.record_sink.RecordSink.{RecordSink}
 
@@ -57,13 +57,13 @@ written_of held a n b segments handed begun none are =
 
 -- The segments of a book were written, and then its journal.
 pub book_recorded : {W : Type 0} (held : W → Option (List ℕ)) (b : BookState) (old mid : RecordSink W) (new' : W) → IsBook b → HasWritten held old mid (joined (sent b.segments)) → mid.fault ≡ None
-    → Appends (held mid.writer) (held new') (records_text b.journal) → IsRecorded b.base (held old.writer) (held new')
+    → Appends (held mid.writer) (held new') (records_text b.journal) → RecordsAll b.base b.made (held old.writer) (held new')
 book_recorded held b old mid new' book (inl all) none then = parts_recorded b (held old.writer) (held mid.writer) (held new') book all.1 then
 book_recorded held b old mid new' book (inr part) none then = absurd (grind (arith, part.0, none))
 
 -- A front of them was written.
 pub book_cut_off : {W : Type 0} (held : W → Option (List ℕ)) (b : BookState) (old mid : RecordSink W) (new' : W) → IsBook b → HasWritten held old mid (joined (sent b.segments))
-    → (IsSome mid.fault → new' ≡ mid.writer) → (mid.fault ≡ None → AppendsFront (held mid.writer) (held new') (records_text b.journal)) → IsCutOff b.base (held old.writer) (held new')
+    → (IsSome mid.fault → new' ≡ mid.writer) → (mid.fault ≡ None → AppendsFront (held mid.writer) (held new') (records_text b.journal)) → RecordsFront b.base b.made (held old.writer) (held new')
 book_cut_off held b old mid new' book (inl all) refused front = journal_cut_off b (held old.writer) (held mid.writer) (held new') book all.1 (front all.0)
 book_cut_off held b old mid new' book (inr part) refused front =
     segments_cut_off b (held old.writer) (held new') book

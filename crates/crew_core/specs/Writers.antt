@@ -1,8 +1,9 @@
 -- What a writer of the record does with a segment.
-use Rattle.std.specs.Prelude.{◌≡◌, ℕ, List, Option, None, IsSome}
+use Rattle.std.specs.Prelude.{◌≡◌, ℕ, List, length, Option, None, IsSome}
 use Rattle.std.specs.Io.KnownBytes.{Appends}
 use Rattle.record_core.specs.declared.segment.Segment.{Segment}
-use Rattle.audit_core.specs.Recording.{records_text, AppendsFront}
+use Rattle.conn_model.specs.declared.plain.Plain.{Plain}
+use Rattle.audit_core.specs.Recording.{records_text, AppendsFront, IsCutOff, IsRecorded}
 use Rattle.crew_core.specs.declared.record_sink.RecordSink.{RecordSink}
 
 -- nothing was refused, and its records are written
@@ -14,3 +15,11 @@ abbrev pub Refuses : {W : Type 0} → (W → Option (List ℕ)) → RecordSink W
 Refuses held old segment new = IsSome new.fault
     × (old.fault ≡ None → AppendsFront (held old.writer) (held new.writer) (records_text segment.records))
     × (IsSome old.fault → new.writer ≡ old.writer)
+
+-- what was written is the record of a legal history from that base on, of so many decisions
+abbrev pub RecordsAll : Plain → ℕ → Option (List ℕ) → Option (List ℕ) → Type 0
+RecordsAll base count old new = (written : IsRecorded base old new) × (length written.history ≡ count)
+
+-- what was written is a front of such a record
+abbrev pub RecordsFront : Plain → ℕ → Option (List ℕ) → Option (List ℕ) → Type 0
+RecordsFront base count old new = (written : IsCutOff base old new) × (length written.history ≡ count)

@@ -5,7 +5,7 @@ ghost use Rattle.config_core.specs.Meaning.{meaning};
 ghost use Rattle.conn_core.specs.Machine.{IsOpened};
 ghost use Rattle.book_core.specs.Book.{new_book};
 ghost use Rattle.book_core.specs.Open.{open_connections};
-ghost use Rattle.audit_core.specs.Recording.{IsCutOff, IsRecorded};
+ghost use Rattle.crew_core.specs.Writers.{RecordsAll, RecordsFront};
 
 use crate::crew::{Crew, CrewFault, Setup, Summary, run_crew};
 use crate::outlet::{Outlet, RING, Sink};
@@ -120,8 +120,8 @@ fn run<
     requires leases_parts { (leases.parts ≡ O.parts) × (leases.parts ≡ 2 ^ 64 - 1) }
     requires opened { B.opening ≡ Some book }
     requires workers { (vec_len dials ≡ workers) × (1 ≤ workers) × (workers ≤ 64) }
-    ensures record { IfOk result (λ served. OnOk served.written (IsRecorded book.base (W.held writer) (W.held served.writer))) }
-    ensures front { IfOk result (λ served. OnErr served.written (IsCutOff book.base (W.held writer) (W.held served.writer))) }
+    ensures record { IfOk result (λ served. OnOk served.written (RecordsAll book.base served.summary.recorded (W.held writer) (W.held served.writer))) }
+    ensures front { IfOk result (λ served. OnErr served.written (RecordsFront book.base served.summary.recorded (W.held writer) (W.held served.writer))) }
 {
     let setup = Setup {
         workers,
@@ -188,10 +188,10 @@ pub fn serve<
     requires fresh { (book.made ≡ 0) × (open_connections book.state ≡ 0) × (open_connections book.base ≡ 0) }
     requires ring { IsPair book.segments segments × (received segments ≡ []) }
     requires workers { (vec_len dials ≡ workers) × (1 ≤ workers) × (workers ≤ 64) }
-    // What is written is the record of a legal history from the base of the book on.
-    ensures record { IfOk result (λ served. OnOk served.written (IsRecorded book.base (W.held writer) (W.held served.writer))) }
+    // What is written is the record of a legal history from the base of the book on, of all decisions that were made.
+    ensures record { IfOk result (λ served. OnOk served.written (RecordsAll book.base served.summary.recorded (W.held writer) (W.held served.writer))) }
     // Where the writer fails, it has a front of such a record.
-    ensures front { IfOk result (λ served. OnErr served.written (IsCutOff book.base (W.held writer) (W.held served.writer))) }
+    ensures front { IfOk result (λ served. OnErr served.written (RecordsFront book.base served.summary.recorded (W.held writer) (W.held served.writer))) }
 {
     run::<Brand, Brand, Brand, R, K, L, D, C, W>(
         rt,
