@@ -22,6 +22,7 @@ KEYWORDS = {'frontend': ('bind', 'maxconn', 'acl', 'tcp-request', 'use_backend',
             'backend': ('balance', 'server', 'stick-table')}
 SCALES = {'': 1, 'k': 1 << 10, 'm': 1 << 20}
 METHODS = ('roundrobin', 'leastconn', 'source')
+EXPECTATION = 'expect-proxy layer4'
 
 
 class Refused(Exception):
@@ -257,6 +258,11 @@ class Reader:
             need(not named or len(rest) > 2)
             action, rest = (int(action[8:]), rest[2] if named else None), rest[3 if named else 1:]
             self.owed.append((at, 'NoTable', lambda name=action[1]: self.table(own, name) is not None))
+        elif action == 'expect-proxy':
+            need(of == 'connection', f'line {at}: Unsupported')
+            need(rest, f'line {at}: MissingWord')
+            need(rest[0] == 'layer4', f'line {at}: Unsupported')
+            action, rest = EXPECTATION, rest[1:]
         else:
             need(action in ('accept', 'reject'))
         own.lists[of].append((at, action, self.condition(at, own, rest)))
@@ -348,6 +354,7 @@ class Connection:
     def __init__(self, frontend, serial, version, pair, accepted):
         self.frontend, self.name, self.version, self.pair, self.accepted = frontend, f'{frontend}.{serial}', version, pair, accepted
         self.bytes, self.tracks, self.server, self.is_up, self.end = b'', {}, None, False, ''
+        self.is_expected = False  # whether a rule that was tried expects its header
 
 
 def status(text):
@@ -484,10 +491,13 @@ class Balancer:
         return any(low <= value <= high for low, high in patterns)
 
     def decides(self, of, one, source, made):
-        """The line and the action of the first rule of a list that decides, or None; those before it track."""
+        """The line and the action of the first rule of a list that decides, or None; those before it track, or expect a header."""
         own = one.version.config.frontend(self.names[one.frontend])
         for line, action, condition in own.lists[of]:
             if not self.is_true(condition, one, source, own.acls):
+                continue
+            if action == EXPECTATION:
+                one.is_expected = True
                 continue
             if not isinstance(action, tuple):
                 return line, action
@@ -515,7 +525,7 @@ class Balancer:
         decided = self.decides('connection', one, host_of(one.pair[0]), made)
         if decided and decided[1] == 'reject':
             return self.refuse(one, 0, f'line {decided[0]}', made)
-        if proxied:
+        if proxied or one.is_expected:
             return f'wait {one.name} used 0' + self.said_of(made)
         return self.choose(one, 0, one.pair, made)
 

@@ -177,36 +177,37 @@ def broken_off(name, text, out):
     return b'l4proxy: %s: it ends in the midst of an entry: %s, and it breaks off at line %d\n' % (name, right, line)
 
 
-def texts():
-    """Each front of the record, and each text that differs from it in one byte: by its lowest bit, by a line feed (or
+def texts(record):
+    """Each front of a record, and each text that differs from it in one byte: by its lowest bit, by a line feed (or
     else a space), and by a byte that no text has."""
-    for end in range(len(RECORD) + 1):
-        yield f'the first {end} bytes', RECORD[:end]
-    for at, byte in enumerate(RECORD):
+    for end in range(len(record) + 1):
+        yield f'the first {end} bytes', record[:end]
+    for at, byte in enumerate(record):
         for other in byte ^ 1, 32 if byte == 10 else 10, 255:
-            yield f'byte {at} is {other}', RECORD[:at] + bytes([other]) + RECORD[at + 1:]
+            yield f'byte {at} is {other}', record[:at] + bytes([other]) + record[at + 1:]
 
 
-def main():
-    program = str(pathlib.Path(sys.argv[1]).resolve())
+def compare(program, config, record, audit, whole):
+    """Whether `audit` of each text says what the model says of it, and the model of the record what it has to."""
+    program = str(pathlib.Path(program).resolve())
     with tempfile.TemporaryDirectory() as room, concurrent.futures.ThreadPoolExecutor() as pool:
-        config = pathlib.Path(room, 'cfg')
-        config.write_text(CONFIG)
+        opening = pathlib.Path(room, 'cfg')
+        opening.write_text(config)
 
         def tried(numbered):
             number_of_text, (title, text) = numbered
-            record = pathlib.Path(room, f'record{number_of_text}')
-            record.write_bytes(text)
-            done = subprocess.run([program, 'audit', config, record], stdin=subprocess.DEVNULL, capture_output=True)
-            record.unlink()
+            file = pathlib.Path(room, f'record{number_of_text}')
+            file.write_bytes(text)
+            done = subprocess.run([program, 'audit', opening, file], stdin=subprocess.DEVNULL, capture_output=True)
+            file.unlink()
             out, status = audit(text)
-            expected = out, status, broken_off(str(record).encode(), text, out)
+            expected = out, status, broken_off(str(file).encode(), text, out)
             got = done.stdout, done.returncode, done.stderr
             return status, None if got == expected else f'{title}: {got!r}, not {expected!r}'
 
-        results = list(pool.map(tried, enumerate(texts())))
+        results = list(pool.map(tried, enumerate(texts(record))))
     wrong = [what for _, what in results if what]
-    if audit(RECORD) != (AUDIT, 0):
+    if audit(record) != (whole, 0):
         wrong.append('the record itself is wrong')
     right = sum(status == 0 for status, _ in results)
     print('\n'.join(wrong) or f'{len(results)} texts, of which {right} are right')
@@ -214,4 +215,4 @@ def main():
 
 
 if __name__ == '__main__':
-    sys.exit(main())
+    sys.exit(compare(sys.argv[1], CONFIG, RECORD, audit, AUDIT))

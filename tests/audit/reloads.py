@@ -3,15 +3,13 @@
 
     tests/audit/reloads.py PROGRAM
 
-What `audit` has to say of each is worked out here, by the plain model of tests/plain.py and the form of records, and
-without the program: a byte of a text may make another configuration of it, one that is refused, or no text. Prints what
-differs, and how many texts were tried; the exit status is 0 if nothing differs."""
-import concurrent.futures
+What `audit` has to write of each on standard output and on standard error is worked out here, by the plain model of
+tests/plain.py and the form of records, and without the program: a byte of a text may make another configuration of it,
+one that is refused, or no text. Prints what differs, and how many texts were tried; the exit status is 0 if nothing
+differs."""
 import pathlib
 import re
-import subprocess
 import sys
-import tempfile
 
 import changes
 
@@ -50,24 +48,30 @@ RECORD = b"""1 0 accept 0 192.0.2.5:4000 127.0.0.1:9000
 = offer 0.4 used 0 line 9 to 10.0.0.20:81 src 192.0.2.6:4000 dst 127.0.0.1:9000 send - sc0=1.0/192.0.2.6
 7 3 accept 0 192.0.2.7:4000 127.0.0.1:9000
 = refuse 0.5 used 0 noserver line 8 sc0=1.0/192.0.2.7
-8 4 reload 3
+8 4 reload 4
 |frontend f # without
 |bind 127.0.0.1:9001 accept-proxy
 |bind 127.0.0.1:9000
+|tcp-request connection expect-proxy layer4 if { src 192.0.2.8 }
 = reloaded 3
 9 5 accept 0 192.0.2.8:4000 127.0.0.1:9000
-= refuse 0.6 used 0 nobackend line 1
-10 5 close 0.1 done
+= wait 0.6 used 0
+10 5 accept 0 192.0.2.6:4000 127.0.0.1:9000
+= refuse 0.7 used 0 nobackend line 1
+11 5 piece 0.6 50524f585920554e4b4e4f574e0d0a
+= refuse 0.6 used 15 nobackend line 1
+12 5 close 0.1 done
 = closed 0.1 done
-11 6 close 0.4 fault
+13 6 close 0.4 fault
 = closed 0.4 fault
 """
 AUDIT = b"""conn 0.3 real 192.0.2.5:4001 refuse line 6
 conn 0.5 real 192.0.2.7:4000 refuse noserver line 8
+conn 0.7 real 192.0.2.6:4000 refuse nobackend line 1
 conn 0.6 real 192.0.2.8:4000 refuse nobackend line 1
 conn 0.1 real 192.0.2.5:4000 src 192.0.2.5:4000 line 8 closed done
 conn 0.4 real 192.0.2.6:4000 src 192.0.2.6:4000 line 9 closed fault
-checked 11 open 1
+checked 13 open 1
 """
 
 
@@ -133,39 +137,5 @@ def audit(text):
     return ends + b'checked %d open %d\n' % (count, len(balancer.open)), 0
 
 
-def texts():
-    """Each front of the record, and each text that differs from it in one byte: by its lowest bit, by a line feed (or
-    else a space), and by a byte that no text has."""
-    for end in range(len(RECORD) + 1):
-        yield f'the first {end} bytes', RECORD[:end]
-    for at, byte in enumerate(RECORD):
-        for other in byte ^ 1, 32 if byte == 10 else 10, 255:
-            yield f'byte {at} is {other}', RECORD[:at] + bytes([other]) + RECORD[at + 1:]
-
-
-def main():
-    program = str(pathlib.Path(sys.argv[1]).resolve())
-    with tempfile.TemporaryDirectory() as room, concurrent.futures.ThreadPoolExecutor() as pool:
-        config = pathlib.Path(room, 'cfg')
-        config.write_text(CONFIG)
-
-        def tried(numbered):
-            number_of_text, (title, text) = numbered
-            record = pathlib.Path(room, f'record{number_of_text}')
-            record.write_bytes(text)
-            done = subprocess.run([program, 'audit', config, record], stdin=subprocess.DEVNULL, capture_output=True)
-            record.unlink()
-            expected = audit(text)
-            return expected[1], None if (done.stdout, done.returncode) == expected else f'{title}: {done.stdout!r}, not {expected!r}'
-
-        results = list(pool.map(tried, enumerate(texts())))
-    wrong = [what for _, what in results if what]
-    if audit(RECORD) != (AUDIT, 0):
-        wrong.append('the record itself is wrong')
-    right = sum(status == 0 for status, _ in results)
-    print('\n'.join(wrong) or f'{len(results)} texts, of which {right} are right')
-    return 1 if wrong else 0
-
-
 if __name__ == '__main__':
-    sys.exit(main())
+    sys.exit(changes.compare(sys.argv[1], CONFIG, RECORD, audit, AUDIT))

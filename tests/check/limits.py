@@ -24,6 +24,7 @@ def main():
     both(['frontend g'], lambda n: f'bind 10.0.0.1:{n + 1}', 64, [])
     both(own, lambda n: f'tcp-request {("connection", "session")[n % 2]} accept if {{ fe_conn {n} }}', 256, [])
     both([*own, 'backend b', 'frontend g', 'bind :81'], lambda n: ('use_backend b', 'tcp-request session accept')[n % 2], 256, [])
+    both(own, lambda n: f'tcp-request connection {("expect-proxy layer4", "accept")[n % 2]} if {{ fe_conn {n} }}', 256, [])
     both(own, lambda n: f'acl a{n % 200} fe_conn {n}', 256, [])
     named = [*own, *(f'acl a{n} fe_conn {n}' for n in range(256))]
     both(named, lambda n: f'tcp-request connection accept if a{n % 256}', 256, [])

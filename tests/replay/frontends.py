@@ -1,10 +1,11 @@
 #!/usr/bin/env python3
 """A script of 200,000 events over 64 frontends, and its answers by the plain model of tests/plain.py.
 
-Each frontend has a listener and a table of its own; some have two tables in common, and all share the backends. The tables
-are so small that most trackings of a new source give up an entry. Connections come and go in no order, so that most of
-those that end are neither the oldest nor the newest, and every few thousand events some frontends and backends are written
-anew and the text is reloaded while a hundred connections or more are open. All is drawn by a fixed seed."""
+Each frontend has a listener and a table of its own; some have two tables in common, some have a rule that expects a header,
+and all share the backends. The tables are so small that most trackings of a new source give up an entry. Connections come
+and go in no order, so that most of those that end are neither the oldest nor the newest, and every few thousand events some
+frontends and backends are written anew and the text is reloaded while a hundred connections or more are open. All is drawn
+by a fixed seed."""
 import pathlib
 import random
 import sys
@@ -51,6 +52,9 @@ class Texts:
         if draw.random() < 0.3:
             lines.append(f'tcp-request session track-sc1 src table t{draw.randrange(SHARED)}')
         lines.append(f'tcp-request {draw.choice(["connection", "session"])} reject if {{ {self.test()} }}')
+        if draw.random() < 0.3:
+            expects = f'tcp-request connection {plain.EXPECTATION} {draw.choice(["if", "if", "unless"])} {{ {self.test()} }}'
+            lines.insert(draw.choice([len(lines) - 1, len(lines)]), expects)
         lines.append(f'use_backend b{draw.randrange(BACKENDS)} if {{ {self.test()} }}')
         lines.append(f'default_backend b{draw.randrange(BACKENDS)}')
         return lines

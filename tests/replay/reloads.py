@@ -2,11 +2,11 @@
 """Long scripts with reloads.
 
 `reloads-drawn` has two tenants, each with a frontend, tables and backends of its own, in one configuration that is drawn
-anew again and again: sections in another order, other rules and limits, tables that are kept, changed, taken away and
-brought back, servers that come and go; between them texts that are refused. Connections of both come, wait for headers
-over several reloads, are offered servers and end. All is drawn by a fixed seed, and answered by the plain model of
-tests/plain.py. `reloads-alone-a` and `reloads-alone-b` are the events of one of the tenants with the reloads that were
-accepted: it is answered there as it was beside the other one.
+anew again and again: sections in another order, other rules and limits, rules that expect a header, tables that are kept,
+changed, taken away and brought back, servers that come and go; between them texts that are refused. Connections of both
+come, wait for headers over several reloads, are offered servers and end. All is drawn by a fixed seed, and answered by the
+plain model of tests/plain.py. `reloads-alone-a` and `reloads-alone-b` are the events of one of the tenants with the reloads
+that were accepted: it is answered there as it was beside the other one.
 
 The others are long and plain: a hundred versions with one connection each, and texts at the limits of their length."""
 import itertools
@@ -19,7 +19,8 @@ import plain  # noqa: E402
 
 STEPS = 2600
 MOST_OPEN = 24
-REFUSALS = [['nonsense'], ['tcp-request connection reject if nobody'], ['default_backend nobody'], ['acl near src "10.0.0.0/8"']]
+REFUSALS = [['nonsense'], ['tcp-request connection reject if nobody'], ['default_backend nobody'], ['acl near src "10.0.0.0/8"'],
+            ['tcp-request session expect-proxy layer4']]
 SOURCES = [f'192.0.2.{last}' for last in range(1, 7)] + ['2001:db8::1', '2001:db8::2']
 LONGEST_TEXT = 1 << 20
 MOST_LINES = 65535
@@ -81,6 +82,10 @@ class Tenant:
             for _ in range(draw.randrange(3)):
                 action, turned = draw.choice([('reject', 0.05), ('reject', 0.05), ('accept', 0.4)])
                 made.insert(draw.randrange(len(made) + 1), f'{action} {self.tests(draw, turned)}')
+        first = rules['connection']
+        for _ in range(draw.choice([0, 0, 1, 1, 2])):
+            condition = '' if draw.random() < 0.2 else f' {self.tests(draw, 0.3)}'
+            first.insert(draw.randrange(len(first) + 1), plain.EXPECTATION + condition)
         self.rules = [f'tcp-request {of} {rule}' for of, made in rules.items() for rule in made]
         self.rules += [f'use_backend {self.name}q {self.tests(draw, 0.4)}' for _ in range(draw.randrange(2))]
         self.rules += [f'default_backend {self.name}p'] * (draw.random() < 0.95)

@@ -163,7 +163,7 @@ impl Book {
         Ok(())
     }
 
-    /// How many segments are still in the ring, for whoever has both of its ends. Then it is known which they are.
+    /// How many segments are still in the ring. The caller has the other end of it. Then it is known which they are.
     pub fn left(&mut self, segments: &mut Consumer<Segment>) -> usize
         requires { IsPair self.old.segments segments.old }
         ensures value { result ≡ length (known_items segments.new) }

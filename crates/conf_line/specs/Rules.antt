@@ -6,7 +6,7 @@ use Rattle.acl_core.specs.declared.condition.When.{When}
 use Rattle.acl_core.specs.declared.condition.When.TheVariants as whens
 use Rattle.acl_core.specs.Reading.{condition_of}
 use Rattle.conf_line.specs.declared.statement.Action.{Action}
-use Rattle.conf_line.specs.declared.statement.Action.TheVariants.{Accept, Reject, Track}
+use Rattle.conf_line.specs.declared.statement.Action.TheVariants.{Accept, Reject, Track, ExpectProxy}
 use Rattle.conf_line.specs.declared.statement.Ruleset.{Ruleset}
 use Rattle.conf_line.specs.declared.statement.Ruleset.TheVariants.{Connection, Session}
 use Rattle.conf_line.specs.declared.statement.Statement.{Statement}
@@ -40,15 +40,23 @@ track_at counter words = do
   key ← word_at words
   if bytes_eq key.0 (codes "src") then table_at counter key.1 else Err Unsupported
 
--- an action, and the words after it
-abbrev pub action_at : List (List ℕ) → Result (Action × List (List ℕ)) ConfKind
-action_at words = do
+-- after `expect-proxy`, an action of connection rules alone: the layer whose header is expected
+abbrev pub header_at : Ruleset → List (List ℕ) → Result (Action × List (List ℕ)) ConfKind
+header_at Session words = Err Unsupported
+header_at Connection words = do
+  layer ← word_at words
+  if bytes_eq layer.0 (codes "layer4") then Ok (ExpectProxy, layer.1) else Err Unsupported
+
+-- an action of a list, and the words after it
+abbrev pub action_at : Ruleset → List (List ℕ) → Result (Action × List (List ℕ)) ConfKind
+action_at list words = do
   word ← word_at words
   if bytes_eq word.0 (codes "accept") then Ok (Accept, word.1)
       else if bytes_eq word.0 (codes "reject") then Ok (Reject, word.1)
       else if bytes_eq word.0 (codes "track-sc0") then track_at 0 word.1
       else if bytes_eq word.0 (codes "track-sc1") then track_at 1 word.1
       else if bytes_eq word.0 (codes "track-sc2") then track_at 2 word.1
+      else if bytes_eq word.0 (codes "expect-proxy") then header_at list word.1
       else Err Unsupported
 
 -- the list that the rule belongs to, and the words after it
@@ -63,7 +71,7 @@ ruleset_at words = do
 abbrev pub head_at : List (List ℕ) → Result (Ruleset × (Action × List (List ℕ))) ConfKind
 head_at words = do
   list ← ruleset_at words
-  action ← action_at list.1
+  action ← action_at list.0 list.1
   Ok (list.0, action)
 
 abbrev pub rule_of : List (List ℕ) → List (List ℕ) → Result Statement ConfKind

@@ -13,6 +13,7 @@ abbrev pub IsSoundAction : Action → Type 0
 IsSoundAction actions.Accept = Unit {0}
 IsSoundAction actions.Reject = Unit {0}
 IsSoundAction (actions.Track track) = track.counter < COUNTERS
+IsSoundAction actions.ExpectProxy = Unit {0}
 
 abbrev pub IsWithin : ℕ → ℕ → Type 0
 IsWithin most number = (1 ≤ number) × (number ≤ most)

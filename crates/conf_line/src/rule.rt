@@ -5,7 +5,7 @@ ghost use Rattle.acl_core.specs.Reading as reading;
 ghost use Rattle.conf_line.specs.Acls.{acl_result};
 ghost use Rattle.conf_line.specs.Words.{Sees};
 ghost use Rattle.conf_line.specs.Sound.{IsSoundAction, IsSoundStatement};
-ghost use Rattle.conf_line.specs.Rules.{when_of, table_at, track_at, action_at, ruleset_at, head_at, rule_of, choice_of};
+ghost use Rattle.conf_line.specs.Rules.{when_of, table_at, track_at, header_at, action_at, ruleset_at, head_at, rule_of, choice_of};
 
 use crate::fault::ConfKind;
 use crate::limits::COUNTERS;
@@ -94,9 +94,33 @@ fn track_at<'a, 'w>(
     table_at(counter, rest)
 }
 
-/// An action, and the words after it.
-fn action_at<'a, 'w>(words: &'w [Word<'a>]) -> Result<(Action<'a>, &'w [Word<'a>]), ConfKind>
-    ensures value { Sees (λ x. (x.0, x.1.now)) result (action_at words.now) }
+/// The layer whose header a rule of connections expects, and the words after it.
+fn header_at<'a, 'w>(
+    list: Ruleset,
+    words: &'w [Word<'a>],
+) -> Result<(Action<'a>, &'w [Word<'a>]), ConfKind>
+    ensures value { Sees (λ x. (x.0, x.1.now)) result (header_at list words.now) }
+    ensures sound { IfOk result (λ x. IsSoundAction x.0) }
+{
+    match list {
+        Ruleset::Session => Err(ConfKind::Unsupported),
+        Ruleset::Connection => {
+            let (layer, rest) = word_at(words)?;
+            if layer.is(b"layer4") {
+                Ok((Action::ExpectProxy, rest))
+            } else {
+                Err(ConfKind::Unsupported)
+            }
+        }
+    }
+}
+
+/// An action of a list, and the words after it.
+fn action_at<'a, 'w>(
+    list: Ruleset,
+    words: &'w [Word<'a>],
+) -> Result<(Action<'a>, &'w [Word<'a>]), ConfKind>
+    ensures value { Sees (λ x. (x.0, x.1.now)) result (action_at list words.now) }
     ensures sound { IfOk result (λ x. IsSoundAction x.0) }
 {
     let (word, rest) = word_at(words)?;
@@ -110,6 +134,8 @@ fn action_at<'a, 'w>(words: &'w [Word<'a>]) -> Result<(Action<'a>, &'w [Word<'a>
         track_at(1, rest)
     } else if word.is(b"track-sc2") {
         track_at(2, rest)
+    } else if word.is(b"expect-proxy") {
+        header_at(list, rest)
     } else {
         Err(ConfKind::Unsupported)
     }
@@ -135,7 +161,7 @@ fn head_at<'a, 'w>(words: &'w [Word<'a>]) -> Result<(Ruleset, Action<'a>, &'w [W
     ensures sound { IfOk result (λ x. IsSoundAction x.1) }
 {
     let (ruleset, rest) = ruleset_at(words)?;
-    let (action, rest) = action_at(rest)?;
+    let (action, rest) = action_at(ruleset, rest)?;
     Ok((ruleset, action, rest))
 }
 

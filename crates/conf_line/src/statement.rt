@@ -28,6 +28,8 @@ pub enum Action<'a> {
     Accept,
     Reject,
     Track(TrackWords<'a>),
+    /// A PROXY header has to come first (`expect-proxy layer4`, a rule of connections alone).
+    ExpectProxy,
 }
 
 /// A source address is tracked (HAProxy manual, `track-sc0`).

@@ -1,6 +1,6 @@
 -- How a connection is judged.
 use Rattle.std.proofs.Common.{◌≡◌, ℕ, Bool, false, List, length, Some, Result, Ok, Err, refl, sym, ap, subst, ◌∙◌, arith}
-use Rattle.std.specs.Prelude.{nat_le, ◌<◌, ◌==◌, if◌then◌else◌}
+use Rattle.std.specs.Prelude.{nat_le, ◌<◌, ◌==◌, ◌||◌, if◌then◌else◌}
 use Rattle.std.proofs.lemmas.Bool.{eqb-true}
 use Rattle.std.proofs.lemmas.Bool.Decides.{nat_tests}
 use Rattle.addr_core.specs.PairValue.{PairValue}
@@ -94,14 +94,14 @@ decided_by views frontend earlier judged says result outcome says_is result_is o
 -- the limit of the frontend lets a candidate pass: the connection rules decide
 pub admission_by : (candidate : Candidate) (accept_proxy : Bool) (real : PairValue) (others : ℕ) (views : List Track → RuleView) (says : Judged) → others < candidate.frontend.limit →
     view_of candidate real.source.addr ≡ views → says ≡ judged (scene_of views) candidate.frontend.connection_rules →
-    admission candidate accept_proxy real others ≡ entry_reply candidate accept_proxy real says.tracks (rejection says)
+    admission candidate accept_proxy real others ≡ entry_reply candidate (accept_proxy || says.expects_header) real says.tracks (rejection says)
 admission_by candidate accept_proxy real others views says less same says_is =
     let passes : nat_le candidate.frontend.limit others ≡ false = grind (arith, nat_tests) in
     ap (λ (b : Bool). if b then reply_of (Refuse candidate.id 0 (Line candidate.frontend.limit_line)) else entry_by (judged (scene_of (view_of candidate real.source.addr)) candidate.frontend.connection_rules)) passes
     ∙ ap entry_by (ap (λ (v : List Track → RuleView). judged (scene_of v) candidate.frontend.connection_rules) same ∙ sym says_is)
   where
     entry_by : Judged → Reply
-    entry_by s = entry_reply candidate accept_proxy real s.tracks (rejection s)
+    entry_by s = entry_reply candidate (accept_proxy || s.expects_header) real s.tracks (rejection s)
 
 -- what a list of rules tracks may be tracked
 pub allowed_then : (facts : RuleFacts) (earlier : Slots) (rules : List Rule) (says : Judged) → says ≡ judged_after (scene_of (facts_view facts)) earlier rules → AreAllowed facts earlier → AreAllowed facts says.tracks

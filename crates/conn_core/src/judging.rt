@@ -1,5 +1,5 @@
 //! How a connection is judged.
-ghost use Rattle.std.specs.Prelude.{◌≡◌, ℕ, Some, find, slice_get};
+ghost use Rattle.std.specs.Prelude.{◌≡◌, ◌||◌, ℕ, Some, find, slice_get};
 ghost use Rattle.std.specs.Option.{option_copied};
 ghost use Rattle.std.specs.Str.{bytes_eq};
 ghost use Rattle.acl_core.specs.Truth.{applies};
@@ -152,8 +152,15 @@ pub fn decide(judged: Pair, facts: &RuleFacts<'_>, earlier: Tracks) -> Decision
     }
 }
 
+/// Whether a header has to come first: the listener takes one, or a connection rule that was tried expects one.
+fn demands_header(accept_proxy: bool, says: &Judged) -> bool
+    ensures { result ≡ (accept_proxy || says.now.expects_header) }
+{
+    accept_proxy || says.expects_header
+}
+
 /// What becomes of a connection at its accept, where so many others of its frontend are open: the limit of the
-/// frontend first, then the connection rules, then it waits where its listener expects a header.
+/// frontend first, then the connection rules, then it waits where its listener or one of those rules demands a header.
 pub fn admission(accept_proxy: bool, real: Pair, others: u64, facts: &RuleFacts<'_>) -> Decision
     requires { version_at facts.now.rows.now.versions facts.now.version.now.number ≡ Some facts.now.version.now }
     ensures reply { (state : Plain) (id : ConnId) → view_of (candidate_of state id facts.now.version.now facts.now.frontend.now) real.source.addr ≡ facts_view facts.now →
@@ -170,7 +177,7 @@ pub fn admission(accept_proxy: bool, real: Pair, others: u64, facts: &RuleFacts<
     let outcome = match rejecting_line(&says) {
         Some(line) => Outcome::Refuse(Cause::Line(line)),
         None => {
-            if !accept_proxy {
+            if !demands_header(accept_proxy, &says) {
                 return decide(real, facts, says.tracks);
             }
             Outcome::Wait

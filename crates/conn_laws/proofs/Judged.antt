@@ -12,7 +12,7 @@ use Rattle.conn_model.specs.declared.reply.Cause.{Cause}
 use Rattle.conn_model.specs.declared.reply.Cause.TheVariants.{Line}
 use Rattle.conn_model.specs.declared.reply.Said.TheVariants.{Refuse}
 use Rattle.conn_model.specs.Rules.{rejection, view_of, Candidate}
-use Rattle.conn_model.specs.Answer.{admission, answer_in, decision, entry_reply, entry_rules, header_reply, judged_pair, reply_of, said_of, verdict, NumberedServer}
+use Rattle.conn_model.specs.Answer.{admission, answer_in, decision, demands_header, entry_reply, entry_rules, header_reply, judged_pair, reply_of, said_of, verdict, NumberedServer}
 use Rattle.conn_laws.specs.Deciding.{is_judgement, newcomer, waiting, Arrival, IsJudged, Waiter}
 use Rattle.conn_laws.proofs.Offered.{accept_is, piece_is}
 
@@ -32,9 +32,9 @@ admission_judges : (candidate : Candidate) (accept_proxy : Bool) (real : PairVal
 admission_judges candidate accept_proxy real others = by (nat_le candidate.frontend.limit others)
   where
     by : (b : Bool) →
-        is_judgement (if b then reply_of (Refuse candidate.id 0 (Line candidate.frontend.limit_line)) else entry_reply candidate accept_proxy real (entry_rules candidate real).tracks (rejection (entry_rules candidate real))).said ≡ true
+        is_judgement (if b then reply_of (Refuse candidate.id 0 (Line candidate.frontend.limit_line)) else entry_reply candidate (demands_header candidate accept_proxy real) real (entry_rules candidate real).tracks (rejection (entry_rules candidate real))).said ≡ true
     by true = refl
-    by false = entry_judges candidate accept_proxy real (entry_rules candidate real).tracks (rejection (entry_rules candidate real))
+    by false = entry_judges candidate (demands_header candidate accept_proxy real) real (entry_rules candidate real).tracks (rejection (entry_rules candidate real))
 
 header_judges : (candidate : Candidate) (real : PairValue) (count : ℕ) (status : Status) → is_judgement (header_reply candidate real count status).said ≡ true
 header_judges candidate real count statuses.Wait = refl

@@ -31,7 +31,7 @@ use Rattle.conn_model.specs.declared.plain.Plain.{Plain}
 use Rattle.conn_model.specs.Words.{or_fault, row_at}
 use Rattle.conn_model.specs.Servers.{cursor_at, pick_in}
 use Rattle.conn_model.specs.Rules.{backend_for, rejection, scene_of, view_of, worth, Candidate, RuleView}
-use Rattle.conn_model.specs.Answer.{admission, answer_in, decision, entry_reply, entry_rules, header_reply, judged_pair, numbered_server, reply_of, reply_with, rest_in, said_of, server_for, server_unless, NumberedServer}
+use Rattle.conn_model.specs.Answer.{admission, answer_in, decision, demands_header, entry_reply, entry_rules, header_reply, judged_pair, numbered_server, reply_of, reply_with, rest_in, said_of, server_for, server_unless, NumberedServer}
 use Rattle.conn_model.specs.History.{after, answer, joined, opening, Entry, IsLegal}
 use Rattle.conn_model.proofs.Joined.{decides_joined}
 use Rattle.conn_model.proofs.Replies.{accepted, bind-ok, expired, followed, or_fault-ok, received, server_answered, Accepted, Received}
@@ -152,7 +152,7 @@ below_limit : (limit others : ℕ) → others < limit → nat_le limit others �
 below_limit limit others less = grind (arith, nat_tests)
 
 pub record IsLetIn (candidate : Candidate) (accept_proxy : Bool) (real : PairValue) (others : ℕ) (said : Said) : Type 0 where
-  pub no_header : accept_proxy ≡ false
+  pub no_header : demands_header candidate accept_proxy real ≡ false
   pub admitted : IsAdmitted candidate real others
   pub is_decided : IsDecided candidate 0 real (entry_rules candidate real).tracks said
 
@@ -162,7 +162,10 @@ let_in candidate accept_proxy real others said offers is = by (nat_le candidate.
     says : Judged
     says = entry_rules candidate real
 
-    expects : nat_le candidate.frontend.limit others ≡ false → rejection says ≡ None → (b : Bool) → accept_proxy ≡ b → (entry_reply candidate accept_proxy real says.tracks None).said ≡ said → IsLetIn candidate accept_proxy real others said
+    demanded : Bool
+    demanded = demands_header candidate accept_proxy real
+
+    expects : nat_le candidate.frontend.limit others ≡ false → rejection says ≡ None → (b : Bool) → demanded ≡ b → (entry_reply candidate demanded real says.tracks None).said ≡ said → IsLetIn candidate accept_proxy real others said
     expects within none true proxied now = absurd (waits_none said candidate.id 0 offers (sym (ap (λ b. (entry_reply candidate b real says.tracks None).said) proxied) ∙ now))
     expects within none false proxied now = record {
       no_header = proxied;
@@ -170,12 +173,12 @@ let_in candidate accept_proxy real others said offers is = by (nat_le candidate.
       is_decided = decided candidate 0 real says.tracks said offers (sym (ap (λ b. (entry_reply candidate b real says.tracks None).said) proxied) ∙ now);
     }
 
-    ruled : nat_le candidate.frontend.limit others ≡ false → (o : Option ℕ) → rejection says ≡ o → (entry_reply candidate accept_proxy real says.tracks (rejection says)).said ≡ said → IsLetIn candidate accept_proxy real others said
-    ruled within None none now = expects within none accept_proxy refl (sym (ap (λ o. (entry_reply candidate accept_proxy real says.tracks o).said) none) ∙ now)
-    ruled within (Some line) some now = absurd (refuses_none said candidate.id 0 (Line line) offers (sym (ap (λ o. (entry_reply candidate accept_proxy real says.tracks o).said) some) ∙ now))
+    ruled : nat_le candidate.frontend.limit others ≡ false → (o : Option ℕ) → rejection says ≡ o → (entry_reply candidate demanded real says.tracks (rejection says)).said ≡ said → IsLetIn candidate accept_proxy real others said
+    ruled within None none now = expects within none demanded refl (sym (ap (λ o. (entry_reply candidate demanded real says.tracks o).said) none) ∙ now)
+    ruled within (Some line) some now = absurd (refuses_none said candidate.id 0 (Line line) offers (sym (ap (λ o. (entry_reply candidate demanded real says.tracks o).said) some) ∙ now))
 
     limited : Bool → Reply
-    limited b = if b then reply_of (saids.Refuse candidate.id 0 (Line candidate.frontend.limit_line)) else entry_reply candidate accept_proxy real says.tracks (rejection says)
+    limited b = if b then reply_of (saids.Refuse candidate.id 0 (Line candidate.frontend.limit_line)) else entry_reply candidate demanded real says.tracks (rejection says)
 
     by : (b : Bool) → nat_le candidate.frontend.limit others ≡ b → IsLetIn candidate accept_proxy real others said
     by true over = absurd (refuses_none said candidate.id 0 (Line candidate.frontend.limit_line) offers (sym (ap (λ b. (limited b).said) over) ∙ is))
@@ -220,35 +223,38 @@ decides_no_wait : (id : ConnId) (used : ℕ) (judged : PairValue) (given : Resul
 decides_no_wait id used judged (Ok given) = refl
 decides_no_wait id used judged (Err cause) = refl
 
-let_wait : (candidate : Candidate) (accept_proxy : Bool) (real : PairValue) (others : ℕ) → is_wait (admission candidate accept_proxy real others).said ≡ true → (accept_proxy ≡ true) × IsAdmitted candidate real others
+let_wait : (candidate : Candidate) (accept_proxy : Bool) (real : PairValue) (others : ℕ) → is_wait (admission candidate accept_proxy real others).said ≡ true → (demands_header candidate accept_proxy real ≡ true) × IsAdmitted candidate real others
 let_wait candidate accept_proxy real others waits = by (nat_le candidate.frontend.limit others) refl
   where
     says : Judged
     says = entry_rules candidate real
 
-    expects : nat_le candidate.frontend.limit others ≡ false → rejection says ≡ None → (b : Bool) → accept_proxy ≡ b → is_wait (entry_reply candidate accept_proxy real says.tracks None).said ≡ true → (accept_proxy ≡ true) × IsAdmitted candidate real others
+    demanded : Bool
+    demanded = demands_header candidate accept_proxy real
+
+    expects : nat_le candidate.frontend.limit others ≡ false → rejection says ≡ None → (b : Bool) → demanded ≡ b → is_wait (entry_reply candidate demanded real says.tracks None).said ≡ true → (demands_header candidate accept_proxy real ≡ true) × IsAdmitted candidate real others
     expects within none true proxied now = (proxied, record { limit = within_limit candidate.frontend.limit others within; rules = not_rejected (scene_of (view_of candidate real.source.addr)) no_tracks candidate.frontend.connection_rules none })
     expects within none false proxied now =
         let judged_now : is_wait (decision candidate 0 real says.tracks).said ≡ true = sym (ap (λ b. is_wait (entry_reply candidate b real says.tracks None).said) proxied) ∙ now in
         absurd (false≢true (sym (decides_no_wait candidate.id 0 real (server_unless (choice_view candidate real says.tracks) (rejection (session_rules candidate real says.tracks)))) ∙ judged_now))
 
-    ruled : nat_le candidate.frontend.limit others ≡ false → (o : Option ℕ) → rejection says ≡ o → is_wait (entry_reply candidate accept_proxy real says.tracks (rejection says)).said ≡ true → (accept_proxy ≡ true) × IsAdmitted candidate real others
-    ruled within None none now = expects within none accept_proxy refl (sym (ap (λ o. is_wait (entry_reply candidate accept_proxy real says.tracks o).said) none) ∙ now)
-    ruled within (Some line) some now = absurd (false≢true (sym (ap (λ o. is_wait (entry_reply candidate accept_proxy real says.tracks o).said) some) ∙ now))
+    ruled : nat_le candidate.frontend.limit others ≡ false → (o : Option ℕ) → rejection says ≡ o → is_wait (entry_reply candidate demanded real says.tracks (rejection says)).said ≡ true → (demands_header candidate accept_proxy real ≡ true) × IsAdmitted candidate real others
+    ruled within None none now = expects within none demanded refl (sym (ap (λ o. is_wait (entry_reply candidate demanded real says.tracks o).said) none) ∙ now)
+    ruled within (Some line) some now = absurd (false≢true (sym (ap (λ o. is_wait (entry_reply candidate demanded real says.tracks o).said) some) ∙ now))
 
     limited : Bool → Reply
-    limited b = if b then reply_of (saids.Refuse candidate.id 0 (Line candidate.frontend.limit_line)) else entry_reply candidate accept_proxy real says.tracks (rejection says)
+    limited b = if b then reply_of (saids.Refuse candidate.id 0 (Line candidate.frontend.limit_line)) else entry_reply candidate demanded real says.tracks (rejection says)
 
-    by : (b : Bool) → nat_le candidate.frontend.limit others ≡ b → (accept_proxy ≡ true) × IsAdmitted candidate real others
+    by : (b : Bool) → nat_le candidate.frontend.limit others ≡ b → (demands_header candidate accept_proxy real ≡ true) × IsAdmitted candidate real others
     by true over = absurd (false≢true (sym (ap (λ b. is_wait (limited b).said) over) ∙ waits))
     by false within = ruled within (rejection says) refl (sym (ap (λ b. is_wait (limited b).said) within) ∙ waits)
 
 -- it says so of the connection that came
-wait_said : (candidate : Candidate) (accept_proxy : Bool) (real : PairValue) (others : ℕ) → accept_proxy ≡ true → IsAdmitted candidate real others →
+wait_said : (candidate : Candidate) (accept_proxy : Bool) (real : PairValue) (others : ℕ) → demands_header candidate accept_proxy real ≡ true → IsAdmitted candidate real others →
     admission candidate accept_proxy real others ≡ reply_with (saids.Wait candidate.id 0) (entry_rules candidate real).tracks
-wait_said candidate accept_proxy real others expects admitted =
+wait_said candidate accept_proxy real others demanded admitted =
     let within : nat_le candidate.frontend.limit others ≡ false = below_limit candidate.frontend.limit others admitted.limit in
-    rw (within, no_rejection (scene_of (view_of candidate real.source.addr)) no_tracks candidate.frontend.connection_rules admitted.rules, expects) refl
+    rw (within, no_rejection (scene_of (view_of candidate real.source.addr)) no_tracks candidate.frontend.connection_rules admitted.rules, demanded) refl
 
 waits_by_accept : (q : Plain) (moment listener : ℕ) (real : PairValue) (said : Said) → is_wait said ≡ true → Says (answer_in q moment (Accept listener real)) said →
     (arrival : Arrival q listener) × IsLetWait q moment real listener arrival said
@@ -260,7 +266,7 @@ waits_by_accept q moment listener real said waits says =
       arrival,
       record {
         serial_left = has_serial arrival.own.serial got.fits;
-        expects = lets.0;
+        demanded = lets.0;
         admitted = lets.1;
         said_is = sym (ap (λ (r : Reply). r.said) got.reply_is) ∙ ap (λ (r : Reply). r.said) (wait_said candidate arrival.at.accept_proxy real (length arrival.own.rows) lets.0 lets.1);
       },
@@ -272,7 +278,7 @@ accept_waits q moment listener real said arrival lets =
     let candidate : Candidate = newcomer q moment real listener arrival in (
       (entry_rules candidate real).tracks,
       accept_is q moment listener real arrival lets.serial_left
-          ∙ ap Ok (wait_said candidate arrival.at.accept_proxy real (length arrival.own.rows) lets.expects lets.admitted)
+          ∙ ap Ok (wait_said candidate arrival.at.accept_proxy real (length arrival.own.rows) lets.demanded lets.admitted)
           ∙ ap (λ s. Ok (reply_with s (entry_rules candidate real).tracks)) (sym lets.said_is),
     )
 

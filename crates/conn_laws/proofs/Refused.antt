@@ -26,7 +26,7 @@ use Rattle.conn_model.specs.declared.reply.StepFault.TheVariants.{NoSuch}
 use Rattle.conn_model.specs.declared.plain.Plain.{Plain}
 use Rattle.conn_model.specs.Words.{or_fault, row_at}
 use Rattle.conn_model.specs.Rules.{rejection, scene_of, view_of, Candidate, RuleView}
-use Rattle.conn_model.specs.Answer.{admission, decision, entry_reply, entry_rules, header_reply, judged_pair, reply_of, said_of, server_for, server_unless, NumberedServer}
+use Rattle.conn_model.specs.Answer.{admission, decision, demands_header, entry_reply, entry_rules, header_reply, judged_pair, reply_of, said_of, server_for, server_unless, NumberedServer}
 use Rattle.conn_model.specs.History.{after, answer, joined, opening, Entry, IsLegal}
 use Rattle.conn_model.proofs.Replies.{accepted, bind-ok, expired, followed, received, server_answered}
 use Rattle.conn_laws.specs.Deciding.{choice_view, newcomer, session_rules, waiting, Arrival, IsCause, IsNotRejected, IsRefusedAtAccept, IsRefusedAtPiece, IsWithheld, Waiter}
@@ -89,26 +89,29 @@ refused_at_accept candidate accept_proxy real others id used cause names is = by
     says : Judged
     says = entry_rules candidate real
 
+    demanded : Bool
+    demanded = demands_header candidate accept_proxy real
+
     less : nat_le candidate.frontend.limit others ≡ false → others < candidate.frontend.limit
     less within = grind (arith, nat_tests)
 
-    expects : nat_le candidate.frontend.limit others ≡ false → rejection says ≡ None → (b : Bool) → accept_proxy ≡ b → (entry_reply candidate accept_proxy real says.tracks None).said ≡ Refuse id used cause →
+    expects : nat_le candidate.frontend.limit others ≡ false → rejection says ≡ None → (b : Bool) → demanded ≡ b → (entry_reply candidate demanded real says.tracks None).said ≡ Refuse id used cause →
         (used ≡ 0) × IsRefusedAtAccept candidate accept_proxy real others cause
     expects within none true proxied now = absurd (let wrong : saids.Wait candidate.id 0 ≡ Refuse id used cause = sym (ap (λ b. (entry_reply candidate b real says.tracks None).said) proxied) ∙ now in cc)
     expects within none false proxied now =
         let got = refuses candidate 0 real says.tracks id used cause names (sym (ap (λ b. (entry_reply candidate b real says.tracks None).said) proxied) ∙ now) in
         (sym got.used_is, inr (inr (record { no_header = proxied; admitted = record { limit = less within; rules = not_rejected (scene_of (view_of candidate real.source.addr)) no_tracks candidate.frontend.connection_rules none }; withheld = got.withheld })))
 
-    ruled : nat_le candidate.frontend.limit others ≡ false → (o : Option ℕ) → rejection says ≡ o → (entry_reply candidate accept_proxy real says.tracks (rejection says)).said ≡ Refuse id used cause →
+    ruled : nat_le candidate.frontend.limit others ≡ false → (o : Option ℕ) → rejection says ≡ o → (entry_reply candidate demanded real says.tracks (rejection says)).said ≡ Refuse id used cause →
         (used ≡ 0) × IsRefusedAtAccept candidate accept_proxy real others cause
-    ruled within None none now = expects within none accept_proxy refl (sym (ap (λ o. (entry_reply candidate accept_proxy real says.tracks o).said) none) ∙ now)
+    ruled within None none now = expects within none demanded refl (sym (ap (λ o. (entry_reply candidate demanded real says.tracks o).said) none) ∙ now)
     ruled within (Some line) some now =
-        let refusal : Refuse candidate.id 0 (Line line) ≡ Refuse id used cause = sym (ap (λ o. (entry_reply candidate accept_proxy real says.tracks o).said) some) ∙ now in
+        let refusal : Refuse candidate.id 0 (Line line) ≡ Refuse id used cause = sym (ap (λ o. (entry_reply candidate demanded real says.tracks o).said) some) ∙ now in
         let both = same_cause candidate.id id 0 used (Line line) cause refusal in
         (sym both.0, inr (inl (record { limit = less within; line = line; cause_is = sym both.1; rejected = rejected (scene_of (view_of candidate real.source.addr)) no_tracks candidate.frontend.connection_rules line some })))
 
     limited : Bool → Reply
-    limited b = if b then reply_of (Refuse candidate.id 0 (Line candidate.frontend.limit_line)) else entry_reply candidate accept_proxy real says.tracks (rejection says)
+    limited b = if b then reply_of (Refuse candidate.id 0 (Line candidate.frontend.limit_line)) else entry_reply candidate demanded real says.tracks (rejection says)
 
     by : (b : Bool) → nat_le candidate.frontend.limit others ≡ b → (used ≡ 0) × IsRefusedAtAccept candidate accept_proxy real others cause
     by true over =

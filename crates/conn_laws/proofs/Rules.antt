@@ -17,6 +17,7 @@ rejected scene made rules line is = by (deciding_rule scene made rules) refl is
     acts place rule decides actions.Accept action_is now = absurd (let wrong : None ≡ Some line = now in cc)
     acts place rule decides actions.Reject action_is now = record { place = place; rule = rule; decides = decides; rejects = action_is; line_is = cc }
     acts place rule decides (actions.Track counter table) action_is now = absurd (let wrong : None ≡ Some line = now in cc)
+    acts place rule decides actions.ExpectProxy action_is now = absurd (let wrong : None ≡ Some line = now in cc)
 
     by : (o : Option (ℕ × Rule)) → deciding_rule scene made rules ≡ o → rejection (judged_by scene made rules (deciding_rule scene made rules)) ≡ Some line → IsRejected scene made rules line
     by None none now = absurd (let wrong : None ≡ Some line = sym (ap (λ o. rejection (judged_by scene made rules o)) none) ∙ now in cc)
@@ -43,6 +44,7 @@ no_rejection scene made rules is = by (deciding_rule scene made rules) refl is
     acts line actions.Accept other = refl
     acts line actions.Reject other = absurd (other refl)
     acts line (actions.Track counter table) other = refl
+    acts line actions.ExpectProxy other = refl
 
     by : (o : Option (ℕ × Rule)) → deciding_rule scene made rules ≡ o → IfSome o (λ found. found.1.action ≢ actions.Reject) → rejection (judged_by scene made rules (deciding_rule scene made rules)) ≡ None
     by None none other = ap (λ o. rejection (judged_by scene made rules o)) none

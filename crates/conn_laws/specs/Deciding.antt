@@ -39,7 +39,7 @@ use Rattle.conn_model.specs.declared.plain.Version.{Version}
 use Rattle.conn_model.specs.Words.{newest, row_at}
 use Rattle.conn_model.specs.Servers.{cursor_at, identity_in, loads_of, pick_in}
 use Rattle.conn_model.specs.Rules.{backend_for, scene_of, view_of, worth, Candidate, RuleView}
-use Rattle.conn_model.specs.Answer.{candidate_at, candidate_of, entry_rules, frontend_in, judged_pair, numbered_server, reply_with, rest_in, said_of, version_at, NumberedServer}
+use Rattle.conn_model.specs.Answer.{candidate_at, candidate_of, demands_header, entry_rules, frontend_in, judged_pair, numbered_server, reply_with, rest_in, said_of, version_at, NumberedServer}
 
 -- What judges a connection.
 
@@ -114,20 +114,21 @@ pub record IsGiven (candidate : Candidate) (judged : PairValue) (made : Slots) (
 abbrev pub Says : Result Reply StepFault → Said → Type 0
 Says answer said = (made : Slots) × (answer ≡ Ok (reply_with said made))
 
--- A connection is offered a server at its accept: its frontend has a serial left, and its listener expects no header.
+-- A connection is offered a server at its accept: its frontend has a serial left, and no header is demanded: neither by
+-- its listener nor by a connection rule that was tried.
 -- What is sent first states the judged pair, which is the real one.
 pub record IsOfferedAtAccept (p : Plain) (moment : ℕ) (real : PairValue) (listener : ℕ) (arrival : Arrival p listener) (said : Said) : Type 0 where
   pub given : NumberedServer
   pub serial_left : arrival.own.serial < 2 ^ 64 - 1
-  pub no_header : arrival.at.accept_proxy ≡ false
+  pub no_header : demands_header (newcomer p moment real listener arrival) arrival.at.accept_proxy real ≡ false
   pub admitted : IsAdmitted (newcomer p moment real listener arrival) real (length arrival.own.rows)
   pub is_given : IsGiven (newcomer p moment real listener arrival) real (entry_rules (newcomer p moment real listener arrival) real).tracks given
   pub said_is : said ≡ said_of (newcomer p moment real listener arrival).id 0 real (Ok given)
 
--- It is let in to wait for its header: its listener expects one.
+-- It is let in to wait for its header: one is demanded.
 pub record IsLetWait (p : Plain) (moment : ℕ) (real : PairValue) (listener : ℕ) (arrival : Arrival p listener) (said : Said) : Type 0 where
   pub serial_left : arrival.own.serial < 2 ^ 64 - 1
-  pub expects : arrival.at.accept_proxy ≡ true
+  pub demanded : demands_header (newcomer p moment real listener arrival) arrival.at.accept_proxy real ≡ true
   pub admitted : IsAdmitted (newcomer p moment real listener arrival) real (length arrival.own.rows)
   pub said_is : said ≡ saids.Wait (newcomer p moment real listener arrival).id 0
 
@@ -247,8 +248,8 @@ IsWithheld candidate judged made (NoBackend line) =
 IsWithheld candidate judged made (NoServer line) =
     IsNotRejected (scene_of (view_of candidate judged.source.addr)) made candidate.frontend.session_rules × LacksServer (choice_view candidate judged made) line
 
--- at its accept the limit of its frontend is reached, or a connection rule rejects it; or it is admitted, its listener
--- expects no header, and it gets no server
+-- at its accept the limit of its frontend is reached, or a connection rule rejects it; or it is admitted, no header is
+-- demanded, and it gets no server
 pub record IsOverLimit (candidate : Candidate) (others : ℕ) (cause : Cause) : Type 0 where
   pub limit : candidate.frontend.limit ≤ others
   pub cause_is : cause ≡ Line candidate.frontend.limit_line
@@ -260,7 +261,7 @@ pub record IsTurnedAway (candidate : Candidate) (real : PairValue) (others : ℕ
   pub rejected : IsRejected (scene_of (view_of candidate real.source.addr)) no_tracks candidate.frontend.connection_rules line
 
 pub record IsWithheldAtAccept (candidate : Candidate) (accept_proxy : Bool) (real : PairValue) (others : ℕ) (cause : Cause) : Type 0 where
-  pub no_header : accept_proxy ≡ false
+  pub no_header : demands_header candidate accept_proxy real ≡ false
   pub admitted : IsAdmitted candidate real others
   pub withheld : IsWithheld candidate real (entry_rules candidate real).tracks cause
 

@@ -33,9 +33,9 @@ pub fn each_is_judged()
 {}
 
 /// After each history a connection is offered a server exactly when the limit and the rules of its frontend admit it,
-/// its header is well formed, where one is expected, and the backend that the lines choose has that server for it. A
-/// connection is judged at its accept where its listener expects no header. Else the limit and the connection rules let
-/// it in there to wait for its header, and the piece that ends the header decides the rest.
+/// its header is well formed, where one is demanded, and the backend that the lines choose has that server for it. A
+/// connection is judged at its accept where neither its listener nor a connection rule demands a header. Else the limit
+/// and the connection rules let it in there to wait for its header, and the piece that ends the header decides the rest.
 pub fn offered_exactly_when()
     ensures at_accept { (p : Plain) (h : List Entry) (moment listener : ℕ) (real : PairValue) (said : Said) → is_offer said ≡ true →
         Says (answer p h moment (Accept listener real)) said

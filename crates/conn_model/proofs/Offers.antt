@@ -46,7 +46,7 @@ use Rattle.conn_model.specs.Words.{or_fault, row_at}
 use Rattle.conn_model.specs.Servers.{cursor_at, has_room, identity_in, load_of, loads_of, pick_in, weight_of, MayOffer}
 use Rattle.conn_model.specs.Counts.{is_served_by, served_by, served_in}
 use Rattle.conn_model.specs.Rules.{backend_for, rejection, scene_of, view_of, worth, Candidate, RuleView}
-use Rattle.conn_model.specs.Answer.{admission, answer_in, awaits_server, candidate_at, candidate_of, decision, entry_reply, entry_rules, header_reply, judged_pair, new_row, numbered_server, reply_of, said_of, server_answer, server_for, server_unless, version_at, NumberedServer}
+use Rattle.conn_model.specs.Answer.{admission, answer_in, awaits_server, candidate_at, candidate_of, decision, demands_header, entry_reply, entry_rules, header_reply, judged_pair, new_row, numbered_server, reply_of, said_of, server_answer, server_for, server_unless, version_at, NumberedServer}
 use Rattle.conn_model.specs.History.{after, answer, identity_at, identity_of, id_of, judging_version, newest_number, nobody, opening, version_for, Entry, IsLegal, IsWell}
 use Rattle.conn_model.proofs.Totals.{total-kept}
 use Rattle.conn_model.proofs.Lists.{or_true}
@@ -179,7 +179,7 @@ admission-offers candidate accept_proxy real others = by (nat_le candidate.front
   where
     by : (b : Bool) → nat_le candidate.frontend.limit others ≡ b → OffersWell (served_there candidate) candidate.version.plan (admission candidate accept_proxy real others).said
     by true e = rw e tt
-    by false e = rw e (entry-offers candidate accept_proxy real (entry_rules candidate real).tracks (rejection (entry_rules candidate real)))
+    by false e = rw e (entry-offers candidate (demands_header candidate accept_proxy real) real (entry_rules candidate real).tracks (rejection (entry_rules candidate real)))
 
 header-offers : (candidate : Candidate) (real : PairValue) (count : ℕ) (status : Status) → OffersWell (served_there candidate) candidate.version.plan (header_reply candidate real count status).said
 header-offers candidate real count statuses.Wait = tt

@@ -32,7 +32,7 @@ use Rattle.conn_model.specs.declared.plain.Plain.{Plain}
 use Rattle.conn_model.specs.Words.{newest, or_fault}
 use Rattle.rule_engine.specs.Judging.{no_tracks, Slots}
 use Rattle.conn_model.specs.Rules.{Candidate, rejection, view_of}
-use Rattle.conn_model.specs.Answer.{awaits_server, row_at, server_answer, version_at, NumberedServer, frontend_in, reply_of, verdict, said_of, decision, candidate_at, candidate_of, judged_pair, rest_in, waiting_row, entry_reply, entry_rules, admission, header_reply, accept_answer, piece_answer, close_answer, expire_answer, next_answer, reload_answer, answer_in}
+use Rattle.conn_model.specs.Answer.{awaits_server, row_at, server_answer, version_at, NumberedServer, frontend_in, reply_of, verdict, said_of, decision, candidate_at, candidate_of, judged_pair, rest_in, waiting_row, demands_header, entry_reply, entry_rules, admission, header_reply, accept_answer, piece_answer, close_answer, expire_answer, next_answer, reload_answer, answer_in}
 use Rattle.conn_model.specs.History.{id_of}
 
 -- Answers in steps.
@@ -74,7 +74,7 @@ admission-id candidate accept_proxy real others = by (nat_le candidate.frontend.
   where
     by : (b : Bool) → nat_le candidate.frontend.limit others ≡ b → id_of (admission candidate accept_proxy real others).said ≡ Some candidate.id
     by true e = rw e refl
-    by false e = rw e (entry_reply-id candidate accept_proxy real (entry_rules candidate real).tracks (rejection (entry_rules candidate real)))
+    by false e = rw e (entry_reply-id candidate (demands_header candidate accept_proxy real) real (entry_rules candidate real).tracks (rejection (entry_rules candidate real)))
 
 -- What is known of an answer.
 

@@ -32,7 +32,7 @@ use Rattle.conn_model.specs.declared.plain.Plain.{Plain}
 use Rattle.conn_model.specs.Words.{or_fault}
 use Rattle.conn_model.specs.Tables.{open_tracks, same_id, table_at, tracks_in}
 use Rattle.conn_model.specs.Rules.{key_in_table, rejection, scene_of, view_of, Candidate, RuleView}
-use Rattle.conn_model.specs.Answer.{admission, answer_in, candidate_at, candidate_of, close_answer, decision, entry_reply, entry_rules, header_reply, judged_pair, new_row, reply_of, row_at}
+use Rattle.conn_model.specs.Answer.{admission, answer_in, candidate_at, candidate_of, close_answer, decision, demands_header, entry_reply, entry_rules, header_reply, judged_pair, new_row, reply_of, row_at}
 use Rattle.conn_model.specs.History.{newest_number, tables_of, IsWell}
 pub use Rattle.conn_model.proofs.Lists.{any-at}
 use Rattle.conn_model.proofs.Versions.{newest-at}
@@ -112,7 +112,7 @@ admission_made candidate accept_proxy real others = by (nat_le candidate.fronten
   where
     by : (b : Bool) → nat_le candidate.frontend.limit others ≡ b → AreMade candidate real.source.addr (admission candidate accept_proxy real others).tracks.items
     by true e = rw e tt
-    by false e = rw e (entry_made candidate accept_proxy real (entry_rules candidate real).tracks (rejection (entry_rules candidate real))
+    by false e = rw e (entry_made candidate (demands_header candidate accept_proxy real) real (entry_rules candidate real).tracks (rejection (entry_rules candidate real))
         (judged-slots (scene_of (view_of candidate real.source.addr)) (OfSource candidate real.source.addr) (rules_make candidate real.source.addr) no_tracks candidate.frontend.connection_rules
         (none_made (OfSource candidate real.source.addr))))
 

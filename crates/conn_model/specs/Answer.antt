@@ -1,5 +1,5 @@
 -- What a balancer in a plain state answers to an event.
-use Rattle.std.specs.Prelude.{ℕ, Bool, true, false, List, [], ◌∷◌, ◌++◌, length, max, find, slice_get, slice_set, Option, option_map, Some, None, Result, Ok, Err, ◌+◌, ◌==◌, nat_le, nat_lt, if◌then◌else◌}
+use Rattle.std.specs.Prelude.{ℕ, Bool, true, false, List, [], ◌∷◌, ◌++◌, length, max, find, slice_get, slice_set, Option, option_map, Some, None, Result, Ok, Err, ◌+◌, ◌==◌, ◌||◌, nat_le, nat_lt, if◌then◌else◌}
 use Rattle.std.specs.Str.{bytes_eq}
 use Rattle.list_core.specs.Each.{◌>>=◌}
 use Rattle.addr_core.specs.PairValue.{PairValue}
@@ -133,10 +133,9 @@ candidate_at p clock number real own version frontend = record {
   id = record { frontend = number; serial = own.serial + 1 };
 }
 
--- after the connection rules, which may track and may reject by a line: the connection waits where its listener expects
--- a header
+-- after the connection rules, which may track and may reject by a line: the connection waits where a header is demanded
 abbrev pub entry_reply : Candidate → Bool → PairValue → Slots → Option ℕ → Reply
-entry_reply candidate accept_proxy real made (Some line) = reply_with (Refuse candidate.id 0 (Line line)) made
+entry_reply candidate demanded real made (Some line) = reply_with (Refuse candidate.id 0 (Line line)) made
 entry_reply candidate true real made None = reply_with (Wait candidate.id 0) made
 entry_reply candidate false real made None = decision candidate 0 real made
 
@@ -144,12 +143,16 @@ entry_reply candidate false real made None = decision candidate 0 real made
 abbrev pub entry_rules : Candidate → PairValue → Judged
 entry_rules candidate real = judged (scene_of (view_of candidate real.source.addr)) candidate.frontend.connection_rules
 
+-- a header is demanded where the listener takes one, or where a connection rule that was tried expects one
+abbrev pub demands_header : Candidate → Bool → PairValue → Bool
+demands_header candidate accept_proxy real = accept_proxy || (entry_rules candidate real).expects_header
+
 -- the reply to a candidate, where so many other connections of its frontend are open: the limit of the frontend
 -- first, then the connection rules on the real source
 abbrev pub admission : Candidate → Bool → PairValue → ℕ → Reply
 admission candidate accept_proxy real others =
     if nat_le candidate.frontend.limit others then reply_of (Refuse candidate.id 0 (Line candidate.frontend.limit_line))
-    else let says = entry_rules candidate real in entry_reply candidate accept_proxy real says.tracks (rejection says)
+    else let says = entry_rules candidate real in entry_reply candidate (demands_header candidate accept_proxy real) real says.tracks (rejection says)
 
 -- an accept is judged by the newest version, in the frontend of its listener
 abbrev pub accept_answer : Plain → ℕ → ℕ → PairValue → Result Reply StepFault

@@ -13,8 +13,9 @@ use link_core::{Clock, Dial, Dialled, Gate, Link, PIECE, Progress};
 use std::sync::Wait;
 use std::sync::ledger::Ledger;
 
-/// How many pieces of a header are read before other connections have their turn.
-const PIECES: u32 = 4;
+/// How many pieces of a header are read before other connections have their turn. The longest header, of 65,551 bytes
+/// (proxy-protocol.txt, section 2.2), takes five: so one that came whole is read whole in one turn.
+const PIECES: u32 = 5;
 
 /// What a read of a waiting connection gave.
 #[derive(Clone, Copy, Debug, PartialEq, Eq)]

@@ -164,19 +164,19 @@ in_a_row_more segments i s t some row at to next k u v less e f = by_place (orde
         ap (λ (x : Segment). x.first) (sym t_is) ∙ next ∙ ap (λ (x : Segment). x.first + length x.records) s_is
 
 in_a_row_rest : (s : Segment) (segments : List Segment) → InARow (s ∷ segments) (length (s ∷ segments)) → InARow segments (length segments)
-in_a_row_rest s segments row k u v less e f =
+in_a_row_rest s segments follows k u v less e f =
     let at : slice_get (s ∷ segments) (suc k + 1) ≡ Some v = let n : suc k + 1 ≡ suc (k + 1) = omega arith in ap (slice_get (s ∷ segments)) n ∙ f in
-    row (suc k) u v (omega arith) e at
+    follows (suc k) u v (omega arith) e at
 
 in_a_row_from : (s : Segment) (segments : List Segment) → InARow (s ∷ segments) (length (s ∷ segments)) → AreChained (s.first + length s.records) segments
-in_a_row_from s [] row = tt
-in_a_row_from s (t ∷ segments) row =
-    let begins : t.first ≡ s.first + length s.records = row 0 s t (omega arith) refl refl in
-    (begins, subst (λ (f : ℕ). AreChained (f + length t.records) segments) begins (in_a_row_from t segments (in_a_row_rest s (t ∷ segments) row)))
+in_a_row_from s [] follows = tt
+in_a_row_from s (t ∷ segments) follows =
+    let begins : t.first ≡ s.first + length s.records = follows 0 s t (omega arith) refl refl in
+    (begins, subst (λ (f : ℕ). AreChained (f + length t.records) segments) begins (in_a_row_from t segments (in_a_row_rest s (t ∷ segments) follows)))
 
 pub in_a_row_chained : (segments : List Segment) → InARow segments (length segments) → IsChain segments
-in_a_row_chained [] row = (0, tt)
-in_a_row_chained (s ∷ segments) row = (s.first, (refl, in_a_row_from s segments row))
+in_a_row_chained [] follows = (0, tt)
+in_a_row_chained (s ∷ segments) follows = (s.first, (refl, in_a_row_from s segments follows))
 
 -- of two neighbours in a chain the second begins at the end of the first
 pub chained_next : (first : ℕ) (segments : List Segment) (k : ℕ) (s t : Segment) → AreChained first segments → slice_get segments k ≡ Some s → slice_get segments (k + 1) ≡ Some t → t.first ≡ s.first + length s.records

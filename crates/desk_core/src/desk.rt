@@ -175,7 +175,7 @@ impl<M: Ledger, O: Ledger, B: Opening> Shut<M, O, B> {
         self.book.cut()
     }
 
-    /// How many segments are still in the ring, for whoever has its other end. Then it is known which they are.
+    /// How many segments are still in the ring. The caller has the other end of it. Then it is known which they are.
     pub fn left(&mut self, segments: &mut Consumer<Segment>) -> usize
         requires { IsPair self.old.book.segments segments.old }
         ensures value { result ≡ length (known_items segments.new) }

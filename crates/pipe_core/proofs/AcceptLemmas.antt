@@ -22,7 +22,7 @@ use Rattle.conn_model.specs.declared.plain.Row.{Row}
 use Rattle.conn_model.specs.declared.plain.Version.{Version}
 use Rattle.rule_engine.specs.Judging.{no_tracks, Slots}
 use Rattle.conn_model.specs.Rules.{Candidate, rejection, view_of}
-use Rattle.conn_model.specs.Answer.{admission, answer_in, candidate_at, candidate_of, decision, entry_reply, entry_rules, frontend_in, header_reply, judged_pair, new_row, row_in, said_of, verdict, NumberedServer}
+use Rattle.conn_model.specs.Answer.{admission, answer_in, candidate_at, candidate_of, decision, demands_header, entry_reply, entry_rules, frontend_in, header_reply, judged_pair, new_row, row_in, said_of, verdict, NumberedServer}
 use Rattle.conn_model.specs.History.{after, by_counter, entry, id_of, new_version, newest_number, opening, tables_by, with_said, IsWell}
 use Rattle.conn_model.proofs.Replies.{accepted, admission-id, Accepted}
 use Rattle.conn_model.proofs.Steps.{after-accept, rows_left}
@@ -57,7 +57,7 @@ admission_uses candidate accept_proxy real others = by (nat_le candidate.fronten
   where
     by : (b : Bool) → nat_le candidate.frontend.limit others ≡ b → UsesAtMost 0 (admission candidate accept_proxy real others).said
     by true e = rw e tt
-    by false e = rw e (entry_uses candidate accept_proxy real (entry_rules candidate real).tracks (rejection (entry_rules candidate real)))
+    by false e = rw e (entry_uses candidate (demands_header candidate accept_proxy real) real (entry_rules candidate real).tracks (rejection (entry_rules candidate real)))
 
 header_uses : (candidate : Candidate) (real : PairValue) (count : ℕ) (s : Status) → used_by s ≤ count → UsesAtMost count (header_reply candidate real count s).said
 header_uses candidate real count statuses.Wait within = tt

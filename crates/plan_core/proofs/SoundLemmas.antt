@@ -55,6 +55,7 @@ some_table tables name (Some other) = within (λ (table : Table). bytes_eq table
 some_action : (tables : List Table) (name : List ℕ) (action : line.Action) → lines.IsSoundAction action → IfSome (action_of tables name action) (IsSoundAction (length tables))
 some_action tables name words.Accept sound = tt
 some_action tables name words.Reject sound = tt
+some_action tables name words.ExpectProxy sound = tt
 some_action tables name (words.Track track) sound = by (table_number tables name track.table) (some_table tables name track.table)
   where
     by : (o : Option ℕ) → IfSome o (λ n. n < length tables) → IfSome (option_map (track_with track.counter) o) (IsSoundAction (length tables))

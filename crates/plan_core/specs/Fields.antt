@@ -127,6 +127,7 @@ abbrev pub action_of : List Table → List ℕ → tree.Action → Option Action
 action_of tables name words.Accept = Some actions.Accept
 action_of tables name words.Reject = Some actions.Reject
 action_of tables name (words.Track track) = option_map (track_with track.counter) (table_number tables name track.table)
+action_of tables name words.ExpectProxy = Some actions.ExpectProxy
 
 abbrev pub is_in : Ruleset → Ruleset → Bool
 is_in Connection Connection = true

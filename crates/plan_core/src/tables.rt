@@ -122,6 +122,7 @@ pub fn action_of(tables: &[Table], name: &Word, action: &conf_tree::Action) -> O
             Some(table) => Some(Action::Track(track.counter, table)),
             None => None,
         },
+        conf_tree::Action::ExpectProxy => Some(Action::ExpectProxy),
     }
 }
 

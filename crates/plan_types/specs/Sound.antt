@@ -53,6 +53,7 @@ abbrev pub IsSoundAction : ℕ → Action → Type 0
 IsSoundAction tables actions.Accept = Unit {0}
 IsSoundAction tables actions.Reject = Unit {0}
 IsSoundAction tables (actions.Track counter table) = (counter < counters) × (table < tables)
+IsSoundAction tables actions.ExpectProxy = Unit {0}
 
 -- each rule's line is less than those of all rules after it
 abbrev pub RulesRise : List Rule → Type 0

@@ -11,6 +11,8 @@ pub enum Action {
     Reject,
     /// The counter, 0 to 2, tracks the source address in the table of that number (`track-sc0`).
     Track(u8, u16),
+    /// The connection has to begin with a PROXY header (`expect-proxy layer4`). The list goes on.
+    ExpectProxy,
 }
 
 /// A rule, with its line.

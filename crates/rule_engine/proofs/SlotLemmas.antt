@@ -92,6 +92,7 @@ after_action-slots : (scene : SceneMeaning) (P : ℕ → Track → Type 0) → M
 after_action-slots scene P makes slots actions.Accept known = known
 after_action-slots scene P makes slots actions.Reject known = known
 after_action-slots scene P makes slots (actions.Track counter number) known = after_track-slots scene P makes slots counter number known
+after_action-slots scene P makes slots actions.ExpectProxy known = known
 
 after_rule-slots : (scene : SceneMeaning) (P : ℕ → Track → Type 0) → Makes scene P → (slots : Slots) (rule : Rule) → AreSlots P slots → AreSlots P (after_rule scene slots rule)
 after_rule-slots scene P makes slots rule known = by (is_true scene slots rule) refl

@@ -1,5 +1,5 @@
 -- What a list of rules decides.
-use Rattle.std.specs.Prelude.{ℕ, Bool, true, false, ◌&&◌, List, [], ◌∷◌, take, slice_get, slice_set, find, Option, Some, None, if◌then◌else◌}
+use Rattle.std.specs.Prelude.{ℕ, Bool, true, false, ◌&&◌, List, [], ◌∷◌, take, slice_get, slice_set, find, Option, Some, None, is_some, if◌then◌else◌}
 use Rattle.std.specs.List.{enumerate_from}
 use Rattle.addr_core.specs.declared.addr.Addr.{Addr}
 use Rattle.acl_core.specs.Truth.{applies}
@@ -49,6 +49,7 @@ abbrev pub after_action : SceneMeaning → Slots → Action → Slots
 after_action scene tracks actions.Accept = tracks
 after_action scene tracks actions.Reject = tracks
 after_action scene tracks (actions.Track counter number) = after_track scene tracks counter number
+after_action scene tracks actions.ExpectProxy = tracks
 
 -- a rule whose condition is true tracks what it can
 abbrev pub after_rule : SceneMeaning → Slots → Rule → Slots
@@ -65,6 +66,7 @@ abbrev pub is_final : Action → Bool
 is_final actions.Accept = true
 is_final actions.Reject = true
 is_final (actions.Track counter number) = false
+is_final actions.ExpectProxy = false
 
 -- a final rule decides at its place if its condition is true once the rules before it have tracked
 abbrev pub decides : SceneMeaning → Slots → List Rule → ℕ × Rule → Bool
@@ -78,6 +80,23 @@ abbrev pub verdict_of : Action → Verdict
 verdict_of actions.Accept = verdicts.Accept
 verdict_of actions.Reject = verdicts.Reject
 verdict_of (actions.Track counter number) = verdicts.On
+verdict_of actions.ExpectProxy = verdicts.On
+
+-- Headers.
+
+abbrev pub is_expectation : Action → Bool
+is_expectation actions.Accept = false
+is_expectation actions.Reject = false
+is_expectation (actions.Track counter number) = false
+is_expectation actions.ExpectProxy = true
+
+-- such a rule expects a header at its place if its condition is true once the rules before it have tracked
+abbrev pub expects : SceneMeaning → Slots → List Rule → ℕ × Rule → Bool
+expects scene tracks rules (place, rule) = is_expectation rule.action && is_true scene (after_rules scene tracks (take place rules)) rule
+
+-- one of the rules expects a header, where all of them are tried
+abbrev pub expects_header : SceneMeaning → Slots → List Rule → Bool
+expects_header scene tracks rules = is_some (find (expects scene tracks rules) (enumerate_from 0 rules))
 
 -- what the list says, by the rule that decides it: the rules before that one are tried
 abbrev pub judged_by : SceneMeaning → Slots → List Rule → Option (ℕ × Rule) → Judged
@@ -85,13 +104,13 @@ judged_by scene tracks rules None = record {
   verdict = verdicts.On;
   line = 0;
   tracks = after_rules scene tracks rules;
-  expects_header = false;
+  expects_header = expects_header scene tracks rules;
 }
 judged_by scene tracks rules (Some (place, rule)) = record {
   verdict = verdict_of rule.action;
   line = rule.line;
   tracks = after_rules scene tracks (take place rules);
-  expects_header = false;
+  expects_header = expects_header scene tracks (take place rules);
 }
 
 -- what the list says, after those tracks

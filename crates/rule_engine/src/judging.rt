@@ -24,7 +24,7 @@ pub struct Judged {
     pub line: u32,
     /// The tracks made, by counter.
     pub tracks: Tracks,
-    /// Whether a PROXY header has to come first: no action asks for one yet.
+    /// Whether a PROXY header has to come first: a rule that was tried expects one.
     pub expects_header: bool,
 }
 
@@ -86,21 +86,21 @@ fn track<S: Scene>(scene: &S, tracks: Tracks, counter: u8, number: u16) -> Track
     tracks
 }
 
-fn outcome(verdict: Verdict, line: u32, tracks: Tracks) -> Judged
-    ensures { result ≡ record { verdict = verdict; line = line; tracks = tracks; expects_header = false } }
+fn outcome(verdict: Verdict, line: u32, tracks: Tracks, expects_header: bool) -> Judged
+    ensures { result ≡ record { verdict = verdict; line = line; tracks = tracks; expects_header = expects_header } }
 {
     Judged {
         verdict,
         line,
         tracks,
-        expects_header: false,
+        expects_header,
     }
 }
 
 /// What the list of rules says of the connection (HAProxy manual, `tcp-request connection`): the first
-/// rule decides that accepts or rejects and whose condition is true by then. The rules before it track
-/// where their condition is true, each where its counter is free and there is a key to track. A
-/// condition sees what was tracked before its rule.
+/// rule decides that accepts or rejects and whose condition is true by then. The rules before it are tried:
+/// where its condition is true, one tracks if its counter is free and there is a key to track, and another
+/// expects a PROXY header. A condition sees what was tracked before its rule.
 pub fn judge<S: Scene>(rules: &[Rule], scene: &S) -> Judged
     ensures { result ≡ judged (S.meaning scene.now) rules.now }
 {
@@ -112,14 +112,20 @@ pub fn judge_after<S: Scene>(rules: &[Rule], scene: &S, earlier: Tracks) -> Judg
     ensures { result ≡ judged_after (S.meaning scene.now) earlier rules.now }
 {
     let mut tracks = earlier;
+    let mut expects_header = false;
     for rule in rules {
         if is_true(scene, &tracks, rule) {
             match rule.action {
-                Action::Accept => return outcome(Verdict::Accept, rule.line, tracks),
-                Action::Reject => return outcome(Verdict::Reject, rule.line, tracks),
+                Action::Accept => {
+                    return outcome(Verdict::Accept, rule.line, tracks, expects_header);
+                }
+                Action::Reject => {
+                    return outcome(Verdict::Reject, rule.line, tracks, expects_header);
+                }
                 Action::Track(counter, number) => tracks = track(scene, tracks, counter, number),
+                Action::ExpectProxy => expects_header = true,
             }
         }
     }
-    outcome(Verdict::On, 0, tracks)
+    outcome(Verdict::On, 0, tracks, expects_header)
 }

@@ -1,6 +1,6 @@
 -- What is said to a part's connection is the same in two states that look the same to it; and what is tracked and
 -- offered is on the connection's side.
-use Rattle.std.specs.Prelude.{ℕ, Bool, true, false, List, [], slice_get, is_none, Option, Some, None, option_map, Result, Ok, Err, refl, ◌≡◌, ◌&&◌, nat_le, if◌then◌else◌}
+use Rattle.std.specs.Prelude.{ℕ, Bool, true, false, List, [], slice_get, is_none, Option, Some, None, option_map, Result, Ok, Err, refl, ◌≡◌, ◌&&◌, ◌||◌, nat_le, if◌then◌else◌}
 use Rattle.std.specs.List.{AllByRecursion}
 use Rattle.std.specs.Option.{option_map_or}
 use Rattle.std.proofs.Common.{sym, ap, ◌∙◌}
@@ -32,7 +32,7 @@ use Rattle.conn_model.specs.declared.reply.Said.TheVariants.{Wait, Offer, Refuse
 use Rattle.conn_model.specs.Words.{or_fault}
 use Rattle.conn_model.specs.Servers.{cursor_at, pick_in}
 use Rattle.conn_model.specs.Rules.{backend_for, rejection, scene_of, view_of, worth, Candidate, RuleView}
-use Rattle.conn_model.specs.Answer.{admission, candidate_of, decision, entry_reply, entry_rules, header_reply, judged_pair, numbered_server, reply_of, reply_with, said_of, server_for, server_unless, verdict, Decision, NumberedServer}
+use Rattle.conn_model.specs.Answer.{admission, candidate_of, decision, demands_header, entry_reply, entry_rules, header_reply, judged_pair, numbered_server, reply_of, reply_with, said_of, server_for, server_unless, verdict, Decision, NumberedServer}
 use Rattle.conn_model.proofs.Replies.{bind-ok, or_fault-ok}
 use Rattle.tenant_laws.specs.Parts.{choices_pass, keeps_backend, keeps_criterion, keeps_lines, keeps_table, rules_pass, Part}
 use Rattle.tenant_laws.specs.Agreement.{is_own_id}
@@ -102,7 +102,8 @@ module _ (part : Part) (s t : Plain) (v w : Version) (f : Frontend) (id : ConnId
       let says = judged-same real.source.addr no_tracks tt f.connection_rules keeps.connection in
       let one : Judged = entry_rules left real in
       ap (λ (r : Reply). if nat_le f.limit others then reply_of (Refuse id 0 (Line f.limit_line)) else r)
-      (entry-same accept_proxy real one.tracks (rejection one) says.1 ∙ ap (λ (j : Judged). entry_reply right accept_proxy real j.tracks (rejection j)) says.0)
+      (entry-same (demands_header left accept_proxy real) real one.tracks (rejection one) says.1
+      ∙ ap (λ (j : Judged). entry_reply right (accept_proxy || j.expects_header) real j.tracks (rejection j)) says.0)
 
   pub header-same : (real : PairValue) (count : ℕ) (status : Status) → header_reply left real count status ≡ header_reply right real count status
   header-same real count statuses.Wait = refl
@@ -188,7 +189,7 @@ module _ (part : Part) (side : Bool) (s : Plain) (v : Version) (f : Frontend) (i
       by : (b : Bool) → nat_le f.limit others ≡ b → IsSaidOn part side v.plan P (admission seat accept_proxy real others)
       by true e = rw e (record { tracks = tt; offered = tt })
       by false e =
-          rw e (entry-on accept_proxy real (entry_rules seat real).tracks (rejection (entry_rules seat real)) (judged-known real.source.addr no_tracks tt f.connection_rules keeps.connection))
+          rw e (entry-on (demands_header seat accept_proxy real) real (entry_rules seat real).tracks (rejection (entry_rules seat real)) (judged-known real.source.addr no_tracks tt f.connection_rules keeps.connection))
 
   pub header-on : (real : PairValue) (count : ℕ) (status : Status) → IsSaidOn part side v.plan P (header_reply seat real count status)
   header-on real count statuses.Wait = record { tracks = tt; offered = tt }

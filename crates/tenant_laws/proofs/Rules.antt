@@ -1,5 +1,5 @@
 -- Two scenes that rules cannot tell apart say the same, and what the rules track is known.
-use Rattle.std.specs.Prelude.{ℕ, zero, suc, Bool, true, false, List, [], take, slice_set, Option, Some, None, refl, ◌≡◌, ◌&&◌, ◌∷◌, ◌+◌}
+use Rattle.std.specs.Prelude.{ℕ, zero, suc, Bool, true, false, List, [], take, slice_set, Option, Some, None, is_some, refl, ◌≡◌, ◌&&◌, ◌∷◌, ◌+◌}
 use Rattle.std.specs.List.{list_all, enumerate_from, AllByRecursion}
 use Rattle.std.proofs.Common.{sym, ap, ◌∙◌}
 use Rattle.addr_core.specs.declared.addr.Addr.{Addr}
@@ -12,7 +12,7 @@ use Rattle.plan_types.specs.declared.plan.Rule.{Rule}
 use Rattle.plan_types.specs.declared.track.TableId.{TableId}
 use Rattle.plan_types.specs.declared.track.Track.{Track}
 use Rattle.rule_engine.specs.Meaning.{SceneMeaning, present}
-use Rattle.rule_engine.specs.Judging.{Slots, is_free, is_true, with_track, after_track, after_action, after_rule, after_rules, is_final, decides, deciding_rule, judged_by, judged_after}
+use Rattle.rule_engine.specs.Judging.{Slots, is_free, is_true, with_track, after_track, after_action, after_rule, after_rules, is_final, decides, deciding_rule, is_expectation, expects, expects_header, judged_by, judged_after}
 use Rattle.tenant_laws.specs.Parts.{action_passes, rule_passes, rules_pass, when_passes}
 use Rattle.tenant_laws.proofs.Lists.{both}
 use Rattle.tenant_laws.proofs.Truth.{applies-kept, find-kept}
@@ -60,6 +60,7 @@ module _ (a b : SceneMeaning) (P : Track → Type 0) (table : ℕ → Bool) (pas
   action-same slots known actions.Accept kept = refl
   action-same slots known actions.Reject kept = refl
   action-same slots known (actions.Track counter number) kept = rw (free counter, key (present slots) known number kept) refl
+  action-same slots known actions.ExpectProxy kept = refl
 
   action-known : (slots : Slots) → Known P slots → (action : Action) → action_passes table action ≡ true → Known P (after_action a slots action)
   action-known slots known actions.Accept kept = known
@@ -73,6 +74,7 @@ module _ (a b : SceneMeaning) (P : Track → Type 0) (table : ℕ → Bool) (pas
       by : (c : Bool) → is_free a slots counter ≡ c → Known P (after_track a slots counter number)
       by true e = rw e (keyed (a.key (present slots) number) refl)
       by false e = rw e known
+  action-known slots known actions.ExpectProxy kept = known
 
   rule-same : (slots : Slots) → Known P slots → (rule : Rule) → rule_passes table passes acls rule ≡ true → after_rule a slots rule ≡ after_rule b slots rule
   rule-same slots known rule kept =
@@ -97,22 +99,40 @@ module _ (a b : SceneMeaning) (P : Track → Type 0) (table : ℕ → Bool) (pas
       let rest = rules-same (after_rule a slots rule) (rule-known slots known rule parts.0) rules parts.1 in
       (rest.0 ∙ ap (λ s. after_rules b s rules) one, rest.1)
 
+  -- a rule after others
+  tried-same : (slots : Slots) → Known P slots → (before : List Rule) → rules_pass table passes acls before ≡ true → (rule : Rule) → rule_passes table passes acls rule ≡ true →
+      is_true a (after_rules a slots before) rule ≡ is_true b (after_rules b slots before) rule
+  tried-same slots known before kept rule kept' =
+      let rules = rules-same slots known before kept in
+      let parts = both (action_passes table rule.action) (when_passes passes acls rule.when) kept' in
+      is_true-same (after_rules a slots before) rules.1 rule parts.1 ∙ ap (λ s. is_true b s rule) rules.0
+
   decides-same : (slots : Slots) → Known P slots → (rules : List Rule) → rules_pass table passes acls rules ≡ true → (item : ℕ × Rule) → rule_passes table passes acls item.1 ≡ true →
       decides a slots rules item ≡ decides b slots rules item
   decides-same slots known rules kept (place, rule) kept' =
-      let before = rules-same slots known (take place rules) (take-passes (rule_passes table passes acls) place rules kept) in
-      let parts = both (action_passes table rule.action) (when_passes passes acls rule.when) kept' in
-      ap (λ truth. is_final rule.action && truth) (is_true-same (after_rules a slots (take place rules)) before.1 rule parts.1)
-      ∙ ap (λ s. is_final rule.action && is_true b s rule) before.0
+      ap (λ truth. is_final rule.action && truth)
+      (tried-same slots known (take place rules) (take-passes (rule_passes table passes acls) place rules kept) rule kept')
+
+  expects-same : (slots : Slots) → Known P slots → (rules : List Rule) → rules_pass table passes acls rules ≡ true → (item : ℕ × Rule) → rule_passes table passes acls item.1 ≡ true →
+      expects a slots rules item ≡ expects b slots rules item
+  expects-same slots known rules kept (place, rule) kept' =
+      ap (λ truth. is_expectation rule.action && truth)
+      (tried-same slots known (take place rules) (take-passes (rule_passes table passes acls) place rules kept) rule kept')
+
+  header-same : (slots : Slots) → Known P slots → (rules : List Rule) → rules_pass table passes acls rules ≡ true → expects_header a slots rules ≡ expects_header b slots rules
+  header-same slots known rules kept =
+      ap is_some (find-kept (λ (pair : ℕ × Rule). rule_passes table passes acls pair.1) (expects a slots rules) (expects b slots rules) (enumerate_from 0 rules)
+      (numbered-passes (rule_passes table passes acls) 0 rules kept) (expects-same slots known rules kept))
 
   by-same : (slots : Slots) → Known P slots → (rules : List Rule) → rules_pass table passes acls rules ≡ true → (decided : Option (ℕ × Rule)) →
       (judged_by a slots rules decided ≡ judged_by b slots rules decided) × Known P (judged_by a slots rules decided).tracks
   by-same slots known rules kept None =
       let all = rules-same slots known rules kept in
-      (rw all.0 refl, all.1)
+      (rw (all.0, header-same slots known rules kept) refl, all.1)
   by-same slots known rules kept (Some (place, rule)) =
-      let before = rules-same slots known (take place rules) (take-passes (rule_passes table passes acls) place rules kept) in
-      (rw before.0 refl, before.1)
+      let passing = take-passes (rule_passes table passes acls) place rules kept in
+      let before = rules-same slots known (take place rules) passing in
+      (rw (before.0, header-same slots known (take place rules) passing) refl, before.1)
 
   pub judged-kept : (slots : Slots) → Known P slots → (rules : List Rule) → rules_pass table passes acls rules ≡ true →
       (judged_after a slots rules ≡ judged_after b slots rules) × Known P (judged_after a slots rules).tracks
