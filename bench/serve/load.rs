@@ -1,4 +1,4 @@
-//! Clients and servers for a TCP relay, for `bench/serve/run`. The standard library and epoll alone.
+//! Clients and servers for a TCP relay, for `bench/serve` and `tests/hostile`. The standard library and epoll alone.
 //!
 //!     load servers            three servers on free ports of the loopback: it prints `once PORT`, `discard PORT` and
 //!                             `echo PORT`, and serves until its standard input ends
@@ -12,11 +12,17 @@
 //!                             ends
 //!     load come PORT N        N connections as those of `rate`, each from a source of its own in 127.0.0.0/8
 //!     load stall PORT S       one connection that sends 64 bytes and waits for them to come back, again and again for S
-//!                             seconds, from `echo`; it prints how many there were and the longest wait in seconds
+//!                             seconds, from `echo`; it prints how many there were and, in seconds, the longest wait,
+//!                             and those that a half and 99 of 100 of them did not exceed
+//!     load drip PORT N S      N clients that begin a PROXY header, send a byte of it a second and never end it; one
+//!                             that is ended comes again, for S seconds. It prints how many were ended, the shortest
+//!                             and the longest time in seconds that one of these was there, and how many went wrong
+//!     load echo PORT          a server `echo` on that port of the loopback, until its standard input ends
 //!
 //! `rate`, `bulk`, `ping` and `come` print what was done (connections, bytes, messages), in how many seconds, and how many
 //! connections went wrong.
 
+use std::collections::VecDeque;
 use std::io::{ErrorKind, Read, Write};
 use std::net::{Shutdown, TcpListener, TcpStream};
 use std::os::fd::{AsRawFd, FromRawFd, RawFd};
@@ -128,6 +134,13 @@ fn discard(listener: TcpListener) {
             let _ = link.write_all(&total.to_le_bytes());
         });
     }
+}
+
+fn echo_at(port: u16) {
+    let listener = TcpListener::bind(("127.0.0.1", port)).expect("a port that is free");
+    thread::spawn(move || echo(listener, false));
+    println!("ready");
+    wait_for_end();
 }
 
 fn servers() {
@@ -333,15 +346,92 @@ fn ping(port: u16, links: usize, seconds: f64) {
 }
 
 fn stall(port: u16, seconds: f64) {
-    let (mut link, mut answer, mut count, mut longest) = (open(port), [0; 64], 0u64, Duration::ZERO);
+    let (mut link, mut answer, mut waits) = (open(port), [0; 64], Vec::new());
     let until = Instant::now() + Duration::from_secs_f64(seconds);
     while Instant::now() < until {
         let sent = Instant::now();
         link.write_all(&MESSAGE).and_then(|()| link.read_exact(&mut answer)).expect("an answer");
-        longest = longest.max(sent.elapsed());
-        count += 1;
+        waits.push(sent.elapsed().as_secs_f64());
     }
-    println!("{count} {:.6}", longest.as_secs_f64());
+    waits.sort_by(f64::total_cmp);
+    let wait = |part: usize| waits[(waits.len() - 1) * part / 100];
+    println!("{} {:.6} {:.6} {:.6}", waits.len(), wait(100), wait(50), wait(99));
+}
+
+/// Clients that begin a header and never end it.
+struct Drips {
+    poll: Poll,
+    places: Vec<Option<(TcpStream, Instant)>>,
+    /// When the next byte of a place is due, for the client that came there at that moment, and whether it has begun.
+    due: VecDeque<(Instant, usize, Instant, bool)>,
+    ended: u64,
+    wrong: u64,
+    shortest: Duration,
+    longest: Duration,
+}
+
+impl Drips {
+    /// Lets a client come to each free place, some at a time, so that the queue of the listener has room.
+    fn come(&mut self, port: u16) {
+        let free: Vec<usize> = (0..self.places.len()).filter(|&key| self.places[key].is_none()).take(100).collect();
+        for key in free {
+            let (link, now) = (begin(port, HERE).expect("a connection"), Instant::now());
+            self.poll.watch(ADD, link.as_raw_fd(), READABLE, key as u64);
+            self.due.push_back((now, key, now, false));
+            self.places[key] = Some((link, now));
+        }
+    }
+
+    /// Sends each byte that is due.
+    fn send(&mut self) {
+        let now = Instant::now();
+        while let Some(&(at, key, came, has_begun)) = self.due.front() {
+            if at > now {
+                return;
+            }
+            self.due.pop_front();
+            if let Some((link, since)) = &mut self.places[key] {
+                if *since == came {
+                    // (what has ended is seen by reading; what is not connected yet begins a second later)
+                    let text: &[u8] = if has_begun { b"1" } else { b"PROXY TCP4 1" };
+                    let is_sent = link.write(text).is_ok();
+                    self.due.push_back((now + Duration::from_secs(1), key, came, has_begun || is_sent));
+                }
+            }
+        }
+    }
+
+    /// Takes the end of a client.
+    fn take(&mut self, key: usize) {
+        let Some((link, came)) = &mut self.places[key] else { return };
+        match link.read(&mut [0]) {
+            Err(error) if error.kind() == ErrorKind::WouldBlock => return,
+            Err(error) if error.kind() != ErrorKind::ConnectionReset => self.wrong += 1,
+            Ok(count @ 1..) => self.wrong += count as u64,
+            _ => {
+                self.ended += 1;
+                self.shortest = self.shortest.min(came.elapsed());
+                self.longest = self.longest.max(came.elapsed());
+            }
+        }
+        self.places[key] = None;
+    }
+}
+
+fn drip(port: u16, count: usize, seconds: f64) {
+    let places = (0..count).map(|_| None).collect();
+    let (due, shortest, longest) = (VecDeque::new(), Duration::MAX, Duration::ZERO);
+    let mut drips = Drips { poll: Poll::new(), places, due, ended: 0, wrong: 0, shortest, longest };
+    let until = Instant::now() + Duration::from_secs_f64(seconds);
+    while Instant::now() < until {
+        drips.come(port);
+        drips.send();
+        for key in drips.poll.wait(5) {
+            drips.take(key as usize);
+        }
+    }
+    let Drips { ended, wrong, shortest, longest, .. } = drips;
+    println!("{ended} {:.6} {:.6} {wrong}", shortest.as_secs_f64(), longest.as_secs_f64());
 }
 
 fn idle(port: u16, count: usize) {
@@ -385,6 +475,8 @@ fn main() {
         Some("idle") => idle(port(), count()),
         Some("come") => come(port(), count()),
         Some("stall") => stall(port(), number(2)),
-        _ => panic!("servers, rate, bulk, ping, hold, idle, come or stall"),
+        Some("drip") => drip(port(), count(), number(3)),
+        Some("echo") => echo_at(port()),
+        _ => panic!("servers, rate, bulk, ping, hold, idle, come, stall, drip or echo"),
     }
 }
