@@ -33,7 +33,8 @@ RESULT = ROOT / 'out' / 'refused.txt'
 COSTS = ROOT / 'out' / 'costs.txt'
 TURNS = 6
 SHOWN = 10
-WHOLE_RUNS = ('must-not-compile/run', 'tests/run', 'tests/pipe/run', 'tests/serve')
+WHOLE_RUNS = ('must-not-compile/run', 'tests/run', 'tests/pipe/run', 'tests/serve', 'tests/memory',
+              'tests/hostile --random 1000')
 
 
 def logic_of_toolchain():
@@ -129,7 +130,8 @@ def run_parts(tree, tried, costs):
     copy_wrong_bodies(tree)
     for part in WHOLE_RUNS:
         before = processor_seconds()
-        count = passed_by([str(tree / part)], tree)
+        script, *words = part.split()
+        count = passed_by([str(tree / script), *words], tree)
         costs[part] = processor_seconds() - before
         if count is None:
             print(f'{part} failed')

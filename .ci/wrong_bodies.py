@@ -10,6 +10,8 @@ import os
 import re
 import tempfile
 
+# The edits of one crate that are tried in turn, each over what those before it proved. Others of the crate are tried beside them.
+AT_ONCE = 14
 FUNCTION = re.compile(r'^( *)(?:pub(?:\([^)]*\))? +)?(?:const +)?fn +(\w+)', re.M)
 IMPL = re.compile(r'^impl\b([^{]*)\{', re.M)
 
@@ -77,8 +79,8 @@ def try_edit(rt, crate, edit, kept=None):
     return is_refused, line
 
 
-def try_crate(rt, crate, edits):
-    """Tries the edits of a crate in turn, each over what the checks before it proved: of each whether it was refused, and a
+def try_some(rt, crate, edits):
+    """Tries some edits of a crate in turn, each over what the checks before it proved: of each whether it was refused, and a
     line that says so."""
     with tempfile.TemporaryDirectory(prefix='rt-edits-') as kept:
         tried = [try_edit(rt, crate, it, kept) for it in edits]
@@ -93,9 +95,10 @@ def try_all(rt, tree, folders):
     crates = {it.name: it for it in rt.rtlib.crates_below(str(tree))}
     edits = {name: sorted(str(it) for it in folder.iterdir() if it.suffix != '.md') for name, folder in folders.items()}
     refused = failed = 0
+    order = sorted(edits, key=lambda name: (-len(edits[name]), name))
+    parts = [(name, edits[name][at:at + AT_ONCE]) for name in order for at in range(0, len(edits[name]), AT_ONCE)]
     with concurrent.futures.ThreadPoolExecutor(len(os.sched_getaffinity(0))) as pool:
-        order = sorted(edits, key=lambda name: (-len(edits[name]), name))
-        runs = [pool.submit(try_crate, rt, crates[name], edits[name]) for name in order]
+        runs = [pool.submit(try_some, rt, crates[name], some) for name, some in parts]
         for run in concurrent.futures.as_completed(runs):
             for is_refused, line in run.result():
                 print(line, flush=True)

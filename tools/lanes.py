@@ -1,25 +1,24 @@
 """Runs the toolchain's `rt ci` for the first build, so that it takes less time: the longest chain of crates comes first.
 
-`rt ci` shares a check among several processes only where no other check waits when it begins. Here the check with the longest
-chain of others after it is always shared, and the others, which give way to it, fill the processors that it leaves free. Each
-proof is made as `rt ci` makes it. Left out is what proves nothing of the program, and what the gate does: the search for
+`rt ci` shares a check among several processes only where no other check waits when it begins. Here one check at a time is shared,
+that with the longest chain of others after it, and others fill the processors that it leaves free. Those for which few wait give
+way. Each proof is made as `rt ci` makes it. Left out is what proves nothing of the program, and what the gate does: the search for
 contracts that no call can meet, and the build of the program by a second compiler, whose run `rt ci` compares with the first.
 """
 import concurrent.futures
+import os
 import sys
-import threading
 
 sys.dont_write_bytecode = True
 
 import prover
 
 LINT = '--empty-contracts'
-# A process of a shared check takes this part of the memory of the whole check, as `rt ci` reckons.
-SHARE = 0.6
-# The words before a command that gives way to those without them.
-GIVE_WAY = ['nice', '-n', '10']
-# The words before the commands of the task that runs in a thread.
-PLACE = threading.local()
+# A further process of a shared check takes this part of the memory of the check: it is a copy of one that has read its libraries,
+# and was seen to have a tenth to a third of its memory for itself. (`rt ci` reckons 0.6.)
+SHARE = 0.3
+# How much nicer the checks are that give way.
+NICER = 10
 
 
 def chains(tasks):
@@ -34,54 +33,63 @@ def chains(tasks):
     return after
 
 
-def in_place(words, call, given, jobs):
-    """Runs the call of a task, whose commands begin with these words."""
-    PLACE.words = words
-    return call(given, jobs)
+def in_thread(nicer, call, *words):
+    """Calls this in a thread of its own, whose threads and processes are so much nicer."""
+    pool = concurrent.futures.ThreadPoolExecutor(1, initializer=os.nice, initargs=(nicer,))
+    begun = pool.submit(call, *words)
+    pool.shutdown(wait=False)
+    return begun
 
 
 class Lanes:
     """Tasks that wait for each other, each with the lines and the memory that its check takes and the call that runs it."""
 
     def __init__(self, tasks, processors, memory):
-        after = chains(tasks)
-        self.tasks, self.left, self.given = tasks, sorted(tasks, key=lambda it: -after[it]), {}
+        self.after = chains(tasks)
+        self.tasks, self.left, self.given = tasks, sorted(tasks, key=self.after.get, reverse=True), {}
         self.processors, self.memory, self.running = processors, memory, {}
 
-    def shared(self, needs):
-        """The processes that a shared check gets: one a processor, as many as the free memory holds."""
-        room = self.memory - sum(it for _, it in self.running.values())
-        return max(1, min(self.processors, 1 + int((room / needs - 1) / SHARE)))
+    def held(self):
+        """The memory that the running checks take."""
+        return sum(memory for _, memory, _ in self.running.values())
 
-    def begin(self, pool):
-        """Begins the tasks that wait for no other one. The one with the longest chain after it is shared, and the others give way."""
-        first = self.left[0] if self.left else None
-        for key in [it for it in self.left if all(below in self.given for below in self.tasks[it][0])]:
+    def jobs(self, needs, waiting):
+        """The processes of a check that begins, while so many wait to begin: one a processor where no other one is shared, or else its
+        part of those that are free, as many as the free memory holds."""
+        running = [jobs for _, _, jobs in self.running.values()]
+        most = self.processors if max(running, default=1) == 1 else (self.processors - sum(running)) // waiting
+        return max(1, min(most, 1 + int(((self.memory - self.held()) / needs - 1) / SHARE)))
+
+    def gives_way(self, key):
+        """Whether much less waits for this task than for the one that most of the others wait for."""
+        return 2 * self.after[key] < max(self.after[it] for it in [*self.left, *(it for it, _, _ in self.running.values())])
+
+    def begin(self):
+        """Begins the tasks that wait for no other one, those with the longest chain after them first."""
+        ready = [it for it in self.left if all(below in self.given for below in self.tasks[it][0])]
+        for at, key in enumerate(ready):
             _, _, needs, call = self.tasks[key]
-            held = sum(it for _, it in self.running.values())
-            if len(self.running) >= self.processors or self.running and held + needs > self.memory:
+            if len(self.running) >= self.processors or self.running and self.held() + needs > self.memory:
                 break
-            jobs = self.shared(needs) if key == first else 1
+            jobs = self.jobs(needs, len(ready) - at)
+            begun = in_thread(NICER if self.gives_way(key) else 0, call, self.given, jobs)
             self.left.remove(key)
-            begun = pool.submit(in_place, [] if key == first else GIVE_WAY, call, self.given, jobs)
-            self.running[begun] = key, needs * (1 + SHARE * (jobs - 1))
+            self.running[begun] = key, needs * (1 + SHARE * (jobs - 1)), jobs
 
     def run(self):
         """Runs all of them, and gives what each gave."""
-        with concurrent.futures.ThreadPoolExecutor(self.processors) as pool:
-            while self.left or self.running:
-                self.begin(pool)
-                ended = concurrent.futures.wait(self.running, return_when=concurrent.futures.FIRST_COMPLETED).done
-                for it in ended:
-                    self.given[self.running.pop(it)[0]] = it.result()
+        while self.left or self.running:
+            self.begin()
+            ended = concurrent.futures.wait(self.running, return_when=concurrent.futures.FIRST_COMPLETED).done
+            for it in ended:
+                self.given[self.running.pop(it)[0]] = it.result()
         return self.given
 
 
 def main():
     rt = prover.toolchain()
-    help_of, guarded, compile_by = rt.rtlib.help_of, rt.rtlib.guarded, rt.Crate.compile_by
+    help_of, compile_by = rt.rtlib.help_of, rt.Crate.compile_by
     rt.rtlib.help_of = lambda verb: help_of(verb).replace(LINT, '')
-    rt.rtlib.guarded = lambda: [*guarded(), *getattr(PLACE, 'words', [])]
     rt.Crate.compile_by = lambda crate, backend, words, to: backend == 'rattle' and 0 or compile_by(crate, backend, words, to)
     rt.in_lanes = lambda tasks: Lanes(tasks, rt.processors(), 0.85 * rt.free()).run()
     return rt.main(['ci'])
