@@ -1,9 +1,10 @@
 """Runs the toolchain's `rt ci` for the first build, so that it takes less time: the longest chain of crates comes first.
 
-`rt ci` shares a check among several processes only where no other check waits when it begins. Here one check at a time is shared,
-that with the longest chain of others after it, and others fill the processors that it leaves free. Those for which few wait give
-way. Each proof is made as `rt ci` makes it. Left out is what proves nothing of the program, and what the gate does: the search for
-contracts that no call can meet, and the build of the program by a second compiler, whose run `rt ci` compares with the first.
+`rt ci` shares a check among several processes only where no other check waits when it begins. Here the check with the longest chain
+of others after it begins at once, with a process for each processor, and others have the processors that are free when they begin.
+Those for which few wait give way. Each proof is made as `rt ci` makes it. Left out is what proves nothing of the program, and what
+the gate does: the search for contracts that no call can meet, and the build of the program by a second compiler, whose run `rt ci`
+compares with the first.
 """
 import concurrent.futures
 import os
@@ -53,12 +54,16 @@ class Lanes:
         """The memory that the running checks take."""
         return sum(memory for _, memory, _ in self.running.values())
 
-    def jobs(self, needs, waiting):
-        """The processes of a check that begins, while so many wait to begin: one a processor where no other one is shared, or else its
-        part of those that are free, as many as the free memory holds."""
-        running = [jobs for _, _, jobs in self.running.values()]
-        most = self.processors if max(running, default=1) == 1 else (self.processors - sum(running)) // waiting
-        return max(1, min(most, 1 + int(((self.memory - self.held()) / needs - 1) / SHARE)))
+    def is_longest(self, key):
+        """Whether no longer chain is left than the one that begins with this task."""
+        return self.after[key] == max(self.after[it] for it in [*self.left, *(it for it, _, _ in self.running.values())])
+
+    def jobs(self, key, waiting):
+        """The processes of a check that begins, while so many wait to begin: one a processor for the longest chain, to which others give
+        way, or else its part of the processors that are free; as many as the free memory holds."""
+        free = self.processors - sum(jobs for _, _, jobs in self.running.values())
+        most = self.processors if self.is_longest(key) else free // waiting
+        return max(1, min(most, 1 + int(((self.memory - self.held()) / self.tasks[key][2] - 1) / SHARE)))
 
     def gives_way(self, key):
         """Whether much less waits for this task than for the one that most of the others wait for."""
@@ -69,9 +74,9 @@ class Lanes:
         ready = [it for it in self.left if all(below in self.given for below in self.tasks[it][0])]
         for at, key in enumerate(ready):
             _, _, needs, call = self.tasks[key]
-            if len(self.running) >= self.processors or self.running and self.held() + needs > self.memory:
+            if len(self.running) >= self.processors + self.is_longest(key) or self.running and self.held() + needs > self.memory:
                 break
-            jobs = self.jobs(needs, len(ready) - at)
+            jobs = self.jobs(key, len(ready) - at)
             begun = in_thread(NICER if self.gives_way(key) else 0, call, self.given, jobs)
             self.left.remove(key)
             self.running[begun] = key, needs * (1 + SHARE * (jobs - 1)), jobs

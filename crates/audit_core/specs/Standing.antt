@@ -1,5 +1,5 @@
 -- How far the check of a record has come, by the state of the balancer alone.
-use Rattle.std.specs.Prelude.{◌≡◌, ℕ, ◌+◌, ◌<◌, ◌==◌, List, [], ◌∷◌, ◌++◌, Option, Some, Result, Ok, Err, if◌then◌else◌}
+use Rattle.std.specs.Prelude.{◌≡◌, ℕ, ◌+◌, ◌<◌, ◌==◌, Bool, true, false, List, [], ◌∷◌, ◌++◌, Option, Some, Result, Ok, Err, if◌then◌else◌}
 use Rattle.list_core.specs.Each.{◌>>=◌}
 use Rattle.text_core.specs.Parts.{parts, is_line_feed}
 use Rattle.plan_types.specs.declared.plan.Plan.{Plan}
@@ -33,6 +33,12 @@ abbrev pub IsDue : Due → Type 0
 IsDue dues.Event = Unit {0}
 IsDue (dues.Text pending) = 0 < pending.missing
 IsDue (dues.Reply peer answered) = Unit {0}
+
+-- the next line has to be the first one of an entry
+abbrev pub is_between : Due → Bool
+is_between dues.Event = true
+is_between (dues.Text pending) = false
+is_between (dues.Reply peer answered) = false
 
 -- after all lines of an event
 abbrev pub after_event : Standing → ℕ × OwnedEvent → Standing

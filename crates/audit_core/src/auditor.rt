@@ -11,7 +11,7 @@ ghost use Rattle.event_text.specs.Script.{head_read, with_text, words_of, HasLin
 ghost use Rattle.replay_core.specs.Turns.{plain_after};
 ghost use Rattle.audit_core.specs.Record.{numbered_head, open_connections};
 ghost use Rattle.audit_core.specs.Verdict.{fault_at, reply_at, text_at};
-ghost use Rattle.audit_core.specs.Standing.{at_end, on_due, on_line};
+ghost use Rattle.audit_core.specs.Standing.{at_end, is_between, on_due, on_line};
 ghost use Rattle.audit_core.specs.Line.{event_peer};
 ghost use Rattle.audit_core.specs.Printing.{due_reply};
 ghost use Rattle.audit_core.specs.Check.{reading_fault, IsLineFault};
@@ -77,7 +77,7 @@ fn is_number(word: &[u8], number: u64) -> bool
 }
 
 /// What the first line of an event says, which has the event after that number.
-fn read_numbered(number: u64, line: &[u8], piece: &mut [u8]) -> Option<FirstLine>
+pub fn read_numbered(number: u64, line: &[u8], piece: &mut [u8]) -> Option<FirstLine>
     requires { length piece.old ≡ PIECE_LIMIT }
     ensures head { option_map (head_read piece.new) result ≡ numbered_head number (words_of line.now) }
     ensures lines { IfSome result HasLines }
@@ -230,6 +230,16 @@ impl Auditor {
         match &self.due {
             Due::Reply(peer, Ok(reply)) => Some((*peer, reply)),
             Due::Event | Due::Text(_) | Due::Reply(_, Err(_)) => None,
+        }
+    }
+
+    /// Whether the next line has to be the first one of an entry.
+    pub fn is_between(&self) -> bool
+        ensures { result ≡ is_between self.now.due }
+    {
+        match &self.due {
+            Due::Event => true,
+            Due::Text(_) | Due::Reply(..) => false,
         }
     }
 

@@ -2,9 +2,11 @@
 #![tactic(auto)]
 
 pub use audit::run_audit;
-pub use check::check_record;
+pub use auditor::{Auditor, read_numbered};
+pub use check::{check_record, open_auditor};
 pub use fault::{CheckFault, CheckKind, Checked, MOST_RECORD_LINES};
 pub use line::audit_line;
+pub use printing::{again, write_bytes};
 pub use recording::{RecordFault, write_journal};
 pub use writing::write_record;
 

@@ -8,6 +8,18 @@ fn file<'a>(alloc: Global) -> Arg<'a> {
         .help("The configuration")
 }
 
+fn peer<'a>(alloc: Global) -> Arg<'a> {
+    Arg::new(alloc, "PEER")
+        .required(true)
+        .help("Who connects, as 192.0.2.5:4000")
+}
+
+fn local<'a>(alloc: Global) -> Arg<'a> {
+    Arg::new(alloc, "LOCAL")
+        .required(true)
+        .help("The address that is connected to, as 192.0.2.1:80")
+}
+
 fn check<'a>(alloc: Global) -> Result<Command<'a>, AllocError> {
     Command::new(alloc, "check")
         .about("Says whether a configuration is right, or what is wrong on which line")
@@ -28,18 +40,12 @@ fn pipe<'a>(alloc: Global) -> Result<Command<'a>, AllocError> {
     let frontend = Arg::new(alloc, "FRONTEND").required(true).help(
         "The name of the frontend that is connected to, at its first bind",
     );
-    let peer = Arg::new(alloc, "PEER")
-        .required(true)
-        .help("Who connects, as 192.0.2.5:4000");
-    let local = Arg::new(alloc, "LOCAL")
-        .required(true)
-        .help("The address that is connected to, as 192.0.2.1:80");
     Command::new(alloc, "pipe")
         .about("Passes one connection on, from standard input to standard output")
         .arg(file(alloc))?
         .arg(frontend)?
-        .arg(peer)?
-        .arg(local)
+        .arg(peer(alloc))?
+        .arg(local(alloc))
 }
 
 fn audit<'a>(alloc: Global) -> Result<Command<'a>, AllocError> {
@@ -50,6 +56,23 @@ fn audit<'a>(alloc: Global) -> Result<Command<'a>, AllocError> {
         .about("Checks a record, and prints a line for each connection that ended")
         .arg(file(alloc))?
         .arg(record)
+}
+
+fn explain<'a>(alloc: Global) -> Result<Command<'a>, AllocError> {
+    let frontend = Arg::new(alloc, "FRONTEND")
+        .required(true)
+        .help("The name of the frontend that is connected to");
+    let header = Arg::new(alloc, "header")
+        .long("header")
+        .value_name("HEX")
+        .help("The PROXY header that the connection begins with, in hexadecimal");
+    Command::new(alloc, "explain")
+        .about("Says which rules are tried for one connection, what they saw, and the reply")
+        .arg(file(alloc))?
+        .arg(frontend)?
+        .arg(peer(alloc))?
+        .arg(local(alloc))?
+        .arg(header)
 }
 
 fn serve<'a>(alloc: Global) -> Result<Command<'a>, AllocError> {
@@ -76,5 +99,6 @@ pub fn commands<'a>(alloc: Global) -> Result<Command<'a>, AllocError> {
         .subcommand(replay(alloc)?)?
         .subcommand(pipe(alloc)?)?
         .subcommand(audit(alloc)?)?
+        .subcommand(explain(alloc)?)?
         .subcommand(serve(alloc)?)
 }

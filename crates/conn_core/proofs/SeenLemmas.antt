@@ -19,14 +19,15 @@ use Rattle.conn_model.specs.declared.plain.Phase.{Phase}
 use Rattle.conn_model.specs.declared.plain.Phase.TheVariants.{Waiting, Offered, Up}
 use Rattle.conn_model.specs.declared.plain.Row.{Row}
 use Rattle.conn_model.specs.declared.plain.FrontendRows.{FrontendRows}
+use Rattle.conn_model.specs.declared.plain.Listener.{Listener}
 use Rattle.conn_model.specs.declared.plain.TableState.{TableState}
 use Rattle.conn_model.specs.declared.plain.Version.{Version}
 use Rattle.conn_model.specs.declared.plain.Plain.{Plain}
 use Rattle.conn_model.specs.Counts.{open_in, open_named, open_if, offered_to, offered_in, is_offered_to, is_served_by, served_by, served_in, server_of, total, change_row}
 use Rattle.conn_model.specs.Rules.{RuleView, view_of}
 use Rattle.conn_model.specs.Tables.{open_tracks, tracks_at, tracks_in}
-use Rattle.conn_model.specs.Words.{row_at, row_in}
-use Rattle.conn_model.specs.Answer.{candidate_at, candidate_of, new_row}
+use Rattle.conn_model.specs.Words.{newest, row_at, row_in}
+use Rattle.conn_model.specs.Answer.{candidate_at, candidate_of, frontend_in, new_row}
 use Rattle.conn_model.proofs.Offers.{served_with}
 use Rattle.conn_model.specs.Changes.{phase_fed, row_fed, with_conn, with_item, with_row}
 use Rattle.conn_rows.specs.Value.{RowsValue}
@@ -36,6 +37,7 @@ use Rattle.conn_model.proofs.Totals.{total-set}
 use Rattle.conn_core.specs.declared.facts.RuleFacts.{RuleFacts}
 use Rattle.conn_core.specs.Counts.{IsSeen}
 use Rattle.conn_core.specs.Judging.{arrival_in, facts_view}
+use Rattle.conn_core.specs.Seeing.{SeesNext}
 use Rattle.conn_core.proofs.EnterLemmas.{find-new, flat_map-set, tracks-new}
 
 -- a total with one item in place of another that counts for some more
@@ -129,6 +131,23 @@ view_at_accept p clock number real own version frontend facts there given sees =
 
     by : (made : List Track) → view_of (candidate_at p clock number real own version frontend) real.source.addr made ≡ facts_view facts made
     by made = view_is (sym sees.judged) (sym sees.version_is) (sym sees.frontend_is) (sym sees.tables) tracks nothing count (fun_ext named) (fun_ext offered) served
+
+-- what rules see of the one that comes next
+pub sees_next : {facts : RuleFacts} (p : Plain) (listener : ℕ) (at : Listener) (real : PairValue) (own : FrontendRows) (version : Version) (frontend : Frontend) →
+    slice_get p.listeners listener ≡ Some at → slice_get p.frontends at.frontend ≡ Some own → AllByRecursion (λ row. row.serial ≤ own.serial) own.rows →
+    newest p.versions ≡ Some version → frontend_in version.plan own.name ≡ Some frontend → SeesArrival p own version frontend facts real.source.addr → SeesNext p listener real facts
+sees_next {facts} p listener at real own version frontend listens there given newest_is named sees = record {
+  at = at;
+  own = own;
+  listens = listens;
+  there = there;
+  newest_is = newest_is ∙ ap (λ v. Some v) (sym sees.version_is);
+  named = ap (λ (v : Version). frontend_in v.plan own.name) sees.version_is ∙ named ∙ ap (λ f. Some f) (sym sees.frontend_is);
+  view = λ clock.
+      sym (view_at_accept p clock at.frontend real own version frontend facts there given sees)
+      ∙ ap (λ (v : Version). view_of (candidate_at p clock at.frontend real own v frontend) real.source.addr) (sym sees.version_is)
+      ∙ ap (λ (f : Frontend). view_of (candidate_at p clock at.frontend real own facts.version.now f) real.source.addr) (sym sees.frontend_is);
+}
 
 -- a connection that is open
 

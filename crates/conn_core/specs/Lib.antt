@@ -1,5 +1,6 @@
 pub mod Judging
 pub mod Outcome
+pub mod Seeing
 pub mod Tracking
 pub mod Changes
 pub mod Counts

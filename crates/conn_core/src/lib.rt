@@ -2,6 +2,8 @@
 #![tactic(auto)]
 
 pub use config_core::OpenFault;
+pub use conn_rows::ServerNames;
+pub use facts::RuleFacts;
 pub use machine::Core;
 
 mod counting;

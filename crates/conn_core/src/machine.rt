@@ -1,5 +1,5 @@
 //! The decision core.
-ghost use Rattle.std.specs.Prelude.{◌≡◌, ◌≢◌, ◌⊎◌, ◌+◌, ◌-◌, ◌^◌, ◌<◌, ◌≤◌, true, List, [], ◌∷◌, Option, Some, IfSome, IfNone, IfOk, IfErr, OnOk, OnErr, nat_le, Ok, Err};
+ghost use Rattle.std.specs.Prelude.{◌≡◌, ◌≢◌, ◌⊎◌, ◌+◌, ◌-◌, ◌^◌, ◌<◌, ◌≤◌, true, List, [], ◌∷◌, option_and_then, option_map, Option, Some, IfSome, IfNone, IfOk, IfErr, OnOk, OnErr, nat_le, Ok, Err};
 ghost use Rattle.std.specs.Option.{option_copied};
 ghost use Rattle.plan_types.specs.Sound.{IsSoundPlan};
 ghost use Rattle.pp_any.specs.declared.rest.Rest.{Rest};
@@ -7,10 +7,10 @@ ghost use Rattle.conn_model.specs.declared.event.TheConstants.{HEADER_WAIT};
 ghost use Rattle.conn_model.specs.declared.plain.Row.{Row};
 ghost use Rattle.conn_model.specs.declared.reply.Said.{Said};
 ghost use Rattle.conn_model.specs.declared.reply.Said.TheVariants.{Reloaded};
-ghost use Rattle.conn_model.specs.Answer.{answer_in, accept_answer, piece_answer, reload_answer, reply_of, server_answer, waiting_row};
+ghost use Rattle.conn_model.specs.Answer.{answer_in, accept_answer, piece_answer, reload_answer, reply_of, row_at, server_answer, waiting_row};
 ghost use Rattle.conn_rows.specs.Needed.{versions_needed, AreTracksHeld};
-ghost use Rattle.conn_rows.specs.Summaries.{summary_of};
-ghost use Rattle.conn_model.specs.Counts.{counts_in, newest_backend};
+ghost use Rattle.conn_rows.specs.Summaries.{names_in, names_of, summary_of};
+ghost use Rattle.conn_model.specs.Counts.{counts_in, newest_backend, server_of};
 ghost use Rattle.conn_model.specs.History.{after, answer, counts, owned_event, opening, entry, is_last, NeedsNoMemory, IsFault, IsLegal, IsWell, Entry};
 ghost use Rattle.conn_model.specs.declared.event.OwnedEvent.TheVariants as owned;
 ghost use Rattle.conn_model.specs.declared.plain.FrontendRows.{FrontendRows};
@@ -21,13 +21,14 @@ ghost use Rattle.conn_core.specs.Changes.{forgotten, CanOffer};
 ghost use Rattle.conn_core.specs.Outcome.{reply_by};
 ghost use Rattle.conn_core.specs.Tracking.{ArePossible};
 ghost use Rattle.conn_core.specs.Machine.{AreSound, IsOpened, IsNext, IsNextVersion};
+ghost use Rattle.conn_core.specs.Seeing.{SeesNext, SeesWaiting};
 
 use crate::entering::{Arrival, enter};
 use crate::facts::RuleFacts;
 use crate::judging::{admission, frontend_named, item};
 use crate::opening::listeners;
 use crate::outcome::{Decision, plain_reply, reply};
-use crate::receiving::{can_judge, receive};
+use crate::receiving::{can_judge, facts_of, receive};
 use crate::tracking::{NO_TRACKS, STEP_TRACKS};
 use addr_core::Pair;
 use config_core::{OpenFault, read_plan};
@@ -35,7 +36,7 @@ use conn_model::ask::{Ask, Counts};
 use conn_model::event::{ConnId, Event, HEADER_WAIT, Why};
 use conn_model::plain::{Listener, Plain};
 use conn_model::reply::{Cause, Reply, Said, StepFault};
-use conn_rows::{RowSummary, Rows};
+use conn_rows::{RowSummary, Rows, ServerNames};
 use list_core::{Duplicate, Seq};
 use plan_core::same_binds;
 use plan_types::{Backend, Plan};
@@ -159,6 +160,55 @@ impl Core {
                 self.rows.counts(*id, &addr)
             }
         }
+    }
+
+    /// The names of the server that an open connection was offered, as the version that judged it has them.
+    pub fn server(&self, id: ConnId) -> Option<ServerNames<'_>>
+        ensures { option_map names_in result ≡ option_map names_of (option_and_then (λ row. server_of row.phase) (row_at self.now.frontends id)) }
+    {
+        self.rows.server(id)
+    }
+
+    /// What rules see of the connection of that pair, if it comes to that listener next. None where there is no such
+    /// listener.
+    pub fn arriving(&self, listener: u16, real: Pair) -> Option<RuleFacts<'_>>
+        ensures { IfSome result (λ facts. SeesNext self.now listener real facts) }
+    {
+        let Some(at) = item(self.listeners.as_slice(), listener) else {
+            return None;
+        };
+        let Some(own) = self.rows.frontend(at.frontend) else {
+            return None;
+        };
+        let Some(version) = self.rows.newest() else {
+            return None;
+        };
+        let Some(judge) = frontend_named(&version.plan, own.name) else {
+            return None;
+        };
+        let connections = own.connections + 1;
+        let source = real.source();
+        Some(RuleFacts {
+            rows: &self.rows,
+            version,
+            frontend: judge,
+            name: own.name,
+            connections,
+            arriving: true,
+            own: NO_TRACKS,
+            source: source.addr,
+        })
+    }
+
+    /// What rules see of a connection that waits for its header, once that states the pair. None where no connection
+    /// of that name waits.
+    pub fn waiting(&self, id: ConnId, judged: Pair) -> Option<RuleFacts<'_>>
+        ensures { IfSome result (λ facts. SeesWaiting self.now id judged facts) }
+    {
+        let Ok(row) = self.waiting_row(id) else {
+            return None;
+        };
+        facts_of(&self.rows, id, row.version, judged)
     }
 
     /// The state of the core.

@@ -17,6 +17,7 @@ ghost use Rattle.conn_core.specs.Changes.{settled, settled_tables, settled_versi
 ghost use Rattle.conn_core.specs.Counts.{IsSeen, IsSorted, IsStateOf};
 ghost use Rattle.conn_core.specs.Machine.{AreSound};
 ghost use Rattle.conn_core.specs.Outcome.{reply_by};
+ghost use Rattle.conn_core.specs.Seeing.{SeesOpen};
 ghost use Rattle.conn_core.specs.Tracking.{ArePossible, AreSorted};
 
 use crate::facts::RuleFacts;
@@ -48,12 +49,9 @@ pub fn can_judge(rows: &Rows, id: ConnId, version: u64) -> bool
     }
 }
 
-/// What becomes of a connection whose header is whole.
-fn decision(rows: &Rows, id: ConnId, version: u64, judged: Pair) -> Option<Decision>
-    ensures some { IfSome result (λ d. (judge : Judge rows.now.frontends rows.now.versions id version) × ((state : Plain) (used : ℕ) → IsSeen id state rows.now →
-        reply_by id used d ≡ decision (candidate_of state id judge.version judge.frontend) used judged no_tracks)) }
-    ensures can { IfSome result (λ d. IsSome (row_at rows.now.frontends id) → ArePossible (open_tracks rows.now.frontends) rows.now.tables (tracks_at rows.now.frontends id) judged.source.addr d.tracks) }
-    ensures offers { IfSome result (λ d. AreSound rows.now.versions → CanOffer rows.now.versions version d.outcome) }
+/// What rules see of an open connection of that version, which is judged by that pair.
+pub fn facts_of(rows: &Rows, id: ConnId, version: u64, judged: Pair) -> Option<RuleFacts<'_>>
+    ensures some { IfSome result (λ facts. SeesOpen rows.now id version judged facts) }
     ensures none { IfNone result (Judge rows.now.frontends rows.now.versions id version → ⊥) }
 {
     let Some(own) = rows.frontend(id.frontend) else {
@@ -65,7 +63,7 @@ fn decision(rows: &Rows, id: ConnId, version: u64, judged: Pair) -> Option<Decis
     let Some(frontend) = frontend_named(&version.plan, own.name) else {
         return None;
     };
-    let facts = RuleFacts {
+    Some(RuleFacts {
         rows,
         version,
         frontend,
@@ -74,6 +72,19 @@ fn decision(rows: &Rows, id: ConnId, version: u64, judged: Pair) -> Option<Decis
         arriving: false,
         own: tracks_of(rows, id),
         source: judged.source().addr,
+    })
+}
+
+/// What becomes of a connection whose header is whole.
+fn decision(rows: &Rows, id: ConnId, version: u64, judged: Pair) -> Option<Decision>
+    ensures some { IfSome result (λ d. (judge : Judge rows.now.frontends rows.now.versions id version) × ((state : Plain) (used : ℕ) → IsSeen id state rows.now →
+        reply_by id used d ≡ decision (candidate_of state id judge.version judge.frontend) used judged no_tracks)) }
+    ensures can { IfSome result (λ d. IsSome (row_at rows.now.frontends id) → ArePossible (open_tracks rows.now.frontends) rows.now.tables (tracks_at rows.now.frontends id) judged.source.addr d.tracks) }
+    ensures offers { IfSome result (λ d. AreSound rows.now.versions → CanOffer rows.now.versions version d.outcome) }
+    ensures none { IfNone result (Judge rows.now.frontends rows.now.versions id version → ⊥) }
+{
+    let Some(facts) = facts_of(rows, id, version, judged) else {
+        return None;
     };
     Some(judging::decide(judged, &facts, NO_TRACKS))
 }

@@ -1,11 +1,12 @@
 //! One open connection.
-ghost use Rattle.std.specs.Prelude.{◌≡◌, [], IfOk, None, find, option_and_then, slice_get};
+ghost use Rattle.std.specs.Prelude.{◌≡◌, [], IfOk, None, find, option_and_then, option_map, slice_get};
 ghost use Rattle.std.specs.Option.{option_copied, option_map_or};
 ghost use Rattle.plan_types.specs.Lines.{has_line};
 ghost use Rattle.conn_tables.specs.Tracks.{no_trackings};
 ghost use Rattle.conn_model.specs.Answer.{version_at};
 ghost use Rattle.conn_model.specs.History.{identity_at, nobody};
-ghost use Rattle.conn_rows.specs.Summaries.{stored_summary};
+ghost use Rattle.conn_model.specs.Counts.{server_of};
+ghost use Rattle.conn_rows.specs.Summaries.{names_in, names_of, stored_summary};
 ghost use Rattle.conn_rows.specs.Stored.{assignment_in, awaits, phase_of, phase_with, plan_at, plain_row, slot_of, stored_arrival, waits};
 
 use crate::packed::{PackedPair, PackedSeat};
@@ -53,6 +54,13 @@ pub struct RowSummary {
     pub waits: bool,
     /// Whether it was offered a server, which did not take it yet.
     pub awaits_server: bool,
+}
+
+/// The names of a server, as its configuration has them.
+#[derive(Clone, Copy, Debug)]
+pub struct ServerNames<'a> {
+    pub backend: &'a [u8],
+    pub server: &'a [u8],
 }
 
 /// How far a connection is.
@@ -167,6 +175,19 @@ impl StoredRow {
             accepted: self.accepted,
             waits: self.stage.waits(),
             awaits_server: self.stage.awaits(),
+        }
+    }
+
+    /// The names of the server that it was offered, by the plans of these versions.
+    pub fn server<'a>(&self, versions: &'a [Version]) -> Option<ServerNames<'a>>
+        ensures { option_map names_in result ≡ option_map names_of (server_of (phase_of (plan_at versions.now self.now.version) self.now.stage)) }
+    {
+        match &self.stage {
+            Stage::Waiting(_) => None,
+            Stage::Offered(held) => {
+                let judged_by = plan_at(versions, self.version);
+                Some(names(judged_by, &held.seat.seat()))
+            }
         }
     }
 
@@ -295,6 +316,34 @@ fn assignment(alloc: Global, plan: Option<&Plan>, seat: &Seat) -> Result<Assignm
         line: seat.line,
         judged: seat.judged,
     })
+}
+
+/// The names of a server by a plan, which are empty where the plan has no such server.
+fn names<'a>(plan: Option<&'a Plan>, seat: &Seat) -> ServerNames<'a>
+    ensures { names_in result ≡ names_of (assignment_in (option_copied plan.entry) seat.now).server }
+{
+    match backend_of(plan, seat.line) {
+        Some(backend) => {
+            let servers = backend.servers.as_slice();
+            ServerNames {
+                backend: backend.name.as_slice(),
+                server: name_of(item(servers, seat.server)),
+            }
+        }
+        None => ServerNames {
+            backend: b"",
+            server: b"",
+        },
+    }
+}
+
+fn name_of(server: Option<&Server>) -> &[u8]
+    ensures { result.now ≡ option_map_or (λ server. server.name) (option_copied server.entry) [] }
+{
+    match server {
+        Some(server) => server.name.as_slice(),
+        None => b"",
+    }
 }
 
 fn identity(

@@ -1,5 +1,5 @@
 //! The open connections of all frontends.
-ghost use Rattle.std.specs.Prelude.{◌≡◌, ◌+◌, ◌*◌, ◌-◌, ◌^◌, ◌<◌, ◌≤◌, ℕ, List, length, slice_get, option_map, IfOk, IfSome, IfNone, OnOk, OnErr, IsSome, None, Some, map, filter, ◌++◌, ◌∷◌, []};
+ghost use Rattle.std.specs.Prelude.{◌≡◌, ◌+◌, ◌*◌, ◌-◌, ◌^◌, ◌<◌, ◌≤◌, ℕ, List, length, slice_get, option_and_then, option_map, IfOk, IfSome, IfNone, OnOk, OnErr, IsSome, None, Some, map, filter, ◌++◌, ◌∷◌, []};
 ghost use Rattle.std.specs.List.{AllByRecursion};
 ghost use Rattle.std.specs.Option.{option_copied};
 ghost use Rattle.addr_core.specs.declared.addr.Addr.{Addr};
@@ -18,7 +18,7 @@ ghost use Rattle.conn_versions.specs.Versions.{AreSound, HasServer, VersionsValu
 ghost use Rattle.conn_rows.specs.Stored.{plain_frontend, stored_in};
 ghost use Rattle.conn_model.specs.Changes.{rest_at, row_fed, row_tracking, row_up, with_arrival, with_conn, with_item, with_refusal, without_conn};
 ghost use Rattle.conn_rows.specs.Changes.{row_offered, status_of, used_by};
-ghost use Rattle.conn_model.specs.Counts.{offered_to, open_named, served_by};
+ghost use Rattle.conn_model.specs.Counts.{offered_to, open_named, served_by, server_of};
 ghost use Rattle.conn_model.specs.Tables.{entry_counts, is_listed_by, open_tracks, table_at, trackers, with_track, without_tracks};
 ghost use Rattle.conn_rows.specs.Needed.{versions_needed, AreTracksHeld, AreVersionsKept, IsNextNumber};
 ghost use Rattle.rule_engine.specs.Meaning.{present};
@@ -26,14 +26,14 @@ ghost use Rattle.conn_tables.specs.Tables.{key_at};
 ghost use Rattle.conn_tables.specs.Tracks.{slots_of, track_of};
 ghost use Rattle.conn_rows.specs.declared.row.StoredRow.{StoredRow};
 ghost use Rattle.conn_model.specs.declared.plain.Version.{Version};
-ghost use Rattle.conn_rows.specs.Summaries.{Sums, summary_of};
+ghost use Rattle.conn_rows.specs.Summaries.{Sums, names_in, names_of, summary_of};
 ghost use Rattle.conn_rows.specs.Value.{rows_of, rows_total, state_of, AllRows, HasSlot};
 
 use crate::counts;
 use crate::frontend::{FrontendState, HeaderStatus, end_all, end_all_empty};
 use crate::opening::frontends;
 use crate::reload::bring;
-use crate::row::{Holdings, RowSummary, Seat, StoredRow, item, version_at};
+use crate::row::{Holdings, RowSummary, Seat, ServerNames, StoredRow, item, version_at};
 use crate::slots::give_back;
 use addr_core::{Addr, Pair};
 use conn_model::ask::Counts;
@@ -159,6 +159,14 @@ impl Rows {
     {
         let row = find_row(self.frontends.as_slice(), id)?;
         Some(row.summary())
+    }
+
+    /// The names of the server that an open connection was offered, as the version that judged it has them.
+    pub fn server(&self, id: ConnId) -> Option<ServerNames<'_>>
+        ensures { option_map names_in result ≡ option_map names_of (option_and_then (λ row. server_of row.phase) (row_at self.now.frontends id)) }
+    {
+        let row = find_row(self.frontends.as_slice(), id)?;
+        row.server(self.kept.as_slice())
     }
 
     /// How many connections of the frontend of that number are open.

@@ -4,7 +4,8 @@
 //! `l4proxy replay FILE SCRIPT` opens the configuration FILE and answers the events of SCRIPT, one
 //! line each, on standard output. `l4proxy pipe FILE FRONTEND PEER LOCAL` passes one connection on, from
 //! standard input to standard output. `l4proxy audit FILE RECORD` answers the events of RECORD again and
-//! compares each reply. `l4proxy serve FILE` takes connections and passes them on, and writes the record of them on
+//! compares each reply. `l4proxy explain FILE FRONTEND PEER LOCAL` says which rules are tried for one connection, what they
+//! saw, and the reply; its status is 4 where the connection waits for its header. `l4proxy serve FILE` takes connections and passes them on, and writes the record of them on
 //! standard output, until standard input says `quit` or ends. The exit status is 0 when that is done, 1 where the configuration or the
 //! connection is refused, a line of the script hands in no event or one of the record is wrong, 2 for
 //! words that are no command, and 3 where something cannot be read or written, or memory ran out.
@@ -25,6 +26,7 @@ use std::rt::Files;
 use std::{env, fs, io, thread};
 
 mod audit;
+mod explain;
 mod input;
 mod pipe;
 mod serve;
@@ -158,6 +160,7 @@ fn run_command<R: Files + AllocGlobal + io::Input + Print + Eprint>(
         ("replay", Some(file), Some(script)) => replay_files(rt, file, script),
         ("pipe", Some(_), _) => pipe::run(rt, given),
         ("audit", Some(_), _) => audit::run(rt, given),
+        ("explain", Some(_), _) => explain::run(rt, given),
         _ => USAGE,
     }
 }
@@ -179,7 +182,7 @@ fn main(rt: HostRuntime) -> ExitCode {
     let words = match asked {
         Ok(Asked::Serve(words)) => words,
         Ok(Asked::Done(status)) => return ExitCode::from(status),
-        Err(error) => return ExitCode::from(explain(&rt, &error)),
+        Err(error) => return ExitCode::from(print_usage(&rt, &error)),
     };
     let clock = match SystemClock::start(&rt) {
         Ok(clock) => clock,
@@ -214,7 +217,7 @@ fn main(rt: HostRuntime) -> ExitCode {
 }
 
 /// Prints why the words are no command, or the help that they ask for.
-fn explain(rt: &(impl Print + Eprint), error: &clap::Error) -> u8 {
+fn print_usage(rt: &(impl Print + Eprint), error: &clap::Error) -> u8 {
     if error.print(rt).is_err() || error.kind() == ErrorKind::OutOfMemory {
         return DEVICE;
     }

@@ -41,9 +41,9 @@ fn endpoint(rt: &impl Eprint, name: &str, word: &str) -> Option<Endpoint> {
 }
 
 /// The pair of the words, or else what is wrong with them is said.
-fn pair(rt: &impl Eprint, words: &PipeWords<'_>) -> Option<Pair> {
-    let peer = endpoint(rt, "PEER", words.peer)?;
-    let local = endpoint(rt, "LOCAL", words.local)?;
+pub fn pair(rt: &impl Eprint, peer: &str, local: &str) -> Option<Pair> {
+    let peer = endpoint(rt, "PEER", peer)?;
+    let local = endpoint(rt, "LOCAL", local)?;
     let pair = Pair::of(peer, local);
     if pair.is_none() {
         let _written = eprintln!(rt;
@@ -137,7 +137,7 @@ pub fn run<R: Files + AllocGlobal + io::Input + Print + Eprint>(
     let Some(words) = words(given) else {
         return USAGE;
     };
-    match pair(rt, &words) {
+    match pair(rt, words.peer, words.local) {
         Some(real) => pipe_file(rt, &words, real),
         None => USAGE,
     }

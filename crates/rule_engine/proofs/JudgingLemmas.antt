@@ -34,7 +34,7 @@ abbrev pub also_expecting : Bool → Judged → Judged
 also_expecting before says = record says { expects_header = says.expects_header || before }
 
 -- the first rule of a list expects a header
-abbrev first_expects : SceneMeaning → Slots → Rule → Bool
+abbrev pub first_expects : SceneMeaning → Slots → Rule → Bool
 first_expects scene tracks rule = is_expectation rule.action && is_true scene tracks rule
 
 expects-past : (scene : SceneMeaning) (tracks : Slots) (rule : Rule) (rules : List Rule) (n : ℕ) (x : Rule) →
@@ -76,7 +76,7 @@ one_more scene tracks rule rules None = rw (expects_header-more scene tracks rul
 one_more scene tracks rule rules (Some (n, x)) = rw (add-one, expects_header-more scene tracks rule (take n rules)) refl
 
 -- a rule that does not decide
-decided_later : (scene : SceneMeaning) (tracks : Slots) (rule : Rule) (rules : List Rule) → (is_final rule.action && is_true scene tracks rule) ≡ false →
+pub decided_later : (scene : SceneMeaning) (tracks : Slots) (rule : Rule) (rules : List Rule) → (is_final rule.action && is_true scene tracks rule) ≡ false →
     judged_after scene tracks (rule ∷ rules) ≡ also_expecting (first_expects scene tracks rule) (judged_after scene (after_rule scene tracks rule) rules)
 decided_later scene tracks rule rules e =
     let there : deciding_rule scene tracks (rule ∷ rules) ≡ option_map shifted (deciding_rule scene (after_rule scene tracks rule) rules) =

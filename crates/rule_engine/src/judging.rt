@@ -1,7 +1,7 @@
 //! Going through a list of rules.
 ghost use Rattle.std.specs.Prelude.{◌≡◌, ◌<◌, false, IsTrue};
 ghost use Rattle.rule_engine.specs.Meaning.{present};
-ghost use Rattle.rule_engine.specs.Judging.{is_true, is_free, after_track, judged, judged_after};
+ghost use Rattle.rule_engine.specs.Judging.{is_true, is_free, after_rule, after_track, judged, judged_after};
 
 use crate::scene::{COUNTERS, Scene, Tracks};
 use acl_core::{Acl, Criterion, Value, View};
@@ -50,7 +50,7 @@ impl<'a, S: Scene> View for Moment<'a, S> {
 }
 
 /// Whether the condition of the rule is true once those tracks are made.
-fn is_true<S: Scene>(scene: &S, tracks: &Tracks, rule: &Rule) -> bool
+pub fn is_true<S: Scene>(scene: &S, tracks: &Tracks, rule: &Rule) -> bool
     ensures { result ≡ is_true (S.meaning scene.now) tracks.now rule.now }
 {
     rule.when.applies(&Moment { scene, tracks })
@@ -84,6 +84,19 @@ fn track<S: Scene>(scene: &S, tracks: Tracks, counter: u8, number: u16) -> Track
         });
     }
     tracks
+}
+
+/// The tracks after a rule was tried.
+pub fn after_rule<S: Scene>(scene: &S, tracks: Tracks, rule: &Rule) -> Tracks
+    ensures { result ≡ after_rule (S.meaning scene.now) tracks rule.now }
+{
+    if !is_true(scene, &tracks, rule) {
+        return tracks;
+    }
+    match rule.action {
+        Action::Track(counter, number) => track(scene, tracks, counter, number),
+        Action::Accept | Action::Reject | Action::ExpectProxy => tracks,
+    }
 }
 
 fn outcome(verdict: Verdict, line: u32, tracks: Tracks, expects_header: bool) -> Judged

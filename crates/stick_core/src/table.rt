@@ -14,8 +14,9 @@ use proxy_types::{KeyType, Stores};
 use std::alloc::{AllocError, Global};
 use std::marker::Model;
 
-/// From so many entries on a table has room for all that it may have. Room that grows step by step moves all entries in
-/// some of its steps. To move this many takes some ms.
+/// From so many entries on a table has room for twice as many as it may have. Room that grows step by step moves all
+/// entries in some of its steps. To move this many takes some ms. An index that is at most half full hardly ever has to
+/// be made again, however many keys come in place of others.
 const MANY: usize = 65_536;
 
 /// One tracking of a key. It is spent by `release` on the table that gave it.
@@ -179,15 +180,18 @@ impl Table {
     }
 
     /// Makes room so that the next so many trackings do not lack memory. It may have made some also where it lacks
-    /// memory for all. A table with 65,536 entries makes room for all that it may have, where there is memory for so
-    /// much.
+    /// memory for all. A table with 65,536 entries makes room for twice as many as it may have, where there is memory for
+    /// so much.
     pub fn reserve(&mut self, more: usize) -> Result<(), AllocError>
         ensures room { OnOk result (more ≤ self.new.spare) }
         ensures same { self.new ≡ record self.old { spare = self.new.spare } }
         ensures spare { self.old.spare ≤ self.new.spare }
     {
         if self.touched.len() >= MANY {
-            let whole = self.left().saturating_add(more);
+            let whole = self
+                .left()
+                .saturating_add(self.whole())
+                .saturating_add(more);
             let _refused = self.touched.reserve(whole);
         }
         self.touched.reserve(more)
@@ -195,8 +199,12 @@ impl Table {
 
     /// How many keys may be added before the table is full.
     fn left(&self) -> usize {
-        let left = self.size.saturating_sub(self.touched.len() as u64);
-        usize::try_from(left).unwrap_or(usize::MAX)
+        self.whole().saturating_sub(self.touched.len())
+    }
+
+    /// How many keys there may be.
+    fn whole(&self) -> usize {
+        usize::try_from(self.size).unwrap_or(usize::MAX)
     }
 
     /// Tracks an address, if it is a key that can be listed. A new key in a full table removes the
