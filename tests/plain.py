@@ -494,19 +494,23 @@ class Balancer:
         """The line and the action of the first rule of a list that decides, or None; those before it track, or expect a header."""
         own = one.version.config.frontend(self.names[one.frontend])
         for line, action, condition in own.lists[of]:
-            if not self.is_true(condition, one, source, own.acls):
-                continue
-            if action == EXPECTATION:
-                one.is_expected = True
-                continue
-            if not isinstance(action, tuple):
+            if self.tries(line, action, condition, one, source, made) and (action != EXPECTATION and not isinstance(action, tuple)):
                 return line, action
+        return None
+
+    def tries(self, _line, action, condition, one, source, made):
+        """Whether a rule applies; where it does it tracks, or expects a header."""
+        own = one.version.config.frontend(self.names[one.frontend])
+        applies = self.is_true(condition, one, source, own.acls)
+        if applies and action == EXPECTATION:
+            one.is_expected = True
+        elif applies and isinstance(action, tuple):
             counter, name = action
             id_of_table = self.table(one.version, own, name)
             key = self.tables[id_of_table].key(source)
             if counter not in one.tracks and key and self.tables[id_of_table].track(key):
                 one.tracks[counter] = made[counter] = id_of_table, key
-        return None
+        return applies
 
     def accept(self, listener, peer, local):
         listener = int(listener)
