@@ -28,6 +28,7 @@ EACH = '''for text in "$1"/*.text; do
     case $2 in
         check) "$3" check "$text" ;;
         pipe) "$3" pipe "$4" bare 10.1.1.1:5000 127.0.0.1:9000 < "$text" ;;
+        explain) "$3" explain "$4" bare 10.1.1.1:5000 127.0.0.1:9000 --header "$(head -c 60000 "$text" | od -An -v -tx1 | tr -d ' \n')" ;;
         *) "$3" "$2" "$4" "$text" ;;
     esac > "$at.out" 2> "$at.said"
     echo "$? $text"
@@ -110,7 +111,14 @@ def fault_of_pipe(status, text, out, said):
     return None if status == 0 and text.endswith(out) or status == 1 and not out and said else 'no such answer'
 
 
-FAULT_OF = {'check': fault_of_check, 'replay': fault_of_replay, 'audit': fault_of_audit, 'pipe': fault_of_pipe}
+def fault_of_explain(status, text, out, said):
+    """The last line is the reply that the status says."""
+    last = out.rstrip(b'\n').split(b'\n')[-1]
+    reply = {0: b'offer 0.1 used ', 1: b'refuse 0.1 used ', 4: b'wait 0.1 used '}.get(status)
+    return None if reply and last.startswith(reply) and not said else 'no such answer'
+
+
+FAULT_OF = {'check': fault_of_check, 'replay': fault_of_replay, 'audit': fault_of_audit, 'pipe': fault_of_pipe, 'explain': fault_of_explain}
 
 
 def subjects(room):
@@ -121,11 +129,13 @@ def subjects(room):
                               capture_output=True, check=True).stdout for script in scripts]
     bare = pathlib.Path(room, 'bare.cfg')
     bare.write_bytes(BARE)
+    headers = [header + payload for header in HEADERS for payload in (b'', b'hello', LINE)]
     return {
         'check': [(None, [file.read_bytes() for file in sorted(EXAMPLES.glob('*.cfg'))])],
         'replay': [(config, [script.read_bytes()]) for config, script in zip(configs, scripts)],
         'audit': [(config, [record]) for config, record in zip(configs, records)],
-        'pipe': [(bare, [header + payload for header in HEADERS for payload in (b'', b'hello', LINE)])],
+        'pipe': [(bare, headers)],
+        'explain': [(bare, headers)],
     }
 
 
