@@ -51,7 +51,8 @@ KINDS = {
     'an IPv6 source in a header': r'^header version 1, \d+ bytes: \[',
     'the default backend': r'^backend .*, the default$',
     'a chosen backend': r'^backend \w+ line \d+$',
-    'a server that is picked': r'^  line \d+ server .*, 0 open: picked$',
+    'a server that is picked': r'^  line \d+ server .*: weight [1-9]\d*, 0 open: picked$',
+    'a server that is disabled': r'^  line \d+ server .*: disabled$',
     'refused by a rule': r'^refuse \S+ used 0 line',
     'refused after a header': r'^refuse \S+ used [1-9]\d* line',
     'a wrong header': r'^refuse .* header NotProxy$',
@@ -193,7 +194,10 @@ class Explainer(plain.Balancer):
             if backend.name == given[0] or refused and backend.line == int(refused[1]):
                 yield f'backend {backend.name} line {backend.line}' + ', the default' * (not self.is_chosen)
                 for line, server in zip(backend.lines, backend.servers):
-                    yield f'  {self.quote(line)}, 0 open' + ': picked' * (server.name == given[1])
+                    yield f'  {self.quote(line)}: ' + self.said_of_server(server, server.name == given[1])
+
+    def said_of_server(self, server, is_picked):
+        return 'disabled' if server.disabled else f'weight {server.weight}, 0 open' + ': picked' * is_picked
 
 
 def drawn_configuration(draw):
