@@ -5,6 +5,8 @@
 #[cfg(test)]
 mod addr;
 #[cfg(test)]
+mod endpoints;
+#[cfg(test)]
 mod header;
 #[cfg(test)]
 mod nets;

@@ -1,68 +1,113 @@
 //! Words, cuts and numbers.
-use std::test::Fail;
+use std::alloc::{AllocError, Global};
 use text_core::decimal::{append_decimal, read_decimal, read_number, write_decimal};
 use text_core::{Word, cut, cut_at, cut_line};
 
-#[test]
-fn words_and_cuts(rt: HostRuntime) {
-    let word = Word::of(b"bind");
-    assert!(rt; word.is(b"bind"));
-    assert!(rt; !word.again().is(b"Bind"));
-    assert!(rt; !word.is(b"bin"));
-    assert!(rt; Word::of(b"").is(b""));
-    assert_eq!(rt; word.bytes(), b"bind".as_slice());
-    let cases = [
-        ("80:90", ":", Some(("80", "90"))),
-        (":1::2", ":", Some(("", "1::2"))),
-        (":1::2", "::", Some((":1", "2"))),
-        ("80", ":", None),
-        ("", ":", None),
-        ("1:", "::", None),
-    ];
-    for (text, mark, want) in cases {
-        let parts = want.map(|(front, back)| (front.as_bytes(), back.as_bytes()));
-        assert_eq!(rt; cut(text.as_bytes(), mark.as_bytes()), parts, "{text}");
-        if mark == ":" {
-            assert_eq!(rt; cut_at(text.as_bytes(), b':'), parts, "{text}");
+/// Texts, marks, and the parts before and after the mark.
+static CUTS: [(&str, &str, Option<(&str, &str)>); 6] = [
+    ("80:90", ":", Some(("80", "90"))),
+    (":1::2", ":", Some(("", "1::2"))),
+    (":1::2", "::", Some((":1", "2"))),
+    ("80", ":", None),
+    ("", ":", None),
+    ("1:", "::", None),
+];
+
+static NUMBERS: [(&str, u64); 5] = [
+    ("0", 0),
+    ("7", 7),
+    ("10", 10),
+    ("65535", 65535),
+    ("18446744073709551615", u64::MAX),
+];
+
+static NO_NUMBERS: [&str; 8] = [
+    "",
+    "00",
+    "01",
+    "+1",
+    "-1",
+    "1 ",
+    "0x1",
+    "18446744073709551616",
+];
+
+/// Whether the text is cut at the mark into these parts.
+fn is_cut(text: &[u8], mark: &[u8], parts: Option<(&[u8], &[u8])>) -> bool {
+    if mark.is_empty() {
+        return false;
+    }
+    cut(text, mark) == parts && (mark != b":".as_slice() || cut_at(text, b':') == parts)
+}
+
+/// The first text that is cut otherwise.
+fn wrong_cut(
+    table: &[(
+        &'static str,
+        &'static str,
+        Option<(&'static str, &'static str)>,
+    )],
+) -> Option<&'static str> {
+    for (text, mark, parts) in table {
+        let parts = match parts {
+            Some((front, back)) => Some((front.as_bytes(), back.as_bytes())),
+            None => None,
+        };
+        if !is_cut(text.as_bytes(), mark.as_bytes(), parts) {
+            return Some(*text);
         }
     }
-    let first = (b"first".as_slice(), b"second".as_slice());
-    assert_eq!(rt; cut_line(b"first\nsecond"), Some(first));
-    assert_eq!(rt; cut_line(b"second"), None);
+    None
+}
+
+/// The first text that is not of its number, or is written otherwise.
+fn wrong_number(
+    alloc: Global,
+    table: &[(&'static str, u64)],
+) -> Result<Option<&'static str>, AllocError> {
+    for (text, number) in table {
+        let mut out = Vec::new(alloc);
+        append_decimal(&mut out, *number)?;
+        if read_decimal(text.as_bytes(), u64::MAX) != Some(*number)
+            || write_decimal(*number).as_str() != *text
+            || out.as_slice() != text.as_bytes()
+        {
+            return Ok(Some(*text));
+        }
+    }
+    Ok(None)
+}
+
+/// The first text that is taken for a number.
+fn taken_for_a_number(table: &[&'static str]) -> Option<&'static str> {
+    for text in table {
+        if read_decimal(text.as_bytes(), u64::MAX).is_some() {
+            return Some(*text);
+        }
+    }
+    None
 }
 
 #[test]
-fn decimal_numbers(rt: HostRuntime) -> Result<(), Fail> {
-    let cases = [
-        ("0", 0),
-        ("7", 7),
-        ("10", 10),
-        ("65535", 65535),
-        ("18446744073709551615", u64::MAX),
-    ];
-    for (text, number) in cases {
-        let read = read_decimal(text.as_bytes(), u64::MAX);
-        assert_eq!(rt; read, Some(number), "{text}");
-        assert_eq!(rt; write_decimal(number).as_str(), text);
-        let mut out = Vec::new(rt.alloc());
-        append_decimal(&mut out, number)?;
-        assert_eq!(rt; out.as_slice(), text.as_bytes());
-    }
-    let refused = [
-        "",
-        "00",
-        "01",
-        "+1",
-        "-1",
-        "1 ",
-        "0x1",
-        "18446744073709551616",
-    ];
-    for text in refused {
-        assert_eq!(rt; read_decimal(text.as_bytes(), u64::MAX), None, "{text}");
-    }
-    assert_eq!(rt; read_decimal(b"255", 255), Some(255));
-    assert_eq!(rt; read_decimal(b"256", 255), None);
-    assert_eq!(rt; read_number(b"007", 7), Some(7));
-    Ok(())
+fn words(rt: HostRuntime) {
+    let word = Word::of(b"bind");
+    assert!(rt; word.is(b"bind") && word.bytes() == b"bind".as_slice());
+    assert!(rt; !word.again().is(b"Bind") && !word.is(b"bin"));
+    assert!(rt; Word::of(b"").is(b""));
+}
+
+#[test]
+fn cuts(rt: HostRuntime) {
+    assert_eq!(rt; wrong_cut(&CUTS), None);
+    let parts = (b"first".as_slice(), b"second".as_slice());
+    assert!(rt; cut_line(b"first\nsecond") == Some(parts));
+    assert!(rt; cut_line(b"second").is_none());
+}
+
+#[test]
+fn decimal_numbers(rt: HostRuntime) {
+    assert_eq!(rt; wrong_number(rt.alloc(), &NUMBERS), Ok(None));
+    assert_eq!(rt; taken_for_a_number(&NO_NUMBERS), None);
+    assert!(rt; read_decimal(b"255", 255) == Some(255) && read_decimal(b"256", 255).is_none());
+    assert!(rt; read_number(b"007", 7) == Some(7));
 }
