@@ -1,95 +1,157 @@
-use crate::pair::{NONE, Plan, make_devices};
+//! Devices in memory, those of `std`, and loops over them.
+use crate::pair::{Devices, NONE, Plan, make_devices};
 use device_core::{
     Calls, Failed, FromRead, Got, Input, MOST_READS, MemoryInput, MemoryOutput, Moved, Output, Put,
     Schedule, ToWrite, read_on, write_all,
 };
-use std::alloc::Global;
+use std::alloc::{AllocError, Global};
 use std::io;
 use std::io::{ErrorKind, Read, Write};
-use std::test::Fail;
 
-/// Reads to the end, three bytes at a time at most.
-fn read_all<I: Input>(alloc: Global, input: &mut I) -> Result<(Vec<u8>, bool), Fail> {
-    let mut out = Vec::new(alloc);
+/// Reads until an end or a fault, three bytes at a time at most, and says whether it was the end.
+fn read_all<I: Input>(input: &mut I, out: &mut Vec<u8>) -> Result<bool, AllocError> {
     let mut buffer = [0u8; 3];
     let mut reads = MOST_READS;
     for _ in 0..1000 {
         match read_on(input, &mut buffer, &mut reads) {
-            Ok(Moved::Bytes(count)) => out.extend_from_slice(buffer.get(..count).ok_or("count")?)?,
-            Ok(Moved::End) => return Ok((out, true)),
-            Err(Failed) => return Ok((out, false)),
+            Ok(Moved::Bytes(count)) => out.extend_from_slice(buffer.get(..count).unwrap_or(&[]))?,
+            Ok(Moved::End) => return Ok(true),
+            Err(Failed) => return Ok(false),
         }
     }
-    Err("no end")?
+    Ok(false)
 }
 
-/// Each call fails in turn, between short and blocked ones: what was moved before it is the front of the text, and the
-/// rest comes after it.
-#[test]
-fn each_call_fails_in_turn(rt: HostRuntime) -> Result<(), Fail> {
-    let text = b"PROXY TCP4";
-    for (at, count) in [(0, 0), (3, 2), (5, 4), (6, 5)] {
-        let (front, back) = text.split_at_checked(count).ok_or("split")?;
-        let plan = Plan {
-            reads: 1,
-            writes: 1,
-            blocked: &[Calls { from: 1, to: 2 }, Calls { from: 7, to: 9 }],
-            failing: &[Calls {
-                from: at,
-                to: at + 1,
-            }],
-        };
-        let mut ends = make_devices(rt.alloc(), text, 10, &plan)?;
-        for (moved, done) in [(front, false), (back, true)] {
-            let (bytes, ended) = read_all(rt.alloc(), &mut ends.input)?;
-            assert_eq!(rt; bytes.as_slice(), moved, "at {at}");
-            assert_eq!(rt; ended, done);
+/// Whether a read fails after so many bytes of the text, and the rest comes after it.
+fn reads_on(
+    alloc: Global,
+    ends: &mut Devices,
+    text: &[u8],
+    count: usize,
+) -> Result<bool, AllocError> {
+    let mut out = Vec::new(alloc);
+    let has_failed = !read_all(&mut ends.input, &mut out)? && out.len() == count;
+    let has_ended = read_all(&mut ends.input, &mut out)?;
+    Ok(has_failed && has_ended && out.as_slice() == text)
+}
+
+/// Whether a write fails after so many bytes of the text, the rest can be written after it, and no more than that.
+fn writes_on(ends: &mut Devices, text: &[u8], count: usize) -> bool {
+    let has_failed = write_all(&mut ends.output, text).is_err();
+    let is_front = ends.output.as_slice() == text.get(..count).unwrap_or(&[]);
+    let goes_on = write_all(&mut ends.output, text.get(count..).unwrap_or(&[])).is_ok();
+    let is_all = ends.output.as_slice() == text;
+    let is_full = write_all(&mut ends.output, b"x").is_err();
+    has_failed && is_front && goes_on && is_all && is_full
+}
+
+/// Whether both devices go on after the call of that number failed, when they had moved so many bytes.
+fn go_on(alloc: Global, at: u64, count: usize) -> Result<bool, AllocError> {
+    let plan = Plan {
+        reads: 1,
+        writes: 1,
+        blocked: &[Calls { from: 1, to: 2 }, Calls { from: 7, to: 9 }],
+        failing: &[Calls {
+            from: at,
+            to: at.saturating_add(1),
+        }],
+    };
+    let mut ends = make_devices(alloc, b"PROXY TCP4", 10, &plan)?;
+    let reads = reads_on(alloc, &mut ends, b"PROXY TCP4", count)?;
+    Ok(reads && writes_on(&mut ends, b"PROXY TCP4", count))
+}
+
+/// The number of the call that fails, and how many bytes were moved before it.
+static FAILING: [(u64, usize); 4] = [(0, 0), (3, 2), (5, 4), (6, 5)];
+
+/// The first call of the table that no device goes on after.
+fn wrong_call(alloc: Global, table: &[(u64, usize)]) -> Result<Option<u64>, AllocError> {
+    for (at, count) in table {
+        if !go_on(alloc, *at, *count)? {
+            return Ok(Some(*at));
         }
-        for (rest, held, done) in [(&text[..], front, false), (back, &text[..], true)] {
-            assert_eq!(rt; write_all(&mut ends.output, rest).is_ok(), done);
-            assert_eq!(rt; ends.output.as_slice(), held, "at {at}");
-        }
-        assert!(rt; write_all(&mut ends.output, b"x").is_err());
     }
-    Ok(())
+    Ok(None)
 }
 
+/// A call fails, between short and blocked ones: what was moved before it is the front of the text, and the rest comes
+/// after it.
 #[test]
-fn patience_of_a_read_ends(rt: HostRuntime) -> Result<(), Fail> {
+fn each_call_fails_in_turn(rt: HostRuntime) {
+    assert_eq!(rt; wrong_call(rt.alloc(), &FAILING), Ok(None));
+}
+
+/// Whether the bytes of a reader come that is blocked so many times, and how many reads are left of those that may be
+/// made.
+fn read_once(alloc: Global, to: u64, reads: u32) -> Result<(bool, u32), AllocError> {
+    let schedule = Schedule::new(alloc, 9, &[Calls { from: 0, to }], &NONE)?;
+    let mut input = MemoryInput::new(alloc, b"ab", schedule)?;
     let mut buffer = [0u8; 4];
-    for (to, reads, want, reads_left) in [
-        (999_999, MOST_READS, Ok(Moved::Bytes(2)), 999_000_000),
-        (1_000_000, MOST_READS, Err(Failed), 999_000_000),
-        (3, 4, Ok(Moved::Bytes(2)), 0),
-        (4, 4, Err(Failed), 0),
-        (0, 0, Err(Failed), 0),
-    ] {
-        let schedule = Schedule::new(rt.alloc(), 9, &[Calls { from: 0, to }], &NONE)?;
-        let mut input = MemoryInput::new(rt.alloc(), b"ab", schedule)?;
-        let mut left = reads;
-        assert!(rt;
-            read_on(&mut input, &mut buffer, &mut left) == want,
-            "at {to}"
-        );
-        assert_eq!(rt; left, reads_left, "at {to}");
+    let mut left = reads;
+    let moved = read_on(&mut input, &mut buffer, &mut left);
+    Ok((moved == Ok(Moved::Bytes(2)), left))
+}
+
+/// How many reads are blocked and how many may be made, whether the bytes come, and how many reads are left.
+static READS: [(u64, u32, bool, u32); 5] = [
+    (999_999, MOST_READS, true, 999_000_000),
+    (1_000_000, MOST_READS, false, 999_000_000),
+    (3, 4, true, 0),
+    (4, 4, false, 0),
+    (0, 0, false, 0),
+];
+
+/// The first row of the table that is not so.
+fn wrong_read(
+    alloc: Global,
+    table: &[(u64, u32, bool, u32)],
+) -> Result<Option<(u64, u32)>, AllocError> {
+    for (to, reads, comes, left) in table {
+        if read_once(alloc, *to, *reads)? != (*comes, *left) {
+            return Ok(Some((*to, *reads)));
+        }
     }
-    Ok(())
+    Ok(None)
 }
 
 #[test]
-fn patience_of_a_write_ends(rt: HostRuntime) -> Result<(), Fail> {
-    for (from, to, want, held) in [
-        (0, 999_999, Ok(()), b"ab".as_slice()),
-        (0, 1_000_000, Err(Failed), b"".as_slice()),
-        (1, 1_000_000, Ok(()), b"ab".as_slice()),
-        (1, 1_000_001, Err(Failed), b"a".as_slice()),
-    ] {
-        let schedule = Schedule::new(rt.alloc(), 1, &[Calls { from, to }], &NONE)?;
-        let mut output = MemoryOutput::new(rt.alloc(), 2, schedule)?;
-        assert!(rt; write_all(&mut output, b"ab") == want, "at {from} to {to}");
-        assert_eq!(rt; output.as_slice(), held, "at {from} to {to}");
+fn patience_of_a_read_ends(rt: HostRuntime) {
+    assert_eq!(rt; wrong_read(rt.alloc(), &READS), Ok(None));
+}
+
+/// Whether two bytes are written to a writer that is blocked from one call on and below another, and how many are.
+fn write_two(alloc: Global, from: u64, to: u64) -> Result<(bool, usize), AllocError> {
+    let schedule = Schedule::new(alloc, 1, &[Calls { from, to }], &NONE)?;
+    let mut output = MemoryOutput::new(alloc, 2, schedule)?;
+    let is_done = write_all(&mut output, b"ab").is_ok();
+    let is_front = b"ab".starts_with(output.as_slice());
+    Ok((is_done && is_front, output.as_slice().len()))
+}
+
+/// From which call on and below which one the writer is blocked, whether both bytes are written, and how many are.
+static WRITES: [(u64, u64, bool, usize); 4] = [
+    (0, 999_999, true, 2),
+    (0, 1_000_000, false, 0),
+    (1, 1_000_000, true, 2),
+    (1, 1_000_001, false, 1),
+];
+
+/// The first row of the table that is not so.
+fn wrong_write(
+    alloc: Global,
+    table: &[(u64, u64, bool, usize)],
+) -> Result<Option<(u64, u64)>, AllocError> {
+    for (from, to, is_done, count) in table {
+        if write_two(alloc, *from, *to)? != (*is_done, *count) {
+            return Ok(Some((*from, *to)));
+        }
     }
-    Ok(())
+    Ok(None)
+}
+
+#[test]
+fn patience_of_a_write_ends(rt: HostRuntime) {
+    assert_eq!(rt; wrong_write(rt.alloc(), &WRITES), Ok(None));
 }
 
 /// Answers in turn: interrupted, would block, a byte, an end, a reset.
@@ -129,34 +191,55 @@ impl Write for Five {
     }
 }
 
-#[test]
-fn errors_of_std(rt: HostRuntime) {
+/// What a read and a write answer, one after the other.
+type Answers = (Result<Got, Failed>, Result<Put, Failed>);
+
+static FIVE: [Answers; 5] = [
+    (Ok(Got::Blocked), Ok(Put::Blocked)),
+    (Ok(Got::Blocked), Ok(Put::Blocked)),
+    (Ok(Got::Bytes(1)), Ok(Put::Bytes(1))),
+    (Ok(Got::End), Err(Failed)),
+    (Err(Failed), Err(Failed)),
+];
+
+/// How many calls of a reader and a writer of `std` are answered so.
+fn answered(wanted: &[Answers]) -> usize {
     let mut input = FromRead::of(Five(0));
     let mut output = ToWrite::of(Five(0));
-    for (got, put) in [
-        (Ok(Got::Blocked), Ok(Put::Blocked)),
-        (Ok(Got::Blocked), Ok(Put::Blocked)),
-        (Ok(Got::Bytes(1)), Ok(Put::Bytes(1))),
-        (Ok(Got::End), Err(Failed)),
-        (Err(Failed), Err(Failed)),
-    ] {
+    let mut right = 0usize;
+    for (got, put) in wanted {
         let mut buffer = [0u8; 2];
-        assert!(rt; input.read(&mut buffer) == got);
-        assert!(rt; output.write(b"yz") == put);
+        let is_read = input.read(&mut buffer) == *got;
+        if output.write(b"yz") == *put && is_read {
+            right = right.saturating_add(1);
+        }
+    }
+    right
+}
+
+#[test]
+fn errors_of_std(rt: HostRuntime) {
+    assert_eq!(rt; answered(&FIVE), 5);
+}
+
+/// What is read of memory by way of `std` with more written after it, if all went well.
+fn copied_and_more(alloc: Global) -> Result<Option<Vec<u8>>, AllocError> {
+    let mut bytes = Vec::new(alloc);
+    let mut input = FromRead::of(b"one two".as_slice());
+    let is_read = read_all(&mut input, &mut bytes)? && input.into_inner().is_empty();
+    let mut output = ToWrite::of(bytes);
+    if write_all(&mut output, b", three").is_ok() && is_read {
+        Ok(Some(output.into_inner()))
+    } else {
+        Ok(None)
     }
 }
 
 #[test]
-fn memory_of_std(rt: HostRuntime) -> Result<(), Fail> {
-    let mut input = FromRead::of(b"one two".as_slice());
-    let (bytes, ended) = read_all(rt.alloc(), &mut input)?;
-    assert_eq!(rt; bytes.as_slice(), b"one two".as_slice());
-    assert!(rt; ended && input.into_inner().is_empty());
-    let mut output = ToWrite::of(bytes);
-    assert!(rt; write_all(&mut output, b", three").is_ok());
-    assert_eq!(rt;
-        output.into_inner().as_slice(),
-        b"one two, three".as_slice()
-    );
-    Ok(())
+fn memory_of_std(rt: HostRuntime) {
+    let is_right = match copied_and_more(rt.alloc()) {
+        Ok(Some(bytes)) => bytes.as_slice() == b"one two, three".as_slice(),
+        _ => false,
+    };
+    assert!(rt; is_right);
 }

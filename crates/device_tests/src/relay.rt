@@ -1,118 +1,217 @@
+//! A flow and a relay between devices.
 use crate::pair::{ALL, Devices, NONE, Plan, make_devices};
 use device_core::Calls;
 use relay_core::{Drained, Filled, Flow, FlowFault, Relay, run_carries};
-use std::test::Fail;
+use std::alloc::{AllocError, Global};
 
-/// Passes until the flow is done, and says how many reads and how many writes failed.
-fn carry(flow: &mut Flow, ends: &mut Devices) -> Result<(u32, u32), Fail> {
+/// How bytes are carried: what the flow holds at most, how many are read and written at once at most, and whether by bursts.
+type Way = (usize, usize, usize, bool);
+
+static WAYS: [Way; 7] = [
+    (7, 1, ALL, false),
+    (7, 3, 1, false),
+    (7, ALL, 3, false),
+    (7, 1, 1, false),
+    (1, ALL, ALL, false),
+    (1, ALL, 1, true),
+    (7, 1, ALL, true),
+];
+
+/// One pass or one burst.
+fn carry_on(flow: &mut Flow, ends: &mut Devices, by_bursts: bool) -> Result<(), FlowFault> {
     let mut piece = [0u8; 5];
-    let mut faults = (0u32, 0u32);
+    let (input, output) = (&mut ends.input, &mut ends.output);
+    if by_bursts {
+        match flow.burst(input, output, &mut piece, 3) {
+            Ok(_) => Ok(()),
+            Err(fault) => Err(fault),
+        }
+    } else {
+        match flow.pass(input, output, &mut piece) {
+            Ok(_) => Ok(()),
+            Err(fault) => Err(fault),
+        }
+    }
+}
+
+/// Goes on until the flow is done, and says how many reads and how many writes failed.
+fn carry(flow: &mut Flow, ends: &mut Devices, by_bursts: bool) -> Option<(u32, u32)> {
+    let (mut reads, mut writes) = (0u32, 0u32);
     for _ in 0..1000 {
         if flow.is_done() {
-            return Ok(faults);
+            return Some((reads, writes));
         }
-        match flow.pass(&mut ends.input, &mut ends.output, &mut piece) {
-            Ok(_) => {}
-            Err(FlowFault::Read) => faults.0 = faults.0.saturating_add(1),
-            Err(FlowFault::Write) => faults.1 = faults.1.saturating_add(1),
+        match carry_on(flow, ends, by_bursts) {
+            Ok(()) => {}
+            Err(FlowFault::Read) => reads = reads.saturating_add(1),
+            Err(FlowFault::Write) => writes = writes.saturating_add(1),
         }
     }
-    Err("not done")?
+    None
+}
+
+/// The same of twelve bytes, if none of them is lost.
+fn carry_all(flow: &mut Flow, ends: &mut Devices, by_bursts: bool) -> Option<(u32, u32)> {
+    let faults = carry(flow, ends, by_bursts);
+    if ends.output.as_slice() == b"abcdefghijkl".as_slice() {
+        faults
+    } else {
+        None
+    }
+}
+
+/// The same over devices and a flow that are made.
+fn carried(
+    alloc: Global,
+    way: &Way,
+    blocked: &[Calls],
+    failing: &[Calls],
+) -> Result<Option<(u32, u32)>, AllocError> {
+    let (capacity, reads, writes, by_bursts) = *way;
+    let plan = Plan {
+        reads: reads.max(1),
+        writes: writes.max(1),
+        blocked,
+        failing,
+    };
+    let mut ends = make_devices(alloc, b"abcdefghijkl", 12, &plan)?;
+    let mut flow = Flow::new(alloc, capacity)?;
+    Ok(carry_all(&mut flow, &mut ends, by_bursts))
+}
+
+/// Whether all is carried while the calls of that number are blocked, and while they fail. Each device is called three
+/// times at least, so a write fails where the number is below 3.
+fn is_carried(alloc: Global, way: &Way, at: u64) -> Result<bool, AllocError> {
+    let here = [Calls {
+        from: at,
+        to: at.saturating_add(1),
+    }];
+    let is_whole = carried(alloc, way, &here, &NONE)? == Some((0, 0));
+    match carried(alloc, way, &NONE, &here)? {
+        Some((reads, writes)) => {
+            Ok(is_whole && reads <= 1 && writes <= 1 && (at > 2 || writes == 1))
+        }
+        None => Ok(false),
+    }
+}
+
+/// The first of the ways in which not all is carried.
+fn wrong_way(alloc: Global, ways: &[Way], at: u64) -> Result<Option<Way>, AllocError> {
+    for way in ways {
+        if !is_carried(alloc, way, at)? {
+            return Ok(Some(*way));
+        }
+    }
+    Ok(None)
 }
 
 #[test]
-fn short_blocked_and_failing_calls_lose_nothing(rt: HostRuntime) -> Result<(), Fail> {
+fn short_blocked_and_failing_calls_lose_nothing(rt: HostRuntime) {
     run_carries();
-    let text = b"abcdefghijkl";
-    for (reads, writes) in [(1, ALL), (3, 1), (ALL, 3), (1, 1)] {
-        for at in 0..14u64 {
-            let here = [Calls {
-                from: at,
-                to: at + 1,
-            }];
-            for (blocked, failing) in [(&here[..], &NONE[..]), (&NONE[..], &here[..])] {
-                let plan = Plan {
-                    reads,
-                    writes,
-                    blocked,
-                    failing,
-                };
-                let mut ends = make_devices(rt.alloc(), text, 12, &plan)?;
-                let mut flow = Flow::new(rt.alloc(), 7)?;
-                let faults = carry(&mut flow, &mut ends)?;
-                assert_eq!(rt; ends.output.as_slice(), text.as_slice(), "at {at}");
-                let most = failing.len() as u32;
-                assert!(rt; faults.0 <= most && faults.1 <= most);
-                assert!(rt; at > 2 || faults.1 == most);
-            }
-        }
+    for at in 0..27 {
+        assert_eq!(rt; wrong_way(rt.alloc(), &WAYS, at), Ok(None), "at {at}");
     }
-    Ok(())
 }
+
+type Round = (Result<Filled, FlowFault>, Result<Drained, FlowFault>);
 
 /// What is held goes round the ring of eight bytes.
-#[test]
-fn eight_bytes_of_ten(rt: HostRuntime) -> Result<(), Fail> {
+static ROUNDS: [Round; 6] = [
+    (Ok(Filled::Bytes(8)), Ok(Drained::Bytes(3))),
+    (Ok(Filled::Bytes(2)), Ok(Drained::Bytes(3))),
+    (Ok(Filled::End), Ok(Drained::Bytes(2))),
+    (Ok(Filled::End), Err(FlowFault::Write)),
+    (Ok(Filled::End), Ok(Drained::Bytes(2))),
+    (Ok(Filled::End), Ok(Drained::Empty)),
+];
+
+/// How many rounds of a fill and a drain are as they should be, and whether all bytes were written then.
+fn go_round(flow: &mut Flow, ends: &mut Devices, rounds: &[Round]) -> (usize, bool) {
+    let mut piece = [b'?'; 16];
+    let mut right = 0usize;
+    for (filled, drained) in rounds {
+        let is_filled = flow.fill(&mut ends.input, &mut piece) == *filled;
+        if flow.drain(&mut ends.output) == *drained && is_filled {
+            right = right.saturating_add(1);
+        }
+    }
+    let is_all = ends.output.as_slice() == b"abcdefghij".as_slice() && flow.is_done();
+    (right, is_all)
+}
+
+/// The same over devices and a flow that are made.
+fn make_and_go_round(alloc: Global, rounds: &[Round]) -> Result<(usize, bool), AllocError> {
     let plan = Plan {
         reads: ALL,
         writes: 3,
         blocked: &NONE,
         failing: &[Calls { from: 3, to: 4 }],
     };
-    let mut ends = make_devices(rt.alloc(), b"abcdefghij", 10, &plan)?;
-    let mut flow = Flow::new(rt.alloc(), 8)?;
-    let mut piece = [b'?'; 16];
-    for (filled, drained) in [
-        (Ok(Filled::Bytes(8)), Ok(Drained::Bytes(3))),
-        (Ok(Filled::Bytes(2)), Ok(Drained::Bytes(3))),
-        (Ok(Filled::End), Ok(Drained::Bytes(2))),
-        (Ok(Filled::End), Err(FlowFault::Write)),
-        (Ok(Filled::End), Ok(Drained::Bytes(2))),
-        (Ok(Filled::End), Ok(Drained::Empty)),
-    ] {
-        assert!(rt; flow.fill(&mut ends.input, &mut piece) == filled);
-        assert!(rt; flow.drain(&mut ends.output) == drained);
-    }
-    assert_eq!(rt; ends.output.as_slice(), b"abcdefghij".as_slice());
-    assert!(rt; flow.is_done());
-    Ok(())
+    let mut ends = make_devices(alloc, b"abcdefghij", 10, &plan)?;
+    let mut flow = Flow::new(alloc, 8)?;
+    Ok(go_round(&mut flow, &mut ends, rounds))
 }
 
 #[test]
-fn both_ways_of_a_relay(rt: HostRuntime) -> Result<(), Fail> {
+fn eight_bytes_of_ten(rt: HostRuntime) {
+    assert_eq!(rt; make_and_go_round(rt.alloc(), &ROUNDS), Ok((6, true)));
+}
+
+/// Devices that are short, and blocked for a while.
+fn slow_devices(alloc: Global, text: &[u8], room: usize) -> Result<Devices, AllocError> {
     let plan = Plan {
         reads: 3,
         writes: 30,
         blocked: &[Calls { from: 1, to: 3 }],
         failing: &NONE,
     };
-    let send = b"PROXY TCP4 192.0.2.1 192.0.2.2 1 2\r\n";
-    let mut relay = Relay::new(rt.alloc(), 64, send, b"GET / ")?;
-    let mut forth = make_devices(rt.alloc(), b"HTTP/1.0\r\n\r\n", 54, &plan)?;
-    let mut back = make_devices(rt.alloc(), b"HTTP/1.0 200 OK", 15, &plan)?;
+    make_devices(alloc, text, room, &plan)
+}
+
+/// Twelve passes forth, of which none fails.
+fn pass_forth(relay: &mut Relay, ends: &mut Devices) -> bool {
     let mut piece = [0u8; 8];
+    let mut is_right = true;
     for _ in 0..12 {
-        assert!(rt;
-            relay
-                .forth(&mut forth.input, &mut forth.output, &mut piece)
-                .is_ok()
-        );
+        let passed = relay.forth(&mut ends.input, &mut ends.output, &mut piece);
+        is_right = is_right && passed.is_ok();
     }
-    assert!(rt; relay.forth_done() && !relay.back_done());
+    is_right && relay.forth_done()
+}
+
+/// Twelve passes back, of which none fails.
+fn pass_back(relay: &mut Relay, ends: &mut Devices) -> bool {
+    let mut piece = [0u8; 8];
+    let mut is_right = true;
     for _ in 0..12 {
-        assert!(rt;
-            relay
-                .back(&mut back.input, &mut back.output, &mut piece)
-                .is_ok()
-        );
+        let passed = relay.back(&mut ends.input, &mut ends.output, &mut piece);
+        is_right = is_right && passed.is_ok();
     }
-    assert!(rt; relay.back_done());
-    assert_eq!(rt;
-        forth.output.as_slice(),
-        b"PROXY TCP4 192.0.2.1 192.0.2.2 1 2\r\nGET / HTTP/1.0\r\n\r\n".as_slice()
-    );
-    assert_eq!(rt; back.output.as_slice(), b"HTTP/1.0 200 OK".as_slice());
-    Ok(())
+    is_right && relay.back_done()
+}
+
+/// Whether both ways of a relay are passed whole, the bytes that it begins with first.
+fn pass_both(relay: &mut Relay, forth: &mut Devices, back: &mut Devices) -> bool {
+    let goes_forth = pass_forth(relay, forth) && !relay.back_done();
+    let goes_back = pass_back(relay, back);
+    let request = b"PROXY TCP4 192.0.2.1 192.0.2.2 1 2\r\nGET / HTTP/1.0\r\n\r\n".as_slice();
+    let is_request = forth.output.as_slice() == request;
+    let is_answer = back.output.as_slice() == b"HTTP/1.0 200 OK".as_slice();
+    goes_forth && goes_back && is_request && is_answer
+}
+
+/// The same over devices and a relay that are made.
+fn make_and_pass_both(alloc: Global) -> Result<bool, AllocError> {
+    let send = b"PROXY TCP4 192.0.2.1 192.0.2.2 1 2\r\n";
+    let mut relay = Relay::new(alloc, 64, send, b"GET / ")?;
+    let mut forth = slow_devices(alloc, b"HTTP/1.0\r\n\r\n", 54)?;
+    let mut back = slow_devices(alloc, b"HTTP/1.0 200 OK", 15)?;
+    Ok(pass_both(&mut relay, &mut forth, &mut back))
+}
+
+#[test]
+fn both_ways_of_a_relay(rt: HostRuntime) {
+    assert_eq!(rt; make_and_pass_both(rt.alloc()), Ok(true));
 }
 
 #[test]
