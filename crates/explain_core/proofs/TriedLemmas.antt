@@ -6,7 +6,7 @@ use Rattle.rule_engine.specs.Meaning.{SceneMeaning}
 use Rattle.rule_engine.specs.declared.judging.Judged.{Judged}
 use Rattle.rule_engine.specs.declared.judging.Verdict.{Verdict}
 use Rattle.rule_engine.specs.Judging.{Slots, after_rule, deciding_rule, is_final, is_true, judged_after, judged_by, verdict_of}
-use Rattle.rule_engine.proofs.JudgingLemmas.{also_expecting, decided_later, first_expects}
+use Rattle.rule_engine.proofs.JudgingLemmas.{decided_later}
 use Rattle.explain_core.specs.declared.tried.Tried.{Tried}
 use Rattle.explain_core.specs.Tried.{decided_by, decided_in, ends_list, tried, tried_rule}
 

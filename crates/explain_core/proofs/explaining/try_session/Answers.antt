@@ -1,4 +1,4 @@
-use Rattle.std.proofs.Common.{◌≡◌, ap, ◌∙◌}
+use Rattle.std.proofs.Common.{ap, ◌∙◌}
 use Rattle.rule_engine.specs.Judging.{judged_after}
 use Rattle.rule_engine.specs.declared.judging.Judged.{Judged}
 use Rattle.conn_model.specs.Rules.{rejection, scene_of}

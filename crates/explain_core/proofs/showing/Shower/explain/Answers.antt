@@ -1,4 +1,4 @@
-use Rattle.std.proofs.Common.{◌≡◌, [], ◌∷◌, sym, subst}
+use Rattle.std.proofs.Common.{subst}
 use Rattle.std.specs.Option.{option_copied}
 use Rattle.conn_model.specs.declared.plain.Plain.{Plain}
 use Rattle.explain_core.specs.Explained.{waiting_in, IsDecided}
