@@ -44,6 +44,7 @@ fn header_bytes(
     };
     let half = word.len() / 2;
     let Ok(mut bytes) = vec![in rt.alloc(); 0; half] else {
+        let _written = eprintln!(rt; "l4proxy: --header: no memory");
         return Err(DEVICE);
     };
     if half > PIECE_LIMIT || hex::decode_to_slice(word.as_bytes(), &mut bytes).is_err() {
