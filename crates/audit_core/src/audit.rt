@@ -81,7 +81,7 @@ fn outside(kind: &CheckKind) -> Option<PrintFault>
 }
 
 /// Writes the line of a fault, unless the device or memory failed.
-pub fn report<O: Output>(alloc: Global, fault: &CheckFault, writer: &mut O) -> Result<(), PrintFault>
+fn report<O: Output>(alloc: Global, fault: &CheckFault, writer: &mut O) -> Result<(), PrintFault>
     ensures ok { OnOk result ((sent : List ℕ) → O.held writer.old ≡ Some sent → O.held writer.new ≡ Some (sent ++ fault_text fault.now)) }
     ensures inside { OnOk result (¬ IsOutside fault.now.kind) }
     ensures front { OnErr result ((sent text : List ℕ) → O.held writer.old ≡ Some sent → (¬ IsOutside fault.now.kind → text ≡ fault_text fault.now) → IsFront (O.held writer.new) (sent ++ text)) }

@@ -1,6 +1,6 @@
 //! `l4proxy audit`: a record is checked, and its connections are listed.
 use crate::{DONE, REFUSED, USAGE, explain_refusal, open_script, unreadable};
-use audit_core::{CheckFault, CheckKind, run_audit};
+use audit_core::{CheckKind, run_audit};
 use clap::ArgMatches;
 use device_core::{FromRead, Input, ToWrite};
 use line_reader::{LineFault, LineReader, Next};
@@ -65,21 +65,6 @@ fn say_broken_off<R: Files + AllocGlobal + Eprint>(rt: &R, record: &str, line: u
     );
 }
 
-/// Says what is wrong with a record, or with its configuration, where the line of the fault does not say all.
-pub fn say_wrong<R: Files + AllocGlobal + Eprint>(
-    rt: &R,
-    file: &str,
-    text: &str,
-    record: &str,
-    fault: &CheckFault,
-) {
-    match &fault.kind {
-        CheckKind::Config(refused) => explain_refusal(rt, file, text, refused),
-        CheckKind::Format | CheckKind::WrongReply => say_broken_off(rt, record, fault.line),
-        CheckKind::NoMemory | CheckKind::Read | CheckKind::TooLong => {}
-    }
-}
-
 /// Checks a record, and writes a line for each connection that ended. The configuration is read before the record is
 /// opened.
 fn audit_files<R: Files + AllocGlobal + Print + Eprint>(rt: &R, file: &str, record: &str) -> u8 {
@@ -104,7 +89,11 @@ fn audit_files<R: Files + AllocGlobal + Print + Eprint>(rt: &R, file: &str, reco
     ) {
         Ok(None) => DONE,
         Ok(Some(fault)) => {
-            say_wrong(rt, file, text.as_str(), record, &fault);
+            match &fault.kind {
+                CheckKind::Config(refused) => explain_refusal(rt, file, text.as_str(), refused),
+                CheckKind::Format | CheckKind::WrongReply => say_broken_off(rt, record, fault.line),
+                CheckKind::NoMemory | CheckKind::Read | CheckKind::TooLong => {}
+            }
             REFUSED
         }
         Err(fault) => {

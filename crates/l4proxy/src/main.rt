@@ -30,7 +30,6 @@ mod explain;
 mod input;
 mod pipe;
 mod serve;
-mod whatif;
 
 /// All was done.
 const DONE: u8 = 0;
@@ -162,7 +161,6 @@ fn run_command<R: Files + AllocGlobal + io::Input + Print + Eprint>(
         ("pipe", Some(_), _) => pipe::run(rt, given),
         ("audit", Some(_), _) => audit::run(rt, given),
         ("explain", Some(_), _) => explain::run(rt, given),
-        ("whatif", _, _) => whatif::run(rt, given),
         _ => USAGE,
     }
 }

@@ -1,8 +1,0 @@
-pub mod TellLemmas
-pub mod TurnLemmas
-pub mod PeerLemmas
-pub mod TallyLemmas
-pub mod WriteLemmas
-pub mod HistoryLemmas
-pub mod OutcomeLemmas
-pub mod LawLemmas
