@@ -9,8 +9,6 @@ mod faults;
 #[cfg(test)]
 mod link;
 #[cfg(test)]
-mod outcome;
-#[cfg(test)]
 mod play;
 #[cfg(test)]
 mod reloads;

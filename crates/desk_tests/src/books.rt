@@ -12,6 +12,7 @@ use record_core::Segment;
 use rtrb::{Consumer, RingBuffer};
 use std::alloc::Global;
 use std::sync::ledger::Ledger;
+use std::test::Fail;
 
 /// A frontend that rejects 198.51.100.0/24 by its third line.
 pub const RULE: &str =
@@ -59,7 +60,7 @@ pub fn open_book(alloc: Global, text: &str) -> Option<Book>
 }
 
 /// The addresses of a connection from a port of that address to a port of 127.0.0.1.
-pub fn pair_from(source: u32, from: u16, to: u16) -> Option<Pair> {
+pub fn pair_from(source: u32, from: u16, to: u16) -> Result<Pair, Fail> {
     let source = Endpoint {
         addr: Addr::V4(source),
         port: from,
@@ -68,7 +69,7 @@ pub fn pair_from(source: u32, from: u16, to: u16) -> Option<Pair> {
         addr: Addr::V4(0x7f00_0001),
         port: to,
     };
-    Pair::of(source, destination)
+    Ok(Pair::of(source, destination).ok_or("two families")?)
 }
 
 type Room<O> = (Vec<Lease<O>>, Vec<Vec<Lease<O>>>);

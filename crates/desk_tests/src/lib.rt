@@ -15,8 +15,6 @@ mod openings;
 #[cfg(test)]
 mod reloads;
 #[cfg(test)]
-mod scripts;
-#[cfg(test)]
 mod segments;
 #[cfg(test)]
 mod servers;

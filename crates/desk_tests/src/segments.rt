@@ -15,6 +15,7 @@ use std::alloc::Global;
 use std::marker::Brand;
 use std::sync::Wait;
 use std::sync::ledger::{Blank, Ledger};
+use std::test::Fail;
 
 /// How the two segments are handed in.
 #[derive(Clone, Copy, Debug, PartialEq, Eq)]
@@ -28,7 +29,7 @@ enum Hands {
 
 /// What the cuts come to, the first number and the length of each segment, whether the second follows the first, and what
 /// was settled.
-#[derive(Clone, Copy, Debug, PartialEq, Eq)]
+#[derive(Drop)]
 struct Seen {
     cuts: [Result<(), CutFault>; 4],
     segments: [(u64, usize); 2],
@@ -40,20 +41,6 @@ type Cuts = [Result<(), CutFault>; 3];
 
 type Three<O> = (Option<Lease<O>>, Option<Lease<O>>, Option<Lease<O>>);
 
-/// The connection of the lease ended, if there is one.
-fn end<M: Ledger, O: Ledger, R: Wait>(
-    rt: &R,
-    desk: &SharedDesk<M, O>,
-    pass: &mut Pass<M>,
-    moment: u64,
-    lease: Option<Lease<O>>,
-) -> Option<Lease<O>> {
-    match lease {
-        Some(lease) => close(rt, desk, pass, moment, lease).1,
-        None => None,
-    }
-}
-
 /// A cut; an accept, one that is rejected, a close and a cut; an accept, and a cut for which the ring has no room.
 fn steps<M: Ledger, O: Ledger, R: Wait>(
     rt: &R,
@@ -63,11 +50,11 @@ fn steps<M: Ledger, O: Ledger, R: Wait>(
     rejected: &Pair,
 ) -> (Cuts, Three<O>) {
     let new = desk.cut(rt);
-    let (_offered, one) = accept(rt, desk, pass, 0, real);
-    let (_refused, none) = accept(rt, desk, pass, 1, rejected);
-    let one = end(rt, desk, pass, 2, one);
+    let one = accept(rt, desk, pass, 0, real);
+    let none = accept(rt, desk, pass, 1, rejected);
+    let one = close(rt, desk, pass, 2, one);
     let front = desk.cut(rt);
-    let (_offered, other) = accept(rt, desk, pass, 3, real);
+    let other = accept(rt, desk, pass, 3, real);
     let full = desk.cut(rt);
     ([new, front, full], (one, none, other))
 }
@@ -95,15 +82,6 @@ fn forged(segment: Segment) -> Segment {
     Segment {
         first,
         records: Seq::of(records),
-    }
-}
-
-/// The two segments as they are handed in.
-fn arranged(hands: Hands, front: Segment, back: Segment) -> [Segment; 2] {
-    match hands {
-        Hands::InOrder | Hands::SecondAlone => [front, back],
-        Hands::TurnedRound => [back, front],
-        Hands::Forged => [forged(front), back],
     }
 }
 
@@ -148,30 +126,29 @@ fn settled<M: Ledger, O: Ledger, R: Wait>(
     let front = next(alloc, &mut segments);
     let last = shut.cut();
     let back = next(alloc, &mut segments);
-    let numbers = [
-        (front.first, front.records.len()),
-        (back.first, back.records.len()),
-    ];
-    let follows = back.follows(&front);
-    let both = arranged(hands, front, back);
-    let all = both.as_slice();
-    let handed_in = match hands {
-        Hands::SecondAlone => &all[1..],
-        _ => all,
-    };
     Some(Seen {
         cuts: [new, three, full, last],
-        segments: numbers,
-        follows,
-        settled: settle(shut, passes, left, handed_in),
+        segments: [
+            (front.first, front.records.len()),
+            (back.first, back.records.len()),
+        ],
+        follows: back.follows(&front),
+        settled: match hands {
+            Hands::InOrder => settle(shut, passes, left, &[front, back]),
+            Hands::TurnedRound => settle(shut, passes, left, &[back, front]),
+            Hands::SecondAlone => settle(shut, passes, left, &[back]),
+            Hands::Forged => settle(shut, passes, left, &[forged(front), back]),
+        },
     })
 }
 
-fn run<R: Wait>(rt: &R, alloc: Global, hands: Hands) -> Option<Seen> {
+fn run<R: Wait>(rt: &R, alloc: Global, hands: Hands) -> Result<Option<Seen>, Fail> {
     let real = pair_from(0xc000_0205, 4000, 9000)?;
     let rejected = pair_from(0xc633_6409, 4001, 9000)?;
-    let opened = open_with_ring(alloc, RULE, 1)?;
-    settled::<Brand, Brand, R>(
+    let Some(opened) = open_with_ring(alloc, RULE, 1) else {
+        return Ok(None);
+    };
+    Ok(settled::<Brand, Brand, R>(
         rt,
         alloc,
         opened,
@@ -179,28 +156,29 @@ fn run<R: Wait>(rt: &R, alloc: Global, hands: Hands) -> Option<Seen> {
         Blank::new(u64::MAX),
         (real, rejected),
         hands,
-    )
-}
-
-/// What is seen where so much is settled.
-fn seen_with(settled: Result<Settled, SettleFault>) -> Option<Seen> {
-    Some(Seen {
-        cuts: [Err(CutFault::Nothing), Ok(()), Err(CutFault::Full), Ok(())],
-        segments: [(1, 3), (4, 1)],
-        follows: true,
-        settled,
-    })
+    ))
 }
 
 #[test]
-fn receipts_are_found_in_the_segments_of_a_desk(rt: HostRuntime) {
-    let all = Ok(Settled { made: 4, live: 1 });
-    for (hands, settled) in [
-        (Hands::InOrder, all),
-        (Hands::TurnedRound, all),
+fn receipts_are_found_in_the_segments_of_a_desk(rt: HostRuntime) -> Result<(), Fail> {
+    let table = [
+        (Hands::InOrder, Ok(Settled { made: 4, live: 1 })),
+        (Hands::TurnedRound, Ok(Settled { made: 4, live: 1 })),
         (Hands::SecondAlone, Err(SettleFault::Missing(1))),
         (Hands::Forged, Err(SettleFault::WrongReceipt(2))),
-    ] {
-        assert_eq!(rt; run(&rt, rt.alloc(), hands), seen_with(settled), "at {hands:?}");
+    ];
+    for (hands, settled) in table {
+        let Some(seen) = run(&rt, rt.alloc(), hands)? else {
+            assert!(rt; false, "there is memory");
+            return Ok(());
+        };
+        assert_eq!(rt;
+            seen.cuts,
+            [Err(CutFault::Nothing), Ok(()), Err(CutFault::Full), Ok(())]
+        );
+        assert_eq!(rt; seen.segments, [(1, 3), (4, 1)]);
+        assert!(rt; seen.follows, "the second segment follows the first");
+        assert_eq!(rt; seen.settled, settled, "at {hands:?}");
     }
+    Ok(())
 }

@@ -11,6 +11,7 @@ use std::alloc::Global;
 use std::marker::Brand;
 use std::sync::Wait;
 use std::sync::ledger::{Blank, Ledger};
+use std::test::Fail;
 use std::thread;
 use std::thread::Threads;
 
@@ -96,10 +97,12 @@ fn two_threads<R: Threads + Wait + Sync>(
     alloc: Global,
     calls: u32,
     withhold: bool,
-) -> Option<Result<Settled, SettleFault>> {
+) -> Result<Option<Result<Settled, SettleFault>>, Fail> {
     let real = pair_from(0xc000_0205, 4000, 9000)?;
-    let book = open_book(alloc, RULE)?;
-    both::<Brand, Brand, R>(
+    let Some(book) = open_book(alloc, RULE) else {
+        return Ok(None);
+    };
+    Ok(both::<Brand, Brand, R>(
         rt,
         alloc,
         book,
@@ -108,23 +111,26 @@ fn two_threads<R: Threads + Wait + Sync>(
         real,
         calls,
         withhold,
-    )
+    ))
 }
 
 #[test]
-fn two_threads_make_one_history(rt: HostRuntime) {
-    let all = two_threads(&rt, rt.alloc(), 200, false);
+fn two_threads_make_one_history(rt: HostRuntime) -> Result<(), Fail> {
+    let all = two_threads(&rt, rt.alloc(), 200, false)?;
     assert_eq!(rt; all, Some(Ok(Settled { made: 400, live: 0 })));
+    Ok(())
 }
 
 #[test]
-fn open_connections_are_the_leases(rt: HostRuntime) {
-    let all = two_threads(&rt, rt.alloc(), 3, false);
+fn open_connections_are_the_leases(rt: HostRuntime) -> Result<(), Fail> {
+    let all = two_threads(&rt, rt.alloc(), 3, false)?;
     assert_eq!(rt; all, Some(Ok(Settled { made: 6, live: 2 })));
+    Ok(())
 }
 
 #[test]
-fn a_pass_is_withheld(rt: HostRuntime) {
-    let all = two_threads(&rt, rt.alloc(), 200, true);
+fn a_pass_is_withheld(rt: HostRuntime) -> Result<(), Fail> {
+    let all = two_threads(&rt, rt.alloc(), 200, true)?;
     assert_eq!(rt; all, Some(Err(SettleFault::NotAll)));
+    Ok(())
 }
