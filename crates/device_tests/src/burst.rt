@@ -207,7 +207,7 @@ fn burst_forth(relay: &mut Relay, ends: &mut Devices) -> Word {
     word_of(relay.burst_forth(&mut ends.input, &mut ends.output, &mut piece, 4))
 }
 
-/// Two bursts back, which end that way, and one forth after the relay has begun anew; and whether it held what it should.
+/// Two bursts back, which end that way, and one forth after the relay has begun again; and whether it held what it should.
 fn begin_anew(relay: &mut Relay, back: &mut Devices, forth: &mut Devices) -> ([Word; 3], bool) {
     let first = burst_back(relay, back);
     let second = burst_back(relay, back);
