@@ -1,9 +1,9 @@
-# Writes a record into files, one for each stretch of time from the start on, and each entry at once. An entry begins at a line
-# that begins with a digit, which are its number and its moment in ms. `cat` joins the files to the record again.
+# For a record in parts. It writes a record into files, one for each stretch of time from its start, and each entry at
+# once. An entry begins at a line that begins with a digit: its number and its time in ms. `cat` joins the files again.
 #
 #     awk -v name=NAME -v every=MILLISECONDS -f examples/parts.awk < RECORD
 #
-# The files are NAME.00000 and so on. With mawk the option `-W interactive` is needed where the record comes through a pipe.
+# The files are NAME.00000 and so on. With mawk `-W interactive` is needed if the record comes through a pipe.
 /^[0-9]/ {
     part = sprintf("%s.%05d", name, int($2 / every))
     if (part != file && file != "") close(file)
