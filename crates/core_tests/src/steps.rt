@@ -3,10 +3,9 @@ use addr_core::{Addr, Endpoint, Pair};
 use conn_core::Core;
 use conn_model::event::{ConnId, Event, Why};
 use conn_model::reply::Said;
-use std::test::Fail;
 
 /// The addresses of a connection from a port of 192.0.2.5 to 127.0.0.1:9000.
-pub fn pair_from(port: u16) -> Result<Pair, Fail> {
+pub fn pair_from(port: u16) -> Option<Pair> {
     let source = Endpoint {
         addr: Addr::V4(0xc000_0205),
         port,
@@ -15,7 +14,7 @@ pub fn pair_from(port: u16) -> Result<Pair, Fail> {
         addr: Addr::V4(0x7f00_0001),
         port: 9000,
     };
-    Ok(Pair::of(source, destination).ok_or("two families")?)
+    Pair::of(source, destination)
 }
 
 /// The serial that a connection is offered a server with.
