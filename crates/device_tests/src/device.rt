@@ -81,33 +81,34 @@ fn each_call_fails_in_turn(rt: HostRuntime) {
     assert_eq!(rt; wrong_call(rt.alloc(), &FAILING), Ok(None));
 }
 
-/// Whether the bytes of a reader come that is blocked so many times, and how many reads are left of those that may be
-/// made.
-fn read_once(alloc: Global, to: u64, reads: u32) -> Result<(bool, u32), AllocError> {
+type Patience = (Result<Moved, Failed>, u32);
+
+/// What a read comes to whose reader is blocked so many times, and how many reads are left of those that may be made.
+fn read_once(alloc: Global, to: u64, reads: u32) -> Result<Patience, AllocError> {
     let schedule = Schedule::new(alloc, 9, &[Calls { from: 0, to }], &NONE)?;
     let mut input = MemoryInput::new(alloc, b"ab", schedule)?;
     let mut buffer = [0u8; 4];
     let mut left = reads;
     let moved = read_on(&mut input, &mut buffer, &mut left);
-    Ok((moved == Ok(Moved::Bytes(2)), left))
+    Ok((moved, left))
 }
 
-/// How many reads are blocked and how many may be made, whether the bytes come, and how many reads are left.
-static READS: [(u64, u32, bool, u32); 5] = [
-    (999_999, MOST_READS, true, 999_000_000),
-    (1_000_000, MOST_READS, false, 999_000_000),
-    (3, 4, true, 0),
-    (4, 4, false, 0),
-    (0, 0, false, 0),
+/// How many reads are blocked and how many may be made, and what it comes to.
+static READS: [(u64, u32, Patience); 5] = [
+    (999_999, MOST_READS, (Ok(Moved::Bytes(2)), 999_000_000)),
+    (1_000_000, MOST_READS, (Err(Failed), 999_000_000)),
+    (3, 4, (Ok(Moved::Bytes(2)), 0)),
+    (4, 4, (Err(Failed), 0)),
+    (0, 0, (Err(Failed), 0)),
 ];
 
 /// The first row of the table that is not so.
 fn wrong_read(
     alloc: Global,
-    table: &[(u64, u32, bool, u32)],
+    table: &[(u64, u32, Patience)],
 ) -> Result<Option<(u64, u32)>, AllocError> {
-    for (to, reads, comes, left) in table {
-        if read_once(alloc, *to, *reads)? != (*comes, *left) {
+    for (to, reads, wanted) in table {
+        if read_once(alloc, *to, *reads)? != *wanted {
             return Ok(Some((*to, *reads)));
         }
     }
