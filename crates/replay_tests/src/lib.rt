@@ -1,11 +1,22 @@
-//! Tests of `replay_core` and `audit_core`, with devices in memory that are short, blocked or failing by schedule.
+//! Tests of `replay_core`, `audit_core` and `pipe_core`, with devices in memory that are short, blocked or failing by
+//! schedule.
 #![tactic(auto)]
 
 #[cfg(test)]
+mod audits;
+#[cfg(test)]
 mod check;
+#[cfg(test)]
+mod devices;
+#[cfg(test)]
+mod pipes;
 #[cfg(test)]
 mod records;
 #[cfg(test)]
 mod reloads;
 #[cfg(test)]
 mod replay;
+#[cfg(test)]
+mod runs;
+#[cfg(test)]
+mod writing;
