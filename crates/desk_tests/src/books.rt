@@ -12,7 +12,6 @@ use record_core::Segment;
 use rtrb::{Consumer, RingBuffer};
 use std::alloc::Global;
 use std::sync::ledger::Ledger;
-use std::test::Fail;
 
 /// A frontend that rejects 198.51.100.0/24 by its third line.
 pub const RULE: &str =
@@ -60,7 +59,7 @@ pub fn open_book(alloc: Global, text: &str) -> Option<Book>
 }
 
 /// The addresses of a connection from a port of that address to a port of 127.0.0.1.
-pub fn pair_from(source: u32, from: u16, to: u16) -> Result<Pair, Fail> {
+pub fn pair_from(source: u32, from: u16, to: u16) -> Option<Pair> {
     let source = Endpoint {
         addr: Addr::V4(source),
         port: from,
@@ -69,10 +68,13 @@ pub fn pair_from(source: u32, from: u16, to: u16) -> Result<Pair, Fail> {
         addr: Addr::V4(0x7f00_0001),
         port: to,
     };
-    Ok(Pair::of(source, destination).ok_or("two families")?)
+    Pair::of(source, destination)
 }
 
 type Room<O> = (Vec<Lease<O>>, Vec<Vec<Lease<O>>>);
+
+/// What may be the leases of three connections.
+pub type Three<O> = (Option<Lease<O>>, Option<Lease<O>>, Option<Lease<O>>);
 
 /// Lists with room for three leases, so that none of them is without a place.
 pub fn room<O: Ledger>(alloc: Global) -> Option<Room<O>>
@@ -91,7 +93,7 @@ pub fn room<O: Ledger>(alloc: Global) -> Option<Room<O>>
 }
 
 /// Puts a lease, if there is one, into a list with room for it.
-pub fn put<O: Ledger>(leases: &mut Vec<Lease<O>>, lease: Option<Lease<O>>)
+fn put<O: Ledger>(leases: &mut Vec<Lease<O>>, lease: Option<Lease<O>>)
     requires { vec_len leases.old < vec_capacity leases.old }
     ensures len { vec_len leases.new ≤ vec_len leases.old + 1 }
     ensures room { vec_capacity leases.new ≡ vec_capacity leases.old }
@@ -99,4 +101,18 @@ pub fn put<O: Ledger>(leases: &mut Vec<Lease<O>>, lease: Option<Lease<O>>)
     if let Some(lease) = lease {
         leases.push_reserved(lease);
     }
+}
+
+/// The lists with these leases in them.
+pub fn filled<O: Ledger>(lists: Room<O>, three: Three<O>) -> Vec<Vec<Lease<O>>>
+    requires leases { (vec_len lists.0 ≡ 0) × (3 ≤ vec_capacity lists.0) }
+    requires lists { (vec_len lists.1 ≡ 0) × (1 ≤ vec_capacity lists.1) }
+{
+    let (mut leases, mut left) = lists;
+    let (one, other, third) = three;
+    put(&mut leases, one);
+    put(&mut leases, other);
+    put(&mut leases, third);
+    left.push_reserved(leases);
+    left
 }

@@ -1,5 +1,5 @@
 //! Calls of a desk on what may be a lease, and what came of them as words.
-use addr_core::{Addr, Pair};
+use addr_core::Pair;
 use conn_model::ask::{Ask, Counts};
 use conn_model::event::Why;
 use conn_model::reply::{Cause, Said, StepFault};
@@ -7,40 +7,50 @@ use desk_core::{Drive, Driven, Lease, Pass, SharedDesk};
 use std::sync::Wait;
 use std::sync::ledger::Ledger;
 
-/// What came of a call: a word, and a number.
-pub type Word = (&'static str, u64);
+/// What came of a call: a word, and two numbers. They are the line of the server that is offered or of the rule that
+/// rejects, the version of a reload, or how many connections are open and how often they were tracked; and else 0.
+pub type Word = (&'static str, u64, u64);
 
-/// The number is the line of the server that is offered or of the rule that rejects, or that of a version, and else 0.
+/// A call.
+#[derive(Clone, Copy, Debug)]
+pub enum Call {
+    /// A connection comes to the first listener.
+    Accept,
+    Drive(Drive<'static>),
+    Close,
+    Reload(&'static str),
+    Ask(Ask),
+}
+
 fn word_of(said: &Said) -> Word {
     match *said {
-        Said::Wait { .. } => ("wait", 0),
-        Said::Offer { line, .. } => ("offer", u64::from(line)),
+        Said::Wait { .. } => ("wait", 0, 0),
+        Said::Offer { line, .. } => ("offer", u64::from(line), 0),
         Said::Refuse {
             cause: Cause::Line(line),
             ..
-        } => ("refuse", u64::from(line)),
-        Said::Refuse { .. } => ("refuse", 0),
-        Said::Up { .. } => ("up", 0),
-        Said::Closed { .. } => ("closed", 0),
-        Said::Reloaded { version } => ("reloaded", version),
+        } => ("refuse", u64::from(line), 0),
+        Said::Refuse { .. } => ("refuse", 0, 0),
+        Said::Up { .. } => ("up", 0, 0),
+        Said::Closed { .. } => ("closed", 0, 0),
+        Said::Reloaded { version } => ("reloaded", version, 0),
     }
 }
 
 fn fault_word(fault: StepFault) -> Word {
     match fault {
-        StepFault::NotOffered => ("not offered", 0),
-        StepFault::NotDue => ("not due", 0),
-        StepFault::BadConfig(_) => ("bad config", 0),
-        StepFault::BindChanged => ("bind changed", 0),
-        _ => ("fault", 0),
+        StepFault::NotOffered => ("not offered", 0, 0),
+        StepFault::NotDue => ("not due", 0, 0),
+        StepFault::BadConfig(_) => ("bad config", 0, 0),
+        StepFault::BindChanged => ("bind changed", 0, 0),
+        _ => ("fault", 0, 0),
     }
 }
 
-fn word<O: Ledger>(driven: Driven<O>) -> (Word, Option<Lease<O>>) {
-    match driven {
-        Driven::Goes(receipt, lease) => (word_of(&receipt.reply.said), Some(lease)),
-        Driven::Over(receipt) => (word_of(&receipt.reply.said), None),
-        Driven::Failed(fault, lease) => (fault_word(fault), Some(lease)),
+fn count_word(counts: Option<Counts>) -> Word {
+    match counts {
+        Some(Counts { cur, cnt }) => ("count", cur, cnt),
+        None => ("no count", 0, 0),
     }
 }
 
@@ -51,47 +61,45 @@ pub fn accept<M: Ledger, O: Ledger, R: Wait>(
     pass: &mut Pass<M>,
     moment: u64,
     real: &Pair,
-) -> Option<Lease<O>> {
+) -> (Word, Option<Lease<O>>) {
     match desk.accept(rt, pass, moment, 0, real) {
-        Ok((_receipt, lease)) => lease,
-        Err(_fault) => None,
+        Ok((receipt, lease)) => (word_of(&receipt.reply.said), lease),
+        Err(fault) => (fault_word(fault), None),
     }
 }
 
-/// Something is driven on the connection of the lease, if there is one.
-pub fn drive<M: Ledger, O: Ledger, R: Wait>(
+/// Something is driven on the connection of the lease.
+fn drive<M: Ledger, O: Ledger, R: Wait>(
     rt: &R,
     desk: &SharedDesk<M, O>,
     pass: &mut Pass<M>,
     moment: u64,
-    lease: Option<Lease<O>>,
+    lease: Lease<O>,
     step: &Drive<'_>,
 ) -> (Word, Option<Lease<O>>) {
-    match lease {
-        Some(lease) => word(desk.drive(rt, pass, moment, lease, step)),
-        None => (("no lease", 0), None),
+    match desk.drive(rt, pass, moment, lease, step) {
+        Driven::Goes(receipt, lease) => (word_of(&receipt.reply.said), Some(lease)),
+        Driven::Over(receipt) => (word_of(&receipt.reply.said), None),
+        Driven::Failed(fault, lease) => (fault_word(fault), Some(lease)),
     }
 }
 
-/// The connection of the lease ended, if there is one.
+/// The connection of the lease ended.
 pub fn close<M: Ledger, O: Ledger, R: Wait>(
     rt: &R,
     desk: &SharedDesk<M, O>,
     pass: &mut Pass<M>,
     moment: u64,
-    lease: Option<Lease<O>>,
-) -> Option<Lease<O>> {
-    match lease {
-        Some(lease) => match desk.close(rt, pass, moment, lease, Why::Done) {
-            Ok(_receipt) => None,
-            Err((_fault, lease)) => Some(lease),
-        },
-        None => None,
+    lease: Lease<O>,
+) -> (Word, Option<Lease<O>>) {
+    match desk.close(rt, pass, moment, lease, Why::Done) {
+        Ok(receipt) => (word_of(&receipt.reply.said), None),
+        Err((fault, lease)) => (fault_word(fault), Some(lease)),
     }
 }
 
 /// A new configuration comes.
-pub fn reload<M: Ledger, O: Ledger, R: Wait>(
+fn reload<M: Ledger, O: Ledger, R: Wait>(
     rt: &R,
     desk: &SharedDesk<M, O>,
     pass: &mut Pass<M>,
@@ -104,23 +112,40 @@ pub fn reload<M: Ledger, O: Ledger, R: Wait>(
     }
 }
 
-/// What is open of that which is asked for, and how often it was tracked.
-pub fn counts<M: Ledger, O: Ledger, R: Wait>(
+/// What comes of a call that is for no connection.
+fn other_word<M: Ledger, O: Ledger, R: Wait>(
     rt: &R,
     desk: &SharedDesk<M, O>,
-    ask: &Ask,
-) -> Option<(u64, u64)> {
-    match desk.ask(rt, ask) {
-        Some(Counts { cur, cnt }) => Some((cur, cnt)),
-        None => None,
+    pass: &mut Pass<M>,
+    moment: u64,
+    call: &Call,
+) -> Word {
+    match call {
+        Call::Reload(text) => reload(rt, desk, pass, moment, text),
+        Call::Ask(ask) => count_word(desk.ask(rt, ask)),
+        _ => ("no such lease", 0, 0),
     }
 }
 
-/// What the first table says of a source: how many connections are open, and how often it was tracked.
-pub fn entry<M: Ledger, O: Ledger, R: Wait>(
+/// A call on the connection of the lease, if there is one.
+pub fn make<M: Ledger, O: Ledger, R: Wait>(
     rt: &R,
     desk: &SharedDesk<M, O>,
-    source: u32,
-) -> Option<(u64, u64)> {
-    counts(rt, desk, &Ask::Entry(0, Addr::V4(source)))
+    pass: &mut Pass<M>,
+    moment: u64,
+    real: &Pair,
+    call: &Call,
+    lease: Option<Lease<O>>,
+) -> (Word, Option<Lease<O>>) {
+    match lease {
+        None => match call {
+            Call::Accept => accept(rt, desk, pass, moment, real),
+            _ => (other_word(rt, desk, pass, moment, call), None),
+        },
+        Some(lease) => match call {
+            Call::Drive(step) => drive(rt, desk, pass, moment, lease, step),
+            Call::Close => close(rt, desk, pass, moment, lease),
+            _ => (other_word(rt, desk, pass, moment, call), Some(lease)),
+        },
+    }
 }

@@ -7,10 +7,10 @@ use book_core::{Book, CutFault};
 use conn_model::event::Event;
 use record_core::Segment;
 use rtrb::Consumer;
-use std::test::Fail;
+use std::alloc::Global;
 
 /// What three cuts come to, how many segments are in the ring then, and the first number and the length of the first.
-#[derive(Drop)]
+#[derive(Clone, Copy, Debug, PartialEq, Eq)]
 struct Seen {
     cuts: [Result<(), CutFault>; 3],
     left: usize,
@@ -40,19 +40,18 @@ fn cut_thrice(book: Book, segments: Consumer<Segment>, real: &Pair) -> Seen
     }
 }
 
-#[test]
-fn cut_needs_a_record_and_room_in_the_ring(rt: HostRuntime) -> Result<(), Fail> {
+fn cuts(alloc: Global) -> Option<Seen> {
     let real = pair_from(0xc000_0205, 4000, 9000)?;
-    let Some((book, segments)) = open_with_ring(rt.alloc(), RULE, 1) else {
-        assert!(rt; false, "there is memory");
-        return Ok(());
+    let (book, segments) = open_with_ring(alloc, RULE, 1)?;
+    Some(cut_thrice(book, segments, &real))
+}
+
+#[test]
+fn cut_needs_a_record_and_room_in_the_ring(rt: HostRuntime) {
+    let seen = Seen {
+        cuts: [Err(CutFault::Nothing), Ok(()), Err(CutFault::Full)],
+        left: 1,
+        segment: Some((1, 1)),
     };
-    let seen = cut_thrice(book, segments, &real);
-    assert_eq!(rt;
-        seen.cuts,
-        [Err(CutFault::Nothing), Ok(()), Err(CutFault::Full)]
-    );
-    assert_eq!(rt; seen.left, 1);
-    assert_eq!(rt; seen.segment, Some((1, 1)));
-    Ok(())
+    assert_eq!(rt; cuts(rt.alloc()), Some(seen));
 }

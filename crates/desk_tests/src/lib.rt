@@ -1,5 +1,5 @@
-//! Tests of `desk_core`, of what no contract says: that its calls do not give up, that threads may share it, and that what is
-//! asked is counted.
+//! Tests of `desk_core`, of what no contract says: that its calls do not give up, that threads may share it, and that
+//! what is asked is counted.
 #![tactic(auto)]
 
 #[cfg(test)]
@@ -14,6 +14,8 @@ mod leases;
 mod openings;
 #[cfg(test)]
 mod reloads;
+#[cfg(test)]
+mod scripts;
 #[cfg(test)]
 mod segments;
 #[cfg(test)]

@@ -2,12 +2,12 @@
 ghost use Rattle.std.specs.Prelude.{◌≡◌, ◌<◌, ◌-◌, ◌+◌, ◌^◌};
 ghost use Rattle.book_core.specs.Open.{open_connections};
 
-use crate::books::{RULE, open_with_ring, pair_from, put, room};
+use crate::books::{RULE, Three, filled, open_with_ring, pair_from, room};
 use crate::calls::{accept, close};
 use addr_core::Pair;
 use book_core::{Book, CutFault};
 use conn_model::reply::{Cause, Said};
-use desk_core::{Desk, Lease, Pass, SettleFault, Settled, SharedDesk, settle};
+use desk_core::{Desk, Lease, Pass, SettleFault, Settled, SharedDesk, Shut, settle};
 use list_core::Seq;
 use record_core::Segment;
 use rtrb::Consumer;
@@ -15,7 +15,6 @@ use std::alloc::Global;
 use std::marker::Brand;
 use std::sync::Wait;
 use std::sync::ledger::{Blank, Ledger};
-use std::test::Fail;
 
 /// How the two segments are handed in.
 #[derive(Clone, Copy, Debug, PartialEq, Eq)]
@@ -27,9 +26,9 @@ enum Hands {
     Forged,
 }
 
-/// What the cuts come to, the first number and the length of each segment, whether the second follows the first, and what
-/// was settled.
-#[derive(Drop)]
+/// What the cuts come to, the first number and the length of each segment, whether the second follows the first, and
+/// what was settled.
+#[derive(Clone, Copy, Debug, PartialEq, Eq)]
 struct Seen {
     cuts: [Result<(), CutFault>; 4],
     segments: [(u64, usize); 2],
@@ -39,7 +38,19 @@ struct Seen {
 
 type Cuts = [Result<(), CutFault>; 3];
 
-type Three<O> = (Option<Lease<O>>, Option<Lease<O>>, Option<Lease<O>>);
+/// The connection of the lease ended, if there is one.
+fn end<M: Ledger, O: Ledger, R: Wait>(
+    rt: &R,
+    desk: &SharedDesk<M, O>,
+    pass: &mut Pass<M>,
+    moment: u64,
+    lease: Option<Lease<O>>,
+) -> Option<Lease<O>> {
+    match lease {
+        Some(lease) => close(rt, desk, pass, moment, lease).1,
+        None => None,
+    }
+}
 
 /// A cut; an accept, one that is rejected, a close and a cut; an accept, and a cut for which the ring has no room.
 fn steps<M: Ledger, O: Ledger, R: Wait>(
@@ -50,11 +61,11 @@ fn steps<M: Ledger, O: Ledger, R: Wait>(
     rejected: &Pair,
 ) -> (Cuts, Three<O>) {
     let new = desk.cut(rt);
-    let one = accept(rt, desk, pass, 0, real);
-    let none = accept(rt, desk, pass, 1, rejected);
-    let one = close(rt, desk, pass, 2, one);
+    let (_offered, one) = accept(rt, desk, pass, 0, real);
+    let (_refused, none) = accept(rt, desk, pass, 1, rejected);
+    let one = end(rt, desk, pass, 2, one);
     let front = desk.cut(rt);
-    let other = accept(rt, desk, pass, 3, real);
+    let (_offered, other) = accept(rt, desk, pass, 3, real);
     let full = desk.cut(rt);
     ([new, front, full], (one, none, other))
 }
@@ -85,7 +96,54 @@ fn forged(segment: Segment) -> Segment {
     }
 }
 
-/// The steps, and one cut more when the desk is shut and its ring has room again.
+/// What is settled where the two segments are handed in so.
+fn settled_with<M: Ledger, O: Ledger>(
+    shut: Shut<M, O>,
+    passes: Vec<Pass<M>>,
+    left: Vec<Vec<Lease<O>>>,
+    front: Segment,
+    back: Segment,
+    hands: Hands,
+) -> Result<Settled, SettleFault>
+    requires { M.parts ≡ 65537 }
+{
+    match hands {
+        Hands::InOrder => settle(shut, passes, left, &[front, back]),
+        Hands::TurnedRound => settle(shut, passes, left, &[back, front]),
+        Hands::SecondAlone => settle(shut, passes, left, &[back]),
+        Hands::Forged => settle(shut, passes, left, &[forged(front), back]),
+    }
+}
+
+/// One cut more when the desk is shut and its ring has room again.
+fn seen_of<M: Ledger, O: Ledger>(
+    shut: Shut<M, O>,
+    passes: Vec<Pass<M>>,
+    left: Vec<Vec<Lease<O>>>,
+    segments: Consumer<Segment>,
+    cuts: Cuts,
+    hands: Hands,
+    alloc: Global,
+) -> Seen
+    requires { M.parts ≡ 65537 }
+{
+    let (mut shut, mut segments) = (shut, segments);
+    let [new, three, full] = cuts;
+    let front = next(alloc, &mut segments);
+    let last = shut.cut();
+    let back = next(alloc, &mut segments);
+    Seen {
+        cuts: [new, three, full, last],
+        segments: [
+            (front.first, front.records.len()),
+            (back.first, back.records.len()),
+        ],
+        follows: back.follows(&front),
+        settled: settled_with(shut, passes, left, front, back, hands),
+    }
+}
+
+/// The steps, and what is seen after them.
 fn settled<M: Ledger, O: Ledger, R: Wait>(
     rt: &R,
     alloc: Global,
@@ -101,54 +159,26 @@ fn settled<M: Ledger, O: Ledger, R: Wait>(
     requires units_name { units.name ≡ O.name }
     requires units_parts { (units.parts ≡ O.parts) × (units.parts ≡ 2 ^ 64 - 1) }
 {
-    let (book, mut segments) = opened;
-    let Some((mut leases, mut left)) = room(alloc) else {
+    let (book, segments) = opened;
+    let Some(lists) = room(alloc) else {
         book.end();
         return None;
     };
     let mut owner = Desk::<M, O>::new(alloc, book, made, units);
     let mut pass = owner.pass(true);
-    let (real, rejected) = pairs;
-    let ([new, three, full], (one, none, other)) = steps(
-        rt,
-        owner.shared(),
-        &mut pass,
-        &real,
-        &rejected,
-    );
-    put(&mut leases, one);
-    put(&mut leases, none);
-    put(&mut leases, other);
-    left.push_reserved(leases);
+    let (cuts, leases) = steps(rt, owner.shared(), &mut pass, &pairs.0, &pairs.1);
+    let left = filled(lists, leases);
     let mut passes = Vec::new(alloc);
     let _ = passes.push(pass);
-    let mut shut = owner.into_book();
-    let front = next(alloc, &mut segments);
-    let last = shut.cut();
-    let back = next(alloc, &mut segments);
-    Some(Seen {
-        cuts: [new, three, full, last],
-        segments: [
-            (front.first, front.records.len()),
-            (back.first, back.records.len()),
-        ],
-        follows: back.follows(&front),
-        settled: match hands {
-            Hands::InOrder => settle(shut, passes, left, &[front, back]),
-            Hands::TurnedRound => settle(shut, passes, left, &[back, front]),
-            Hands::SecondAlone => settle(shut, passes, left, &[back]),
-            Hands::Forged => settle(shut, passes, left, &[forged(front), back]),
-        },
-    })
+    let shut = owner.into_book();
+    Some(seen_of(shut, passes, left, segments, cuts, hands, alloc))
 }
 
-fn run<R: Wait>(rt: &R, alloc: Global, hands: Hands) -> Result<Option<Seen>, Fail> {
+fn run<R: Wait>(rt: &R, alloc: Global, hands: Hands) -> Option<Seen> {
     let real = pair_from(0xc000_0205, 4000, 9000)?;
     let rejected = pair_from(0xc633_6409, 4001, 9000)?;
-    let Some(opened) = open_with_ring(alloc, RULE, 1) else {
-        return Ok(None);
-    };
-    Ok(settled::<Brand, Brand, R>(
+    let opened = open_with_ring(alloc, RULE, 1)?;
+    settled::<Brand, Brand, R>(
         rt,
         alloc,
         opened,
@@ -156,29 +186,32 @@ fn run<R: Wait>(rt: &R, alloc: Global, hands: Hands) -> Result<Option<Seen>, Fai
         Blank::new(u64::MAX),
         (real, rejected),
         hands,
-    ))
+    )
+}
+
+/// What is seen where so much is settled.
+fn seen_with(settled: Result<Settled, SettleFault>) -> Option<Seen> {
+    Some(Seen {
+        cuts: [Err(CutFault::Nothing), Ok(()), Err(CutFault::Full), Ok(())],
+        segments: [(1, 3), (4, 1)],
+        follows: true,
+        settled,
+    })
 }
 
 #[test]
-fn receipts_are_found_in_the_segments_of_a_desk(rt: HostRuntime) -> Result<(), Fail> {
-    let table = [
-        (Hands::InOrder, Ok(Settled { made: 4, live: 1 })),
-        (Hands::TurnedRound, Ok(Settled { made: 4, live: 1 })),
+fn receipts_are_found_in_the_segments_of_a_desk(rt: HostRuntime) {
+    let all = Ok(Settled { made: 4, live: 1 });
+    for (hands, settled) in [
+        (Hands::InOrder, all),
+        (Hands::TurnedRound, all),
         (Hands::SecondAlone, Err(SettleFault::Missing(1))),
         (Hands::Forged, Err(SettleFault::WrongReceipt(2))),
-    ];
-    for (hands, settled) in table {
-        let Some(seen) = run(&rt, rt.alloc(), hands)? else {
-            assert!(rt; false, "there is memory");
-            return Ok(());
-        };
+    ] {
         assert_eq!(rt;
-            seen.cuts,
-            [Err(CutFault::Nothing), Ok(()), Err(CutFault::Full), Ok(())]
+            run(&rt, rt.alloc(), hands),
+            seen_with(settled),
+            "at {hands:?}"
         );
-        assert_eq!(rt; seen.segments, [(1, 3), (4, 1)]);
-        assert!(rt; seen.follows, "the second segment follows the first");
-        assert_eq!(rt; seen.settled, settled, "at {hands:?}");
     }
-    Ok(())
 }

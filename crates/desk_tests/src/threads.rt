@@ -2,7 +2,7 @@
 ghost use Rattle.std.specs.Prelude.{◌≡◌, ◌<◌, ◌-◌, ◌+◌, ◌^◌};
 ghost use Rattle.book_core.specs.Open.{open_connections};
 
-use crate::books::{RULE, open_book, pair_from, put, room};
+use crate::books::{RULE, filled, open_book, pair_from, room};
 use addr_core::Pair;
 use book_core::Book;
 use conn_model::event::Why;
@@ -11,7 +11,6 @@ use std::alloc::Global;
 use std::marker::Brand;
 use std::sync::Wait;
 use std::sync::ledger::{Blank, Ledger};
-use std::test::Fail;
 use std::thread;
 use std::thread::Threads;
 
@@ -73,17 +72,14 @@ fn both<M: Ledger + Send + Sync, O: Ledger + Send + Sync, R: Threads + Wait + Sy
     requires units_name { units.name ≡ O.name }
     requires units_parts { (units.parts ≡ O.parts) × (units.parts ≡ 2 ^ 64 - 1) }
 {
-    let Some((mut leases, mut left)) = room(alloc) else {
+    let Some(lists) = room(alloc) else {
         book.end();
         return None;
     };
     let mut desk = Desk::<M, O>::new(alloc, book, made, units);
-    let one = desk.pass(true);
-    let other = desk.pass(true);
+    let (one, other) = (desk.pass(true), desk.pass(true));
     let ((one, first), (other, second)) = side_by_side(rt, desk.shared(), one, other, real, calls);
-    put(&mut leases, first);
-    put(&mut leases, second);
-    left.push_reserved(leases);
+    let left = filled(lists, (first, second, None));
     let mut passes = Vec::new(alloc);
     let _ = passes.push(one);
     if !withhold {
@@ -97,12 +93,10 @@ fn two_threads<R: Threads + Wait + Sync>(
     alloc: Global,
     calls: u32,
     withhold: bool,
-) -> Result<Option<Result<Settled, SettleFault>>, Fail> {
+) -> Option<Result<Settled, SettleFault>> {
     let real = pair_from(0xc000_0205, 4000, 9000)?;
-    let Some(book) = open_book(alloc, RULE) else {
-        return Ok(None);
-    };
-    Ok(both::<Brand, Brand, R>(
+    let book = open_book(alloc, RULE)?;
+    both::<Brand, Brand, R>(
         rt,
         alloc,
         book,
@@ -111,26 +105,23 @@ fn two_threads<R: Threads + Wait + Sync>(
         real,
         calls,
         withhold,
-    ))
+    )
 }
 
 #[test]
-fn two_threads_make_one_history(rt: HostRuntime) -> Result<(), Fail> {
-    let all = two_threads(&rt, rt.alloc(), 200, false)?;
+fn two_threads_make_one_history(rt: HostRuntime) {
+    let all = two_threads(&rt, rt.alloc(), 200, false);
     assert_eq!(rt; all, Some(Ok(Settled { made: 400, live: 0 })));
-    Ok(())
 }
 
 #[test]
-fn open_connections_are_the_leases(rt: HostRuntime) -> Result<(), Fail> {
-    let all = two_threads(&rt, rt.alloc(), 3, false)?;
+fn open_connections_are_the_leases(rt: HostRuntime) {
+    let all = two_threads(&rt, rt.alloc(), 3, false);
     assert_eq!(rt; all, Some(Ok(Settled { made: 6, live: 2 })));
-    Ok(())
 }
 
 #[test]
-fn a_pass_is_withheld(rt: HostRuntime) -> Result<(), Fail> {
-    let all = two_threads(&rt, rt.alloc(), 200, true)?;
+fn a_pass_is_withheld(rt: HostRuntime) {
+    let all = two_threads(&rt, rt.alloc(), 200, true);
     assert_eq!(rt; all, Some(Err(SettleFault::NotAll)));
-    Ok(())
 }

@@ -1,4 +1,4 @@
-use Rattle.desk_tests.proofs.reloads.run.Given as goal
+use Rattle.desk_tests.proofs.scripts.run.Given as goal
 
 abbrev pub ghosts-settled-M-Ledger : goal.ghosts-settled-M-Ledger
 ghosts-settled-M-Ledger g a = record { name = a.made.name; parts = a.made.parts }
