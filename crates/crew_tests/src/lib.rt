@@ -9,6 +9,8 @@ mod faults;
 #[cfg(test)]
 mod link;
 #[cfg(test)]
+mod outcome;
+#[cfg(test)]
 mod play;
 #[cfg(test)]
 mod reloads;

@@ -9,11 +9,14 @@ use crate::shelf::Shelf;
 use crate::stage::{FakeClock, FakeGate, Mark, Stage};
 use addr_core::{Addr, Endpoint, Pair};
 use book_core::Book;
+use book_core::laws::open_connections_change;
+use conn_core::Core;
 use conn_model::event::Why;
 use conn_model::reply::{Cause, Said};
-use crew_core::{Backlog, Crew, CrewFault, Knock, Outlet, Setup, Summary, open_book, run_crew};
+use crew_core::{Backlog, Crew, CrewFault, Knock, Outlet, Setup, Summary, run_crew};
 use desk_core::{Opening, Pass, SettleFault, Settled, settle};
-use record_core::Record;
+use record_core::{Record, Segment};
+use rtrb::{Consumer, RingBuffer};
 use std::alloc::Global;
 use std::marker::Brand;
 use std::sync::ledger::{Blank, Ledger};
@@ -58,7 +61,8 @@ pub struct Play<'a> {
     pub is_late: bool,
     /// When the door is closed.
     pub closes_after: Option<Mark>,
-    /// How many segments the sink refuses before it takes one.
+    /// How many segments the ring to the recorder has room for, and how many the sink refuses before it takes one.
+    pub ring: usize,
     pub refusals: u32,
     /// How many calls the gate lets each worker make, and whether it holds the first of worker 0 back.
     pub calls: u64,
@@ -72,11 +76,20 @@ pub struct Play<'a> {
 /// What came of a run.
 #[derive(Drop)]
 pub struct Ended {
-    pub fault: Option<CrewFault>,
-    pub summary: Summary,
     /// The records of the sink, and after them those of the journal.
     pub words: Vec<Word>,
-    pub shelf: Shelf,
+    pub seen: Seen,
+}
+
+/// What is seen of a run beside its records.
+#[derive(Clone, Copy, Debug)]
+pub struct Seen {
+    pub fault: Option<CrewFault>,
+    pub summary: Summary,
+    /// How many segments the sink took, how many records they have, and how many do not follow the one before.
+    pub segments: usize,
+    pub records: u64,
+    pub gaps: u64,
     /// The calls of all passes.
     pub calls: u64,
     pub settled: Result<Settled, SettleFault>,
@@ -101,6 +114,31 @@ fn real_pair() -> Option<Pair> {
         port: 8080,
     };
     Pair::of(source, destination)
+}
+
+/// A book over the configuration, if it opens, and the other end of its ring, which has room for so many segments.
+fn open_with_ring(alloc: Global, text: &str, segments: usize) -> Option<(Book, Consumer<Segment>)>
+    ensures made { IfSome result (λ opened. opened.0.made ≡ 0) }
+    ensures state { IfSome result (λ opened. open_connections opened.0.state ≡ 0) }
+    ensures base { IfSome result (λ opened. open_connections opened.0.base ≡ 0) }
+    ensures ring { IfSome result (λ opened. IsPair opened.0.segments opened.1) }
+{
+    open_connections_change();
+    let Ok(core) = Core::open(alloc, text) else {
+        return None;
+    };
+    let Ok((producer, consumer)) = RingBuffer::new(alloc, segments) else {
+        core.end();
+        return None;
+    };
+    match Book::open(alloc, core, producer) {
+        Ok(book) => Some((book, consumer)),
+        Err(failed) => {
+            let (core, _producer) = failed.value;
+            core.end();
+            None
+        }
+    }
 }
 
 /// What comes to the door, the last of it first.
@@ -192,20 +230,21 @@ fn end<M: Ledger, O: Ledger, B: Opening, L: Drop>(
         sink: shelf,
     } = outlet;
     let words = words_of(alloc, &shelf, shut.book().journal());
-    let calls = calls_of(passes.as_slice());
-    Ended {
+    let seen = Seen {
         fault,
         summary,
-        words,
-        calls,
+        segments: shelf.segments.len(),
+        records: shelf.records,
+        gaps: shelf.gaps,
+        calls: calls_of(passes.as_slice()),
         settled: settle(shut, passes, left, shelf.segments.as_slice()),
-        shelf,
         is_served: stage.has(Mark::Served),
         is_answered: stage.has(Mark::Answered),
         is_wrong: stage.has(Mark::Wrong),
         reloads: door.reloads,
         warned: door.warned,
-    }
+    };
+    Ended { words, seen }
 }
 
 /// The fakes of a run.
@@ -315,9 +354,7 @@ pub fn run<R: Threads + Wait + Sync, H: Clock + Copy + Send + Sync + Drop>(
         turns: play.turns,
         keeps: true,
     };
-    let Ok((book, segments)) = open_book(alloc, play.text) else {
-        return None;
-    };
+    let (book, segments) = open_with_ring(alloc, play.text, play.ring)?;
     let outlet = Outlet {
         segments,
         sink: Shelf::new(alloc, play.refusals),

@@ -1,9 +1,9 @@
 //! Two workers that share a table, and one that passes bytes on.
 use crate::link::{Script, Text};
-use crate::play::{Play, run};
+use crate::outcome::{Outcome, fault_of, made};
+use crate::play::{Play, Word};
 use crate::stage::Mark;
-use crew_core::Summary;
-use desk_core::Settled;
+use crew_core::{RING, Summary};
 
 /// Two servers behind a PROXY header, and a table by which a source has one connection at a time.
 pub const TABLE: &str =
@@ -40,6 +40,7 @@ pub const PLAIN: Play<'static> = Play {
     fails: 0,
     is_late: false,
     closes_after: Some(Mark::FirstOver),
+    ring: RING,
     refusals: 0,
     calls: u64::MAX,
     holds: false,
@@ -48,79 +49,72 @@ pub const PLAIN: Play<'static> = Play {
     step: 0,
 };
 
+/// The server's answer comes later.
+const LATE: Play<'static> = Play {
+    is_late: true,
+    ..PLAIN
+};
+
+static DONE: [Word; 4] = [("wait", 1), ("offer", 12), ("up", 1), ("done", 1)];
+
 #[test]
 fn bytes_after_a_header_come_to_the_server_and_its_answer_back(rt: HostRuntime) {
-    let play = Play {
-        is_late: true,
-        ..PLAIN
+    let wanted = Outcome {
+        bytes: Some((true, true)),
+        ..made(4)
     };
-    let Some(ended) = run(&rt, rt.alloc(), &rt, &play) else {
-        assert!(rt; false, "there is memory");
-        return;
-    };
-    assert_eq!(rt; ended.fault, None);
-    assert_eq!(rt;
-        ended.words.as_slice(),
-        [("wait", 1), ("offer", 12), ("up", 1), ("done", 1)].as_slice()
-    );
-    assert!(rt;
-        ended.is_served && ended.is_answered && !ended.is_wrong,
-        "all bytes came"
-    );
-    assert_eq!(rt; ended.settled, Ok(Settled { made: 4, live: 0 }));
+    assert_eq!(rt; fault_of(&rt, rt.alloc(), &rt, &LATE, &DONE, &wanted), None);
 }
+
+/// The first client and its server stay until the second client is gone, which begins when the server has all bytes.
+const FIRST: Script = Script {
+    ends_after: Some(Mark::SecondOver),
+    ..CLIENT
+};
+
+const SECOND: Script = Script {
+    gives: Text::Header,
+    gives_after: Some(Mark::Served),
+    ends_after: None,
+    drops: Some(Mark::SecondOver),
+    ..CLIENT
+};
+
+const STAYING_SERVER: Script = Script {
+    ends_after: Some(Mark::SecondOver),
+    ..SERVER
+};
+
+const TWO: Play<'static> = Play {
+    clients: &[FIRST, SECOND],
+    server: STAYING_SERVER,
+    holds: true,
+    workers: 2,
+    ..PLAIN
+};
+
+static ONE_REFUSED: [Word; 6] = [
+    ("wait", 1),
+    ("wait", 2),
+    ("offer", 12),
+    ("up", 2),
+    ("refuse", 8),
+    ("done", 2),
+];
 
 #[test]
 fn second_worker_sees_the_first_ones_connection(rt: HostRuntime) {
-    let first = Script {
-        ends_after: Some(Mark::SecondOver),
-        ..CLIENT
-    };
-    let second = Script {
-        gives: Text::Header,
-        gives_after: Some(Mark::Served),
-        ends_after: None,
-        drops: Some(Mark::SecondOver),
-        ..CLIENT
-    };
-    let server = Script {
-        ends_after: Some(Mark::SecondOver),
-        ..SERVER
-    };
-    let play = Play {
-        clients: &[first, second],
-        server,
-        holds: true,
-        workers: 2,
-        ..PLAIN
-    };
-    let Some(ended) = run(&rt, rt.alloc(), &rt, &play) else {
-        assert!(rt; false, "there is memory");
-        return;
-    };
-    assert_eq!(rt; ended.fault, None);
-    assert_eq!(rt;
-        ended.words.as_slice(),
-        [
-            ("wait", 1),
-            ("wait", 2),
-            ("offer", 12),
-            ("up", 2),
-            ("refuse", 8),
-            ("done", 2)
-        ]
-        .as_slice()
-    );
-    assert_eq!(rt;
-        ended.summary,
-        Summary {
+    let wanted = Outcome {
+        summary: Some(Summary {
             accepted: 2,
             taken: 2,
             closed: 1,
             recorded: 6,
-            sink_failed: 0
-        }
-    );
-    assert_eq!(rt; ended.calls, 6);
-    assert_eq!(rt; ended.settled, Ok(Settled { made: 6, live: 0 }));
+            sink_failed: 0,
+        }),
+        calls: Some(6),
+        ..made(6)
+    };
+    let fault = fault_of(&rt, rt.alloc(), &rt, &TWO, &ONE_REFUSED, &wanted);
+    assert_eq!(rt; fault, None);
 }
