@@ -273,8 +273,7 @@ fn act<
     outlet: Outlet<Shelf>,
     setup: Setup,
 ) -> Ended
-    requires opened { B.opening ≡ Some book }
-    requires ring { IsPair book.segments outlet.segments }
+    requires opened { (B.opening ≡ Some book) × IsPair book.segments outlet.segments }
     requires fresh { (book.made ≡ 0) × (open_connections book.state ≡ 0) × (open_connections book.base ≡ 0) }
     requires made_name { made.name ≡ M.name }
     requires made_parts { (made.parts ≡ M.parts) × (made.parts ≡ 65537) }
@@ -287,21 +286,9 @@ fn act<
         gate,
         clock,
     } = fakes;
-    let ended = run_crew::<
-        R,
-        M,
-        O,
-        B,
-        FakeLink,
-        FakeDial<H>,
-        FakeDoor,
-        FakeGate<H>,
-        FakeClock<H>,
-        Shelf,
-    >(
+    let (fault, crew) = match run_crew::<R, M, O, B, _, _, _, _, _, Shelf>(
         rt, alloc, book, made, units, &mut door, dials, outlet, &gate, &clock, setup,
-    );
-    let (fault, crew) = match ended {
+    ) {
         Ok(crew) => (None, crew),
         Err((fault, crew)) => (Some(fault), crew),
     };
