@@ -47,7 +47,7 @@ IsRead NoMemory = ⊥
 IsRead Read = Unit {0}
 IsRead (Config fault) = ⊥
 
--- the fault where no line comes
+-- the fault if no line comes
 abbrev pub reading_fault : ℕ → LineFault → CheckFault
 reading_fault at lines.TooLong = fault_at at TooLong
 reading_fault at lines.Read = fault_at 0 Read

@@ -47,7 +47,7 @@ abbrev pub with_end : Option (List ℕ) → List ℕ
 with_end None = []
 with_end (Some line) = line ++ codes "\n"
 
--- the line of a connection of which that is known, where the reply ends it
+-- the line of a connection of which that is known, if the reply ends it
 abbrev pub line_by : Option Known → Said → List ℕ
 line_by None said = []
 line_by (Some known) said = with_end (audit_text known.peer known.offered said)
@@ -76,7 +76,7 @@ abbrev pub output_of : Plain → Result (List Entry) CheckFault → List ℕ
 output_of p (Ok h) = history_output p h
 output_of p (Err fault) = fault_text fault
 
--- what is written of a text where a plan is opened
+-- what is written of a text if a plan is opened
 abbrev pub plan_output : Plan → List ℕ → List ℕ
 plan_output plan text = output_of (opening plan 0) (history_on (opening plan 0) [] 0 Next.between (parts is_line_feed text))
 

@@ -97,7 +97,7 @@ pub record Writes (sent : List ℕ) (j : Noted) (s : Standing) (text : List ℕ)
   pub is_left : left ≡ Some rest
   pub same : all_output now k t (kept ++ rest) ≡ all_output sent j s text
 
--- the fault where no line comes of a record that was right
+-- the fault if no line comes of a record that was right
 abbrev pub second_fault : LineFault → PrintFault
 second_fault lines.TooLong = prints.Read
 second_fault lines.Read = prints.Read

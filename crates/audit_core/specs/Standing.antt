@@ -73,7 +73,7 @@ on_due s (dues.Reply peer answered) line = reply_at (s.lines + 1) answered line 
 abbrev pub on_line : Standing → List ℕ → Result Standing CheckFault
 on_line s line = on_due s s.due line
 
--- no line has to come where the next one would be the first of an event
+-- no line has to come if the next one would be the first of an event
 abbrev pub unless_due : Standing → Due → Result Standing CheckFault
 unless_due s dues.Event = Ok s
 unless_due s (dues.Text pending) = Err (fault_at (s.lines + 1) Format)

@@ -86,7 +86,7 @@ abbrev pub counts_from : Plain → Result (List Entry) CheckFault → Result Che
 counts_from p (Ok h) = Ok (counts_of p h)
 counts_from p (Err fault) = Err fault
 
--- what the check of a text says where a plan is opened
+-- what the check of a text says if a plan is opened
 abbrev pub verdict : Plan → List ℕ → Result Checked CheckFault
 verdict plan text = counts_from (opening plan 0) (history_on (opening plan 0) [] 0 Next.between (parts is_line_feed text))
 

@@ -81,7 +81,11 @@ fn outside(kind: &CheckKind) -> Option<PrintFault>
 }
 
 /// Writes the line of a fault, unless the device or memory failed.
-fn report<O: Output>(alloc: Global, fault: &CheckFault, writer: &mut O) -> Result<(), PrintFault>
+pub fn report<O: Output>(
+    alloc: Global,
+    fault: &CheckFault,
+    writer: &mut O,
+) -> Result<(), PrintFault>
     ensures ok { OnOk result ((sent : List ℕ) → O.held writer.old ≡ Some sent → O.held writer.new ≡ Some (sent ++ fault_text fault.now)) }
     ensures inside { OnOk result (¬ IsOutside fault.now.kind) }
     ensures front { OnErr result ((sent text : List ℕ) → O.held writer.old ≡ Some sent → (¬ IsOutside fault.now.kind → text ≡ fault_text fault.now) → IsFront (O.held writer.new) (sent ++ text)) }
@@ -120,7 +124,7 @@ fn print_record<I: Input, O: Output>(
     }
 }
 
-/// Checks a record by its first reader, to its end. Where it is right, the second reader of the same record is read,
+/// Checks a record by its first reader, to its end. If it is right, the second reader of the same record is read,
 /// and a line is written for each connection that ended, and at the end how many entries the record has and how many
 /// connections are open after them; else the line of the fault is written, which is also answered. What the second
 /// reader gives is checked too: a fault there is `Read`. At most `device_core::MOST_READS` reads are made of each.
@@ -138,7 +142,7 @@ pub fn run_audit<I: Input, J: Input, O: Output>(
         O.held writer.new ≡ Some (sent ++ fault_text fault)) }
     ensures inside { IfOk result (λ found. IfSome found (λ fault. ¬ IsOutside fault.kind)) }
 
-    // Where the second reader gives the same text, the lines of a record that is right are those of its history.
+    // If the second reader gives the same text, the lines of a record that is right are those of its history.
     ensures lines { result ≡ Ok None → (text sent : List ℕ) → I.left reader.old ≡ Some text → J.left second.old ≡ Some text → O.held writer.old ≡ Some sent →
         IsAudited config.now text sent (O.held writer.new) }
 

@@ -1,11 +1,12 @@
 //! A core along the lines of a record.
-ghost use Rattle.std.specs.Prelude.{◌≡◌, ◌⊎◌, ◌+◌, ◌<◌, ◌≤◌, ◌^◌, ℕ, List, length, Option, Some, None, Ok, Err, IfSome, IfOk, IfErr, OnOk, OnErr, option_map};
+ghost use Rattle.std.specs.Prelude.{◌≡◌, ◌⊎◌, ◌+◌, ◌<◌, ◌≤◌, ◌^◌, ℕ, List, length, Option, Some, None, Ok, Err, IfSome, IfOk, IfErr, OnOk, OnErr, option_and_then, option_map};
 ghost use Rattle.std.specs.Str.{bytes_eq};
 ghost use Rattle.line_reader.specs.declared.lines.TheConstants.{MOST_LINE_BYTES};
 ghost use Rattle.text_core.specs.Decimal.{decimal};
 ghost use Rattle.conn_model.specs.declared.event.TheConstants.{PIECE_LIMIT};
-ghost use Rattle.conn_model.specs.Answer.{answer_in};
-ghost use Rattle.conn_model.specs.Counts.{total};
+ghost use Rattle.conn_model.specs.Answer.{answer_in, row_at};
+ghost use Rattle.conn_model.specs.Counts.{server_of, total};
+ghost use Rattle.conn_rows.specs.Summaries.{names_in, names_of};
 ghost use Rattle.conn_model.specs.History.{owned_event};
 ghost use Rattle.event_text.specs.Script.{head_read, with_text, words_of, HasLines};
 ghost use Rattle.replay_core.specs.Turns.{plain_after};
@@ -22,8 +23,8 @@ use crate::due::Due;
 use crate::fault::{CheckFault, CheckKind, MOST_RECORD_LINES};
 use crate::writing::write_recorded;
 use addr_core::Endpoint;
-use conn_core::Core;
-use conn_model::event::Event;
+use conn_core::{Core, ServerNames};
+use conn_model::event::{ConnId, Event};
 use conn_model::plain::FrontendRows;
 use conn_model::reply::{Reply, StepFault};
 use event_text::{FirstLine, PendingReload, read_bar, read_event};
@@ -140,7 +141,7 @@ fn step(
 }
 
 /// The answer to an event, after which one connection more is open at most.
-fn answer(
+pub fn answer(
     core: &mut Core,
     moment: u64,
     event: &Event<'_>,
@@ -212,7 +213,7 @@ impl Auditor {
         }
     }
 
-    /// The fault where no next line comes.
+    /// The fault if no next line comes.
     pub fn reading_fault(&self, fault: LineFault) -> CheckFault
         ensures { result ≡ reading_fault (self.now.lines + 1) fault }
     {
@@ -243,9 +244,17 @@ impl Auditor {
         }
     }
 
+    /// The names of the server that an open connection was offered, as the version that judged it has them.
+    pub fn server(&self, id: ConnId) -> Option<ServerNames<'_>>
+        ensures { option_map names_in result ≡ option_map names_of (option_and_then (λ row. server_of row.phase) (row_at self.now.plain.frontends id)) }
+    {
+        self.core.server(id)
+    }
+
     /// How many entries came.
     pub fn records(&self) -> u64
-        ensures { result ≡ self.now.records }
+        ensures count { result ≡ self.now.records }
+        ensures few { result ≤ MOST_RECORD_LINES }
     {
         self.records
     }

@@ -116,7 +116,7 @@ pub fn check_record<I: Input>(
     ensures written { IfErr result (λ f. (plan : Plan) (history : List Entry) → I.left reader.old ≡ Some (history_text history) → meaning config.now ≡ Ok plan →
         IsLegal (opening plan 0) history → AreHandedIn history → IsWithinLimits (parts is_line_feed (history_text history)) → IsOutside f.kind) }
 
-    // The configuration is opened exactly where it has a meaning.
+    // The configuration is opened exactly if it has a meaning.
     ensures opened { IfOk result (λ _. (plan : Plan) × (meaning config.now ≡ Ok plan)) }
 
     // The device gives up before the check does.

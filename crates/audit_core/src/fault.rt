@@ -19,7 +19,7 @@ pub struct Checked {
 #[derive(Clone, Copy, Debug, PartialEq, Eq)]
 pub enum CheckKind {
     /// The line is not the first one of the event with the next number; or it is not one of the text of a reload, or a
-    /// reply, where one has to come; or such a line is missing there.
+    /// reply, if one has to come; or such a line is missing there.
     Format,
     /// The line is not the reply to the event before it, or that event has none.
     WrongReply,
@@ -35,7 +35,7 @@ pub enum CheckKind {
 /// Why a record is not right, or could not be checked.
 #[derive(Clone, Copy, Debug, PartialEq, Eq)]
 pub struct CheckFault {
-    /// From 1; 0 where no line of the record is wrong.
+    /// From 1; 0 if no line of the record is wrong.
     pub line: u64,
     pub kind: CheckKind,
 }

@@ -1,8 +1,8 @@
 //! Records: each answered event with its reply, as text. A record is checked by a core that answers its events again.
 #![tactic(auto)]
 
-pub use audit::run_audit;
-pub use auditor::{Auditor, read_numbered};
+pub use audit::{report, run_audit};
+pub use auditor::{Auditor, answer, read_numbered};
 pub use check::{check_record, open_auditor};
 pub use fault::{CheckFault, CheckKind, Checked, MOST_RECORD_LINES};
 pub use line::audit_line;

@@ -33,7 +33,7 @@ fn write_offer(out: &mut Vec<u8>, offered: Option<(Endpoint, u32)>) -> Result<()
     out.extend_from_slice(b" ")
 }
 
-/// Appends the line of a connection, without its end, where the reply ends it, and says whether it does. Where memory
+/// Appends the line of a connection, without its end, if the reply ends it, and says whether it does. If memory
 /// runs out, the front of that line may be there.
 pub fn write_audit_line(
     out: &mut Vec<u8>,
@@ -64,7 +64,7 @@ pub fn write_audit_line(
     }
 }
 
-/// The line of a connection, without its end, where the reply ends it: its peer, and, where it was offered a server, the
+/// The line of a connection, without its end, if the reply ends it: its peer, and, if it was offered a server, the
 /// source that was judged and the server's line.
 pub fn audit_line(
     alloc: Global,

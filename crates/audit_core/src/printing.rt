@@ -41,7 +41,7 @@ pub fn write_bytes<O: Output>(bytes: &[u8], writer: &mut O) -> Result<(), PrintF
     }
 }
 
-/// A record that was right the first time cannot be read where it is wrong now.
+/// A record that was right the first time cannot be read if it is wrong now.
 pub fn again(fault: &CheckFault) -> PrintFault
     ensures no_memory { fault.now.kind ≡ CheckKind.NoMemory → result ≡ PrintFault.NoMemory }
     ensures either { (result ≡ PrintFault.NoMemory) ⊎ (result ≡ PrintFault.Read) }
@@ -52,7 +52,7 @@ pub fn again(fault: &CheckFault) -> PrintFault
     }
 }
 
-/// The same of a fault where no line comes.
+/// The same of a fault if no line comes.
 fn reading_again(fault: LineFault) -> PrintFault
     ensures { result ≡ second_fault fault }
 {

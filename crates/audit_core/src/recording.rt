@@ -75,7 +75,7 @@ pub fn write_journal<W: Output>(
 ) -> Result<(), RecordFault>
     ensures ok { OnOk result (Appends (W.held writer.old) (W.held writer.new) (records_text records.now)) }
 
-    // Where the records are numbered from 1, as those of a book are, it is the record of their history.
+    // If the records are numbered from 1, as those of a book are, it is the record of their history.
     ensures history { OnOk result (AreNumbered 1 records.now → Appends (W.held writer.old) (W.held writer.new) (history_text (history_of records.now))) }
 
     // After a fault the writer has the front of that text.

@@ -19,7 +19,7 @@ pub fn write_recorded(out: &mut Vec<u8>, reply: &Reply) -> Result<(), AllocError
 }
 
 /// Appends the lines of a record: those of its event under its number, and its reply. The records of a book, written one
-/// after the other, are what `check_record` reads. Where memory runs out, the front of these lines may be there.
+/// after the other, are what `check_record` reads. If memory runs out, the front of these lines may be there.
 pub fn write_record(out: &mut Vec<u8>, entry: &Record) -> Result<(), AllocError>
     ensures { OnOk result (out.new.items ≡ out.old.items ++ entry_text entry.now.number (entry_of entry.now)) }
 {

@@ -10,5 +10,5 @@ returns-in-Ok-add_counts-clause-front g c =
     on_err_weaker c.send.result
     (λ front sent is.
     counts_sent _ sent (noted_in c.args.journal.now).unsent (counts_text (counts_at c.args.auditor.now)) (noted_in c.add_counts.new.self)
-    (ap (λ n. n.unsent) (rw (c.records.ensures, c.in-Ok.ensures) at c.in-Ok-add_counts.ensures)) (front sent [] is))
+    (ap (λ n. n.unsent) (rw (c.records.ensures.count, c.in-Ok.ensures) at c.in-Ok-add_counts.ensures)) (front sent [] is))
     c.send.ensures.front
