@@ -1,0 +1,6 @@
+pub mod Deciding
+pub mod Sums
+pub mod Reporting
+pub mod Lines
+pub mod Noting
+pub mod Whatif

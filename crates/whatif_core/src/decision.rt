@@ -1,0 +1,147 @@
+//! What a balancer decides of a connection.
+ghost use Rattle.std.specs.Prelude.{◌≡◌, Some, IfOk, option_map};
+ghost use Rattle.whatif_core.specs.Deciding.{alike, decision_with, is_let_in, is_other_server, offer_of, same_kind};
+ghost use Rattle.conn_model.specs.History.{id_of};
+ghost use Rattle.conn_rows.specs.Summaries.{names_in};
+
+use conn_core::ServerNames;
+use conn_model::event::ConnId;
+use conn_model::reply::{Cause, Said};
+use list_core::Seq;
+use std::alloc::{AllocError, Global};
+
+/// What is decided of a connection, at its accept or once its header is whole.
+#[derive(Debug, Drop)]
+pub enum Decision {
+    /// It has to wait for its PROXY header, or for the rest of it.
+    Wait,
+    /// It is offered a server.
+    Offer {
+        /// The name of the backend.
+        backend: Seq<u8>,
+        /// The name of the server in it.
+        server: Seq<u8>,
+        /// The line of the server.
+        line: u32,
+    },
+    /// It is refused.
+    Refuse(Cause),
+}
+
+/// Of whom a reply speaks.
+pub fn named(said: &Said) -> Option<ConnId>
+    ensures { result ≡ id_of said.now }
+{
+    match said {
+        Said::Wait { id, .. }
+        | Said::Offer { id, .. }
+        | Said::Refuse { id, .. }
+        | Said::Up { id }
+        | Said::Closed { id, .. } => Some(*id),
+        Said::Reloaded { .. } => None,
+    }
+}
+
+/// An offer of the server of these names; they are empty if there are none.
+fn offer(alloc: Global, names: Option<ServerNames<'_>>, line: u32) -> Result<Decision, AllocError>
+    ensures { IfOk result (λ decision. decision ≡ offer_of (option_map names_in names.entry) line) }
+{
+    match names {
+        Some(names) => Ok(Decision::Offer {
+            backend: Seq::duplicate_of(alloc, names.backend)?,
+            server: Seq::duplicate_of(alloc, names.server)?,
+            line,
+        }),
+        None => Ok(Decision::Offer {
+            backend: Seq::new(alloc),
+            server: Seq::new(alloc),
+            line,
+        }),
+    }
+}
+
+/// What a reply decides of its connection, which was offered the server of these names.
+pub fn decision_in(
+    alloc: Global,
+    said: &Said,
+    names: Option<ServerNames<'_>>,
+) -> Result<Option<Decision>, AllocError>
+    ensures { IfOk result (λ decision. decision ≡ decision_with (option_map names_in names.entry) said.now) }
+{
+    match said {
+        Said::Wait { .. } => Ok(Some(Decision::Wait)),
+        Said::Offer { line, .. } => {
+            let offered = offer(alloc, names, *line)?;
+            Ok(Some(offered))
+        }
+        Said::Refuse { cause, .. } => Ok(Some(Decision::Refuse(*cause))),
+        Said::Up { .. } | Said::Closed { .. } | Said::Reloaded { .. } => Ok(None),
+    }
+}
+
+/// Whether two refusals are for the same kind of cause. The numbers of lines are not compared.
+fn same_kind(cause: &Cause, other: &Cause) -> bool
+    ensures { result ≡ same_kind cause.now other.now }
+{
+    match cause {
+        Cause::Line(_) => matches!(other, Cause::Line(_)),
+        Cause::Header(_) => matches!(other, Cause::Header(_)),
+        Cause::Expired => matches!(other, Cause::Expired),
+        Cause::NoBackend(_) => matches!(other, Cause::NoBackend(_)),
+        Cause::NoServer(_) => matches!(other, Cause::NoServer(_)),
+    }
+}
+
+/// Whether both wait, both are offered a server of a backend of one name, or both are refused for the same kind of cause.
+pub fn alike(was: &Decision, would: &Decision) -> bool
+    ensures { result ≡ alike was.now would.now }
+{
+    match was {
+        Decision::Wait => matches!(would, Decision::Wait),
+        Decision::Offer { backend, .. } => match would {
+            Decision::Offer { backend: other, .. } => backend.as_slice() == other.as_slice(),
+            Decision::Wait | Decision::Refuse(_) => false,
+        },
+        Decision::Refuse(cause) => match would {
+            Decision::Refuse(other) => same_kind(cause, other),
+            Decision::Wait | Decision::Offer { .. } => false,
+        },
+    }
+}
+
+/// Whether these are offers of different servers of one backend.
+pub fn is_other_server(was: &Decision, would: &Decision) -> bool
+    ensures { result ≡ is_other_server was.now would.now }
+{
+    match was {
+        Decision::Offer {
+            backend,
+            server,
+            line: _,
+        } => match would {
+            Decision::Offer {
+                backend: other_backend,
+                server: other_server,
+                line: _,
+            } => {
+                backend.as_slice() == other_backend.as_slice()
+                    && server.as_slice() != other_server.as_slice()
+            }
+            Decision::Wait | Decision::Refuse(_) => false,
+        },
+        Decision::Wait | Decision::Refuse(_) => false,
+    }
+}
+
+/// Whether the first refuses what the second does not.
+pub fn is_let_in(was: &Decision, would: &Decision) -> bool
+    ensures { result ≡ is_let_in was.now would.now }
+{
+    match was {
+        Decision::Refuse(_) => match would {
+            Decision::Wait | Decision::Offer { .. } => true,
+            Decision::Refuse(_) => false,
+        },
+        Decision::Wait | Decision::Offer { .. } => false,
+    }
+}

@@ -1,0 +1,20 @@
+//! What another configuration would have decided: the record of a balancer is played against it, and each decision that
+//! differs is written.
+#![tactic(auto)]
+
+pub use comparison::Comparison;
+pub use decision::Decision;
+pub use laws::open_in_both;
+pub use run::run_whatif;
+
+mod comparison;
+mod decision;
+mod journal;
+mod laws;
+mod opening;
+mod printing;
+mod run;
+mod tally;
+mod text;
+mod turn;
+mod twin;

@@ -1,0 +1,198 @@
+//! The balancer of a record, and beside it the trial: the balancer with the other configuration.
+ghost use Rattle.std.specs.Prelude.{◌≡◌, ◌⊎◌, ◌+◌, ◌≤◌, length, Option, Some, None, Ok, Err, IfOk, IfErr, OnOk, option_and_then, option_map};
+ghost use Rattle.line_reader.specs.declared.lines.TheConstants.{MOST_LINE_BYTES};
+ghost use Rattle.conn_model.specs.declared.event.TheConstants.{PIECE_LIMIT};
+ghost use Rattle.conn_model.specs.History.{id_of, owned_event};
+ghost use Rattle.conn_rows.specs.Summaries.{names_in};
+ghost use Rattle.audit_core.specs.Printing.{due_reply};
+ghost use Rattle.audit_core.specs.Standing.{at_end, on_line};
+ghost use Rattle.audit_core.specs.declared.fault.CheckFault.{CheckFault as Fault};
+ghost use Rattle.audit_core.specs.declared.fault.TheConstants.{MOST_RECORD_LINES};
+ghost use Rattle.whatif_core.specs.Deciding.{closed, decided, decision_of, offered_at, stepped};
+ghost use Rattle.whatif_core.specs.Lines.{both_on, handed_after, turn_after, turn_at};
+
+use crate::decision::{Decision, decision_in, named};
+use crate::turn::Turn;
+use audit_core::{Auditor, CheckFault, again, answer, read_numbered};
+use conn_core::{Core, ServerNames};
+use conn_model::event::{Event, PIECE_LIMIT, Why};
+use conn_model::reply::Said;
+use event_text::FirstLine;
+use replay_core::PrintFault;
+use std::alloc::{AllocError, Global};
+use std::marker::Model;
+
+/// The balancer of a record between two lines of it, and the trial. It cannot be dropped: it ends by `end`.
+pub struct Twin {
+    alloc: Global,
+    auditor: Auditor,
+    trial: Core,
+    /// The bytes of the piece of a line.
+    piece: Vec<u8>,
+}
+
+impl Model for Twin {
+    ghost use Rattle.std.specs.Prelude.{◌≡◌, length};
+    ghost use Rattle.conn_model.specs.declared.event.TheConstants.{PIECE_LIMIT};
+    ghost use Rattle.whatif_core.specs.Lines.{Both};
+
+    ghost Value = { Both };
+
+    ghost view = { λ t. record { checked = t.auditor; trial = t.trial } };
+
+    ghost invariant = { λ t. length t.piece.items ≡ PIECE_LIMIT };
+}
+
+/// The names of the server that the trial offered to the connection of a reply.
+fn trial_names<'a>(trial: &'a Core, said: &Said) -> Option<ServerNames<'a>>
+    ensures { option_map names_in result ≡ option_and_then (offered_at trial.now) (id_of said.now) }
+{
+    let id = named(said)?;
+    trial.server(id)
+}
+
+/// The same of the balancer of the record.
+fn recorded_names<'a>(auditor: &'a Auditor, said: &Said) -> Option<ServerNames<'a>>
+    ensures { option_map names_in result ≡ option_and_then (offered_at auditor.now.plain) (id_of said.now) }
+{
+    let id = named(said)?;
+    auditor.server(id)
+}
+
+/// What the trial decides of an event.
+fn hand_in(
+    alloc: Global,
+    trial: &mut Core,
+    moment: u64,
+    event: &Event<'_>,
+) -> Result<Option<Decision>, AllocError>
+    ensures decided { IfOk result (λ would. would ≡ decided trial.old moment (owned_event event.now)) }
+    ensures stepped { OnOk result (trial.new ≡ stepped trial.old moment (owned_event event.now)) }
+{
+    match answer(trial, moment, event) {
+        Ok(Ok(reply)) => decision_in(alloc, &reply.said, trial_names(trial, &reply.said)),
+        Ok(Err(_)) => Ok(None),
+        Err(_) => Err(AllocError),
+    }
+}
+
+/// Closes the connection that a reply of the record ends. This changes nothing if it is not open.
+fn close_ended(trial: &mut Core, moment: u64, said: &Said) -> Result<(), AllocError>
+    ensures { OnOk result (trial.new ≡ closed moment said.now trial.old) }
+{
+    match said {
+        Said::Refuse { id, .. } | Said::Closed { id, .. } => {
+            let _answered = answer(trial, moment, &Event::Close(*id, Why::Done))?;
+            Ok(())
+        }
+        Said::Wait { .. } | Said::Offer { .. } | Said::Up { .. } | Said::Reloaded { .. } => Ok(()),
+    }
+}
+
+/// What both decide of an event that the balancer of the record answered just now, if it is no fault.
+fn play(
+    alloc: Global,
+    auditor: &Auditor,
+    trial: &mut Core,
+    moment: u64,
+    event: &Event<'_>,
+) -> Result<Option<Turn>, AllocError>
+    ensures turn { IfOk result (λ turn. turn ≡ option_map (turn_after auditor.now.plain trial.old moment (owned_event event.now)) (due_reply auditor.now.due)) }
+    ensures trial { OnOk result (trial.new ≡ handed_after trial.old moment (owned_event event.now) (due_reply auditor.now.due)) }
+{
+    match auditor.answered() {
+        None => Ok(None),
+        Some((peer, reply)) => {
+            let was = decision_in(alloc, &reply.said, recorded_names(auditor, &reply.said))?;
+            let would = hand_in(alloc, trial, moment, event)?;
+            close_ended(trial, moment, &reply.said)?;
+            Ok(Some(Turn {
+                moment,
+                id: named(&reply.said),
+                peer,
+                was,
+                would,
+            }))
+        }
+    }
+}
+
+/// Checks a line once more.
+fn check_again(auditor: &mut Auditor, line: &[u8]) -> Result<(), PrintFault>
+    requires { length line.now ≤ MOST_LINE_BYTES }
+    ensures ok { OnOk result (on_line auditor.old line.now ≡ Ok auditor.new) }
+    ensures next { OnOk result ((auditor.new.lines ≡ auditor.old.lines + 1) × (auditor.new.lines ≤ MOST_RECORD_LINES)) }
+    ensures fault { IfErr result (λ f. (f ≡ PrintFault.NoMemory) ⊎ ((f ≡ PrintFault.Read) × (fault : Fault) × (on_line auditor.old line.now ≡ Err fault))) }
+{
+    match auditor.check_line(line) {
+        Ok(()) => Ok(()),
+        Err(fault) => Err(again(&fault)),
+    }
+}
+
+impl Twin {
+    pub fn new(alloc: Global, auditor: Auditor, trial: Core, piece: Vec<u8>) -> Self
+        requires { length piece.items ≡ PIECE_LIMIT }
+        ensures { result ≡ record { checked = auditor; trial = trial } }
+    {
+        Twin {
+            alloc,
+            auditor,
+            trial,
+            piece,
+        }
+    }
+
+    /// Ends both.
+    pub fn end(self) {
+        let Twin {
+            alloc: _,
+            auditor,
+            trial,
+            piece: _piece,
+        } = self;
+        auditor.end();
+        trial.end();
+    }
+
+    /// Checks that no line is missing.
+    pub fn finish(&self) -> Result<(), PrintFault>
+        ensures ok { OnOk result (at_end self.now.checked ≡ Ok self.now.checked) }
+        ensures fault { IfErr result (λ f. (f ≡ PrintFault.NoMemory) ⊎ ((f ≡ PrintFault.Read) × (fault : Fault) × (at_end self.now.checked ≡ Err fault))) }
+    {
+        match self.auditor.finish() {
+            Ok(()) => Ok(()),
+            Err(fault) => Err(again(&fault)),
+        }
+    }
+
+    /// Checks a line of the record once more. If an entry begins whose event it hands in, that is handed to the
+    /// trial too, and both decisions are answered. After a fault the run is over.
+    pub fn take_line(&mut self, line: &[u8]) -> Result<Option<Turn>, PrintFault>
+        requires { length line.now ≤ MOST_LINE_BYTES }
+        ensures ok { OnOk result (both_on self.old line.now ≡ Ok self.new) }
+        ensures turn { IfOk result (λ turn. turn ≡ turn_at self.old line.now) }
+        ensures next { OnOk result ((self.new.checked.lines ≡ self.old.checked.lines + 1) × (self.new.checked.lines ≤ MOST_RECORD_LINES)) }
+        ensures fault { IfErr result (λ f. (f ≡ PrintFault.NoMemory) ⊎ ((f ≡ PrintFault.Read) × (fault : Fault) × (both_on self.old line.now ≡ Err fault))) }
+    {
+        if !self.auditor.is_between() {
+            check_again(&mut self.auditor, line)?;
+            return Ok(None);
+        }
+        match read_numbered(self.auditor.records() + 1, line, &mut self.piece) {
+            Some(FirstLine::Whole(moment, request)) => {
+                check_again(&mut self.auditor, line)?;
+                let event = request.event(&self.piece);
+                let Ok(turn) = play(self.alloc, &self.auditor, &mut self.trial, moment, &event)
+                else {
+                    return Err(PrintFault::NoMemory);
+                };
+                Ok(turn)
+            }
+            Some(FirstLine::Reload(_, _)) | None => {
+                check_again(&mut self.auditor, line)?;
+                Ok(None)
+            }
+        }
+    }
+}
