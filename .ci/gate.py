@@ -34,7 +34,7 @@ COSTS = ROOT / 'out' / 'costs.txt'
 TURNS = 6
 SHOWN = 10
 WHOLE_RUNS = ('tests/texts', 'must-not-compile/run', 'tests/run', 'tests/pipe/run', 'tests/serve', 'tests/memory',
-              'tests/hostile --random 1000')
+              'tests/terminal', 'tests/hostile --random 1000')
 
 
 def logic_of_toolchain():

@@ -28,6 +28,7 @@ EACH = '''for text in "$1"/*.text; do
     case $2 in
         check) "$3" check "$text" ;;
         pipe) "$3" pipe "$4" bare 10.1.1.1:5000 127.0.0.1:9000 < "$text" ;;
+        whatif) "$3" whatif "$4" "$4" "$text" ;;
         explain) "$3" explain "$4" bare 10.1.1.1:5000 127.0.0.1:9000 --header "$(head -c 60000 "$text" | od -An -v -tx1 | tr -d ' \n')" ;;
         *) "$3" "$2" "$4" "$text" ;;
     esac > "$at.out" 2> "$at.said"
@@ -36,6 +37,8 @@ done'''
 BARE = b'frontend bare\nbind 127.0.0.1:9000 accept-proxy\ndefault_backend raw\nbackend raw\nserver s 10.0.0.13:443\n'
 VERDICT = re.compile(rb'line \d+: ([A-Z]\w+ )?[A-Z]\w+\n')
 REPLIES = re.compile(rb'((wait|offer|refuse|up|closed|reloaded|count|fault) [^\n]+\n)*')
+COMPARED = re.compile(rb'changed 0 of \d+\nother server \d+\nlet in 0\n')
+DIFFERENT = re.compile(rb'(conn [^\n]+\n)+(\d+ was [^\n]+\n)+changed \d+ of \d+\nother server \d+\nlet in \d+\n')
 AUDITED = re.compile(rb'(conn [^\n]+\n)*checked \d+ open \d+\n')
 FAULT = re.compile(rb'line \d+: (WrongReply|Format|TooLong)\n')
 
@@ -111,6 +114,12 @@ def fault_of_pipe(status, text, out, said):
     return None if status == 0 and text.endswith(out) or status == 1 and not out and said else 'no such answer'
 
 
+def fault_of_whatif(status, text, out, said):
+    """Without a reload the same file decides nothing otherwise."""
+    right = status == 0 and COMPARED.fullmatch(out) or status == 1 and (FAULT.fullmatch(out) or DIFFERENT.fullmatch(out) and b' reload ' in text)
+    return None if right else 'no such answer'
+
+
 def fault_of_explain(status, text, out, said):
     """The last line is the reply that the status says."""
     last = out.rstrip(b'\n').split(b'\n')[-1]
@@ -118,7 +127,8 @@ def fault_of_explain(status, text, out, said):
     return None if reply and last.startswith(reply) and not said else 'no such answer'
 
 
-FAULT_OF = {'check': fault_of_check, 'replay': fault_of_replay, 'audit': fault_of_audit, 'pipe': fault_of_pipe, 'explain': fault_of_explain}
+FAULT_OF = {'check': fault_of_check, 'replay': fault_of_replay, 'audit': fault_of_audit, 'pipe': fault_of_pipe, 'explain': fault_of_explain,
+            'whatif': fault_of_whatif}
 
 
 def subjects(room):
@@ -134,6 +144,7 @@ def subjects(room):
         'check': [(None, [file.read_bytes() for file in sorted(EXAMPLES.glob('*.cfg'))])],
         'replay': [(config, [script.read_bytes()]) for config, script in zip(configs, scripts)],
         'audit': [(config, [record]) for config, record in zip(configs, records)],
+        'whatif': [(config, [record]) for config, record in zip(configs, records)],
         'pipe': [(bare, headers)],
         'explain': [(bare, headers)],
     }

@@ -1,5 +1,5 @@
 //! The commands.
-use clap::{Arg, Command, value_parser};
+use clap::{Arg, ArgAction, Command, value_parser};
 use std::alloc::{AllocError, Global};
 
 fn file<'a>(alloc: Global) -> Arg<'a> {
@@ -58,6 +58,30 @@ fn audit<'a>(alloc: Global) -> Result<Command<'a>, AllocError> {
         .arg(record)
 }
 
+fn whatif<'a>(alloc: Global) -> Result<Command<'a>, AllocError> {
+    let old = Arg::new(alloc, "OLD")
+        .required(true)
+        .help("The configuration that the record was made with");
+    let new = Arg::new(alloc, "NEW")
+        .required(true)
+        .help("The configuration that is tried");
+    let record = Arg::new(alloc, "RECORD")
+        .required(true)
+        .help("The answered events, each with its reply");
+    let summary = Arg::new(alloc, "summary")
+        .long("summary")
+        .action(ArgAction::SetTrue)
+        .help("Leaves out the line of each connection, and prints the counts alone");
+    Command::new(alloc, "whatif")
+        .about(
+            "Plays a record against another configuration, and prints what that decides otherwise",
+        )
+        .arg(old)?
+        .arg(new)?
+        .arg(record)?
+        .arg(summary)
+}
+
 fn explain<'a>(alloc: Global) -> Result<Command<'a>, AllocError> {
     let frontend = Arg::new(alloc, "FRONTEND")
         .required(true)
@@ -100,5 +124,6 @@ pub fn commands<'a>(alloc: Global) -> Result<Command<'a>, AllocError> {
         .subcommand(pipe(alloc)?)?
         .subcommand(audit(alloc)?)?
         .subcommand(explain(alloc)?)?
+        .subcommand(whatif(alloc)?)?
         .subcommand(serve(alloc)?)
 }

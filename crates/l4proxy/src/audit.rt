@@ -1,12 +1,13 @@
 //! `l4proxy audit`: a record is checked, and its connections are listed.
+use crate::progress::{Terminals, Watched};
 use crate::{DONE, REFUSED, USAGE, explain_refusal, open_script, unreadable};
-use audit_core::{CheckKind, run_audit};
+use audit_core::{CheckFault, CheckKind, run_audit};
 use clap::ArgMatches;
 use device_core::{FromRead, Input, ToWrite};
 use line_reader::{LineFault, LineReader, Next};
 use replay_core::PrintFault;
 use std::rt::Files;
-use std::{fs, io};
+use std::{fs, io, rt};
 
 /// Which device or file a fault speaks of.
 fn place<'a>(fault: &PrintFault, file: &'a str, record: &'a str) -> &'a str {
@@ -65,9 +66,29 @@ fn say_broken_off<R: Files + AllocGlobal + Eprint>(rt: &R, record: &str, line: u
     );
 }
 
+/// Says what is wrong with a record, or with its configuration, if the line of the fault does not say all.
+pub fn say_wrong<R: Files + AllocGlobal + Eprint>(
+    rt: &R,
+    file: &str,
+    text: &str,
+    record: &str,
+    fault: &CheckFault,
+) {
+    match &fault.kind {
+        CheckKind::Config(refused) => explain_refusal(rt, file, text, refused),
+        CheckKind::Format | CheckKind::WrongReply => say_broken_off(rt, record, fault.line),
+        CheckKind::NoMemory | CheckKind::Read | CheckKind::TooLong => {}
+    }
+}
+
 /// Checks a record, and writes a line for each connection that ended. The configuration is read before the record is
-/// opened.
-fn audit_files<R: Files + AllocGlobal + Print + Eprint>(rt: &R, file: &str, record: &str) -> u8 {
+/// opened. On a terminal, the progress of a long record is reported.
+fn audit_files<R: Files + AllocGlobal + Print + Eprint + rt::Clock>(
+    rt: &R,
+    file: &str,
+    record: &str,
+    terminals: Terminals,
+) -> u8 {
     let Ok(text) = fs::read_to_string(rt, file) else {
         return unreadable(rt, file);
     };
@@ -77,8 +98,9 @@ fn audit_files<R: Files + AllocGlobal + Print + Eprint>(rt: &R, file: &str, reco
     let Some(second) = open_script(rt, record) else {
         return unreadable(rt, record);
     };
-    let mut reader = FromRead::of(first);
-    let mut again = FromRead::of(second);
+    let mut reader = FromRead::of(Watched::new(rt, first, record, "checked", terminals.errors));
+    let reports = terminals.errors && !terminals.output;
+    let mut again = FromRead::of(Watched::new(rt, second, record, "listed", reports));
     let mut writer = ToWrite::of(io::writer(rt));
     match run_audit(
         rt.alloc(),
@@ -89,11 +111,7 @@ fn audit_files<R: Files + AllocGlobal + Print + Eprint>(rt: &R, file: &str, reco
     ) {
         Ok(None) => DONE,
         Ok(Some(fault)) => {
-            match &fault.kind {
-                CheckKind::Config(refused) => explain_refusal(rt, file, text.as_str(), refused),
-                CheckKind::Format | CheckKind::WrongReply => say_broken_off(rt, record, fault.line),
-                CheckKind::NoMemory | CheckKind::Read | CheckKind::TooLong => {}
-            }
+            say_wrong(rt, file, text.as_str(), record, &fault);
             REFUSED
         }
         Err(fault) => {
@@ -105,9 +123,13 @@ fn audit_files<R: Files + AllocGlobal + Print + Eprint>(rt: &R, file: &str, reco
 }
 
 /// Does what the words of the command ask for.
-pub fn run<R: Files + AllocGlobal + Print + Eprint>(rt: &R, given: &ArgMatches<'_>) -> u8 {
+pub fn run<R: Files + AllocGlobal + Print + Eprint + rt::Clock>(
+    rt: &R,
+    given: &ArgMatches<'_>,
+    terminals: Terminals,
+) -> u8 {
     match (given.get_str("FILE"), given.get_str("RECORD")) {
-        (Some(file), Some(record)) => audit_files(rt, file, record),
+        (Some(file), Some(record)) => audit_files(rt, file, record, terminals),
         _ => USAGE,
     }
 }

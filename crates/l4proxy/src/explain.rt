@@ -34,7 +34,7 @@ fn words<'a>(given: &'a ArgMatches<'_>) -> Option<ExplainWords<'a>> {
     })
 }
 
-/// The bytes of a header that is written in hexadecimal, or the status where there are none.
+/// The bytes of a header that is written in hexadecimal, or the status if there are none.
 fn header_bytes(
     rt: &(impl AllocGlobal + Eprint),
     word: Option<&str>,

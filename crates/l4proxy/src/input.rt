@@ -15,7 +15,7 @@ const BLOCK: usize = 4_096;
 /// word.
 const KEPT: usize = 8;
 
-/// How often a word is handed in where the door has no room for it, 10 ms apart.
+/// How often a word is handed in if the door has no room for it, 10 ms apart.
 const MOST_TRIES: u32 = 1_000;
 
 /// The reader of standard input, and when it last spoke of each cause.
@@ -31,7 +31,7 @@ struct Ear<'a, R: rt::Clock> {
 }
 
 impl<'a, R: Files + AllocGlobal + rt::Clock + Log> Ear<'a, R> {
-    /// Hands the text of the file to the door. Where the file cannot be read, nothing changes.
+    /// Hands the text of the file to the door. If the file cannot be read, nothing changes.
     fn reload(&mut self) {
         let Ok(text) = fs::read_to_string(self.rt, self.file) else {
             if self.unreadable.allows(self.clock.now()) {

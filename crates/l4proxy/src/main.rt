@@ -4,13 +4,17 @@
 //! `l4proxy replay FILE SCRIPT` opens the configuration FILE and answers the events of SCRIPT, one
 //! line each, on standard output. `l4proxy pipe FILE FRONTEND PEER LOCAL` passes one connection on, from
 //! standard input to standard output. `l4proxy audit FILE RECORD` answers the events of RECORD again and
-//! compares each reply. `l4proxy explain FILE FRONTEND PEER LOCAL` says which rules are tried for one connection, what they
-//! saw, and the reply; its status is 4 where the connection waits for its header. `l4proxy serve FILE` takes connections and passes them on, and writes the record of them on
-//! standard output, until standard input says `quit` or ends. The exit status is 0 when that is done, 1 where the configuration or the
-//! connection is refused, a line of the script hands in no event or one of the record is wrong, 2 for
-//! words that are no command, and 3 where something cannot be read or written, or memory ran out.
+//! compares each reply. `l4proxy explain FILE FRONTEND PEER LOCAL` says which rules are tried for one
+//! connection, what they saw, and the reply; its status is 4 if the connection waits for its header.
+//! `l4proxy whatif OLD NEW RECORD` plays the record of OLD against NEW, and says which connections
+//! NEW decides otherwise. `l4proxy serve FILE` takes connections and passes them on, and writes the
+//! record of them on standard output, until standard input says `quit` or ends. The exit status is 0
+//! when that is done, 1 if the configuration or the connection is refused, a line of the script hands
+//! in no event, one of the record is wrong or something differs, 2 for words that are no command, and
+//! 3 if something cannot be read or written, or memory ran out.
 #![tactic(auto)]
 
+use crate::progress::Terminals;
 use crate::serve::Stand;
 use clap::ArgMatches;
 use clap::error::ErrorKind;
@@ -21,15 +25,18 @@ use device_core::{FromRead, ToWrite};
 use refusal_text::refusal;
 use replay_core::{PrintFault, ReplayFault, run_check, run_replay};
 use socket_core::SystemClock;
+use std::io::IsTerminal;
 use std::process::ExitCode;
 use std::rt::Files;
-use std::{env, fs, io, thread};
+use std::{env, fs, io, rt, thread};
 
 mod audit;
 mod explain;
 mod input;
 mod pipe;
+mod progress;
 mod serve;
+mod whatif;
 
 /// All was done.
 const DONE: u8 = 0;
@@ -43,7 +50,7 @@ const USAGE: u8 = 2;
 /// Something cannot be read or written, or memory ran out.
 const DEVICE: u8 = 3;
 
-/// Says why a configuration is refused. Where memory runs out, the line and the fault's name are said alone.
+/// Says why a configuration is refused. If memory runs out, the line and the fault's name are said alone.
 fn explain_refusal(rt: &(impl AllocGlobal + Eprint), file: &str, text: &str, fault: &OpenFault) {
     let _written = match refusal(rt.alloc(), file, text, fault) {
         Ok(message) => eprintln!(rt; "{message}"),
@@ -138,45 +145,58 @@ enum Asked {
 }
 
 /// Does what the words ask for, unless that is to serve.
-fn run<R: Files + AllocGlobal + io::Input + Print + Eprint>(
+fn run<R: Files + AllocGlobal + io::Input + Print + Eprint + rt::Clock>(
     rt: &R,
     words: &[String],
+    terminals: Terminals,
 ) -> Result<Asked, clap::Error> {
     let matches = commands(rt.alloc())?.try_get_matches_from(words)?;
     match matches.subcommand() {
         Some(("serve", given)) => Ok(Asked::Serve(ServeWords::of(rt.alloc(), given)?)),
-        Some((name, given)) => Ok(Asked::Done(run_command(rt, name, given))),
+        Some((name, given)) => Ok(Asked::Done(run_command(rt, name, given, terminals))),
         None => Ok(Asked::Done(USAGE)),
     }
 }
 
-fn run_command<R: Files + AllocGlobal + io::Input + Print + Eprint>(
+fn run_command<R: Files + AllocGlobal + io::Input + Print + Eprint + rt::Clock>(
     rt: &R,
     name: &str,
     given: &ArgMatches<'_>,
+    terminals: Terminals,
 ) -> u8 {
     match (name, given.get_str("FILE"), given.get_str("SCRIPT")) {
         ("check", Some(file), _) => check_file(rt, file),
         ("replay", Some(file), Some(script)) => replay_files(rt, file, script),
         ("pipe", Some(_), _) => pipe::run(rt, given),
-        ("audit", Some(_), _) => audit::run(rt, given),
+        ("audit", Some(_), _) => audit::run(rt, given, terminals),
         ("explain", Some(_), _) => explain::run(rt, given),
+        ("whatif", _, _) => whatif::run(rt, given, terminals),
         _ => USAGE,
     }
 }
 
-/// The words of the command line, or the status where there are none.
-fn arguments(rt: &(impl env::Env + AllocGlobal)) -> Result<Vec<String>, u8> {
+/// Says that memory ran out before there was anything to do.
+fn out_of_memory(rt: &impl Eprint) -> u8 {
+    let _written = eprintln!(rt; "l4proxy: out of memory");
+    DEVICE
+}
+
+/// The words of the command line, or the status if there are none.
+fn arguments(rt: &(impl env::Env + AllocGlobal + Eprint)) -> Result<Vec<String>, u8> {
     match env::args(rt) {
-        Ok(words) => words.collect(rt.alloc()).map_err(|_| DEVICE),
-        Err(error) if error.kind() == io::ErrorKind::OutOfMemory => Err(DEVICE),
+        Ok(words) => words.collect(rt.alloc()).map_err(|_| out_of_memory(rt)),
+        Err(error) if error.kind() == io::ErrorKind::OutOfMemory => Err(out_of_memory(rt)),
         Err(_) => Err(USAGE),
     }
 }
 
 fn main(rt: HostRuntime) -> ExitCode {
+    let terminals = Terminals {
+        output: rt.stdout().is_terminal(),
+        errors: rt.stderr().is_terminal(),
+    };
     let asked = match arguments(&rt) {
-        Ok(words) => run(&rt, words.as_slice()),
+        Ok(words) => run(&rt, words.as_slice(), terminals),
         Err(status) => return ExitCode::from(status),
     };
     let words = match asked {
@@ -218,8 +238,16 @@ fn main(rt: HostRuntime) -> ExitCode {
 
 /// Prints why the words are no command, or the help that they ask for.
 fn print_usage(rt: &(impl Print + Eprint), error: &clap::Error) -> u8 {
-    if error.print(rt).is_err() || error.kind() == ErrorKind::OutOfMemory {
-        return DEVICE;
+    if error.kind() == ErrorKind::OutOfMemory {
+        return out_of_memory(rt);
     }
-    if error.use_stderr() { USAGE } else { DONE }
+    match error.print(rt) {
+        Ok(()) if error.use_stderr() => USAGE,
+        Ok(()) => DONE,
+        Err(fault) if fault.kind() == io::ErrorKind::OutOfMemory => out_of_memory(rt),
+        Err(_) => {
+            let _written = eprintln!(rt; "l4proxy: standard output: {}", PrintFault::Write);
+            DEVICE
+        }
+    }
 }

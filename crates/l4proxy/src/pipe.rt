@@ -70,7 +70,7 @@ fn say_cause(rt: &impl Eprint, file: &str, cause: &Cause) {
     };
 }
 
-/// Says how the connection ended, where its server got nothing.
+/// Says how the connection ended, if its server got nothing.
 fn say_end(rt: &impl Eprint, file: &str, end: &PipeEnd) {
     match end {
         PipeEnd::Offered(_) => {}
