@@ -3,7 +3,7 @@ use Rattle.std.specs.Prelude.{◌≡◌, ℕ, List, [], Option, Some, None}
 use Rattle.relay_core.specs.Law.{HasCarried, Stream}
 use Rattle.relay_core.specs.Relay.{Ways}
 
--- the bytes on their way to the server, and to the client: none where there is no relay
+-- the bytes on their way to the server, and to the client: none if there is no relay
 abbrev pub forth_bytes : Option Ways → List ℕ
 forth_bytes None = []
 forth_bytes (Some ways) = ways.forth.bytes

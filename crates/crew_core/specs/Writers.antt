@@ -10,7 +10,7 @@ use Rattle.crew_core.specs.declared.record_sink.RecordSink.{RecordSink}
 abbrev pub Writes : {W : Type 0} → (W → Option (List ℕ)) → RecordSink W → Segment → RecordSink W → Type 0
 Writes held old segment new = (old.fault ≡ None) × (new.fault ≡ None) × Appends (held old.writer) (held new.writer) (records_text segment.records)
 
--- A segment is refused from now on. Where it is the first, a front of its records is written, and else nothing.
+-- A segment is refused from now on. If it is the first, a front of its records is written, and else nothing.
 abbrev pub Refuses : {W : Type 0} → (W → Option (List ℕ)) → RecordSink W → Segment → RecordSink W → Type 0
 Refuses held old segment new = IsSome new.fault
     × (old.fault ≡ None → AppendsFront (held old.writer) (held new.writer) (records_text segment.records))

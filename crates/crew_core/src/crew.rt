@@ -68,7 +68,7 @@ pub struct Crew<M: Ledger, O: Ledger, B: Opening, L, S: Sink> {
     pub shut: Shut<M, O, B>,
     /// That of the acceptor first, and then those of the workers.
     pub passes: Vec<Pass<M>>,
-    /// For each worker, the last one first, the leases whose connections could not be closed for want of memory.
+    /// For each worker, the last one first, the leases whose connections could not be closed because memory ran out.
     pub left: Vec<Vec<Lease<O>>>,
     pub dials: Vec<L>,
     pub outlet: Outlet<S>,
@@ -157,7 +157,7 @@ fn make_rooms<M: Ledger, O: Ledger, K: Link, L: Dial<Link = K> + Drop>(
     }
 }
 
-/// Whether so many threads can be started at one time. Where the system refuses one later all the same, the workers
+/// Whether so many threads can be started at one time. If the system refuses one later all the same, the workers
 /// of that half work one after another.
 fn can_spawn<R: Threads>(rt: &R, alloc: Global, workers: usize) -> Result<(), CrewFault> {
     let Ok(mut handles) = Vec::with_capacity(alloc, workers) else {

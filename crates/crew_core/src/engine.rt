@@ -190,7 +190,7 @@ pub fn serve<
     requires workers { (vec_len dials ≡ workers) × (1 ≤ workers) × (workers ≤ 64) }
     // What is written is the record of a legal history from the base of the book on, of all decisions that were made.
     ensures record { IfOk result (λ served. OnOk served.written (RecordsAll book.base served.summary.recorded (W.held writer) (W.held served.writer))) }
-    // Where the writer fails, it has a front of such a record.
+    // If the writer fails, it has a front of such a record.
     ensures front { IfOk result (λ served. OnErr served.written (RecordsFront book.base served.summary.recorded (W.held writer) (W.held served.writer))) }
 {
     run::<Brand, Brand, Brand, R, K, L, D, C, W>(

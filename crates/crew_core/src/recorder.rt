@@ -61,14 +61,14 @@ impl Alert {
 }
 
 impl<'a, M: Ledger, O: Ledger, B: Opening, G: Gate, C: Clock> Hall<'a, M, O, B, G, C> {
-    /// A record of that number was made. Where it ends a segment, those in memory are handed to the recorder.
+    /// A record of that number was made. If it ends a segment, those in memory are handed to the recorder.
     pub(crate) fn note<R: Wait>(&self, rt: &R, number: u64) {
         if number % SEGMENT == 0 {
             self.cut(rt, SEGMENT);
         }
     }
 
-    /// Hands the records in memory to the recorder. Where the ring has no room they stay in memory, so many more than
+    /// Hands the records in memory to the recorder. If the ring has no room they stay in memory, so many more than
     /// before, and are handed on with a later segment.
     fn cut<R: Wait>(&self, rt: &R, more: u64) {
         match self.desk.cut(rt) {
@@ -83,7 +83,7 @@ impl<'a, M: Ledger, O: Ledger, B: Opening, G: Gate, C: Clock> Hall<'a, M, O, B, 
         }
     }
 
-    /// Waits for a segment, and cuts the records in memory where few of them come. It is handed, and gives back, the moment
+    /// Waits for a segment, and cuts the records in memory if few of them come. It is handed, and gives back, the moment
     /// of its last cut, in ms.
     fn wait_for_segment<R: Wait>(&self, rt: &R, latest: u64) -> u64 {
         let now = self.clock.now();

@@ -242,7 +242,7 @@ impl<M: Ledger, O: Ledger, K: Link, L: Dial<Link = K>> Worker<M, O, K, L> {
         self.bench.table.remove(key);
     }
 
-    /// Ends a connection. Where there is no memory to record that, it is tried again in a later turn.
+    /// Ends a connection. If there is no memory to record that, it is tried again in a later turn.
     pub(crate) fn close<B: Opening, G: Gate, C: Clock, R: Wait>(
         &mut self,
         rt: &R,

@@ -92,7 +92,7 @@ impl<K: Link> Table<K> {
         }
     }
 
-    /// Why the connection of a key ended, where that is not recorded yet.
+    /// Why the connection of a key ended, if that is not recorded yet.
     pub(crate) fn ended(&self, key: usize) -> Option<Why> {
         match &self.places.get(key)?.entry {
             Entry::Open(_) => None,

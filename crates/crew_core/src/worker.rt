@@ -25,7 +25,7 @@ const ASKED: u32 = 64;
 /// after what was reported meanwhile.
 pub(crate) const SERVED: usize = 128;
 
-/// How long a worker waits at the most, in ms, where nothing is due.
+/// How long a worker waits at the most, in ms, if nothing is due.
 const LONGEST_WAIT: u64 = 100;
 
 /// A connection that the acceptor hands to a worker.
@@ -138,7 +138,7 @@ impl<M: Ledger, O: Ledger, K: Link, L: Dial<Link = K>> Worker<M, O, K, L> {
         }
     }
 
-    /// A connection came. Where it cannot be kept, it is shut.
+    /// A connection came. If it cannot be kept, it is shut.
     fn accept<B: Opening, G: Gate, C: Clock, R: Wait>(
         &mut self,
         rt: &R,
