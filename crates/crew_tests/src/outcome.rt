@@ -52,7 +52,7 @@ impl Seen {
         self.other_difference(wanted)
     }
 
-    /// What of the bytes and of that which the door is told is not as it should be.
+    /// What is wrong with the bytes, or with what is reported to the door.
     fn other_difference(&self, wanted: &Outcome) -> Option<&'static str> {
         let bytes = Some((self.is_served, self.is_answered));
         if self.is_wrong || (wanted.bytes.is_some() && bytes != wanted.bytes) {

@@ -27,7 +27,7 @@ const UNREACHABLE: Play<'static> = Play {
     ..PLAIN
 };
 
-/// All clients come and go, and their records too, but for those that the sink refuses.
+/// All clients come and go, and their records too, except those that the sink refuses.
 fn all_closed(connections: u64, sink_failed: u64) -> Option<Summary> {
     Some(Summary {
         accepted: connections,
@@ -39,7 +39,7 @@ fn all_closed(connections: u64, sink_failed: u64) -> Option<Summary> {
 }
 
 /// What is wrong with a run of 1,000 connections at two workers, if anything is. The ring has room for so many segments,
-/// and the sink takes so many at least. What the door is told meanwhile is not asked for.
+/// and the sink takes so many at least. What is reported to the door meanwhile is not asked for.
 fn fault_of_many<R: Threads + Wait + Sync, H: Clock + Copy + Send + Sync + Drop>(
     rt: &R,
     alloc: Global,
