@@ -368,11 +368,17 @@ def status(text):
     line = text[6:end].decode('latin-1')
     if line == 'UNKNOWN' or line.startswith('UNKNOWN '):
         return 'whole', end + 2, None
-    if not line.startswith(('TCP4 ', 'TCP6 ')):
+    family, *words = line.split(' ')
+    if family not in ('TCP4', 'TCP6') or len(words) != 4:
         return 'fault', 'BadLine', end + 2
-    family, source, to, first, second = line.split(' ')
-    assert family == ('TCP6' if ':' in source else 'TCP4')
-    return 'whole', end + 2, (servers.endpoint(canonical(source), int(first)), servers.endpoint(canonical(to), int(second)))
+    kind = ipaddress.IPv6Address if family == 'TCP6' else ipaddress.IPv4Address
+    try:
+        source, to = (canonical(kind(word)) for word in words[:2])
+    except ValueError:
+        return 'fault', 'BadAddress', end + 2
+    if not all(re.fullmatch('0|[1-9][0-9]{0,4}', word) and int(word) < 1 << 16 for word in words[2:]):
+        return 'fault', 'BadPort', end + 2
+    return 'whole', end + 2, (servers.endpoint(source, int(words[2])), servers.endpoint(to, int(words[3])))
 
 
 def host_of(place):
