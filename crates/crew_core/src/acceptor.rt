@@ -14,6 +14,20 @@ use std::sync::ledger::Ledger;
 /// How many connections wait for a worker at the most.
 pub(crate) const LANE: usize = 64;
 
+/// How often the acceptor rests at the most while it waits for the workers to begin.
+const MOST_RESTS: u64 = 5_000;
+
+/// What came of the acceptor's work.
+#[derive(Clone, Copy, Drop)]
+pub(crate) struct Came {
+    /// Whether all workers began. If not, the door was not asked.
+    pub(crate) began: bool,
+    /// How many connections came.
+    pub(crate) accepted: u64,
+    /// How many of them no lane had room for.
+    pub(crate) held: u64,
+}
+
 /// What the acceptor works with.
 #[derive(Drop)]
 pub(crate) struct Front<'a, M: Ledger, K: Link, D: Door<Link = K>> {
@@ -35,17 +49,25 @@ fn reply_to(answer: Result<Receipt, StepFault>) -> Result<Reply, StepFault>
 }
 
 impl<'a, M: Ledger, K: Link, D: Door<Link = K>> Front<'a, M, K, D> {
-    /// Takes what comes until the door is closed or the turns are used up, and says how many connections came, and how
-    /// many of them no lane had room for. The lanes are given up then, by which the workers learn of it.
+    /// Takes what comes until the door is closed or the turns are used up. The lanes are given up then, by which the
+    /// workers learn of it. The door is asked once all workers began; if one does not within some seconds, the system has
+    /// no thread for it, and nothing is taken.
     pub(crate) fn accept_all<O: Ledger, B: Opening, G: Gate, C: Clock, R: Wait>(
         self,
         rt: &R,
         hall: &Hall<'_, M, O, B, G, C>,
-    ) -> (u64, u64) {
+    ) -> Came {
         let Front { door, lanes, pass } = self;
         let mut lanes = lanes;
         let mut accepted = 0u64;
         let mut held = None;
+        if !have_begun(hall, lanes.len() as u64) {
+            return Came {
+                began: false,
+                accepted: 0,
+                held: 0,
+            };
+        }
         for _turn in 0..hall.turns {
             if let Some(backlog) = hall.alert.backlog() {
                 door.warn(&backlog);
@@ -79,8 +101,26 @@ impl<'a, M: Ledger, K: Link, D: Door<Link = K>> Front<'a, M, K, D> {
                 Knock::Closed => break,
             }
         }
-        (accepted, u64::from(held.is_some()))
+        Came {
+            began: true,
+            accepted,
+            held: u64::from(held.is_some()),
+        }
     }
+}
+
+/// Waits for so many workers to begin; whether they did.
+fn have_begun<M: Ledger, O: Ledger, B: Opening, G: Gate, C: Clock>(
+    hall: &Hall<'_, M, O, B, G, C>,
+    workers: u64,
+) -> bool {
+    for _rest in 0..MOST_RESTS {
+        if hall.alert.began() >= workers {
+            return true;
+        }
+        hall.clock.rest();
+    }
+    false
 }
 
 /// Hands the connection of that number, counted from 1, to its worker. Where too many wait for that worker it comes

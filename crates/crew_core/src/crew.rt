@@ -10,7 +10,7 @@ ghost use Rattle.desk_core.specs.Leased.{leases_in};
 ghost use Rattle.crew_core.specs.Crew.{IsIdle};
 ghost use Rattle.crew_core.specs.Outlets.{HasHandedOn};
 
-use crate::acceptor::{Front, LANE};
+use crate::acceptor::{Came, Front, LANE};
 use crate::calls::Hall;
 use crate::outlet::{Outlet, Sink, empty};
 use crate::recorder::Alert;
@@ -60,6 +60,8 @@ pub struct Summary {
     pub recorded: u64,
     /// The segments that the sink refused. They are lost to it.
     pub sink_failed: u64,
+    /// Whether all workers began. If the system had no thread for one of them, the door was not asked.
+    pub began: bool,
 }
 
 /// What is left of a crew.
@@ -157,8 +159,8 @@ fn make_rooms<M: Ledger, O: Ledger, K: Link, L: Dial<Link = K> + Drop>(
     }
 }
 
-/// Whether so many threads can be started at one time. If the system refuses one later all the same, the workers
-/// of that half work one after another.
+/// Whether so many threads can be started at one time. If the system refuses one later all the same, a worker does not
+/// begin, and the acceptor takes nothing.
 fn can_spawn<R: Threads>(rt: &R, alloc: Global, workers: usize) -> Result<(), CrewFault> {
     let Ok(mut handles) = Vec::with_capacity(alloc, workers) else {
         return Err(CrewFault::NoMemory);
@@ -206,7 +208,7 @@ struct Team<'a, M: Ledger, O: Ledger, K: Link, L: Dial<Link = K>, D: Door<Link =
 }
 
 /// The workers, and the acceptor beside them in the caller's thread. When all of them have ended, so does the recorder. It
-/// says how many connections came, and how many of them no lane had room for.
+/// says what came of the acceptor's work.
 fn work_beside<
     M: Ledger + Send + Sync,
     O: Ledger + Send + Sync,
@@ -217,7 +219,7 @@ fn work_beside<
     G: Gate + Sync,
     C: Clock + Sync,
     R: Threads + Wait + Sync,
->(rt: &R, hall: &Hall<'_, M, O, B, G, C>, team: Team<'_, M, O, K, L, D>) -> (u64, u64) {
+>(rt: &R, hall: &Hall<'_, M, O, B, G, C>, team: Team<'_, M, O, K, L, D>) -> Came {
     let Team { workers, front } = team;
     let (_all, came) = thread::join(
         rt,
@@ -246,7 +248,7 @@ fn work_and_record<
     hall: &Hall<'_, M, O, B, G, C>,
     team: Team<'_, M, O, K, L, D>,
     outlet: Outlet<S>,
-) -> ((u64, u64), (Outlet<S>, u64))
+) -> (Came, (Outlet<S>, u64))
     ensures { HasHandedOn S.takes S.refuses 0 outlet result.1.1 result.1.0 }
 {
     let (handed, came) = thread::join(
@@ -283,6 +285,7 @@ fn idle<M: Ledger, O: Ledger, B: Opening, L, S: Sink>(
             closed: 0,
             recorded,
             sink_failed: 0,
+            began: false,
         },
         shut,
         passes,
@@ -478,7 +481,7 @@ pub fn run_crew<
         front,
     };
     let (came, handed) = work_and_record(rt, &hall, team, outlet);
-    let ((accepted, held), (mut outlet, refused)) = (came, handed);
+    let (mut outlet, refused) = handed;
     passes.push_reserved(pass);
     let (closed, waiting) = dismiss(workers, &mut passes, &mut lists, &mut dials_back);
     let mut shut = desk.into_book();
@@ -487,11 +490,12 @@ pub fn run_crew<
     let sink_failed = empty(&mut shut, &mut outlet, refused);
     Ok(Crew {
         summary: Summary {
-            accepted,
-            taken: taken(accepted, waiting.saturating_add(held)),
+            accepted: came.accepted,
+            taken: taken(came.accepted, waiting.saturating_add(came.held)),
             closed,
             recorded,
             sink_failed,
+            began: came.began,
         },
         shut,
         passes,

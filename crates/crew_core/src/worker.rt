@@ -76,6 +76,7 @@ impl<M: Ledger, O: Ledger, K: Link, L: Dial<Link = K>> Worker<M, O, K, L> {
         rt: &R,
         hall: &Hall<'_, M, O, B, G, C>,
     ) {
+        hall.alert.begin();
         for _turn in 0..hall.turns {
             self.turn(rt, hall);
             let has_ended = self.bench.arrivals.is_abandoned() && self.bench.arrivals.is_empty();

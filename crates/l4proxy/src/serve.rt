@@ -3,15 +3,15 @@ ghost use Rattle.std.specs.Prelude.{◌≡◌, ◌≤◌, [], IfOk, vec_len};
 ghost use Rattle.rtrb.specs.Ring.{received, IsPair};
 ghost use Rattle.book_core.specs.Open.{open_connections};
 
-use crate::{DEVICE, DONE, REFUSED, explain_refusal, unreadable};
 use addr_core::{Endpoint, write_endpoint};
 use book_core::Book;
 use command_line::ServeWords;
 use conn_core::OpenFault;
 use conn_model::reply::{Reply, StepFault};
-use crew_core::{Backlog, Clock, Dial, Door, Knock, Served, open_book, serve};
+use crew_core::{Backlog, Clock, CrewFault, Dial, Door, Knock, Served, open_book, serve};
 use desk_core::SettleFault;
 use device_core::ToWrite;
+use file_commands::{DEVICE, DONE, REFUSED, explain_refusal, unreadable};
 use log::Log;
 use record_core::Segment;
 use rtrb::Consumer;
@@ -281,6 +281,7 @@ pub fn attend<
         workers,
         writer,
     ) {
+        Ok(served) if !served.summary.began => fail(rt, &CrewFault::Spawn),
         Ok(served) => say_served(rt, &served),
         Err(fault) => fail(rt, &fault),
     }
