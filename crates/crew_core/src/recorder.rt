@@ -2,7 +2,7 @@
 ghost use Rattle.std.specs.Prelude.{◌≡◌};
 ghost use Rattle.crew_core.specs.Outlets.{HasHandedOn};
 
-use crate::calls::Hall;
+use crate::calls::WorkerContext;
 use crate::outlet::{Outlet, Sink, drain};
 use book_core::CutFault;
 use desk_core::Opening;
@@ -73,7 +73,7 @@ impl Alert {
     }
 }
 
-impl<'a, M: Ledger, O: Ledger, B: Opening, G: Gate, C: Clock> Hall<'a, M, O, B, G, C> {
+impl<'a, M: Ledger, O: Ledger, B: Opening, G: Gate, C: Clock> WorkerContext<'a, M, O, B, G, C> {
     /// A record of that number was made. If it ends a segment, those in memory are handed to the recorder.
     pub(crate) fn note<R: Wait>(&self, rt: &R, number: u64) {
         if number % SEGMENT == 0 {

@@ -14,7 +14,7 @@
 //! 3 if something cannot be read or written, or memory ran out.
 #![tactic(auto)]
 
-use crate::serve::Stand;
+use crate::serve::ServeSetup;
 use clap::error::ErrorKind;
 use command_line::{ServeWords, commands};
 use crew_core::CrewFault;
@@ -85,23 +85,23 @@ fn main(rt: HostRuntime) -> ExitCode {
         Ok(clock) => clock,
         Err(error) => return ExitCode::from(serve::fail(&rt, &error)),
     };
-    let stand = match serve::open(&rt, &clock, &words) {
-        Ok(stand) => stand,
+    let setup = match serve::open(&rt, &clock, &words) {
+        Ok(setup) => setup,
         Err(status) => return ExitCode::from(status),
     };
-    let Stand {
+    let ServeSetup {
         book,
         segments,
         mut door,
-        bell,
+        commands,
         dials,
-    } = stand;
+    } = setup;
     // What goes to a thread is made here, where the runtime is known. The reader of standard input is not waited for:
     // it may be in a read when the crew ends for another cause.
     let ServeWords { file, workers, .. } = words;
     let reader = match rt.clone() {
         Ok(handle) => thread::spawn(&rt, move || {
-            input::read_words(&handle, file.as_str(), bell)
+            input::read_words(&handle, file.as_str(), commands)
         })
         .is_ok(),
         Err(_) => false,
@@ -110,7 +110,7 @@ fn main(rt: HostRuntime) -> ExitCode {
         book.end();
         return ExitCode::from(serve::fail(&rt, &CrewFault::Spawn));
     }
-    ExitCode::from(serve::attend(&rt, &clock, book, segments, &mut door, dials, workers))
+    ExitCode::from(serve::run(&rt, &clock, book, segments, &mut door, dials, workers))
 }
 
 /// Prints why the words are no command, or the help that they ask for.

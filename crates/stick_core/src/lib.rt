@@ -5,7 +5,7 @@
 pub use entries::{Entry, TableEntry};
 pub use key::key_of;
 pub use proxy_types::{KeyType, Stores};
-pub use table::{Table, Tracked};
+pub use table::{Table, TrackToken};
 
 mod entries;
 mod key;
