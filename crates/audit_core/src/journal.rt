@@ -13,13 +13,13 @@ use text_core::decimal::append_decimal;
 
 /// The name of a connection, in the order of names.
 #[derive(Clone, Copy, PartialEq, Eq, PartialOrd, Ord, Drop)]
-pub struct Name {
+struct Name {
     frontend: u16,
     serial: u64,
 }
 
 impl Name {
-    pub fn of(id: &ConnId) -> Name
+    fn of(id: &ConnId) -> Name
         ensures { result ≡ name_of id.now }
     {
         Name {

@@ -21,7 +21,7 @@ use std::alloc::AllocError;
 
 /// A connection that came to a listener.
 #[derive(Drop)]
-pub struct SessionStart {
+pub struct Arrival {
     /// The version of the configuration that judges it.
     pub version: u64,
     /// Its peer and its local end.
@@ -34,7 +34,7 @@ pub struct SessionStart {
 pub fn enter(
     rows: &mut Rows,
     id: ConnId,
-    arrival: &SessionStart,
+    arrival: &Arrival,
     decision: &Decision,
 ) -> Result<(), AllocError>
     requires coming { (own : FrontendRows) × IsComing rows.old.frontends id own }
@@ -67,12 +67,7 @@ pub fn enter(
 }
 
 /// Opens a connection that tracks those.
-fn insert(
-    rows: &mut Rows,
-    id: ConnId,
-    arrival: &SessionStart,
-    tracks: &Tracks,
-) -> Result<(), AllocError>
+fn insert(rows: &mut Rows, id: ConnId, arrival: &Arrival, tracks: &Tracks) -> Result<(), AllocError>
     requires coming { (own : FrontendRows) × IsComing rows.old.frontends id own }
     requires can { (source : Addr) × ArePossible (open_tracks rows.old.frontends) rows.old.tables [] source tracks.now }
     ensures ok { OnOk result (state_of rows.new ≡ record (state_of rows.old) {

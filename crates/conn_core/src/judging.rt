@@ -18,7 +18,7 @@ use acl_core::When;
 use addr_core::Pair;
 use conn_model::reply::Cause;
 use plan_types::{Backend, Choice, Frontend, Plan, Server};
-use rule_engine::{Judged, Tracks, TracksSoFar, judge, judge_after};
+use rule_engine::{Judged, Moment, Tracks, judge, judge_after};
 
 /// A server for a connection, or why it gets none.
 #[derive(Drop)]
@@ -55,7 +55,7 @@ fn has_name(frontend: &Frontend, name: &[u8]) -> bool
 fn applies(when: &When, facts: &RuleFacts<'_>, tracks: &Tracks) -> bool
     ensures { result ≡ applies facts.now.frontend.now.acls (worth (facts_view facts.now (present tracks.now))) when.now }
 {
-    when.applies(&TracksSoFar {
+    when.applies(&Moment {
         scene: facts,
         tracks,
     })

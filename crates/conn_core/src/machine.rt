@@ -23,7 +23,7 @@ ghost use Rattle.conn_core.specs.Tracking.{ArePossible};
 ghost use Rattle.conn_core.specs.Machine.{AreSound, IsOpened, IsNext, IsNextVersion};
 ghost use Rattle.conn_core.specs.Seeing.{SeesNext, SeesWaiting};
 
-use crate::entering::{SessionStart, enter};
+use crate::entering::{Arrival, enter};
 use crate::facts::RuleFacts;
 use crate::judging::{admission, frontend_named, item};
 use crate::opening::listeners;
@@ -125,7 +125,7 @@ impl Core {
         // Every history can be continued from there.
         ensures well { IsWell self.new }
     {
-        let reply = self.dispatch(moment, event);
+        let reply = self.work(moment, event);
         let _clock = self.clock();
         reply
     }
@@ -256,7 +256,7 @@ impl Core {
         self.clock
     }
 
-    fn dispatch(&mut self, moment: u64, event: &Event<'_>) -> Result<Reply, StepFault>
+    fn work(&mut self, moment: u64, event: &Event<'_>) -> Result<Reply, StepFault>
         ensures reply { IfOk result (λ r. answer_in self.old moment (owned_event event.now) ≡ Ok r) }
         ensures new { IfOk result (λ r. self.new ≡ after self.old (entry moment (owned_event event.now) r ∷ [])) }
         ensures fault { IfErr result (λ f. IsFault (owned_event event.now) (answer_in self.old moment (owned_event event.now)) f) }
@@ -286,7 +286,7 @@ impl Core {
             version,
             decision,
         } = self.admit(now, listener, real)?;
-        let arrival = SessionStart {
+        let arrival = Arrival {
             version,
             real,
             accepted: now,
@@ -377,7 +377,7 @@ impl Core {
     }
 
     /// Whether the connection of that name waits for its server to take it.
-    fn check_awaits_server(&self, id: ConnId) -> Result<(), StepFault>
+    fn awaiting(&self, id: ConnId) -> Result<(), StepFault>
         ensures ok { OnOk result ((said : Said) → server_answer self.now id said ≡ Ok (reply_of said)) }
         ensures fault { IfErr result (λ f. (said : Said) → server_answer self.now id said ≡ Err f) }
         ensures no_memory { result ≢ Err StepFault.NoMemory }
@@ -398,7 +398,7 @@ impl Core {
         ensures no_memory { result ≢ Err StepFault.NoMemory }
         ensures err { OnErr result (self.new ≡ self.old) }
     {
-        self.check_awaits_server(id)?;
+        self.awaiting(id)?;
         self.rows.up(id);
         self.clock = self.clock.max(moment);
         Ok(plain_reply(Said::Up { id }))
@@ -411,7 +411,7 @@ impl Core {
         ensures no_memory { result ≢ Err StepFault.NoMemory }
         ensures err { OnErr result (self.new ≡ self.old) }
     {
-        self.check_awaits_server(id)?;
+        self.awaiting(id)?;
         self.rows.remove(id);
         self.rows.forget();
         self.clock = self.clock.max(moment);

@@ -8,7 +8,7 @@ use addr_core::Pair;
 use arrayvec::ArrayVec;
 use conn_model::event::ConnId;
 use conn_model::reply::{Cause, Reply, Said};
-use conn_rows::ServerChoice;
+use conn_rows::Seat;
 use plan_types::Server;
 use pp_any::{write_v1, write_v2};
 use pp_v1::LINE_LIMIT;
@@ -17,7 +17,7 @@ use rule_engine::Tracks;
 /// A server for a connection.
 #[derive(Drop)]
 pub struct Offer {
-    pub seat: ServerChoice,
+    pub seat: Seat,
     /// What the server is sent before the stream.
     pub send: ArrayVec<u8, LINE_LIMIT>,
 }
@@ -83,7 +83,7 @@ pub fn offer_of(number: u16, server: &Server, judged: Pair) -> Offer
     ensures { result ≡ offer_of number server.now judged }
 {
     Offer {
-        seat: ServerChoice {
+        seat: Seat {
             server: number,
             line: server.line,
             to: server.to,

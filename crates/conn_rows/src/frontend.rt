@@ -20,8 +20,8 @@ ghost use Rattle.conn_rows.specs.Value.{row_judged, row_on, row_slots, rows_tota
 ghost use Rattle.conn_model.specs.Changes.{held_after, row_tracking, with_row};
 ghost use Rattle.conn_rows.specs.Changes.{stage_fed, stage_offered, stage_up, status_of, stored_fed, stored_up, used_by};
 
-use crate::packed::PackedChoice;
-use crate::row::{Holdings, ServerChoice, ServerHold, Stage, StoredRow};
+use crate::packed::PackedSeat;
+use crate::row::{HeldSeat, Holdings, Seat, Stage, StoredRow};
 use crate::row_list::RowList;
 use crate::slots::give_back;
 use addr_core::Pair;
@@ -147,15 +147,15 @@ impl FrontendState {
     }
 
     /// Gives a connection that waits to a server.
-    pub fn offer(&mut self, serial: u64, seat: ServerChoice, slot: Slot)
+    pub fn offer(&mut self, serial: u64, seat: Seat, slot: Slot)
         requires { IsSome (rest_kept serial self.old.rows) }
         ensures new { self.new ≡ record self.old { rows = with_stored serial (at_stage (stage_offered seat slot)) self.old.rows } }
         ensures slots { (place : ℕ) → total (row_slots place) self.new.rows ≡ total (row_slots place) self.old.rows + slots_at place slot }
         ensures each { (kept : VersionsValue) → ((row : StoredRow) → find (has_serial serial) self.old.rows ≡ Some row → HasSlot kept (at_stage (stage_offered seat slot) row)) → AllByRecursion (HasSlot kept) self.old.rows → AllByRecursion (HasSlot kept) self.new.rows }
         ensures few { length self.new.rows < 2 ^ 56 }
     {
-        let held = ServerHold {
-            seat: PackedChoice::of(&seat),
+        let held = HeldSeat {
+            seat: PackedSeat::of(&seat),
             slot,
             is_up: false,
         };

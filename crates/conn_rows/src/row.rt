@@ -9,7 +9,7 @@ ghost use Rattle.conn_model.specs.Counts.{server_of};
 ghost use Rattle.conn_rows.specs.Summaries.{names_in, names_of, stored_summary};
 ghost use Rattle.conn_rows.specs.Stored.{assignment_in, awaits, phase_of, phase_with, plan_at, plain_row, slot_of, stored_arrival, waits};
 
-use crate::packed::{PackedChoice, PackedPair};
+use crate::packed::{PackedPair, PackedSeat};
 use addr_core::{Endpoint, Pair};
 use conn_model::plain::{Assignment, Phase, Row, Version};
 use conn_tables::Trackings;
@@ -22,7 +22,7 @@ use std::alloc::{AllocError, Global};
 
 /// The server that a connection was offered.
 #[derive(Clone, Copy, Debug, PartialEq, Eq)]
-pub struct ServerChoice {
+pub struct Seat {
     /// The number of the server in its backend, from 0.
     pub server: u16,
     /// The line of the server in the configuration.
@@ -33,8 +33,8 @@ pub struct ServerChoice {
 }
 
 /// The server that a connection was offered. It cannot be dropped.
-pub struct ServerHold {
-    pub seat: PackedChoice,
+pub struct HeldSeat {
+    pub seat: PackedSeat,
     /// The connection is one of those that are open to the server.
     pub slot: Slot,
     /// Whether the server took it.
@@ -68,7 +68,7 @@ pub enum Stage {
     /// It waits for its PROXY header, or for the rest of it.
     Waiting(Parser),
     /// It was offered a server.
-    Offered(ServerHold),
+    Offered(HeldSeat),
 }
 
 impl Stage {
@@ -117,11 +117,11 @@ impl Stage {
     }
 }
 
-impl ServerHold {
+impl HeldSeat {
     fn end(self) -> Slot
         ensures { result ≡ self.slot }
     {
-        let ServerHold {
+        let HeldSeat {
             seat: _seat,
             slot,
             is_up: _,
@@ -308,11 +308,7 @@ fn phase(assignment: Assignment, is_up: bool) -> Phase
     }
 }
 
-fn assignment(
-    alloc: Global,
-    plan: Option<&Plan>,
-    seat: &ServerChoice,
-) -> Result<Assignment, AllocError>
+fn assignment(alloc: Global, plan: Option<&Plan>, seat: &Seat) -> Result<Assignment, AllocError>
     ensures { IfOk result (λ assignment. assignment ≡ assignment_in (option_copied plan.entry) seat.now) }
 {
     Ok(Assignment {
@@ -323,7 +319,7 @@ fn assignment(
 }
 
 /// The names of a server by a plan, which are empty where the plan has no such server.
-fn names<'a>(plan: Option<&'a Plan>, seat: &ServerChoice) -> ServerNames<'a>
+fn names<'a>(plan: Option<&'a Plan>, seat: &Seat) -> ServerNames<'a>
     ensures { names_in result ≡ names_of (assignment_in (option_copied plan.entry) seat.now).server }
 {
     match backend_of(plan, seat.line) {
@@ -353,7 +349,7 @@ fn name_of(server: Option<&Server>) -> &[u8]
 fn identity(
     alloc: Global,
     backend: Option<&Backend>,
-    seat: &ServerChoice,
+    seat: &Seat,
 ) -> Result<ServerIdentity, AllocError>
     ensures { IfOk result (λ server. server ≡ option_map_or (identity_at seat.now.server seat.now.to) (option_copied backend.entry) (nobody seat.now.to)) }
 {

@@ -32,8 +32,8 @@ ghost use Rattle.conn_rows.specs.Value.{rows_of, rows_total, state_of, AllRows, 
 use crate::counts;
 use crate::frontend::{FrontendState, HeaderStatus, end_all, end_all_empty};
 use crate::opening::frontends;
-use crate::reload::install_version;
-use crate::row::{Holdings, RowSummary, ServerChoice, ServerNames, StoredRow, item, version_at};
+use crate::reload::bring;
+use crate::row::{Holdings, RowSummary, Seat, ServerNames, StoredRow, item, version_at};
 use crate::slots::give_back;
 use addr_core::{Addr, Pair};
 use conn_model::ask::Counts;
@@ -280,7 +280,7 @@ impl Rows {
 
     /// Gives a connection that waits, and that the version of that number judges, to a server of that version. It takes
     /// no memory.
-    pub fn offer(&mut self, id: ConnId, version: u64, seat: ServerChoice)
+    pub fn offer(&mut self, id: ConnId, version: u64, seat: Seat)
         requires waits { IsSome (rest_at self.old.frontends id) }
         requires judged { IfSome (row_at self.old.frontends id) (λ row. row.version ≡ version) }
         requires server { (there : HasServer self.old.versions version seat.line seat.server) × (there.server.to ≡ seat.to) }
@@ -339,7 +339,7 @@ impl Rows {
         }) }
         ensures err { OnErr result (self.new ≡ self.old) }
     {
-        install_version(&mut self.kept, &mut self.tables, alloc, number, plan)
+        bring(&mut self.kept, &mut self.tables, alloc, number, plan)
     }
 
     /// Forgets the versions that are neither in force nor of an open connection, and then the tables that no version

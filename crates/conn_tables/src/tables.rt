@@ -21,7 +21,7 @@ use list_core::{Duplicate, Seq};
 use plan_types::{Table, TableId};
 use std::alloc::{AllocError, Global};
 use std::marker::Model;
-use stick_core::TrackToken;
+use stick_core::Tracked;
 
 /// For how many more trackings room is made than asked.
 const EXTRA_ROOM: u64 = 16;
@@ -84,7 +84,7 @@ impl StoredTable {
     }
 
     /// Tracks a key, for which there is memory.
-    fn track(&mut self, key: &Addr) -> TrackToken
+    fn track(&mut self, key: &Addr) -> Tracked
         requires stored { (spare : ℕ) × IsStored spare self.old }
         requires below { (other : Addr) → cur_of other self.old.entries.entries < 2 ^ 64 - 1 }
         requires room { 0 < self.old.entries.spare }

@@ -8,12 +8,12 @@ use plan_types::{TableId, Track};
 use rule_engine::Tracks;
 use std::alloc::{AllocError, Global};
 use std::mem;
-use stick_core::TrackToken;
+use stick_core::Tracked;
 
 /// What a counter tracks: a key of a table. It cannot be dropped: it ends in its table.
 pub struct Tracking {
     pub table: TableId,
-    pub token: TrackToken,
+    pub token: Tracked,
 }
 
 impl Tracking {

@@ -7,7 +7,7 @@ use addr_core::Pair;
 use book_core::Receipt;
 use conn_model::event::Why;
 use conn_model::reply::{Reply, Said, StepFault};
-use desk_core::{Drive, DriveResult, LeaseList, Opening, Pass, SharedDesk};
+use desk_core::{Drive, Driven, LeaseList, Opening, Pass, SharedDesk};
 use link_core::{Clock, Gate};
 use std::alloc::Global;
 use std::sync::Wait;
@@ -15,7 +15,7 @@ use std::sync::ledger::Ledger;
 
 /// What all workers share.
 #[derive(Drop)]
-pub(crate) struct WorkerContext<'a, M: Ledger, O: Ledger, B: Opening, G, C> {
+pub(crate) struct Hall<'a, M: Ledger, O: Ledger, B: Opening, G, C> {
     pub(crate) alloc: Global,
     pub(crate) desk: &'a SharedDesk<M, O, B>,
     pub(crate) gate: &'a G,
@@ -104,23 +104,23 @@ impl<M: Ledger, O: Ledger> Calls<M, O> {
     pub(crate) fn accept<B: Opening, G: Gate, C: Clock, R: Wait>(
         &mut self,
         rt: &R,
-        context: &WorkerContext<'_, M, O, B, G, C>,
+        hall: &Hall<'_, M, O, B, G, C>,
         key: usize,
         listener: u16,
         real: &Pair,
     ) -> Outcome {
-        if !self.enter(context.gate) {
+        if !self.enter(hall.gate) {
             return Outcome::Stopped;
         }
-        let outcome = self.ask_accept(rt, context, key, listener, real);
-        self.leave(context.gate);
+        let outcome = self.ask_accept(rt, hall, key, listener, real);
+        self.leave(hall.gate);
         outcome
     }
 
     fn ask_accept<B: Opening, G: Gate, C: Clock, R: Wait>(
         &mut self,
         rt: &R,
-        context: &WorkerContext<'_, M, O, B, G, C>,
+        hall: &Hall<'_, M, O, B, G, C>,
         key: usize,
         listener: u16,
         real: &Pair,
@@ -128,13 +128,10 @@ impl<M: Ledger, O: Ledger> Calls<M, O> {
         if !self.leases.make_room(key) {
             return Outcome::Failed(StepFault::NoMemory);
         }
-        let moment = context.clock.now();
-        match context
-            .desk
-            .accept(rt, &mut self.pass, moment, listener, real)
-        {
+        let moment = hall.clock.now();
+        match hall.desk.accept(rt, &mut self.pass, moment, listener, real) {
             Ok((receipt, lease)) => {
-                context.note(rt, receipt.number);
+                hall.note(rt, receipt.number);
                 match lease {
                     Some(lease) => {
                         self.leases.put(key, lease);
@@ -151,43 +148,43 @@ impl<M: Ledger, O: Ledger> Calls<M, O> {
     pub(crate) fn drive<B: Opening, G: Gate, C: Clock, R: Wait>(
         &mut self,
         rt: &R,
-        context: &WorkerContext<'_, M, O, B, G, C>,
+        hall: &Hall<'_, M, O, B, G, C>,
         key: usize,
         drive: &Drive<'_>,
     ) -> Outcome {
-        if !self.enter(context.gate) {
+        if !self.enter(hall.gate) {
             return Outcome::Stopped;
         }
-        let outcome = self.ask_drive(rt, context, key, drive);
-        self.leave(context.gate);
+        let outcome = self.ask_drive(rt, hall, key, drive);
+        self.leave(hall.gate);
         outcome
     }
 
     fn ask_drive<B: Opening, G: Gate, C: Clock, R: Wait>(
         &mut self,
         rt: &R,
-        context: &WorkerContext<'_, M, O, B, G, C>,
+        hall: &Hall<'_, M, O, B, G, C>,
         key: usize,
         drive: &Drive<'_>,
     ) -> Outcome {
         let Some(lease) = self.leases.take(key) else {
             return Outcome::Ended;
         };
-        let moment = context.clock.now();
-        match context.desk.drive(rt, &mut self.pass, moment, lease, drive) {
-            DriveResult::Goes(receipt, lease) => {
-                context.note(rt, receipt.number);
+        let moment = hall.clock.now();
+        match hall.desk.drive(rt, &mut self.pass, moment, lease, drive) {
+            Driven::Goes(receipt, lease) => {
+                hall.note(rt, receipt.number);
                 self.leases.put(key, lease);
                 Outcome::Open(said(receipt))
             }
-            DriveResult::Over(receipt) => {
-                context.note(rt, receipt.number);
+            Driven::Over(receipt) => {
+                hall.note(rt, receipt.number);
                 if matches!(said(receipt), Said::Closed { .. }) {
                     self.closed += 1;
                 }
                 Outcome::Ended
             }
-            DriveResult::Failed(fault, lease) => {
+            Driven::Failed(fault, lease) => {
                 self.leases.put(key, lease);
                 Outcome::Failed(fault)
             }
@@ -198,15 +195,15 @@ impl<M: Ledger, O: Ledger> Calls<M, O> {
     pub(crate) fn close<B: Opening, G: Gate, C: Clock, R: Wait>(
         &mut self,
         rt: &R,
-        context: &WorkerContext<'_, M, O, B, G, C>,
+        hall: &Hall<'_, M, O, B, G, C>,
         key: usize,
         why: Why,
     ) -> Outcome {
-        if !self.enter(context.gate) {
+        if !self.enter(hall.gate) {
             return Outcome::Stopped;
         }
-        let outcome = self.close_at_once(rt, context, key, why);
-        self.leave(context.gate);
+        let outcome = self.close_at_once(rt, hall, key, why);
+        self.leave(hall.gate);
         outcome
     }
 
@@ -214,17 +211,17 @@ impl<M: Ledger, O: Ledger> Calls<M, O> {
     pub(crate) fn close_at_once<B: Opening, G: Gate, C: Clock, R: Wait>(
         &mut self,
         rt: &R,
-        context: &WorkerContext<'_, M, O, B, G, C>,
+        hall: &Hall<'_, M, O, B, G, C>,
         key: usize,
         why: Why,
     ) -> Outcome {
         let Some(lease) = self.leases.take(key) else {
             return Outcome::Ended;
         };
-        let moment = context.clock.now();
-        match context.desk.close(rt, &mut self.pass, moment, lease, why) {
+        let moment = hall.clock.now();
+        match hall.desk.close(rt, &mut self.pass, moment, lease, why) {
             Ok(receipt) => {
-                context.note(rt, receipt.number);
+                hall.note(rt, receipt.number);
                 self.closed += 1;
                 Outcome::Ended
             }

@@ -1,9 +1,9 @@
 //! What a worker does with one of its connections.
 ghost use Rattle.std.specs.Prelude.{◌≡◌, ◌≤◌, length, take, drop};
 
-use crate::calls::{Outcome, WorkerContext};
+use crate::calls::{Hall, Outcome};
 use crate::conn::Stage;
-use crate::worker::{SERVED, Worker, WorkerState};
+use crate::worker::{Bench, SERVED, Worker};
 use addr_core::Endpoint;
 use conn_model::event::Why;
 use conn_model::reply::{Said, StepFault};
@@ -48,37 +48,32 @@ impl<M: Ledger, O: Ledger, K: Link, L: Dial<Link = K>> Worker<M, O, K, L> {
     pub(crate) fn serve<B: Opening, G: Gate, C: Clock, R: Wait>(
         &mut self,
         rt: &R,
-        context: &WorkerContext<'_, M, O, B, G, C>,
+        hall: &Hall<'_, M, O, B, G, C>,
         key: usize,
     ) {
-        if let Some(why) = self.state.table.ended(key) {
-            return self.close(rt, context, key, why);
+        if let Some(why) = self.bench.table.ended(key) {
+            return self.close(rt, hall, key, why);
         }
-        let Some(conn) = self.state.table.conn(key) else {
+        let Some(conn) = self.bench.table.conn(key) else {
             return;
         };
         match conn.stage {
-            Stage::Header => self.receive(rt, context, key),
-            Stage::Server(_) if conn.client_flags.is_reset => self.close(
-                rt,
-                context,
-                key,
-                Why::Fault,
-            ),
-            Stage::Server(to) => self.dial_server(rt, context, key, &to),
-            Stage::Bytes => self.relay(rt, context, key),
+            Stage::Header => self.receive(rt, hall, key),
+            Stage::Server(_) if conn.client_flags.is_reset => self.close(rt, hall, key, Why::Fault),
+            Stage::Server(to) => self.dial_server(rt, hall, key, &to),
+            Stage::Bytes => self.relay(rt, hall, key),
         }
     }
 
     /// Reads once from a connection that waits for its header.
     fn read(&mut self, key: usize) -> Piece {
-        let Some(conn) = self.state.table.conn(key) else {
+        let Some(conn) = self.bench.table.conn(key) else {
             return Piece::Blocked;
         };
         if !conn.client_flags.reads {
             return Piece::Blocked;
         }
-        match read_piece(&mut conn.client, self.state.buffer.as_mut_slice()) {
+        match read_piece(&mut conn.client, self.bench.buffer.as_mut_slice()) {
             Ok(Got::Bytes(count)) => {
                 conn.client_flags.note_read(count, PIECE);
                 Piece::Bytes(count)
@@ -95,54 +90,54 @@ impl<M: Ledger, O: Ledger, K: Link, L: Dial<Link = K>> Worker<M, O, K, L> {
     fn receive<B: Opening, G: Gate, C: Clock, R: Wait>(
         &mut self,
         rt: &R,
-        context: &WorkerContext<'_, M, O, B, G, C>,
+        hall: &Hall<'_, M, O, B, G, C>,
         key: usize,
     ) {
         for _piece in 0..PIECES {
             let count = match self.read(key) {
                 Piece::Bytes(count) => count,
                 Piece::Blocked => return,
-                Piece::Over => return self.close(rt, context, key, Why::Fault),
+                Piece::Over => return self.close(rt, hall, key, Why::Fault),
             };
-            let bytes = part(self.state.buffer.as_slice(), 0, count);
-            match self.calls.drive(rt, context, key, &Drive::Piece(bytes)) {
+            let bytes = part(self.bench.buffer.as_slice(), 0, count);
+            match self.calls.drive(rt, hall, key, &Drive::Piece(bytes)) {
                 Outcome::Open(Said::Wait { .. }) => {}
                 Outcome::Open(Said::Offer { used, to, send, .. }) => {
                     let rest = (used as usize, count);
-                    return self.offer(rt, context, key, to, send.as_slice(), rest);
+                    return self.offer(rt, hall, key, to, send.as_slice(), rest);
                 }
                 Outcome::Open(_) | Outcome::Stopped => return,
                 Outcome::Ended => return self.forget(key),
-                Outcome::Failed(_) => return self.close(rt, context, key, Why::Failed),
+                Outcome::Failed(_) => return self.close(rt, hall, key, Why::Failed),
             }
         }
-        self.state.table.enqueue(key);
+        self.bench.table.enqueue(key);
     }
 
     /// A connection was offered a server. What is in the buffer from the one place to the other follows its header.
     pub(crate) fn offer<B: Opening, G: Gate, C: Clock, R: Wait>(
         &mut self,
         rt: &R,
-        context: &WorkerContext<'_, M, O, B, G, C>,
+        hall: &Hall<'_, M, O, B, G, C>,
         key: usize,
         to: Endpoint,
         send: &[u8],
         rest: (usize, usize),
     ) {
         let (from, until) = rest;
-        let WorkerState {
+        let Bench {
             table,
             buffer,
             spares,
             ..
-        } = &mut self.state;
+        } = &mut self.bench;
         let Some(conn) = table.conn(key) else {
             return;
         };
         let rest = part(buffer.as_slice(), from, until);
         match conn.offer(spares, to, send, rest) {
-            Ok(()) => self.dial_server(rt, context, key, &to),
-            Err(_) => self.close(rt, context, key, Why::Fault),
+            Ok(()) => self.dial_server(rt, hall, key, &to),
+            Err(_) => self.close(rt, hall, key, Why::Fault),
         }
     }
 
@@ -150,7 +145,7 @@ impl<M: Ledger, O: Ledger, K: Link, L: Dial<Link = K>> Worker<M, O, K, L> {
     fn dial_server<B: Opening, G: Gate, C: Clock, R: Wait>(
         &mut self,
         rt: &R,
-        context: &WorkerContext<'_, M, O, B, G, C>,
+        hall: &Hall<'_, M, O, B, G, C>,
         key: usize,
         to: &Endpoint,
     ) {
@@ -159,16 +154,16 @@ impl<M: Ledger, O: Ledger, K: Link, L: Dial<Link = K>> Worker<M, O, K, L> {
             Dialled::Link(server) => (Drive::Connected, Some(server)),
             Dialled::Failed => (Drive::ConnectFailed, None),
         };
-        match self.calls.drive(rt, context, key, &drive) {
+        match self.calls.drive(rt, hall, key, &drive) {
             Outcome::Open(_) => {
-                if let (Some(conn), Some(server)) = (self.state.table.conn(key), server) {
+                if let (Some(conn), Some(server)) = (self.bench.table.conn(key), server) {
                     conn.connect(server);
-                    self.state.table.enqueue(key);
+                    self.bench.table.enqueue(key);
                 }
             }
             Outcome::Stopped => {}
             Outcome::Ended => self.forget(key),
-            Outcome::Failed(_) => self.close(rt, context, key, Why::Failed),
+            Outcome::Failed(_) => self.close(rt, hall, key, Why::Failed),
         }
     }
 
@@ -176,24 +171,24 @@ impl<M: Ledger, O: Ledger, K: Link, L: Dial<Link = K>> Worker<M, O, K, L> {
     fn relay<B: Opening, G: Gate, C: Clock, R: Wait>(
         &mut self,
         rt: &R,
-        context: &WorkerContext<'_, M, O, B, G, C>,
+        hall: &Hall<'_, M, O, B, G, C>,
         key: usize,
     ) {
-        let WorkerState {
+        let Bench {
             table,
             buffer,
             spares,
             ..
-        } = &mut self.state;
+        } = &mut self.bench;
         let Some(conn) = table.conn(key) else {
             return;
         };
         match conn.relay(spares, buffer.as_mut_slice()) {
-            None => self.close(rt, context, key, Why::Done),
-            Some(Progress::Fault) => self.close(rt, context, key, Why::Fault),
-            Some(Progress::More) => self.state.table.enqueue(key),
+            None => self.close(rt, hall, key, Why::Done),
+            Some(Progress::Fault) => self.close(rt, hall, key, Why::Fault),
+            Some(Progress::More) => self.bench.table.enqueue(key),
             // One side is gone while the other takes nothing: no read would ever find that out.
-            Some(Progress::Idle) if conn.is_reset() => self.close(rt, context, key, Why::Fault),
+            Some(Progress::Idle) if conn.is_reset() => self.close(rt, hall, key, Why::Fault),
             Some(Progress::Idle) => {}
         }
     }
@@ -202,27 +197,27 @@ impl<M: Ledger, O: Ledger, K: Link, L: Dial<Link = K>> Worker<M, O, K, L> {
     pub(crate) fn expire<B: Opening, G: Gate, C: Clock, R: Wait>(
         &mut self,
         rt: &R,
-        context: &WorkerContext<'_, M, O, B, G, C>,
+        hall: &Hall<'_, M, O, B, G, C>,
     ) {
-        let now = context.clock.now();
-        for _wait in 0..self.state.table.waiting().min(SERVED) {
+        let now = hall.clock.now();
+        for _wait in 0..self.bench.table.waiting().min(SERVED) {
             if self.calls.is_stopped {
                 return;
             }
-            let Some(wait) = self.state.table.due(now) else {
+            let Some(wait) = self.bench.table.due(now) else {
                 return;
             };
-            if self.state.table.waits_for_header(&wait) {
-                self.receive_late(rt, context, wait.key);
+            if self.bench.table.waits_for_header(&wait) {
+                self.receive_late(rt, hall, wait.key);
             }
-            if !self.state.table.waits_for_header(&wait) {
+            if !self.bench.table.waits_for_header(&wait) {
                 continue;
             }
-            match self.calls.drive(rt, context, wait.key, &Drive::Expire) {
+            match self.calls.drive(rt, hall, wait.key, &Drive::Expire) {
                 Outcome::Open(_) | Outcome::Stopped => {}
                 Outcome::Ended => self.forget(wait.key),
-                Outcome::Failed(StepFault::NotDue) => self.state.table.wait_again(&wait, now),
-                Outcome::Failed(_) => self.close(rt, context, wait.key, Why::Failed),
+                Outcome::Failed(StepFault::NotDue) => self.bench.table.wait_again(&wait, now),
+                Outcome::Failed(_) => self.close(rt, hall, wait.key, Why::Failed),
             }
         }
     }
@@ -232,35 +227,35 @@ impl<M: Ledger, O: Ledger, K: Link, L: Dial<Link = K>> Worker<M, O, K, L> {
     fn receive_late<B: Opening, G: Gate, C: Clock, R: Wait>(
         &mut self,
         rt: &R,
-        context: &WorkerContext<'_, M, O, B, G, C>,
+        hall: &Hall<'_, M, O, B, G, C>,
         key: usize,
     ) {
-        if let Some(conn) = self.state.table.conn(key) {
+        if let Some(conn) = self.bench.table.conn(key) {
             conn.client_flags.reads = true;
         }
-        self.receive(rt, context, key);
+        self.receive(rt, hall, key);
     }
 
     /// A connection that was reported to have ended is not kept any longer.
     fn forget(&mut self, key: usize) {
         self.dial.forget(key);
-        self.state.table.remove(key);
+        self.bench.table.remove(key);
     }
 
     /// Ends a connection. If there is no memory to record that, it is tried again in a later turn.
     pub(crate) fn close<B: Opening, G: Gate, C: Clock, R: Wait>(
         &mut self,
         rt: &R,
-        context: &WorkerContext<'_, M, O, B, G, C>,
+        hall: &Hall<'_, M, O, B, G, C>,
         key: usize,
         why: Why,
     ) {
-        match self.calls.close(rt, context, key, why) {
+        match self.calls.close(rt, hall, key, why) {
             Outcome::Open(_) | Outcome::Ended => self.forget(key),
             Outcome::Stopped => {}
             Outcome::Failed(_) => {
                 self.dial.forget(key);
-                self.state.table.end(key, why);
+                self.bench.table.end(key, why);
             }
         }
     }
@@ -269,13 +264,13 @@ impl<M: Ledger, O: Ledger, K: Link, L: Dial<Link = K>> Worker<M, O, K, L> {
     pub(crate) fn stop<B: Opening, G: Gate, C: Clock, R: Wait>(
         &mut self,
         rt: &R,
-        context: &WorkerContext<'_, M, O, B, G, C>,
+        hall: &Hall<'_, M, O, B, G, C>,
     ) {
         for key in 0..self.calls.leases.len() {
-            let why = self.state.table.ended(key).unwrap_or(Why::Stopped);
-            let _ = self.calls.close_at_once(rt, context, key, why);
+            let why = self.bench.table.ended(key).unwrap_or(Why::Stopped);
+            let _ = self.calls.close_at_once(rt, hall, key, why);
             self.dial.forget(key);
         }
-        self.state.table.clear();
+        self.bench.table.clear();
     }
 }

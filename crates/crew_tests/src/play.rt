@@ -13,7 +13,7 @@ use book_core::laws::open_connections_change;
 use conn_core::Core;
 use conn_model::event::Why;
 use conn_model::reply::{Cause, Said};
-use crew_core::{Backlog, Crew, CrewFault, DoorEvent, Outlet, Setup, Summary, run_crew};
+use crew_core::{Backlog, Crew, CrewFault, Knock, Outlet, Setup, Summary, run_crew};
 use desk_core::{Opening, Pass, SettleFault, Settled, settle};
 use record_core::{Record, Segment};
 use rtrb::{Consumer, RingBuffer};
@@ -142,20 +142,20 @@ fn open_with_ring(alloc: Global, text: &str, segments: usize) -> Option<(Book, C
 }
 
 /// What comes to the door, the last of it first.
-fn knocks(alloc: Global, stage: &Arc<Stage>, play: &Play<'_>) -> Option<Vec<DoorEvent<FakeLink>>> {
+fn knocks(alloc: Global, stage: &Arc<Stage>, play: &Play<'_>) -> Option<Vec<Knock<FakeLink>>> {
     let real = real_pair()?;
     let mut knocks = Vec::new(alloc);
     for at in 0..play.clients.len() {
         let script = play.clients[play.clients.len() - 1 - at];
         let link = FakeLink::new(Arc::try_clone(stage).ok()?, script);
-        if knocks.push(DoorEvent::Conn(0, real, link)).is_err() {
+        if knocks.push(Knock::Conn(0, real, link)).is_err() {
             return None;
         }
     }
     if let Some(text) = play.reload {
         let mut copy = String::new(alloc);
         copy.push_str(text).ok()?;
-        if knocks.push(DoorEvent::Reload(copy)).is_err() {
+        if knocks.push(Knock::Reload(copy)).is_err() {
             return None;
         }
     }

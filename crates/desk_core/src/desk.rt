@@ -10,8 +10,8 @@ ghost use Rattle.desk_core.specs.Books.{IsOf, MomentsRise};
 ghost use Rattle.desk_core.specs.Calls.{open_id, IsAnswered, IsCounted, IsCut, IsNotCut, IsRefused, IsReloaded};
 
 use crate::counted::CountedBook;
-use crate::desk_state::DeskState;
-use crate::lease::{Drive, DriveResult, Lease};
+use crate::lease::{Drive, Driven, Lease};
+use crate::locked::Locked;
 use crate::naming::{AnyOpening, Opening};
 use crate::pass::Pass;
 use addr_core::Pair;
@@ -29,15 +29,15 @@ use std::sync::{Mutex, Wait, ledger};
 /// The part of a desk that threads share: a book in a lock. Each call is one entry of the history of that book, or
 /// none.
 pub struct SharedDesk<M: Ledger, O: Ledger, B: Opening = AnyOpening> {
-    desk_state: Mutex<DeskState<M, O, B>>,
+    locked: Mutex<Locked<M, O, B>>,
 }
 
 impl<M: Ledger, O: Ledger, B: Opening> SharedDesk<M, O, B> {
     ghost use Rattle.desk_core.specs.Driving.{driven_event, IsDriven};
 
-    fn into_state(self) -> DeskState<M, O, B> {
-        let SharedDesk { desk_state } = self;
-        desk_state.into_inner()
+    fn into_locked(self) -> Locked<M, O, B> {
+        let SharedDesk { locked } = self;
+        locked.into_inner()
     }
 
     /// A connection came to a listener, by its number; the pair is its peer and its local end. There is a lease where
@@ -55,9 +55,7 @@ impl<M: Ledger, O: Ledger, B: Opening> SharedDesk<M, O, B> {
         ensures fault { IfErr result (IsRefused B.opening moment (owned.Accept listener real.now)) }
         ensures err { OnErr result (pass.new ≡ pass.old) }
     {
-        self.desk_state
-            .lock(rt)
-            .accept(pass, moment, listener, real)
+        self.locked.lock(rt).accept(pass, moment, listener, real)
     }
 
     /// Something is driven on the connection of the lease.
@@ -68,10 +66,10 @@ impl<M: Ledger, O: Ledger, B: Opening> SharedDesk<M, O, B> {
         moment: u64,
         lease: Lease<O>,
         drive: &Drive<'_>,
-    ) -> DriveResult<O>
+    ) -> Driven<O>
         ensures { IsDriven B.opening pass.old pass.new moment (driven_event lease.id drive.now) lease.id result }
     {
-        self.desk_state.lock(rt).drive(pass, moment, lease, drive)
+        self.locked.lock(rt).drive(pass, moment, lease, drive)
     }
 
     /// The connection of the lease ended. Without memory for the record the lease comes back.
@@ -88,7 +86,7 @@ impl<M: Ledger, O: Ledger, B: Opening> SharedDesk<M, O, B> {
         ensures fault { IfErr result (λ failed. IsRefused B.opening moment (owned.Close lease.id why) failed.0) }
         ensures err { IfErr result (λ failed. (pass.new ≡ pass.old) × (failed.1.id ≡ lease.id)) }
     {
-        self.desk_state.lock(rt).close(pass, moment, lease, why)
+        self.locked.lock(rt).close(pass, moment, lease, why)
     }
 
     /// A new configuration is to come into force: its text. Connections that are open keep theirs.
@@ -104,7 +102,7 @@ impl<M: Ledger, O: Ledger, B: Opening> SharedDesk<M, O, B> {
         ensures fault { IfErr result (IsRefused B.opening moment (owned.Reload text.now)) }
         ensures err { OnErr result (pass.new ≡ pass.old) }
     {
-        self.desk_state.lock(rt).reload(pass, moment, text)
+        self.locked.lock(rt).reload(pass, moment, text)
     }
 
     /// Hands the records that are in memory over as one segment. It takes no memory.
@@ -112,14 +110,14 @@ impl<M: Ledger, O: Ledger, B: Opening> SharedDesk<M, O, B> {
         ensures cut { OnOk result (IsCut B.opening) }
         ensures fault { IfErr result (IsNotCut B.opening) }
     {
-        self.desk_state.lock(rt).cut()
+        self.locked.lock(rt).cut()
     }
 
     /// What is open of that which is asked for, if there is such a thing.
     pub fn ask<R: Wait>(&self, rt: &R, ask: &Ask) -> Option<Counts>
         ensures { IsCounted B.opening ask.now result }
     {
-        self.desk_state.lock(rt).counts(ask)
+        self.locked.lock(rt).counts(ask)
     }
 }
 
@@ -135,7 +133,7 @@ pub struct Desk<M: Ledger, O: Ledger, B: Opening = AnyOpening> {
 
 /// What is left of a desk: its book, and the tokens by which the passes' calls are its records, and the leases its open
 /// connections.
-pub struct ClosedDesk<M: Ledger, O: Ledger, B: Opening = AnyOpening> {
+pub struct Shut<M: Ledger, O: Ledger, B: Opening = AnyOpening> {
     pub(crate) book: Book,
     pub(crate) made: ledger::Book<M>,
     pub(crate) leases: ledger::Book<O>,
@@ -154,7 +152,7 @@ pub struct ClosedDesk<M: Ledger, O: Ledger, B: Opening = AnyOpening> {
     pub ghost no_leases: { idle.amount ≡ 0 },
 }
 
-impl<M: Ledger, O: Ledger, B: Opening> ClosedDesk<M, O, B> {
+impl<M: Ledger, O: Ledger, B: Opening> Shut<M, O, B> {
     /// The book.
     pub fn book(&self) -> &Book
         ensures book { result.now ≡ self.now.book }
@@ -208,7 +206,7 @@ impl<M: Ledger, O: Ledger, B: Opening> Desk<M, O, B> {
         Desk {
             alloc,
             shared: SharedDesk {
-                desk_state: Mutex::new(DeskState {
+                locked: Mutex::new(Locked {
                     counted: CountedBook::new(book, made),
                     leases,
                     idle,
@@ -250,7 +248,7 @@ impl<M: Ledger, O: Ledger, B: Opening> Desk<M, O, B> {
     }
 
     /// Ends the calls.
-    pub fn into_book(self) -> ClosedDesk<M, O, B>
+    pub fn into_book(self) -> Shut<M, O, B>
         ensures given { result.given ≡ self.given }
         ensures opened { IsOf B.opening result.book }
         ensures rise { MomentsRise result.book.records }
@@ -261,19 +259,19 @@ impl<M: Ledger, O: Ledger, B: Opening> Desk<M, O, B> {
             given,
             pool,
         } = self;
-        let DeskState {
+        let Locked {
             counted,
             leases,
             idle,
             live,
-        } = shared.into_state();
+        } = shared.into_locked();
         let CountedBook {
             book,
             made,
             latest: _,
             of,
         } = counted;
-        ClosedDesk {
+        Shut {
             book,
             made,
             leases,

@@ -2,7 +2,7 @@
 ghost use Rattle.std.specs.Prelude.{◌≡◌, ◌+◌, vec_capacity, vec_len};
 ghost use Rattle.desk_core.specs.Calls.{calls_of};
 
-use crate::desk::ClosedDesk;
+use crate::desk::Shut;
 use crate::naming::Opening;
 use crate::pass::Pass;
 use std::sync::ledger;
@@ -40,7 +40,7 @@ fn recount<M: Ledger>(made: &mut ledger::Book<M>, pool: &mut Share<M>, passes: &
     });
 }
 
-impl<M: Ledger, O: Ledger, B: Opening> ClosedDesk<M, O, B> {
+impl<M: Ledger, O: Ledger, B: Opening> Shut<M, O, B> {
     /// How many calls were answered. Where all passes are there, it is the sum of theirs. Nothing is spent.
     pub fn count_calls(&mut self, passes: &mut Vec<Pass<M>>) -> u64
         requires { M.parts ≡ 65537 }
@@ -49,7 +49,7 @@ impl<M: Ledger, O: Ledger, B: Opening> ClosedDesk<M, O, B> {
         ensures passes { passes.new.items ≡ passes.old.items }
         ensures same { (self.new.book ≡ self.old.book) × (self.new.given ≡ self.old.given) }
     {
-        let ClosedDesk {
+        let Shut {
             book,
             made,
             leases: _,

@@ -5,7 +5,7 @@ ghost use Rattle.desk_core.specs.Calls.{calls_of, kept_of, AllKeep, AreWhole};
 ghost use Rattle.desk_core.specs.Receipts.{AreReceipts, IsFirstFault, IsReceiptOfOneCall};
 ghost use Rattle.desk_core.specs.Settling.{book_record, AreAll, HaveAllRecords, IsSettleFault};
 
-use crate::desk::ClosedDesk;
+use crate::desk::Shut;
 use crate::lease::Lease;
 use crate::naming::Opening;
 use crate::pass::Pass;
@@ -92,7 +92,7 @@ fn check_book<M: Ledger>(
 /// Whether the passes and the leases of a desk account for its book, of which these segments were handed on. It spends
 /// them, and ends the book.
 pub fn settle<M: Ledger, O: Ledger, B: Opening>(
-    shut: ClosedDesk<M, O, B>,
+    shut: Shut<M, O, B>,
     passes: Vec<Pass<M>>,
     left: Vec<Vec<Lease<O>>>,
     segments: &[Segment],
@@ -115,7 +115,7 @@ pub fn settle<M: Ledger, O: Ledger, B: Opening>(
     ensures fault { IfErr result (IsSettleFault (AreAll (vec_len passes) shut.given (sum_by (λ leases. vec_len leases) left.items) (open_connections shut.book.state)) (book_record segments.now shut.book) (kept_of passes.items)) }
 {
     nothing_is_counted();
-    let ClosedDesk {
+    let Shut {
         book,
         mut made,
         leases: _,

@@ -7,7 +7,7 @@ use crate::calls::{accept, close};
 use addr_core::Pair;
 use book_core::{Book, CutFault};
 use conn_model::reply::{Cause, Said};
-use desk_core::{ClosedDesk, Desk, Lease, Pass, SettleFault, Settled, SharedDesk, settle};
+use desk_core::{Desk, Lease, Pass, SettleFault, Settled, SharedDesk, Shut, settle};
 use list_core::Seq;
 use record_core::Segment;
 use rtrb::Consumer;
@@ -98,7 +98,7 @@ fn forged(segment: Segment) -> Segment {
 
 /// What is settled where the two segments are handed in so.
 fn settled_with<M: Ledger, O: Ledger>(
-    shut: ClosedDesk<M, O>,
+    shut: Shut<M, O>,
     passes: Vec<Pass<M>>,
     left: Vec<Vec<Lease<O>>>,
     front: Segment,
@@ -117,7 +117,7 @@ fn settled_with<M: Ledger, O: Ledger>(
 
 /// One cut more when the desk is shut and its ring has room again.
 fn seen_of<M: Ledger, O: Ledger>(
-    shut: ClosedDesk<M, O>,
+    shut: Shut<M, O>,
     passes: Vec<Pass<M>>,
     left: Vec<Vec<Lease<O>>>,
     segments: Consumer<Segment>,

@@ -22,7 +22,7 @@ use event_text::write_reply;
 use plan_types::Choice;
 use pp_any::{Fed, Parser};
 use pp_v1::Meaning;
-use rule_engine::{Judged, Tracks, TracksSoFar, Verdict, judge, judge_after};
+use rule_engine::{Judged, Moment, Tracks, Verdict, judge, judge_after};
 use std::alloc::{AllocError, Global};
 use thiserror::Error;
 
@@ -119,7 +119,7 @@ fn try_backends(
     match says.verdict {
         Verdict::Reject => Ok(Vec::new(alloc)),
         Verdict::Accept | Verdict::On => {
-            let moment = TracksSoFar {
+            let moment = Moment {
                 scene: facts,
                 tracks: &says.tracks,
             };

@@ -3,21 +3,20 @@ ghost use Rattle.std.specs.Prelude.{◌≡◌, ◌≤◌, [], IfOk, vec_len};
 ghost use Rattle.rtrb.specs.Ring.{received, IsPair};
 ghost use Rattle.book_core.specs.Open.{open_connections};
 
+use crate::{DEVICE, DONE, REFUSED, explain_refusal, unreadable};
 use addr_core::{Endpoint, write_endpoint};
 use book_core::Book;
 use command_line::ServeWords;
 use conn_core::OpenFault;
 use conn_model::reply::{Reply, StepFault};
-use crew_core::{Backlog, Clock, CrewFault, Dial, Door, DoorEvent, Served, open_book, serve};
+use crew_core::{Backlog, Clock, Dial, Door, Knock, Served, open_book, serve};
 use desk_core::SettleFault;
 use device_core::ToWrite;
-use file_commands::{DEVICE, DONE, REFUSED, explain_refusal, unreadable};
 use log::Log;
 use record_core::Segment;
 use rtrb::Consumer;
 use socket_core::{
-    CommandSender, DialFault, Listeners, SocketDial, SocketDoor, SocketLink, SystemClock, listen,
-    make_dials,
+    Bell, DialFault, Listeners, SocketDial, SocketDoor, SocketLink, SystemClock, listen, make_dials,
 };
 use std::alloc::{AllocError, Global};
 use std::net::Net;
@@ -30,12 +29,12 @@ use std::{fmt, fs, io, rt};
 const OTHER_FILES: u64 = 12;
 
 /// What is ready before the first connection is taken.
-pub struct ServeSetup<'a, R: Net + Log + rt::Clock> {
+pub struct Stand<'a, R: Net + Log + rt::Clock> {
     pub book: Book,
     /// The reading end of the ring of the book.
     pub segments: Consumer<Segment>,
     pub door: SocketDoor<'a, R, SystemClock<'a, R>>,
-    pub commands: CommandSender,
+    pub bell: Bell,
     pub dials: Vec<SocketDial<'a, R>>,
 }
 
@@ -126,7 +125,7 @@ fn open_sockets<'a, R: Files + Net + Log + rt::Clock + AllocGlobal + Eprint>(
 ) -> Result<
     (
         SocketDoor<'a, R, SystemClock<'a, R>>,
-        CommandSender,
+        Bell,
         Vec<SocketDial<'a, R>>,
     ),
     u8,
@@ -144,12 +143,12 @@ fn open_sockets<'a, R: Files + Net + Log + rt::Clock + AllocGlobal + Eprint>(
     };
     say_listeners(rt, book, &listeners);
     let most = most_connections(rt, listeners.len(), workers);
-    let (mut door, commands) = match SocketDoor::new(rt, alloc, clock, listeners, most) {
+    let (mut door, bell) = match SocketDoor::new(rt, alloc, clock, listeners, most) {
         Ok(opened) => opened,
         Err(fault) => return Err(fail(rt, &fault)),
     };
     match make_dials(rt, alloc, &mut door, workers) {
-        Ok(dials) => Ok((door, commands, dials)),
+        Ok(dials) => Ok((door, bell, dials)),
         Err(fault) => Err(fail(rt, &fault)),
     }
 }
@@ -159,20 +158,20 @@ pub fn open<'a, R: Files + Net + Log + rt::Clock + AllocGlobal + Eprint>(
     rt: &'a R,
     clock: &'a SystemClock<'a, R>,
     words: &ServeWords,
-) -> Result<ServeSetup<'a, R>, u8>
-    ensures made { IfOk result (λ setup. setup.book.made ≡ 0) }
-    ensures state { IfOk result (λ setup. open_connections setup.book.state ≡ 0) }
-    ensures base { IfOk result (λ setup. open_connections setup.book.base ≡ 0) }
-    ensures ring { IfOk result (λ setup. IsPair setup.book.segments setup.segments × (received setup.segments ≡ [])) }
-    ensures dials { IfOk result (λ setup. vec_len setup.dials ≡ words.now.workers) }
+) -> Result<Stand<'a, R>, u8>
+    ensures made { IfOk result (λ stand. stand.book.made ≡ 0) }
+    ensures state { IfOk result (λ stand. open_connections stand.book.state ≡ 0) }
+    ensures base { IfOk result (λ stand. open_connections stand.book.base ≡ 0) }
+    ensures ring { IfOk result (λ stand. IsPair stand.book.segments stand.segments × (received stand.segments ≡ [])) }
+    ensures dials { IfOk result (λ stand. vec_len stand.dials ≡ words.now.workers) }
 {
     let (book, segments) = read_book(rt, words.file.as_str())?;
     match open_sockets(rt, clock, &book, words.workers) {
-        Ok((door, commands, dials)) => Ok(ServeSetup {
+        Ok((door, bell, dials)) => Ok(Stand {
             book,
             segments,
             door,
-            commands,
+            bell,
             dials,
         }),
         Err(status) => {
@@ -229,7 +228,7 @@ struct ReadyDoor<'a, R: Eprint, D: Door<Link = SocketLink>> {
 impl<'a, R: Eprint, D: Door<Link = SocketLink>> Door for ReadyDoor<'a, R, D> {
     type Link = SocketLink;
 
-    fn next(&mut self) -> DoorEvent<SocketLink> {
+    fn next(&mut self) -> Knock<SocketLink> {
         if !self.is_ready {
             self.is_ready = true;
             let _written = eprintln!(self.rt; "l4proxy: ready");
@@ -247,7 +246,7 @@ impl<'a, R: Eprint, D: Door<Link = SocketLink>> Door for ReadyDoor<'a, R, D> {
 }
 
 /// Serves until the door is closed, and writes the record on standard output meanwhile. Then says what was served.
-pub fn run<
+pub fn attend<
     R: Threads + Wait + AllocGlobal + Print + Eprint + Sync,
     L: Dial<Link = SocketLink> + Send + Drop,
     D: Door<Link = SocketLink>,
@@ -282,7 +281,6 @@ pub fn run<
         workers,
         writer,
     ) {
-        Ok(served) if !served.summary.began => fail(rt, &CrewFault::Spawn),
         Ok(served) => say_served(rt, &served),
         Err(fault) => fail(rt, &fault),
     }

@@ -4,7 +4,7 @@
 pub use flags::Flags;
 pub use spares::Spares;
 pub use stream::{FLOW, PIECE, Progress, pump};
-pub use traits::{Backlog, Clock, Dial, Dialled, Door, DoorEvent, Gate, Link, Ready};
+pub use traits::{Backlog, Clock, Dial, Dialled, Door, Gate, Knock, Link, Ready};
 
 mod flags;
 mod spares;

@@ -30,12 +30,12 @@ pub struct Judged {
 
 /// A connection once those tracks are made, as conditions see it.
 #[derive(Drop)]
-pub struct TracksSoFar<'a, S> {
+pub struct Moment<'a, S> {
     pub scene: &'a S,
     pub tracks: &'a Tracks,
 }
 
-impl<'a, S: Scene> View for TracksSoFar<'a, S> {
+impl<'a, S: Scene> View for Moment<'a, S> {
     ghost worth = { λ moment. (S.meaning moment.scene.now).worth (present moment.tracks.now) };
 
     ghost acls = { λ moment. (S.meaning moment.scene.now).acls };
@@ -53,7 +53,7 @@ impl<'a, S: Scene> View for TracksSoFar<'a, S> {
 pub fn is_true<S: Scene>(scene: &S, tracks: &Tracks, rule: &Rule) -> bool
     ensures { result ≡ is_true (S.meaning scene.now) tracks.now rule.now }
 {
-    rule.when.applies(&TracksSoFar { scene, tracks })
+    rule.when.applies(&Moment { scene, tracks })
 }
 
 /// Whether the counter tracks nothing.

@@ -1,7 +1,7 @@
 //! A connection of bytes over a socket.
 ghost use Rattle.std.specs.Prelude.{◌<◌, length};
 
-use crate::fd_budget::FdPermit;
+use crate::seats::Seat;
 use device_core::{Failed, Got, Input, Output, Put, StdDevice};
 use link_core::Link;
 use mio::net::TcpStream;
@@ -37,7 +37,7 @@ impl Write for Socket {
 pub struct SocketLink {
     device: StdDevice<Socket>,
     // Of a client.
-    permit: Option<FdPermit>,
+    seat: Option<Seat>,
 }
 
 impl SocketLink {
@@ -46,16 +46,16 @@ impl SocketLink {
         let _is_set = stream.set_nodelay(true);
         SocketLink {
             device: StdDevice::of(Socket { stream }),
-            permit: None,
+            seat: None,
         }
     }
 
-    /// The link of a client, which keeps its permit for as long as it is there.
-    pub fn with_permit(self, permit: FdPermit) -> SocketLink {
-        let SocketLink { device, permit: _ } = self;
+    /// The link of a client, which keeps its seat for as long as it is there.
+    pub fn with_seat(self, seat: Seat) -> SocketLink {
+        let SocketLink { device, seat: _ } = self;
         SocketLink {
             device,
-            permit: Some(permit),
+            seat: Some(seat),
         }
     }
 

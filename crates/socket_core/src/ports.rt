@@ -17,7 +17,7 @@ use std::time::Duration;
 const MOST_EVENTS: usize = 64;
 
 /// What a listener gave.
-pub enum AcceptResult {
+pub enum Arrival {
     Conn(u16, Pair, SocketLink),
     /// A connection that ended before it was seen, or whose ends are not known as a pair.
     Lost,
@@ -78,7 +78,7 @@ impl Ports {
     }
 
     /// Has the next listener in turn that may have one give a connection.
-    pub fn accept(&mut self) -> AcceptResult {
+    pub fn accept(&mut self) -> Arrival {
         let count = self.listeners.len();
         for step in 0..count {
             let place = self.turn.wrapping_add(step) % count;
@@ -92,18 +92,17 @@ impl Ports {
                 }
                 Err(error) => match error.kind() {
                     ErrorKind::WouldBlock => self.listeners[place].may_accept = false,
-                    ErrorKind::Interrupted | ErrorKind::ConnectionAborted =>
-                        return AcceptResult::Lost,
-                    _ => return AcceptResult::Refused(error),
+                    ErrorKind::Interrupted | ErrorKind::ConnectionAborted => return Arrival::Lost,
+                    _ => return Arrival::Refused(error),
                 },
             }
         }
-        AcceptResult::Nothing
+        Arrival::Nothing
     }
 
-    fn arrived(&self, place: usize, stream: TcpStream, peer: &SocketAddr) -> AcceptResult {
+    fn arrived(&self, place: usize, stream: TcpStream, peer: &SocketAddr) -> Arrival {
         let Ok(number) = u16::try_from(place) else {
-            return AcceptResult::Lost;
+            return Arrival::Lost;
         };
         let local = match self
             .listeners
@@ -113,12 +112,12 @@ impl Ports {
             Some(local) => local,
             None => match stream.local_addr() {
                 Ok(local) => endpoint_of(&local),
-                Err(_) => return AcceptResult::Lost,
+                Err(_) => return Arrival::Lost,
             },
         };
         match pair_of(&endpoint_of(peer), &local) {
-            Some(pair) => AcceptResult::Conn(number, pair, SocketLink::of(stream)),
-            None => AcceptResult::Lost,
+            Some(pair) => Arrival::Conn(number, pair, SocketLink::of(stream)),
+            None => Arrival::Lost,
         }
     }
 }

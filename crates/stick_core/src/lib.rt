@@ -5,7 +5,7 @@
 pub use entries::{Entry, TableEntry};
 pub use key::key_of;
 pub use proxy_types::{KeyType, Stores};
-pub use table::{Table, TrackToken};
+pub use table::{Table, Tracked};
 
 mod entries;
 mod key;

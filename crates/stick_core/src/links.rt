@@ -3,28 +3,24 @@ ghost use Rattle.std.specs.Prelude.{◌≡◌, ◌≢◌, ◌<◌, ◌≤◌, �
 ghost use Rattle.stick_core.specs.Links.{link_at, after_of, before_of, IsPlace, IsLinked, end, ordered};
 ghost use Rattle.stick_core.specs.Ring.{Has, Lacks, without};
 
-/// The places before and after a place. They have 32 bits, since there are two links for each entry of a table.
+/// The places before and after a place.
 #[derive(Clone, Copy, Debug)]
 pub(crate) struct Link {
-    pub(crate) before: u32,
-    pub(crate) after: u32,
+    pub(crate) before: usize,
+    pub(crate) after: usize,
 }
 
 /// The place between the last and the first.
-pub(crate) const END: u32 = u32::MAX;
+pub(crate) const END: usize = usize::MAX;
 
-pub(crate) fn link_at_place(links: &[Link], ends: &Link, place: u32) -> Link
+pub(crate) fn link_at_place(links: &[Link], ends: &Link, place: usize) -> Link
     requires { IsPlace (length links.now) place }
     ensures { result ≡ link_at ends.now links.now place }
 {
-    if place == END {
-        *ends
-    } else {
-        links[place as usize]
-    }
+    if place == END { *ends } else { links[place] }
 }
 
-pub(crate) fn set_after(links: &mut [Link], ends: &mut Link, place: u32, after: u32)
+pub(crate) fn set_after(links: &mut [Link], ends: &mut Link, place: usize, after: usize)
     requires { IsPlace (length links.old) place }
     ensures here { after_of ends.new links.new place ≡ after }
     ensures apart { (q : ℕ) → q ≢ place → after_of ends.new links.new q ≡ after_of ends.old links.old q }
@@ -34,11 +30,11 @@ pub(crate) fn set_after(links: &mut [Link], ends: &mut Link, place: u32, after: 
     if place == END {
         ends.after = after;
     } else {
-        links[place as usize].after = after;
+        links[place].after = after;
     }
 }
 
-pub(crate) fn set_before(links: &mut [Link], ends: &mut Link, place: u32, before: u32)
+pub(crate) fn set_before(links: &mut [Link], ends: &mut Link, place: usize, before: usize)
     requires { IsPlace (length links.old) place }
     ensures here { before_of ends.new links.new place ≡ before }
     ensures apart { (q : ℕ) → q ≢ place → before_of ends.new links.new q ≡ before_of ends.old links.old q }
@@ -48,12 +44,12 @@ pub(crate) fn set_before(links: &mut [Link], ends: &mut Link, place: u32, before
     if place == END {
         ends.before = before;
     } else {
-        links[place as usize].before = before;
+        links[place].before = before;
     }
 }
 
 /// Takes a place out of the ring.
-pub(crate) fn unlink(links: &mut [Link], ends: &mut Link, place: u32)
+pub(crate) fn unlink(links: &mut [Link], ends: &mut Link, place: usize)
     requires fits { length links.old ≤ end }
     requires linked { IsLinked ends.old links.old }
     requires has { Has place (ordered ends.old links.old) }
@@ -67,7 +63,7 @@ pub(crate) fn unlink(links: &mut [Link], ends: &mut Link, place: u32)
 }
 
 /// Puts a place at the end of the ring.
-pub(crate) fn link_last(links: &mut [Link], ends: &mut Link, place: u32)
+pub(crate) fn link_last(links: &mut [Link], ends: &mut Link, place: usize)
     requires fits { length links.old ≤ end }
     requires linked { IsLinked ends.old links.old }
     requires place { place < length links.old }

@@ -20,11 +20,11 @@ use std::marker::Model;
 const MANY: usize = 65_536;
 
 /// One tracking of a key. It is spent by `release` on the table that gave it.
-pub struct TrackToken {
+pub struct Tracked {
     key: Addr,
 }
 
-impl Model for TrackToken {
+impl Model for Tracked {
     ghost use Rattle.addr_core.specs.declared.addr.Addr.{Addr};
 
     ghost Value = { Addr };
@@ -32,7 +32,7 @@ impl Model for TrackToken {
     ghost view = { λ t. t.key };
 }
 
-impl TrackToken {
+impl Tracked {
     /// The key that is tracked.
     pub fn key(&self) -> Addr
         ensures { result ≡ self.now }
@@ -132,7 +132,7 @@ impl Table {
     }
 
     /// How many track the key of a tracking.
-    pub fn trackers(&self, tracked: &TrackToken) -> u64
+    pub fn trackers(&self, tracked: &Tracked) -> u64
         ensures { result ≡ cur_of tracked.now self.now.entries }
     {
         cur_in(self.touched.entry(&tracked.key))
@@ -209,7 +209,7 @@ impl Table {
 
     /// Tracks an address, if it is a key that can be listed. A new key in a full table removes the
     /// entry without trackers that was touched longest ago; where each has some, nothing is tracked.
-    pub fn track(&mut self, addr: &Addr) -> Result<Option<TrackToken>, AllocError>
+    pub fn track(&mut self, addr: &Addr) -> Result<Option<Tracked>, AllocError>
         requires { cur_at self.old addr.now < 2 ^ 64 - 1 }
         ensures tracked { IfOk result (λ tracked. tracked ≡ key_taken self.old addr.now) }
         ensures entries { OnOk result (self.new.entries ≡ entries_after self.old addr.now) }
@@ -232,7 +232,7 @@ impl Table {
         self.track_key(addr)
     }
 
-    fn track_key(&mut self, addr: &Addr) -> Result<Option<TrackToken>, AllocError>
+    fn track_key(&mut self, addr: &Addr) -> Result<Option<Tracked>, AllocError>
         requires { cur_at self.old addr.now < 2 ^ 64 - 1 }
         ensures tracked { IfOk result (λ tracked. tracked ≡ key_taken self.old addr.now) }
         ensures entries { OnOk result (self.new.entries ≡ entries_after self.old addr.now) }
@@ -255,11 +255,11 @@ impl Table {
                 }
             }
         }
-        Ok(Some(TrackToken { key }))
+        Ok(Some(Tracked { key }))
     }
 
     /// Ends a tracking, without taking memory.
-    pub fn release(&mut self, tracked: TrackToken)
+    pub fn release(&mut self, tracked: Tracked)
         requires { 0 < cur_of tracked self.old.entries }
         ensures value { self.new ≡ record self.old { entries = released tracked self.old.entries } }
 
@@ -270,12 +270,12 @@ impl Table {
         self.release_key(tracked)
     }
 
-    fn release_key(&mut self, tracked: TrackToken)
+    fn release_key(&mut self, tracked: Tracked)
         requires { 0 < cur_of tracked self.old.entries }
         ensures value { self.new ≡ record self.old { entries = released tracked self.old.entries } }
         ensures sound { IsSound self.old.size self.old.entries }
     {
-        let TrackToken { key } = tracked;
+        let Tracked { key } = tracked;
         if let Some(entry) = self.touched.entry(&key) {
             self.touched.put_last(&key, entry.lowered());
         }

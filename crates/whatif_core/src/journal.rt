@@ -1,7 +1,7 @@
 //! The journal of a comparison: the peers of the connections that wait, the lines that are not yet written, and the
 //! counts.
 ghost use Rattle.std.specs.Prelude.{◌≡◌, ◌++◌, [], Option, Some, OnOk};
-ghost use Rattle.whatif_core.specs.Noting.{noted_in, noted_with, nothing_noted};
+ghost use Rattle.whatif_core.specs.Noting.{name_of, noted_in, noted_with, nothing_noted};
 ghost use Rattle.whatif_core.specs.Sums.{sums_text, sums_with};
 ghost use Rattle.whatif_core.specs.Reporting.{peers_on, real_of, shown, turn_line, waiting, with_peer};
 
@@ -10,10 +10,27 @@ use crate::tally::Tally;
 use crate::text::write_difference;
 use crate::turn::Turn;
 use addr_core::Endpoint;
-use audit_core::Name;
 use conn_model::event::ConnId;
 use std::alloc::{AllocError, Global};
 use std::collections::BTreeMap;
+
+/// The name of a connection, in the order of names.
+#[derive(Clone, Copy, PartialEq, Eq, PartialOrd, Ord, Drop)]
+struct Name {
+    frontend: u16,
+    serial: u64,
+}
+
+impl Name {
+    fn of(id: &ConnId) -> Name
+        ensures { result ≡ name_of id.now }
+    {
+        Name {
+            frontend: id.frontend,
+            serial: id.serial,
+        }
+    }
+}
 
 /// That peer, if the connection waits.
 fn waiting(was: &Option<Decision>, peer: Option<Endpoint>) -> Option<Endpoint>

@@ -8,7 +8,7 @@ ghost use Rattle.book_core.specs.Open.{open_connections};
 ghost use Rattle.desk_core.specs.Calls.{open_id, IsAnswered, IsCounted, IsCut, IsNotCut, IsRefused, IsReloaded};
 
 use crate::counted::CountedBook;
-use crate::lease::{Drive, DriveResult, Lease};
+use crate::lease::{Drive, Driven, Lease};
 use crate::naming::Opening;
 use crate::pass::Pass;
 use addr_core::Pair;
@@ -38,7 +38,7 @@ fn is_end(said: &Said) -> bool
 }
 
 /// What the lock guards. Whenever it is free, as many connections are open as leases are out.
-pub(crate) struct DeskState<M: Ledger, O: Ledger, B: Opening> {
+pub(crate) struct Locked<M: Ledger, O: Ledger, B: Opening> {
     pub(crate) counted: CountedBook<M, B>,
     pub(crate) leases: ledger::Book<O>,
     pub(crate) idle: Share<O>,
@@ -51,7 +51,7 @@ pub(crate) struct DeskState<M: Ledger, O: Ledger, B: Opening> {
     pub ghost parts: { idle.parts + leases.total ≡ 2 ^ 64 - 1 },
 }
 
-impl<M: Ledger, O: Ledger, B: Opening> DeskState<M, O, B> {
+impl<M: Ledger, O: Ledger, B: Opening> Locked<M, O, B> {
     ghost use Rattle.desk_core.specs.Driving.{driven_event, EndsOnly, IsDriven};
 
     pub(crate) fn accept(
@@ -66,7 +66,7 @@ impl<M: Ledger, O: Ledger, B: Opening> DeskState<M, O, B> {
         ensures fault { IfErr result (IsRefused B.opening moment (owned.Accept listener real.now)) }
         ensures err { OnErr result (pass.new ≡ pass.old) }
     {
-        let DeskState {
+        let Locked {
             counted,
             leases,
             idle,
@@ -90,11 +90,11 @@ impl<M: Ledger, O: Ledger, B: Opening> DeskState<M, O, B> {
         moment: u64,
         lease: Lease<O>,
         event: &Event,
-    ) -> DriveResult<O>
+    ) -> Driven<O>
         requires { EndsOnly (owned_event event.now) }
         ensures { IsDriven B.opening pass.old pass.new moment (owned_event event.now) lease.id result }
     {
-        let DeskState {
+        let Locked {
             counted,
             leases,
             idle,
@@ -107,12 +107,12 @@ impl<M: Ledger, O: Ledger, B: Opening> DeskState<M, O, B> {
                     leases.sub(&mut unit, 1);
                     *live -= 1;
                     idle.merge(unit);
-                    DriveResult::Over(receipt)
+                    Driven::Over(receipt)
                 } else {
-                    DriveResult::Goes(receipt, lease)
+                    Driven::Goes(receipt, lease)
                 }
             }
-            Err(fault) => DriveResult::Failed(fault, lease),
+            Err(fault) => Driven::Failed(fault, lease),
         }
     }
 
@@ -122,7 +122,7 @@ impl<M: Ledger, O: Ledger, B: Opening> DeskState<M, O, B> {
         moment: u64,
         lease: Lease<O>,
         drive: &Drive<'_>,
-    ) -> DriveResult<O>
+    ) -> Driven<O>
         ensures { IsDriven B.opening pass.old pass.new moment (driven_event lease.id drive.now) lease.id result }
     {
         let id = lease.id;
@@ -146,7 +146,7 @@ impl<M: Ledger, O: Ledger, B: Opening> DeskState<M, O, B> {
         ensures fault { IfErr result (λ failed. IsRefused B.opening moment (owned.Close lease.id why) failed.0) }
         ensures err { IfErr result (λ failed. (pass.new ≡ pass.old) × (failed.1.id ≡ lease.id)) }
     {
-        let DeskState {
+        let Locked {
             counted,
             leases,
             idle,

@@ -1,6 +1,6 @@
 //! `l4proxy audit`: a record is checked, and its connections are listed.
-use crate::files::{DONE, REFUSED, USAGE, explain_refusal, open_script, unreadable};
 use crate::progress::{Terminals, Watched};
+use crate::{DONE, REFUSED, USAGE, explain_refusal, open_script, unreadable};
 use audit_core::{CheckFault, CheckKind, run_audit};
 use clap::ArgMatches;
 use device_core::{FromRead, Input, ToWrite};

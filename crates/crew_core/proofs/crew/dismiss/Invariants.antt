@@ -1,6 +1,6 @@
 use Rattle.std.proofs.Common.{◌≡◌, ◌≤◌, ◌+◌, vec_capacity, vec_len}
 use Rattle.desk_core.specs.Calls.{calls_of}
-use Rattle.crew_core.proofs.crew.take_apart.Given as goal
+use Rattle.crew_core.proofs.crew.dismiss.Given as goal
 
 abbrev pub invariant-loop-worker : goal.invariant-loop-worker
 invariant-loop-worker g l =

@@ -1,6 +1,6 @@
 //! `l4proxy explain`: which rules are tried for one connection, what they saw, and the reply.
-use crate::files::{DEVICE, DONE, REFUSED, USAGE, explain_refusal, unreadable};
 use crate::pipe::pair;
+use crate::{DEVICE, DONE, REFUSED, USAGE, explain_refusal, unreadable};
 use addr_core::Pair;
 use clap::ArgMatches;
 use conn_model::event::PIECE_LIMIT;

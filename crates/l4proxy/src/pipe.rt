@@ -1,5 +1,5 @@
 //! `l4proxy pipe`: one connection, from standard input to standard output.
-use crate::files::{USAGE, explain_refusal, unreadable};
+use crate::{USAGE, explain_refusal, unreadable};
 use addr_core::{Endpoint, Pair, read_endpoint};
 use clap::ArgMatches;
 use conn_model::reply::Cause;

@@ -8,7 +8,7 @@ use Rattle.conn_model.specs.History.{next_version}
 use Rattle.conn_rows.proofs.Reloaded.{brought_ids, brought_is, brought_newest, taken_back, tables_earlier}
 use Rattle.conn_tables.specs.Tables.{plain_table}
 use Rattle.conn_versions.proofs.Judged.{none-above, not_kept}
-use Rattle.conn_rows.proofs.reload.install_version.Goals as goal
+use Rattle.conn_rows.proofs.reload.bring.Goals as goal
 
 pub unreachable-requires : goal.unreachable-requires
 unreachable-requires c =

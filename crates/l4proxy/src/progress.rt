@@ -1,7 +1,8 @@
 //! How far a long record has been read, on standard error.
+use crew_core::Clock;
+use socket_core::SystemClock;
 use std::io::Read;
 use std::rt::Files;
-use std::time::Instant;
 use std::{fs, io, rt};
 
 /// A record is long if it takes more ms than these to read it. Of another one nothing is reported.
@@ -41,21 +42,13 @@ struct Progress<'a, R: rt::Clock> {
     bytes: u64,
     entries: u64,
     column: Column,
-    begun: Instant,
+    clock: SystemClock<'a, R>,
     /// The time of the next report, in ms.
     due: u64,
     is_reported: bool,
 }
 
 impl<'a, R: rt::Clock + Eprint> Progress<'a, R> {
-    /// The ms since its reading began, or 0 if the system gives no time.
-    fn elapsed(&self) -> u64 {
-        match self.begun.elapsed(self.rt) {
-            Ok(since) => u64::try_from(since.as_millis()).unwrap_or(u64::MAX),
-            Err(_) => 0,
-        }
-    }
-
     fn count(&mut self, bytes: &[u8], count: usize) {
         for byte in bytes.iter().take(count) {
             self.bytes = self.bytes.saturating_add(1);
@@ -93,7 +86,7 @@ impl<'a, R: rt::Clock + Eprint> Progress<'a, R> {
     /// Counts what was read, and reports it if that is due. Nothing more is read after no bytes.
     fn take(&mut self, bytes: &[u8], count: usize) {
         self.count(bytes, count);
-        let now = self.elapsed();
+        let now = self.clock.now();
         if now >= self.due || count == 0 && self.is_reported {
             self.report();
             self.due = now.saturating_add(PAUSE);
@@ -112,14 +105,18 @@ impl<'a, F, R: rt::Clock + Files> Watched<'a, F, R> {
     /// The reader of that record, whose entries are counted as `checked` or the like. Nothing is reported if it is not to be,
     /// or if the system gives no time.
     pub fn new(rt: &'a R, file: F, record: &'a str, verb: &'a str, reports: bool) -> Self {
-        let begun = if reports { Instant::now(rt).ok() } else { None };
+        let clock = if reports {
+            SystemClock::start(rt).ok()
+        } else {
+            None
+        };
         let size = match fs::metadata(rt, record) {
             Ok(known) => known.len(),
             Err(_) => 0,
         };
         Watched {
             file,
-            progress: begun.map(|begun| Progress {
+            progress: clock.map(|clock| Progress {
                 rt,
                 record,
                 verb,
@@ -127,7 +124,7 @@ impl<'a, F, R: rt::Clock + Files> Watched<'a, F, R> {
                 bytes: 0,
                 entries: 0,
                 column: Column::Nothing,
-                begun,
+                clock,
                 due: LONG,
                 is_reported: false,
             }),

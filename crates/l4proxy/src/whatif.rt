@@ -1,7 +1,7 @@
 //! `l4proxy whatif`: the record of a configuration is played against another one.
 use crate::audit::say_wrong;
-use crate::files::{DONE, REFUSED, USAGE, explain_refusal, open_script, unreadable};
 use crate::progress::{Terminals, Watched};
+use crate::{DONE, REFUSED, USAGE, explain_refusal, open_script, unreadable};
 use clap::ArgMatches;
 use conn_model::reply::StepFault;
 use device_core::{FromRead, ToWrite};
