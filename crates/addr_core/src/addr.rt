@@ -4,6 +4,14 @@ ghost use Rattle.addr_core.specs.Family.{same_family};
 ghost use Rattle.addr_core.specs.Same.{same_addr, same_endpoint};
 ghost use Rattle.addr_core.specs.Prefix.{width_of};
 
+/// The most bytes that the text of an address has: eight groups of four digits, and the colons
+/// between them.
+pub const MOST_ADDR_BYTES: usize = 39;
+
+/// The most bytes that the text of an endpoint has: an address of IPv6 in brackets, a colon and a
+/// port of five digits.
+pub const MOST_ENDPOINT_BYTES: usize = 47;
+
 /// An internet address. The number of an IPv4 address is that of its four octets in network byte
 /// order, so that 127.0.0.1 is 0x7F00_0001 (RFC 791, section 3.2). The number of an IPv6 address is
 /// that of its sixteen octets, so that ::1 is 1 (RFC 4291, section 2). An IPv4 address and the IPv6

@@ -4,6 +4,7 @@ ghost use Rattle.std.specs.Char.{digit_char};
 ghost use Rattle.std.specs.List.{flat_map};
 ghost use Rattle.addr_core.specs.Groups.{colon_text, groups_of, groups_text, hexadecimal, longest, without_run, zeros, IsLongest};
 
+use crate::addr::MOST_ADDR_BYTES;
 use arrayvec::ArrayString;
 
 /// The eight groups of an address.
@@ -34,16 +35,16 @@ fn hex_digit(value: u16) -> u8
     b'a' + (value as u8 - 10)
 }
 
-fn push_digit(text: &mut ArrayString<39>, value: u16)
+fn push_digit(text: &mut ArrayString<MOST_ADDR_BYTES>, value: u16)
     requires value { value < 16 }
-    requires room { length text.old.bytes < 39 }
+    requires room { length text.old.bytes < MOST_ADDR_BYTES }
     ensures { text.new.bytes ≡ text.old.bytes ++ digit_char value ∷ [] }
 {
     text.push(char::from(hex_digit(value)));
 }
 
-fn push_group(text: &mut ArrayString<39>, group: u16)
-    requires { length text.old.bytes + length (hexadecimal group) ≤ 39 }
+fn push_group(text: &mut ArrayString<MOST_ADDR_BYTES>, group: u16)
+    requires { length text.old.bytes + length (hexadecimal group) ≤ MOST_ADDR_BYTES }
     ensures { text.new.bytes ≡ text.old.bytes ++ hexadecimal group }
 {
     if group < 16 {
@@ -55,16 +56,16 @@ fn push_group(text: &mut ArrayString<39>, group: u16)
 }
 
 /// Appends the group, which has at most four digits.
-fn push_short(text: &mut ArrayString<39>, group: u16)
-    requires { length text.old.bytes + 4 ≤ 39 }
+fn push_short(text: &mut ArrayString<MOST_ADDR_BYTES>, group: u16)
+    requires { length text.old.bytes + 4 ≤ MOST_ADDR_BYTES }
     ensures bytes { text.new.bytes ≡ text.old.bytes ++ hexadecimal group }
     ensures room { length text.new.bytes ≤ length text.old.bytes + 4 }
 {
     push_group(text, group);
 }
 
-fn push_colon(text: &mut ArrayString<39>)
-    requires { length text.old.bytes < 39 }
+fn push_colon(text: &mut ArrayString<MOST_ADDR_BYTES>)
+    requires { length text.old.bytes < MOST_ADDR_BYTES }
     ensures bytes { text.new.bytes ≡ text.old.bytes ++ 58 ∷ [] }
     ensures room { length text.new.bytes ≡ length text.old.bytes + 1 }
 {
@@ -72,8 +73,8 @@ fn push_colon(text: &mut ArrayString<39>)
 }
 
 /// Appends the groups, each after a colon.
-fn push_more(text: &mut ArrayString<39>, groups: &[u16])
-    requires { length text.old.bytes + 5 * length groups.now ≤ 39 }
+fn push_more(text: &mut ArrayString<MOST_ADDR_BYTES>, groups: &[u16])
+    requires { length text.old.bytes + 5 * length groups.now ≤ MOST_ADDR_BYTES }
     ensures bytes { text.new.bytes ≡ text.old.bytes ++ flat_map (λ group. 58 ∷ hexadecimal group) groups.now }
     ensures room { length text.new.bytes ≤ length text.old.bytes + 5 * length groups.now }
 {
@@ -84,7 +85,7 @@ fn push_more(text: &mut ArrayString<39>, groups: &[u16])
 }
 
 /// Appends the groups with single colons.
-fn push_groups(text: &mut ArrayString<39>, groups: &[u16])
+fn push_groups(text: &mut ArrayString<MOST_ADDR_BYTES>, groups: &[u16])
     requires { length text.old.bytes + 5 * length groups.now ≤ 40 }
     ensures bytes { text.new.bytes ≡ text.old.bytes ++ colon_text groups.now }
     ensures room { length text.new.bytes ≤ length text.old.bytes + (5 * length groups.now - 1) }
@@ -148,10 +149,10 @@ fn longest_run(groups: &[u16]) -> Run
 
 /// The groups as text, with `::` for the longest run of two zero groups or more, the first of equal
 /// ones (RFC 5952, section 4.2).
-pub(crate) fn write_groups(groups: &[u16]) -> ArrayString<39>
+pub(crate) fn write_groups(groups: &[u16]) -> ArrayString<MOST_ADDR_BYTES>
     requires { length groups.now ≤ 8 }
     ensures text { result.bytes ≡ groups_text groups.now }
-    ensures length { length result.bytes ≤ 39 }
+    ensures length { length result.bytes ≤ MOST_ADDR_BYTES }
 {
     let run = longest(groups);
     let mut text = ArrayString::new();

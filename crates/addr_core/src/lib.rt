@@ -1,7 +1,7 @@
 //! Addresses, endpoints, pairs of endpoints and networks, and their text.
 #![tactic(auto)]
 
-pub use addr::{Addr, Endpoint};
+pub use addr::{Addr, Endpoint, MOST_ADDR_BYTES, MOST_ENDPOINT_BYTES};
 pub use net::Net;
 pub use pair::Pair;
 pub use reading::{AddrFault, read_addr, read_endpoint, read_net};

@@ -5,28 +5,28 @@ ghost use Rattle.addr_core.specs.Dotted.{dotted_text};
 ghost use Rattle.addr_core.specs.Groups.{groups_of, groups_text};
 ghost use Rattle.addr_core.specs.Text.{addr_of, endpoint_of, endpoint_text, host_text, text_limit, text_of, IsAddr, IsEndpoint};
 
-use crate::addr::{Addr, Endpoint};
+use crate::addr::{Addr, Endpoint, MOST_ADDR_BYTES, MOST_ENDPOINT_BYTES};
 use crate::groups::{groups_of, write_groups};
 use arrayvec::ArrayString;
 use text_core::decimal::push_decimal;
 
-fn push_octet(text: &mut ArrayString<39>, octet: u8)
-    requires { length text.old.bytes + 3 ≤ 39 }
+fn push_octet(text: &mut ArrayString<MOST_ADDR_BYTES>, octet: u8)
+    requires { length text.old.bytes + 3 ≤ MOST_ADDR_BYTES }
     ensures bytes { text.new.bytes ≡ text.old.bytes ++ decimal octet }
     ensures room { length text.new.bytes ≤ length text.old.bytes + 3 }
 {
     push_decimal(text, u64::from(octet));
 }
 
-fn push_dot(text: &mut ArrayString<39>)
-    requires { length text.old.bytes < 39 }
+fn push_dot(text: &mut ArrayString<MOST_ADDR_BYTES>)
+    requires { length text.old.bytes < MOST_ADDR_BYTES }
     ensures bytes { text.new.bytes ≡ text.old.bytes ++ 46 ∷ [] }
     ensures room { length text.new.bytes ≡ length text.old.bytes + 1 }
 {
     text.push('.');
 }
 
-fn dotted(number: u32) -> ArrayString<39>
+fn dotted(number: u32) -> ArrayString<MOST_ADDR_BYTES>
     ensures text { result.bytes ≡ dotted_text number }
     ensures number { number < 2 ^ 32 }
     ensures length { length result.bytes ≤ 15 }
@@ -43,15 +43,15 @@ fn dotted(number: u32) -> ArrayString<39>
 }
 
 /// The text of an IPv6 address.
-fn six(number: u128) -> ArrayString<39>
+fn six(number: u128) -> ArrayString<MOST_ADDR_BYTES>
     ensures text { result.bytes ≡ groups_text (groups_of number) }
     ensures number { number < 2 ^ 128 }
-    ensures length { length result.bytes ≤ 39 }
+    ensures length { length result.bytes ≤ MOST_ADDR_BYTES }
 {
     write_groups(&groups_of(number))
 }
 
-fn addr_text(addr: &Addr) -> ArrayString<39>
+fn addr_text(addr: &Addr) -> ArrayString<MOST_ADDR_BYTES>
     ensures text { result.bytes ≡ text_of addr.now }
     ensures in_range { IsAddr addr.now }
     ensures length { length result.bytes ≤ text_limit addr.now }
@@ -64,7 +64,7 @@ fn addr_text(addr: &Addr) -> ArrayString<39>
 
 /// The address as text: an IPv4 address in dotted decimal, as `127.0.0.1`, an IPv6 address by RFC
 /// 5952, section 4, as `2001:db8::1`.
-pub fn write_addr(addr: &Addr) -> ArrayString<39>
+pub fn write_addr(addr: &Addr) -> ArrayString<MOST_ADDR_BYTES>
     ensures text { result.bytes ≡ text_of addr.now }
     ensures length { length result.bytes ≤ text_limit addr.now }
 
@@ -75,8 +75,8 @@ pub fn write_addr(addr: &Addr) -> ArrayString<39>
     addr_text(addr)
 }
 
-fn push_port(text: &mut ArrayString<47>, port: u16)
-    requires { length text.old.bytes + 6 ≤ 47 }
+fn push_port(text: &mut ArrayString<MOST_ENDPOINT_BYTES>, port: u16)
+    requires { length text.old.bytes + 6 ≤ MOST_ENDPOINT_BYTES }
     ensures text { text.new.bytes ≡ text.old.bytes ++ 58 ∷ decimal port }
     ensures port { port < 2 ^ 16 }
 {
@@ -84,7 +84,7 @@ fn push_port(text: &mut ArrayString<47>, port: u16)
     push_decimal(text, u64::from(port));
 }
 
-fn host_text(addr: &Addr) -> ArrayString<47>
+fn host_text(addr: &Addr) -> ArrayString<MOST_ENDPOINT_BYTES>
     ensures text { result.bytes ≡ host_text addr.now }
     ensures room { length result.bytes ≤ 41 }
     ensures in_range { IsAddr addr.now }
@@ -105,7 +105,7 @@ fn host_text(addr: &Addr) -> ArrayString<47>
     }
 }
 
-fn endpoint_text(endpoint: &Endpoint) -> ArrayString<47>
+fn endpoint_text(endpoint: &Endpoint) -> ArrayString<MOST_ENDPOINT_BYTES>
     ensures text { result.bytes ≡ endpoint_text endpoint.now }
     ensures in_range { IsEndpoint endpoint.now }
 {
@@ -116,7 +116,7 @@ fn endpoint_text(endpoint: &Endpoint) -> ArrayString<47>
 
 /// The endpoint as text: the address, a colon and the port, as `127.0.0.1:80`. An IPv6 address is in
 /// brackets, as in `[2001:db8::1]:80` (RFC 5952, section 6).
-pub fn write_endpoint(endpoint: &Endpoint) -> ArrayString<47>
+pub fn write_endpoint(endpoint: &Endpoint) -> ArrayString<MOST_ENDPOINT_BYTES>
     ensures text { result.bytes ≡ endpoint_text endpoint.now }
 
     // What is written is read again.

@@ -7,7 +7,7 @@ use Rattle.config_core.specs.declared.fault.OpenFault.{OpenFault}
 use Rattle.conn_core.specs.Machine.{IsOpened}
 use Rattle.conn_model.specs.declared.plain.Plain.{Plain}
 use Rattle.conn_model.specs.History.{Entry, IsWell, opening}
-use Rattle.audit_core.specs.Verdict.{counts_from, counts_of, fault_at, history_on, verdict, IsChecked, Next}
+use Rattle.audit_core.specs.Verdict.{counts_from, counts_of, fault_at, history_on, verdict, IsChecked, LinePlace}
 use Rattle.audit_core.specs.Standing.{Standing, IsStarted, standing_counts, start, verdict_in}
 use Rattle.audit_core.specs.Check.{IsFaultOf, Stops}
 use Rattle.audit_core.specs.declared.fault.Checked.{Checked}
@@ -24,9 +24,9 @@ right_verdict text checked plan well is = verdict_start plan text well ∙ is
 
 -- it is the record of a legal history
 pub right_checked : (config text : List ℕ) (checked : Checked) (plan : Plan) → meaning config ≡ Ok plan → verdict plan text ≡ Ok checked → IsChecked config text checked
-right_checked config text checked plan means is = by (history_on (opening plan 0) [] 0 Next.between (parts is_line_feed text)) refl is
+right_checked config text checked plan means is = by (history_on (opening plan 0) [] 0 LinePlace.between (parts is_line_feed text)) refl is
   where
-    by : (found : Result (List Entry) CheckFault) → history_on (opening plan 0) [] 0 Next.between (parts is_line_feed text) ≡ found → counts_from (opening plan 0) found ≡ Ok checked → IsChecked config text checked
+    by : (found : Result (List Entry) CheckFault) → history_on (opening plan 0) [] 0 LinePlace.between (parts is_line_feed text) ≡ found → counts_from (opening plan 0) found ≡ Ok checked → IsChecked config text checked
     by (Err fault) reads wrong = absurd (cc)
     by (Ok history) reads right =
         let whole : Whole (opening plan 0) history (parts is_line_feed text) = right_record (opening plan 0) (parts is_line_feed text) history reads in

@@ -5,7 +5,7 @@ use Rattle.std.specs.List.{join_with_byte}
 use Rattle.std.proofs.lemmas.Bool.Decides.{nat_tests}
 use Rattle.conn_model.specs.declared.event.OwnedEvent.{OwnedEvent}
 use Rattle.conn_model.specs.declared.event.OwnedEvent.TheVariants.{Reload}
-use Rattle.event_text.specs.Script.{◌>>=◌, bar_text, bar_texts, event_with, words_of, Head}
+use Rattle.event_text.specs.Script.{◌>>=◌, bar_text, bar_texts, event_with, words_of, EventHead}
 use Rattle.audit_core.specs.Record.{numbered_event, numbered_head}
 
 -- the texts of lines and of one more
@@ -47,48 +47,48 @@ same_count : (n m : ℕ) → n ≡ m → (n == m) ≡ true
 same_count n m is = grind (arith, nat_tests)
 
 -- all lines of a reload
-pub whole_text : (number moment count : ℕ) (first : List ℕ) (bars texts : List (List ℕ)) → numbered_head number (words_of first) ≡ Some (Head.reload moment count) → bar_texts bars ≡ Some texts
+pub whole_text : (number moment count : ℕ) (first : List ℕ) (bars texts : List (List ℕ)) → numbered_head number (words_of first) ≡ Some (EventHead.reload moment count) → bar_texts bars ≡ Some texts
     → length bars ≡ count → numbered_event number (first ∷ bars) ≡ Some (moment, Reload (join_with_byte 0x0A texts))
 whole_text number moment count first bars texts head are counted =
     ap (λ o. o >>= λ head. event_with head bars) head ∙ rw (same_count (length bars) count counted, are) refl
 
 -- one that has no text
-pub whole_line : (number : ℕ) (line : List ℕ) (timed : ℕ × OwnedEvent) → numbered_head number (words_of line) ≡ Some (Head.whole timed) → numbered_event number (line ∷ []) ≡ Some timed
+pub whole_line : (number : ℕ) (line : List ℕ) (timed : ℕ × OwnedEvent) → numbered_head number (words_of line) ≡ Some (EventHead.whole timed) → numbered_event number (line ∷ []) ≡ Some timed
 whole_line number line timed head = ap (λ o. o >>= λ head. event_with head []) head
 
 -- the lines of an event: one, or the first one of a reload and all those of its text
 pub data IsWritten (number : ℕ) (timed : ℕ × OwnedEvent) (event : List (List ℕ)) : Type 0 where
-  alone : (line : List ℕ) → numbered_head number (words_of line) ≡ Some (Head.whole timed) → event ≡ line ∷ [] → IsWritten number timed event
-  with_text : (line : List ℕ) (bars texts : List (List ℕ)) (moment : ℕ) → numbered_head number (words_of line) ≡ Some (Head.reload moment (length bars)) → bar_texts bars ≡ Some texts
+  alone : (line : List ℕ) → numbered_head number (words_of line) ≡ Some (EventHead.whole timed) → event ≡ line ∷ [] → IsWritten number timed event
+  with_text : (line : List ℕ) (bars texts : List (List ℕ)) (moment : ℕ) → numbered_head number (words_of line) ≡ Some (EventHead.reload moment (length bars)) → bar_texts bars ≡ Some texts
       → timed ≡ (moment, Reload (join_with_byte 0x0A texts)) → event ≡ line ∷ bars → IsWritten number timed event
 
 counted : (n m : ℕ) → (n == m) ≡ true → n ≡ m
 counted n m is = grind (arith, nat_tests)
 
-abbrev some_head : Head → Option Head
+abbrev some_head : EventHead → Option EventHead
 some_head head = Some head
 
 pub is_written : (number : ℕ) (timed : ℕ × OwnedEvent) (event : List (List ℕ)) → numbered_event number event ≡ Some timed → IsWritten number timed event
 is_written number timed [] is = absurd (cc)
 is_written number timed (line ∷ bars) is = by (numbered_head number (words_of line)) refl
   where
-    text : (moment count : ℕ) → numbered_head number (words_of line) ≡ some_head (Head.reload moment count) → (b : Bool) → (length bars == count) ≡ b → (o : Option (List (List ℕ))) → bar_texts bars ≡ o
-        → event_with (Head.reload moment count) bars ≡ Some timed → IsWritten number timed (line ∷ bars)
+    text : (moment count : ℕ) → numbered_head number (words_of line) ≡ some_head (EventHead.reload moment count) → (b : Bool) → (length bars == count) ≡ b → (o : Option (List (List ℕ))) → bar_texts bars ≡ o
+        → event_with (EventHead.reload moment count) bars ≡ Some timed → IsWritten number timed (line ∷ bars)
     text moment count head false differs o are with_bars = let wrong = rw differs at with_bars in absurd (cc)
     text moment count head true same None are with_bars = let wrong = rw (same, are) at with_bars in absurd (cc)
     text moment count head true same (Some texts) are with_bars =
         let it = rw (same, are) at with_bars in
         let is_timed : (moment, Reload (join_with_byte 0x0A texts)) ≡ timed = cc in
-        IsWritten.with_text line bars texts moment (head ∙ ap (λ n. some_head (Head.reload moment n)) (sym (counted (length bars) count same))) are (sym is_timed) refl
+        IsWritten.with_text line bars texts moment (head ∙ ap (λ n. some_head (EventHead.reload moment n)) (sym (counted (length bars) count same))) are (sym is_timed) refl
 
-    by_head : (head : Head) → numbered_head number (words_of line) ≡ some_head head → (lines : List (List ℕ)) → lines ≡ bars → event_with head lines ≡ Some timed → IsWritten number timed (line ∷ bars)
-    by_head (Head.whole other) head [] all with_bars =
+    by_head : (head : EventHead) → numbered_head number (words_of line) ≡ some_head head → (lines : List (List ℕ)) → lines ≡ bars → event_with head lines ≡ Some timed → IsWritten number timed (line ∷ bars)
+    by_head (EventHead.whole other) head [] all with_bars =
         let same : other ≡ timed = cc in
-        IsWritten.alone line (head ∙ ap (λ t. some_head (Head.whole t)) same) (ap (λ ls. line ∷ ls) (sym all))
-    by_head (Head.whole other) head (bar ∷ more) all with_bars = absurd (cc)
-    by_head (Head.reload moment count) head lines all with_bars =
+        IsWritten.alone line (head ∙ ap (λ t. some_head (EventHead.whole t)) same) (ap (λ ls. line ∷ ls) (sym all))
+    by_head (EventHead.whole other) head (bar ∷ more) all with_bars = absurd (cc)
+    by_head (EventHead.reload moment count) head lines all with_bars =
         text moment count head (length bars == count) refl (bar_texts bars) refl (rw all at with_bars)
 
-    by : (o : Option Head) → numbered_head number (words_of line) ≡ o → IsWritten number timed (line ∷ bars)
+    by : (o : Option EventHead) → numbered_head number (words_of line) ≡ o → IsWritten number timed (line ∷ bars)
     by None head = let wrong = rw head at is in absurd (cc)
     by (Some head) found = by_head head found bars refl (rw found at is)

@@ -15,7 +15,7 @@ use Rattle.audit_core.specs.Printing.{name_cmp, name_of, with_known, Noted}
 use Rattle.audit_core.specs.declared.journal.Known.{Known}
 use Rattle.audit_core.specs.declared.journal.Name.{Name}
 
-ext : {A B : Type 0} → (f g : A → B) → ((x : A) → f x ≡ g x) → f ≡ g
+pub ext : {A B : Type 0} → (f g : A → B) → ((x : A) → f x ≡ g x) → f ≡ g
 ext f g same = λ i x. same x i
 
 -- ---- names
@@ -28,7 +28,7 @@ then_eq Less b = refl
 then_eq Equal b = refl
 then_eq Greater b = refl
 
-name_same : (id other : ConnId) → is_at (name_cmp (name_of id)) (name_of other) ≡ is_conn other.frontend other.serial id
+pub name_same : (id other : ConnId) → is_at (name_cmp (name_of id)) (name_of other) ≡ is_conn other.frontend other.serial id
 name_same id other = then_eq (nat_cmp id.frontend other.frontend) (nat_cmp id.serial other.serial) ∙ both (cmp_eq id.frontend other.frontend) (cmp_eq id.serial other.serial)
   where
     both : {a b c d : Bool} → a ≡ b → c ≡ d → (a && c) ≡ (b && d)

@@ -16,11 +16,10 @@ use Rattle.conn_model.specs.declared.reply.Reply.{Reply}
 use Rattle.conn_model.specs.declared.reply.Said.{Said}
 use Rattle.conn_model.specs.declared.reply.StepFault.{StepFault}
 use Rattle.conn_model.specs.Answer.{new_row}
-use Rattle.conn_model.specs.Counts.{total}
+use Rattle.conn_model.specs.Counts.{total, open_connections}
 use Rattle.conn_model.specs.History.{Entry, after, arrival, arrival_of, arrivals, entry, frontend_after, has_ended, id_of, leaves_open, opening, row_after}
 use Rattle.conn_model.specs.Words.{map_from}
 use Rattle.replay_core.specs.Turns.{plain_after}
-use Rattle.audit_core.specs.Record.{open_connections}
 
 rows_of : FrontendRows → ℕ
 rows_of own = length own.rows

@@ -13,7 +13,7 @@ use Rattle.conn_model.specs.declared.reply.Reply.{Reply}
 use Rattle.conn_model.specs.declared.reply.StepFault.{StepFault}
 use Rattle.conn_model.specs.History.{Entry, IsLegal, IsWell, answer, entry, opening}
 use Rattle.conn_model.proofs.Well.{after-nil}
-use Rattle.event_text.specs.Script.{with_text, Head}
+use Rattle.event_text.specs.Script.{with_text, EventHead}
 use Rattle.replay_core.specs.declared.fault.PrintFault.{PrintFault}
 use Rattle.replay_core.specs.declared.fault.PrintFault.TheVariants as prints
 use Rattle.audit_core.specs.Audit.{fault_text}
@@ -22,7 +22,7 @@ use Rattle.audit_core.specs.Ended.{audit_output, counts_text, ended_text, known_
 use Rattle.audit_core.specs.Line.{event_peer}
 use Rattle.audit_core.specs.Printing.{after_right, due_reply, known_with, line_with, nothing_noted, output_in, record_output}
 use Rattle.audit_core.specs.Standing.{Standing, after_head, after_line, after_reply, standing_counts, start, verdict_in, IsStarted}
-use Rattle.audit_core.specs.Verdict.{counts_from, counts_of, fault_at, head_at, history_on, next_of, next_of_text, reply_at, text_at, verdict, Next}
+use Rattle.audit_core.specs.Verdict.{counts_from, counts_of, fault_at, head_at, history_on, next_of, next_of_text, reply_at, text_at, verdict, LinePlace}
 use Rattle.audit_core.specs.declared.due.Due.TheVariants as dues
 use Rattle.audit_core.specs.declared.fault.CheckFault.{CheckFault}
 use Rattle.audit_core.specs.declared.fault.CheckKind.{CheckKind}
@@ -34,18 +34,18 @@ use Rattle.audit_core.proofs.PassLemmas.{same_plan}
 use Rattle.audit_core.proofs.VerdictLemmas.{head_standing, pending_with, reply_gives, same_standing, standing, text_standing, verdict_start}
 
 -- no line is written for the lines of an event
-output_head : (p : Plain) (h : List Entry) (before : ℕ) (lines : List (List ℕ)) (g : List Entry) (read : Result Head CheckFault)
-    → ((next : Next) → history_on p h (before + 1) next lines ≡ Ok g → ended_text g ≡ ended_text h ++ output_in (standing p h (before + 1) next) (known_after h) lines)
+output_head : (p : Plain) (h : List Entry) (before : ℕ) (lines : List (List ℕ)) (g : List Entry) (read : Result EventHead CheckFault)
+    → ((next : LinePlace) → history_on p h (before + 1) next lines ≡ Ok g → ended_text g ≡ ended_text h ++ output_in (standing p h (before + 1) next) (known_after h) lines)
     → (read >>= λ head. history_on p h (before + 1) (next_of head) lines) ≡ Ok g
-    → ended_text g ≡ ended_text h ++ after_right (read >>= λ head. Ok (after_head (standing p h before Next.between) head)) [] (λ t. output_in t (known_after h) lines)
+    → ended_text g ≡ ended_text h ++ after_right (read >>= λ head. Ok (after_head (standing p h before LinePlace.between) head)) [] (λ t. output_in t (known_after h) lines)
 output_head p h before lines g (Err fault) goes_on is = absurd (cc)
 output_head p h before lines g (Ok head) goes_on is =
     goes_on (next_of head) is ∙ ap (λ s. ended_text h ++ output_in s (known_after h) lines) (head_standing p h before head)
 
 output_text : (p : Plain) (h : List Entry) (before moment missing : ℕ) (texts lines : List (List ℕ)) (g : List Entry) (read : Result (List ℕ) CheckFault)
-    → ((next : Next) → history_on p h (before + 1) next lines ≡ Ok g → ended_text g ≡ ended_text h ++ output_in (standing p h (before + 1) next) (known_after h) lines)
+    → ((next : LinePlace) → history_on p h (before + 1) next lines ≡ Ok g → ended_text g ≡ ended_text h ++ output_in (standing p h (before + 1) next) (known_after h) lines)
     → (read >>= λ text. history_on p h (before + 1) (next_of_text moment (missing - 1) (texts ++ text ∷ [])) lines) ≡ Ok g
-    → ended_text g ≡ ended_text h ++ after_right (read >>= λ text. Ok (after_line (standing p h before (Next.within moment missing texts)) (with_text (pending_with moment missing texts) text))) []
+    → ended_text g ≡ ended_text h ++ after_right (read >>= λ text. Ok (after_line (standing p h before (LinePlace.within moment missing texts)) (with_text (pending_with moment missing texts) text))) []
     (λ t. output_in t (known_after h) lines)
 output_text p h before moment missing texts lines g (Err fault) goes_on is = absurd (cc)
 output_text p h before moment missing texts lines g (Ok text) goes_on is =
@@ -59,12 +59,12 @@ due_output known peer answered next lines =
 
 output_reply : (p : Plain) (h : List Entry) (before : ℕ) (timed : ℕ × OwnedEvent) (lines : List (List ℕ)) (g : List Entry) (read : Result Reply CheckFault) → IsWell p → IsLegal p h
     → ((reply : Reply) → read ≡ Ok reply → answer p h timed.0 timed.1 ≡ Ok reply)
-    → ((reply : Reply) → IsLegal p (entry timed.0 timed.1 reply ∷ h) → history_on p (entry timed.0 timed.1 reply ∷ h) (before + 1) Next.between lines ≡ Ok g
+    → ((reply : Reply) → IsLegal p (entry timed.0 timed.1 reply ∷ h) → history_on p (entry timed.0 timed.1 reply ∷ h) (before + 1) LinePlace.between lines ≡ Ok g
     → ended_text g ≡ ended_text (entry timed.0 timed.1 reply ∷ h)
-    ++ output_in (standing p (entry timed.0 timed.1 reply ∷ h) (before + 1) Next.between) (known_after (entry timed.0 timed.1 reply ∷ h)) lines)
-    → (read >>= λ reply. history_on p (entry timed.0 timed.1 reply ∷ h) (before + 1) Next.between lines) ≡ Ok g
+    ++ output_in (standing p (entry timed.0 timed.1 reply ∷ h) (before + 1) LinePlace.between) (known_after (entry timed.0 timed.1 reply ∷ h)) lines)
+    → (read >>= λ reply. history_on p (entry timed.0 timed.1 reply ∷ h) (before + 1) LinePlace.between lines) ≡ Ok g
     → ended_text g ≡ ended_text h
-    ++ due_output (known_after h) (event_peer timed.1) (answer p h timed.0 timed.1) (read >>= λ reply. Ok (after_reply (standing p h before (Next.awaiting timed)) reply)) lines
+    ++ due_output (known_after h) (event_peer timed.1) (answer p h timed.0 timed.1) (read >>= λ reply. Ok (after_reply (standing p h before (LinePlace.awaiting timed)) reply)) lines
 output_reply p h before timed lines g (Err fault) well legal gives next is = absurd (cc)
 output_reply p h before timed lines g (Ok reply) well legal gives next is =
     let answered : answer p h timed.0 timed.1 ≡ Ok reply = gives reply refl in
@@ -73,34 +73,34 @@ output_reply p h before timed lines g (Ok reply) well legal gives next is =
     let known = known_on (known_after h) peer reply.said in
     next reply (legal, answered) is
     ∙ ap (λ s. (ended_text h ++ line) ++ output_in s known lines) (same_standing p h before timed reply well legal answered)
-    ∙ append_assoc (ended_text h) line (output_in (after_reply (standing p h before (Next.awaiting timed)) reply) known lines)
-    ∙ ap (λ a. ended_text h ++ due_output (known_after h) peer a (Ok (after_reply (standing p h before (Next.awaiting timed)) reply)) lines) (sym answered)
+    ∙ append_assoc (ended_text h) line (output_in (after_reply (standing p h before (LinePlace.awaiting timed)) reply) known lines)
+    ∙ ap (λ a. ended_text h ++ due_output (known_after h) peer a (Ok (after_reply (standing p h before (LinePlace.awaiting timed)) reply)) lines) (sym answered)
 
-same_output : (p : Plain) (h : List Entry) (before : ℕ) (next : Next) (lines : List (List ℕ)) (g : List Entry) → IsWell p → IsLegal p h → history_on p h before next lines ≡ Ok g
+same_output : (p : Plain) (h : List Entry) (before : ℕ) (next : LinePlace) (lines : List (List ℕ)) (g : List Entry) → IsWell p → IsLegal p h → history_on p h before next lines ≡ Ok g
     → ended_text g ≡ ended_text h ++ output_in (standing p h before next) (known_after h) lines
-same_output p h before Next.between [] g well legal is = let same : h ≡ g = cc in ap ended_text (sym same) ∙ sym (append-nil (ended_text h))
-same_output p h before (Next.within moment missing texts) [] g well legal is = absurd (cc)
-same_output p h before (Next.awaiting timed) [] g well legal is = absurd (cc)
-same_output p h before Next.between (line ∷ lines) g well legal is =
+same_output p h before LinePlace.between [] g well legal is = let same : h ≡ g = cc in ap ended_text (sym same) ∙ sym (append-nil (ended_text h))
+same_output p h before (LinePlace.within moment missing texts) [] g well legal is = absurd (cc)
+same_output p h before (LinePlace.awaiting timed) [] g well legal is = absurd (cc)
+same_output p h before LinePlace.between (line ∷ lines) g well legal is =
     output_head p h before lines g (head_at (before + 1) (length h + 1) line) (λ next more. same_output p h (before + 1) next lines g well legal more) is
-same_output p h before (Next.within moment missing texts) (line ∷ lines) g well legal is =
+same_output p h before (LinePlace.within moment missing texts) (line ∷ lines) g well legal is =
     output_text p h before moment missing texts lines g (text_at (before + 1) line) (λ next more. same_output p h (before + 1) next lines g well legal more) is
-same_output p h before (Next.awaiting timed) (line ∷ lines) g well legal is =
+same_output p h before (LinePlace.awaiting timed) (line ∷ lines) g well legal is =
     output_reply p h before timed lines g (reply_at (before + 1) (answer p h timed.0 timed.1) line) well legal
     (λ reply right. (reply_gives (before + 1) (answer p h timed.0 timed.1) line reply right).0)
-    (λ reply next more. same_output p (entry timed.0 timed.1 reply ∷ h) (before + 1) Next.between lines g well next more) is
+    (λ reply next more. same_output p (entry timed.0 timed.1 reply ∷ h) (before + 1) LinePlace.between lines g well next more) is
 
 -- the output of a right record, by the state alone
 record_history : (plan : Plan) (text : List ℕ) (checked : Checked) → IsWell (opening plan 0) → verdict plan text ≡ Ok checked
     → record_output (start (opening plan 0)) text checked ≡ plan_output plan text
-record_history plan text checked well is = by (history_on (opening plan 0) [] 0 Next.between (parts is_line_feed text)) refl is
+record_history plan text checked well is = by (history_on (opening plan 0) [] 0 LinePlace.between (parts is_line_feed text)) refl is
   where
-    by : (found : Result (List Entry) CheckFault) → history_on (opening plan 0) [] 0 Next.between (parts is_line_feed text) ≡ found → counts_from (opening plan 0) found ≡ Ok checked
+    by : (found : Result (List Entry) CheckFault) → history_on (opening plan 0) [] 0 LinePlace.between (parts is_line_feed text) ≡ found → counts_from (opening plan 0) found ≡ Ok checked
         → record_output (start (opening plan 0)) text checked ≡ plan_output plan text
     by (Err fault) reads wrong = absurd (cc)
     by (Ok history) reads right =
         let same : counts_of (opening plan 0) history ≡ checked = cc in
-        let lines = same_output (opening plan 0) [] 0 Next.between (parts is_line_feed text) history well tt reads in
+        let lines = same_output (opening plan 0) [] 0 LinePlace.between (parts is_line_feed text) history well tt reads in
         ap (λ c. output_in (start (opening plan 0)) nothing_noted.known (parts is_line_feed text) ++ counts_text c) (sym same)
         ∙ ap (λ xs. xs ++ counts_text (counts_of (opening plan 0) history))
         (sym (lines ∙ ap (λ p. output_in (start p) nothing_noted.known (parts is_line_feed text)) (after-nil (opening plan 0) well)))
@@ -128,9 +128,9 @@ counts_from_start config text plan checked s started means is =
 -- ---- a text that is wrong
 
 wrong_text : (config text : List ℕ) (plan : Plan) (fault : CheckFault) → meaning config ≡ Ok plan → verdict plan text ≡ Err fault → audit_output config text ≡ fault_text fault
-wrong_text config text plan fault means is = ap (λ m. output_by m text) means ∙ by (history_on (opening plan 0) [] 0 Next.between (parts is_line_feed text)) refl is
+wrong_text config text plan fault means is = ap (λ m. output_by m text) means ∙ by (history_on (opening plan 0) [] 0 LinePlace.between (parts is_line_feed text)) refl is
   where
-    by : (found : Result (List Entry) CheckFault) → history_on (opening plan 0) [] 0 Next.between (parts is_line_feed text) ≡ found → counts_from (opening plan 0) found ≡ Err fault
+    by : (found : Result (List Entry) CheckFault) → history_on (opening plan 0) [] 0 LinePlace.between (parts is_line_feed text) ≡ found → counts_from (opening plan 0) found ≡ Err fault
         → plan_output plan text ≡ fault_text fault
     by (Ok history) reads wrong = absurd (cc)
     by (Err other) reads wrong = let same : other ≡ fault = cc in ap (output_of (opening plan 0)) reads ∙ ap fault_text same
@@ -151,9 +151,9 @@ fault_output config text fault is inside = fault_by config text fault.kind fault
 
 pub audited : (config text sent : List ℕ) (held : Option (List ℕ)) (plan : Plan) (checked : Checked) → meaning config ≡ Ok plan → verdict plan text ≡ Ok checked
     → held ≡ Some (sent ++ audit_output config text) → IsAudited config text sent held
-audited config text sent held plan checked means is wrote = by (history_on (opening plan 0) [] 0 Next.between (parts is_line_feed text)) refl is
+audited config text sent held plan checked means is wrote = by (history_on (opening plan 0) [] 0 LinePlace.between (parts is_line_feed text)) refl is
   where
-    by : (found : Result (List Entry) CheckFault) → history_on (opening plan 0) [] 0 Next.between (parts is_line_feed text) ≡ found → counts_from (opening plan 0) found ≡ Ok checked
+    by : (found : Result (List Entry) CheckFault) → history_on (opening plan 0) [] 0 LinePlace.between (parts is_line_feed text) ≡ found → counts_from (opening plan 0) found ≡ Ok checked
         → IsAudited config text sent held
     by (Err fault) reads wrong = absurd (cc)
     by (Ok history) reads right =

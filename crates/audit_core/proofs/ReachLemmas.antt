@@ -7,8 +7,8 @@ use Rattle.list_core.specs.Each.{◌>>=◌}
 use Rattle.text_core.specs.Parts.{parts, is_line_feed}
 use Rattle.line_reader.specs.Lines.{ConsumesAll, Gathers, GivesLastLine, GivesLine, GivesNothing, LineState}
 use Rattle.line_reader.specs.Unended.{BeginsTooLong}
-use Rattle.line_reader.specs.declared.lines.LineFault.{LineFault}
-use Rattle.line_reader.specs.declared.lines.LineFault.TheVariants as lines
+use Rattle.line_reader.specs.declared.lines.ReadFault.{ReadFault}
+use Rattle.line_reader.specs.declared.lines.ReadFault.TheVariants as lines
 use Rattle.line_reader.specs.declared.lines.TheConstants.{MOST_LINE_BYTES}
 use Rattle.audit_core.specs.Verdict.{fault_at}
 use Rattle.audit_core.specs.Standing.{Reaches, Standing, at_end, on_due, on_line, verdict_in}
@@ -158,7 +158,7 @@ too_long t line long = by t.due
     by (dues.Reply peer answered) = rw long refl
 
 -- no next line
-pub stops_reading : (s : Standing) (text : List ℕ) (left : Option (List ℕ)) (t : Standing) (old new : LineState) (less : Option (List ℕ)) (fault : LineFault)
+pub stops_reading : (s : Standing) (text : List ℕ) (left : Option (List ℕ)) (t : Standing) (old new : LineState) (less : Option (List ℕ)) (fault : ReadFault)
     → Reaches s text left t old.kept → Gathers old new left less → (fault ≡ lines.TooLong → BeginsTooLong (new.line ++ new.kept))
     → Stops s text (reading_fault (t.lines + 1) fault).kind (reading_fault (t.lines + 1) fault).line
 stops_reading s text left t old new less lines.Read reaches gathers long = refl

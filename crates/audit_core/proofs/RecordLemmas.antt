@@ -12,20 +12,20 @@ use Rattle.conn_model.specs.declared.plain.Plain.{Plain}
 use Rattle.conn_model.specs.declared.reply.Reply.{Reply}
 use Rattle.conn_model.specs.declared.reply.StepFault.{StepFault}
 use Rattle.conn_model.specs.History.{Entry, IsLegal, answer, entry}
-use Rattle.event_text.specs.Script.{bar_text, bar_texts, words_of, Head}
+use Rattle.event_text.specs.Script.{bar_text, bar_texts, words_of, EventHead}
 use Rattle.audit_core.specs.Record.{numbered_event, numbered_head, recorded_reply, IsRecord}
-use Rattle.audit_core.specs.Verdict.{head_at, history_on, is_too_long, next_of, next_of_text, reply_at, text_at, IsWithinLimits, Next}
+use Rattle.audit_core.specs.Verdict.{head_at, history_on, is_too_long, next_of, next_of_text, reply_at, text_at, IsWithinLimits, LinePlace}
 use Rattle.audit_core.specs.declared.fault.TheConstants.{MOST_RECORD_LINES}
 use Rattle.audit_core.specs.declared.fault.CheckFault.{CheckFault}
 use Rattle.audit_core.proofs.LinesLemmas.{texts_count, texts_push, whole_line, whole_text}
 use Rattle.audit_core.proofs.VerdictLemmas.{reply_gives}
 
 -- what a first line that was read says
-head_gives : (at number : ℕ) (line : List ℕ) (head : Head) → head_at at number line ≡ Ok head
+head_gives : (at number : ℕ) (line : List ℕ) (head : EventHead) → head_at at number line ≡ Ok head
     → (numbered_head number (words_of line) ≡ Some head) × (is_too_long at line ≡ false)
 head_gives at number line head is = by (is_too_long at line) refl (numbered_head number (words_of line)) refl
   where
-    by : (a : Bool) → is_too_long at line ≡ a → (o : Option Head) → numbered_head number (words_of line) ≡ o
+    by : (a : Bool) → is_too_long at line ≡ a → (o : Option EventHead) → numbered_head number (words_of line) ≡ o
         → (numbered_head number (words_of line) ≡ Some head) × (is_too_long at line ≡ false)
     by true long o read = let wrong = rw long at is in absurd (cc)
     by false short None read = let wrong = rw (short, read) at is in absurd (cc)
@@ -69,23 +69,23 @@ all_push P [] x all last = (last, tt)
 all_push P (y ∷ ys) x all last = (all.0, all_push P ys x all.1 last)
 
 -- the lines before, the last of which may be those of an event or of the front of one
-abbrev IsFront : List Entry → Next → List (List ℕ) → Type 0
-IsFront h Next.between front = IsRecord h front
-IsFront h (Next.within moment missing texts) front =
+abbrev IsFront : List Entry → LinePlace → List (List ℕ) → Type 0
+IsFront h LinePlace.between front = IsRecord h front
+IsFront h (LinePlace.within moment missing texts) front =
     (before : List (List ℕ)) × (first : List ℕ) × (bars : List (List ℕ)) × IsRecord h before
-    × (numbered_head (length h + 1) (words_of first) ≡ Some (Head.reload moment (length texts + missing))) × (bar_texts bars ≡ Some texts) × (0 < missing)
+    × (numbered_head (length h + 1) (words_of first) ≡ Some (EventHead.reload moment (length texts + missing))) × (bar_texts bars ≡ Some texts) × (0 < missing)
     × (front ≡ before ++ first ∷ bars)
-IsFront h (Next.awaiting timed) front =
+IsFront h (LinePlace.awaiting timed) front =
     (before : List (List ℕ)) × (event : List (List ℕ)) × IsRecord h before × (numbered_event (length h + 1) event ≡ Some timed) × (front ≡ before ++ event)
 
-record Front (h : List Entry) (next : Next) (before : ℕ) (front : List (List ℕ)) : Type 0 where
+record Front (h : List Entry) (next : LinePlace) (before : ℕ) (front : List (List ℕ)) : Type 0 where
   pub lines : IsFront h next front
   pub within : IsWithinLimits front
   pub count : length front ≡ before
 
 -- the lines of a text that came, and whether one is missing
 front_text : (h : List Entry) (before : List (List ℕ)) (first : List ℕ) (bars : List (List ℕ)) (moment missing : ℕ) (texts : List (List ℕ)) → IsRecord h before
-    → numbered_head (length h + 1) (words_of first) ≡ Some (Head.reload moment (length texts + missing)) → bar_texts bars ≡ Some texts
+    → numbered_head (length h + 1) (words_of first) ≡ Some (EventHead.reload moment (length texts + missing)) → bar_texts bars ≡ Some texts
     → IsFront h (next_of_text moment missing texts) (before ++ first ∷ bars)
 front_text h before first bars moment missing texts is_record head are = by (missing == 0) refl
   where
@@ -113,17 +113,17 @@ within_push front before line count within short =
     ((omega (arith, fits.1, longer, count), all_push (λ l. length l ≤ MOST_LINE_BYTES) front line within.1 fits.0), omega (arith, longer, count))
 
 -- the first line of an event
-front_head : (h : List Entry) (front : List (List ℕ)) (line : List ℕ) (head : Head) → IsRecord h front → numbered_head (length h + 1) (words_of line) ≡ Some head
+front_head : (h : List Entry) (front : List (List ℕ)) (line : List ℕ) (head : EventHead) → IsRecord h front → numbered_head (length h + 1) (words_of line) ≡ Some head
     → IsFront h (next_of head) (front ++ line ∷ [])
-front_head h front line (Head.whole timed) is_record is = (front, line ∷ [], is_record, whole_line (length h + 1) line timed is, refl)
-front_head h front line (Head.reload moment count) is_record is =
+front_head h front line (EventHead.whole timed) is_record is = (front, line ∷ [], is_record, whole_line (length h + 1) line timed is, refl)
+front_head h front line (EventHead.reload moment count) is_record is =
     let none : List (List ℕ) = [] in
     let counted : count ≡ length none + count = omega arith in
-    front_text h front line [] moment count [] is_record (is ∙ ap (λ n. Some (Head.reload moment n)) counted) refl
+    front_text h front line [] moment count [] is_record (is ∙ ap (λ n. Some (EventHead.reload moment n)) counted) refl
 
-on_head : (p : Plain) (h : List Entry) (before : ℕ) (front : List (List ℕ)) (line : List ℕ) (lines : List (List ℕ)) (g : List Entry) (read : Result Head CheckFault)
-    → head_at (before + 1) (length h + 1) line ≡ read → Front h Next.between before front
-    → ((next : Next) → Front h next (before + 1) (front ++ line ∷ []) → history_on p h (before + 1) next lines ≡ Ok g → Whole p g ((front ++ line ∷ []) ++ lines))
+on_head : (p : Plain) (h : List Entry) (before : ℕ) (front : List (List ℕ)) (line : List ℕ) (lines : List (List ℕ)) (g : List Entry) (read : Result EventHead CheckFault)
+    → head_at (before + 1) (length h + 1) line ≡ read → Front h LinePlace.between before front
+    → ((next : LinePlace) → Front h next (before + 1) (front ++ line ∷ []) → history_on p h (before + 1) next lines ≡ Ok g → Whole p g ((front ++ line ∷ []) ++ lines))
     → (read >>= λ head. history_on p h (before + 1) (next_of head) lines) ≡ Ok g → Whole p g (front ++ line ∷ lines)
 on_head p h before front line lines g (Err fault) reads kept goes_on is = absurd (cc)
 on_head p h before front line lines g (Ok head) reads kept goes_on is =
@@ -134,8 +134,8 @@ on_head p h before front line lines g (Ok head) reads kept goes_on is =
 
 -- a line of the text of a reload
 on_text : (p : Plain) (h : List Entry) (before moment missing : ℕ) (texts front : List (List ℕ)) (line : List ℕ) (lines : List (List ℕ)) (g : List Entry) (read : Result (List ℕ) CheckFault)
-    → text_at (before + 1) line ≡ read → Front h (Next.within moment missing texts) before front
-    → ((next : Next) → Front h next (before + 1) (front ++ line ∷ []) → history_on p h (before + 1) next lines ≡ Ok g → Whole p g ((front ++ line ∷ []) ++ lines))
+    → text_at (before + 1) line ≡ read → Front h (LinePlace.within moment missing texts) before front
+    → ((next : LinePlace) → Front h next (before + 1) (front ++ line ∷ []) → history_on p h (before + 1) next lines ≡ Ok g → Whole p g ((front ++ line ∷ []) ++ lines))
     → (read >>= λ text. history_on p h (before + 1) (next_of_text moment (missing - 1) (texts ++ text ∷ [])) lines) ≡ Ok g → Whole p g (front ++ line ∷ lines)
 on_text p h before moment missing texts front line lines g (Err fault) reads kept goes_on is = absurd (cc)
 on_text p h before moment missing texts front line lines g (Ok text) reads kept goes_on is =
@@ -149,7 +149,7 @@ on_text p h before moment missing texts front line lines g (Ok text) reads kept 
     let there : IsFront h (next_of_text moment (missing - 1) (texts ++ text ∷ [])) (front ++ line ∷ []) =
     subst (IsFront h (next_of_text moment (missing - 1) (texts ++ text ∷ []))) lengthened
     (front_text h them.0 them.1 (them.2 ++ line ∷ []) moment (missing - 1) (texts ++ text ∷ []) them.3
-    (them.4 ∙ ap (λ n. Some (Head.reload moment n)) counted) (texts_push them.2 line texts text them.5 gives.0)) in
+    (them.4 ∙ ap (λ n. Some (EventHead.reload moment n)) counted) (texts_push them.2 line texts text them.5 gives.0)) in
     subst (Whole p g) (append_assoc front (line ∷ []) lines)
     (goes_on (next_of_text moment (missing - 1) (texts ++ text ∷ [])) (record { lines = there; within = push.0; count = push.1 }) is)
   where
@@ -157,10 +157,10 @@ on_text p h before moment missing texts front line lines g (Ok text) reads kept 
     before_line earlier first bars = earlier ++ first ∷ (bars ++ line ∷ [])
 
 on_reply : (p : Plain) (h : List Entry) (before : ℕ) (timed : ℕ × OwnedEvent) (front : List (List ℕ)) (line : List ℕ) (lines : List (List ℕ)) (g : List Entry) (read : Result Reply CheckFault)
-    → reply_at (before + 1) (answer p h timed.0 timed.1) line ≡ read → IsLegal p h → Front h (Next.awaiting timed) before front
-    → ((reply : Reply) → IsLegal p (entry timed.0 timed.1 reply ∷ h) → Front (entry timed.0 timed.1 reply ∷ h) Next.between (before + 1) (front ++ line ∷ [])
-    → history_on p (entry timed.0 timed.1 reply ∷ h) (before + 1) Next.between lines ≡ Ok g → Whole p g ((front ++ line ∷ []) ++ lines))
-    → (read >>= λ reply. history_on p (entry timed.0 timed.1 reply ∷ h) (before + 1) Next.between lines) ≡ Ok g → Whole p g (front ++ line ∷ lines)
+    → reply_at (before + 1) (answer p h timed.0 timed.1) line ≡ read → IsLegal p h → Front h (LinePlace.awaiting timed) before front
+    → ((reply : Reply) → IsLegal p (entry timed.0 timed.1 reply ∷ h) → Front (entry timed.0 timed.1 reply ∷ h) LinePlace.between (before + 1) (front ++ line ∷ [])
+    → history_on p (entry timed.0 timed.1 reply ∷ h) (before + 1) LinePlace.between lines ≡ Ok g → Whole p g ((front ++ line ∷ []) ++ lines))
+    → (read >>= λ reply. history_on p (entry timed.0 timed.1 reply ∷ h) (before + 1) LinePlace.between lines) ≡ Ok g → Whole p g (front ++ line ∷ lines)
 on_reply p h before timed front line lines g (Err fault) reads legal kept next is = absurd (cc)
 on_reply p h before timed front line lines g (Ok reply) reads legal kept next is =
     let gives = reply_gives (before + 1) (answer p h timed.0 timed.1) line reply reads in
@@ -173,23 +173,23 @@ on_reply p h before timed front line lines g (Ok reply) reads legal kept next is
     subst (Whole p g) (append_assoc front (line ∷ []) lines)
     (next reply (legal, gives.0) (record { lines = (pair.0, pair.1, pair.2, pair.3, longer); within = push.0; count = push.1 }) is)
 
-sound : (p : Plain) (h : List Entry) (before : ℕ) (next : Next) (front lines : List (List ℕ)) (g : List Entry) → IsLegal p h → Front h next before front
+sound : (p : Plain) (h : List Entry) (before : ℕ) (next : LinePlace) (front lines : List (List ℕ)) (g : List Entry) → IsLegal p h → Front h next before front
     → history_on p h before next lines ≡ Ok g → Whole p g (front ++ lines)
-sound p h before Next.between front [] g legal kept is =
+sound p h before LinePlace.between front [] g legal kept is =
     let same : h ≡ g = cc in
     subst (Whole p g) (sym (append-nil front)) (subst (λ k. Whole p k front) same (record { legal = legal; is_record = kept.lines; within = kept.within }))
-sound p h before (Next.within moment missing texts) front [] g legal kept is = absurd (cc)
-sound p h before (Next.awaiting timed) front [] g legal kept is = absurd (cc)
-sound p h before Next.between front (line ∷ lines) g legal kept is =
+sound p h before (LinePlace.within moment missing texts) front [] g legal kept is = absurd (cc)
+sound p h before (LinePlace.awaiting timed) front [] g legal kept is = absurd (cc)
+sound p h before LinePlace.between front (line ∷ lines) g legal kept is =
     on_head p h before front line lines g (head_at (before + 1) (length h + 1) line) refl kept
     (λ next there more. sound p h (before + 1) next (front ++ line ∷ []) lines g legal there more) is
-sound p h before (Next.within moment missing texts) front (line ∷ lines) g legal kept is =
+sound p h before (LinePlace.within moment missing texts) front (line ∷ lines) g legal kept is =
     on_text p h before moment missing texts front line lines g (text_at (before + 1) line) refl kept
     (λ next there more. sound p h (before + 1) next (front ++ line ∷ []) lines g legal there more) is
-sound p h before (Next.awaiting timed) front (line ∷ lines) g legal kept is =
+sound p h before (LinePlace.awaiting timed) front (line ∷ lines) g legal kept is =
     on_reply p h before timed front line lines g (reply_at (before + 1) (answer p h timed.0 timed.1) line) refl legal kept
-    (λ reply well there more. sound p (entry timed.0 timed.1 reply ∷ h) (before + 1) Next.between (front ++ line ∷ []) lines g well there more) is
+    (λ reply well there more. sound p (entry timed.0 timed.1 reply ∷ h) (before + 1) LinePlace.between (front ++ line ∷ []) lines g well there more) is
 
 -- lines that a check finds right
-pub right_record : (p : Plain) (lines : List (List ℕ)) (g : List Entry) → history_on p [] 0 Next.between lines ≡ Ok g → Whole p g lines
-right_record p lines g is = sound p [] 0 Next.between [] lines g tt (record { lines = refl; within = (omega arith, tt); count = refl }) is
+pub right_record : (p : Plain) (lines : List (List ℕ)) (g : List Entry) → history_on p [] 0 LinePlace.between lines ≡ Ok g → Whole p g lines
+right_record p lines g is = sound p [] 0 LinePlace.between [] lines g tt (record { lines = refl; within = (omega arith, tt); count = refl }) is

@@ -7,8 +7,8 @@ use Rattle.device_core.specs.declared.patience.TheConstants.{MOST_READS}
 use Rattle.device_core.proofs.StallLemmas.{worn_out_on}
 use Rattle.line_reader.specs.Lines.{Gathers, GivesLastLine, GivesLine, IsGivenUp, LineState}
 use Rattle.line_reader.specs.Unended.{BeginsTooLong}
-use Rattle.line_reader.specs.declared.lines.LineFault.{LineFault}
-use Rattle.line_reader.specs.declared.lines.LineFault.TheVariants as lines
+use Rattle.line_reader.specs.declared.lines.ReadFault.{ReadFault}
+use Rattle.line_reader.specs.declared.lines.ReadFault.TheVariants as lines
 use Rattle.replay_core.specs.Reading.{IsSpent}
 use Rattle.replay_core.specs.declared.fault.PrintFault.{PrintFault}
 use Rattle.replay_core.specs.declared.fault.PrintFault.TheVariants as prints
@@ -41,7 +41,7 @@ pub never_end : (f : PrintFault) (s : Standing) (text : List ℕ) (u end : Stand
 never_end f s text u end all again read right = never f (verdict_in s (parts is_line_feed text)) (at_end u) end (λ fault wrong. all ∙ wrong) again read right
 
 -- where no line comes, the reader gave up
-pub spent_reading : (Q : Type 0) (s : Standing) (text : List ℕ) (left : Option (List ℕ)) (t : Standing) (old new : LineState) (less : Option (List ℕ)) (fault : LineFault) (end : Standing)
+pub spent_reading : (Q : Type 0) (s : Standing) (text : List ℕ) (left : Option (List ℕ)) (t : Standing) (old new : LineState) (less : Option (List ℕ)) (fault : ReadFault) (end : Standing)
     → Reaches s text left t old.kept → Gathers old new left less → (fault ≡ lines.TooLong → BeginsTooLong (new.line ++ new.kept)) → (fault ≡ lines.Read → Q)
     → second_fault fault ≡ prints.Read → verdict_in s (parts is_line_feed text) ≡ Ok end → Q
 spent_reading Q s text left t old new less lines.Read end reaches gathers long gave_up read right = gave_up refl

@@ -17,9 +17,9 @@ use Rattle.conn_model.proofs.Goes.{whole_in_parts}
 use Rattle.conn_model.proofs.Well.{after-nil}
 use Rattle.replay_core.specs.Turns.{plain_after}
 use Rattle.audit_core.specs.Record.{recorded_reply, reply_mark}
-use Rattle.event_text.specs.Script.{ended_lines, pending_reload, with_text, Head, Pending}
+use Rattle.event_text.specs.Script.{ended_lines, pending_reload, with_text, EventHead, Pending}
 use Rattle.audit_core.specs.Line.{event_peer}
-use Rattle.audit_core.specs.Verdict.{counts_from, head_at, history_on, is_too_long, next_of, next_of_text, reply_at, right_reply, text_at, verdict, Next}
+use Rattle.audit_core.specs.Verdict.{counts_from, head_at, history_on, is_too_long, next_of, next_of_text, reply_at, right_reply, text_at, verdict, LinePlace}
 use Rattle.audit_core.specs.Standing.{Standing, after_head, after_line, after_reply, standing_counts, start, verdict_in}
 use Rattle.audit_core.specs.declared.due.Due.TheVariants as dues
 use Rattle.audit_core.specs.declared.fault.CheckFault.{CheckFault}
@@ -87,11 +87,11 @@ line_more moment missing texts text = ap (λ bytes. record { moment = moment; mi
 -- ---- by the state alone
 
 -- how far a check is after a history, and perhaps lines of an event
-abbrev pub standing : Plain → List Entry → ℕ → Next → Standing
-standing p h before Next.between = record { plain = after p h; lines = before; records = length h; due = dues.Event }
-standing p h before (Next.within moment missing texts) =
+abbrev pub standing : Plain → List Entry → ℕ → LinePlace → Standing
+standing p h before LinePlace.between = record { plain = after p h; lines = before; records = length h; due = dues.Event }
+standing p h before (LinePlace.within moment missing texts) =
     record { plain = after p h; lines = before; records = length h; due = dues.Text (pending_with moment missing texts) }
-standing p h before (Next.awaiting timed) = record {
+standing p h before (LinePlace.awaiting timed) = record {
   plain = plain_after (after p h) timed.0 timed.1 (answer p h timed.0 timed.1);
   lines = before;
   records = length h;
@@ -106,12 +106,12 @@ after_text p h before s moment missing texts plain lines records = by (missing =
     by : (b : Bool) → (missing == 0) ≡ b → standing p h (before + 1) (next_of_text moment missing texts) ≡ after_line s (pending_of moment missing texts)
     by true none =
         rw (none, plain, lines, records)
-        (ap (λ bytes. standing p h (before + 1) (Next.awaiting (moment, Reload bytes))) (sym (append-nil (join_with_byte 0x0A texts))))
+        (ap (λ bytes. standing p h (before + 1) (LinePlace.awaiting (moment, Reload bytes))) (sym (append-nil (join_with_byte 0x0A texts))))
     by false some = rw (some, plain, lines, records) refl
 
 -- a right reply leaves the check after one entry more
 pub same_standing : (p : Plain) (h : List Entry) (before : ℕ) (timed : ℕ × OwnedEvent) (reply : Reply) → IsWell p → IsLegal p h → answer p h timed.0 timed.1 ≡ Ok reply
-    → standing p (entry timed.0 timed.1 reply ∷ h) (before + 1) Next.between ≡ after_reply (standing p h before (Next.awaiting timed)) reply
+    → standing p (entry timed.0 timed.1 reply ∷ h) (before + 1) LinePlace.between ≡ after_reply (standing p h before (LinePlace.awaiting timed)) reply
 same_standing p h before timed reply well legal is =
     let plain : after p (entry timed.0 timed.1 reply ∷ h) ≡ plain_after (after p h) timed.0 timed.1 (answer p h timed.0 timed.1) =
     sym (ap (plain_after (after p h) timed.0 timed.1) is ∙ whole_in_parts p well (entry timed.0 timed.1 reply ∷ []) h (legal, is)) in
@@ -119,31 +119,31 @@ same_standing p h before timed reply well legal is =
     ap (λ q. record { plain = q; lines = before + 1; records = length (entry timed.0 timed.1 reply ∷ h); due = dues.Event }) plain
     ∙ ap (λ n. record { plain = plain_after (after p h) timed.0 timed.1 (answer p h timed.0 timed.1); lines = before + 1; records = n; due = dues.Event }) longer
 
-pub head_standing : (p : Plain) (h : List Entry) (before : ℕ) (head : Head) → standing p h (before + 1) (next_of head) ≡ after_head (standing p h before Next.between) head
-head_standing p h before (Head.whole timed) = refl
-head_standing p h before (Head.reload moment count) = begins (count == 0) refl
+pub head_standing : (p : Plain) (h : List Entry) (before : ℕ) (head : EventHead) → standing p h (before + 1) (next_of head) ≡ after_head (standing p h before LinePlace.between) head
+head_standing p h before (EventHead.whole timed) = refl
+head_standing p h before (EventHead.reload moment count) = begins (count == 0) refl
   where
-    begins : (b : Bool) → (count == 0) ≡ b → standing p h (before + 1) (next_of_text moment count []) ≡ after_line (standing p h before Next.between) (pending_reload moment count)
+    begins : (b : Bool) → (count == 0) ≡ b → standing p h (before + 1) (next_of_text moment count []) ≡ after_line (standing p h before LinePlace.between) (pending_reload moment count)
     begins true none = rw none refl
     begins false some = rw some refl
 
 pub text_standing : (p : Plain) (h : List Entry) (before moment missing : ℕ) (texts : List (List ℕ)) (text : List ℕ)
-    → standing p h (before + 1) (next_of_text moment (missing - 1) (texts ++ text ∷ [])) ≡ after_line (standing p h before (Next.within moment missing texts)) (with_text (pending_with moment missing texts) text)
+    → standing p h (before + 1) (next_of_text moment (missing - 1) (texts ++ text ∷ [])) ≡ after_line (standing p h before (LinePlace.within moment missing texts)) (with_text (pending_with moment missing texts) text)
 text_standing p h before moment missing texts text =
-    after_text p h before (standing p h before (Next.within moment missing texts)) moment (missing - 1) (texts ++ text ∷ []) refl refl refl
-    ∙ ap (after_line (standing p h before (Next.within moment missing texts))) (sym (line_more moment missing texts text))
+    after_text p h before (standing p h before (LinePlace.within moment missing texts)) moment (missing - 1) (texts ++ text ∷ []) refl refl refl
+    ∙ ap (after_line (standing p h before (LinePlace.within moment missing texts))) (sym (line_more moment missing texts text))
 
-same_head : (p : Plain) (h : List Entry) (before : ℕ) (lines : List (List ℕ)) (read : Result Head CheckFault)
-    → ((next : Next) → counts_from p (history_on p h (before + 1) next lines) ≡ standing_counts (verdict_in (standing p h (before + 1) next) lines))
+same_head : (p : Plain) (h : List Entry) (before : ℕ) (lines : List (List ℕ)) (read : Result EventHead CheckFault)
+    → ((next : LinePlace) → counts_from p (history_on p h (before + 1) next lines) ≡ standing_counts (verdict_in (standing p h (before + 1) next) lines))
     → counts_from p (read >>= λ head. history_on p h (before + 1) (next_of head) lines)
-    ≡ standing_counts ((read >>= λ head. Ok (after_head (standing p h before Next.between) head)) >>= λ t. verdict_in t lines)
+    ≡ standing_counts ((read >>= λ head. Ok (after_head (standing p h before LinePlace.between) head)) >>= λ t. verdict_in t lines)
 same_head p h before lines (Ok head) goes_on = goes_on (next_of head) ∙ ap (λ s. standing_counts (verdict_in s lines)) (head_standing p h before head)
 same_head p h before lines (Err fault) goes_on = refl
 
 same_text : (p : Plain) (h : List Entry) (before moment missing : ℕ) (texts lines : List (List ℕ)) (read : Result (List ℕ) CheckFault)
-    → ((next : Next) → counts_from p (history_on p h (before + 1) next lines) ≡ standing_counts (verdict_in (standing p h (before + 1) next) lines))
+    → ((next : LinePlace) → counts_from p (history_on p h (before + 1) next lines) ≡ standing_counts (verdict_in (standing p h (before + 1) next) lines))
     → counts_from p (read >>= λ text. history_on p h (before + 1) (next_of_text moment (missing - 1) (texts ++ text ∷ [])) lines)
-    ≡ standing_counts ((read >>= λ text. Ok (after_line (standing p h before (Next.within moment missing texts)) (with_text (pending_with moment missing texts) text))) >>= λ t. verdict_in t lines)
+    ≡ standing_counts ((read >>= λ text. Ok (after_line (standing p h before (LinePlace.within moment missing texts)) (with_text (pending_with moment missing texts) text))) >>= λ t. verdict_in t lines)
 same_text p h before moment missing texts lines (Ok text) goes_on =
     goes_on (next_of_text moment (missing - 1) (texts ++ text ∷ [])) ∙ ap (λ s. standing_counts (verdict_in s lines)) (text_standing p h before moment missing texts text)
 same_text p h before moment missing texts lines (Err fault) goes_on = refl
@@ -151,30 +151,30 @@ same_text p h before moment missing texts lines (Err fault) goes_on = refl
 same_reply : (p : Plain) (h : List Entry) (before : ℕ) (timed : ℕ × OwnedEvent) (lines : List (List ℕ)) (read : Result Reply CheckFault) → IsWell p → IsLegal p h
     → ((reply : Reply) → read ≡ Ok reply → answer p h timed.0 timed.1 ≡ Ok reply)
     → ((reply : Reply) → IsLegal p (entry timed.0 timed.1 reply ∷ h)
-    → counts_from p (history_on p (entry timed.0 timed.1 reply ∷ h) (before + 1) Next.between lines) ≡ standing_counts (verdict_in (standing p (entry timed.0 timed.1 reply ∷ h) (before + 1) Next.between) lines))
-    → counts_from p (read >>= λ reply. history_on p (entry timed.0 timed.1 reply ∷ h) (before + 1) Next.between lines)
-    ≡ standing_counts ((read >>= λ reply. Ok (after_reply (standing p h before (Next.awaiting timed)) reply)) >>= λ t. verdict_in t lines)
+    → counts_from p (history_on p (entry timed.0 timed.1 reply ∷ h) (before + 1) LinePlace.between lines) ≡ standing_counts (verdict_in (standing p (entry timed.0 timed.1 reply ∷ h) (before + 1) LinePlace.between) lines))
+    → counts_from p (read >>= λ reply. history_on p (entry timed.0 timed.1 reply ∷ h) (before + 1) LinePlace.between lines)
+    ≡ standing_counts ((read >>= λ reply. Ok (after_reply (standing p h before (LinePlace.awaiting timed)) reply)) >>= λ t. verdict_in t lines)
 same_reply p h before timed lines (Ok reply) well legal gives next =
     let is : answer p h timed.0 timed.1 ≡ Ok reply = gives reply refl in
     next reply (legal, is) ∙ ap (λ s. standing_counts (verdict_in s lines)) (same_standing p h before timed reply well legal is)
 same_reply p h before timed lines (Err fault) well legal gives next = refl
 
-pub same_verdict : (p : Plain) (h : List Entry) (before : ℕ) (next : Next) (lines : List (List ℕ)) → IsWell p → IsLegal p h
+pub same_verdict : (p : Plain) (h : List Entry) (before : ℕ) (next : LinePlace) (lines : List (List ℕ)) → IsWell p → IsLegal p h
     → counts_from p (history_on p h before next lines) ≡ standing_counts (verdict_in (standing p h before next) lines)
-same_verdict p h before Next.between [] well legal = refl
-same_verdict p h before (Next.within moment missing texts) [] well legal = refl
-same_verdict p h before (Next.awaiting timed) [] well legal = refl
-same_verdict p h before Next.between (line ∷ lines) well legal =
+same_verdict p h before LinePlace.between [] well legal = refl
+same_verdict p h before (LinePlace.within moment missing texts) [] well legal = refl
+same_verdict p h before (LinePlace.awaiting timed) [] well legal = refl
+same_verdict p h before LinePlace.between (line ∷ lines) well legal =
     same_head p h before lines (head_at (before + 1) (length h + 1) line) (λ next. same_verdict p h (before + 1) next lines well legal)
-same_verdict p h before (Next.within moment missing texts) (line ∷ lines) well legal =
+same_verdict p h before (LinePlace.within moment missing texts) (line ∷ lines) well legal =
     same_text p h before moment missing texts lines (text_at (before + 1) line) (λ next. same_verdict p h (before + 1) next lines well legal)
-same_verdict p h before (Next.awaiting timed) (line ∷ lines) well legal =
+same_verdict p h before (LinePlace.awaiting timed) (line ∷ lines) well legal =
     same_reply p h before timed lines (reply_at (before + 1) (answer p h timed.0 timed.1) line) well legal
     (λ reply is. (reply_gives (before + 1) (answer p h timed.0 timed.1) line reply is).0)
-    (λ reply next. same_verdict p (entry timed.0 timed.1 reply ∷ h) (before + 1) Next.between lines well next)
+    (λ reply next. same_verdict p (entry timed.0 timed.1 reply ∷ h) (before + 1) LinePlace.between lines well next)
 
 -- from the opening of a plan on
 pub verdict_start : (plan : Plan) (text : List ℕ) → IsWell (opening plan 0) → verdict plan text ≡ standing_counts (verdict_in (start (opening plan 0)) (parts is_line_feed text))
 verdict_start plan text well =
-    same_verdict (opening plan 0) [] 0 Next.between (parts is_line_feed text) well tt
+    same_verdict (opening plan 0) [] 0 LinePlace.between (parts is_line_feed text) well tt
     ∙ ap (λ p. standing_counts (verdict_in (start p) (parts is_line_feed text))) (after-nil (opening plan 0) well)

@@ -5,8 +5,8 @@ use Rattle.config_core.specs.Meaning.{meaning}
 use Rattle.audit_core.specs.Standing.{Standing, verdict_in}
 use Rattle.text_core.specs.Parts.{parts, is_line_feed}
 use Rattle.audit_core.specs.Verdict.{fault_at, verdict}
-use Rattle.line_reader.specs.declared.lines.LineFault.{LineFault}
-use Rattle.line_reader.specs.declared.lines.LineFault.TheVariants as lines
+use Rattle.line_reader.specs.declared.lines.ReadFault.{ReadFault}
+use Rattle.line_reader.specs.declared.lines.ReadFault.TheVariants as lines
 use Rattle.audit_core.specs.declared.fault.CheckFault.{CheckFault}
 use Rattle.audit_core.specs.declared.fault.CheckKind.{CheckKind}
 use Rattle.audit_core.specs.declared.fault.CheckKind.TheVariants.{Format, WrongReply, NoMemory, Read, TooLong, Config}
@@ -48,7 +48,7 @@ IsRead Read = Unit {0}
 IsRead (Config fault) = ⊥
 
 -- the fault if no line comes
-abbrev pub reading_fault : ℕ → LineFault → CheckFault
+abbrev pub reading_fault : ℕ → ReadFault → CheckFault
 reading_fault at lines.TooLong = fault_at at TooLong
 reading_fault at lines.Read = fault_at 0 Read
 reading_fault at lines.NoMemory = fault_at 0 NoMemory

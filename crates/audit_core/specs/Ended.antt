@@ -14,7 +14,7 @@ use Rattle.conn_model.specs.History.{Entry, opening, speaks_to, IsLegal}
 use Rattle.audit_core.specs.Audit.{fault_text}
 use Rattle.audit_core.specs.Line.{audit_text, event_peer}
 use Rattle.audit_core.specs.Record.{IsRecord}
-use Rattle.audit_core.specs.Verdict.{counts_of, fault_at, history_on, Next}
+use Rattle.audit_core.specs.Verdict.{counts_of, fault_at, history_on, LinePlace}
 use Rattle.audit_core.specs.declared.fault.CheckFault.{CheckFault}
 use Rattle.audit_core.specs.declared.fault.Checked.{Checked}
 use Rattle.audit_core.specs.declared.fault.CheckKind.TheVariants.{Config}
@@ -78,7 +78,7 @@ output_of p (Err fault) = fault_text fault
 
 -- what is written of a text if a plan is opened
 abbrev pub plan_output : Plan → List ℕ → List ℕ
-plan_output plan text = output_of (opening plan 0) (history_on (opening plan 0) [] 0 Next.between (parts is_line_feed text))
+plan_output plan text = output_of (opening plan 0) (history_on (opening plan 0) [] 0 LinePlace.between (parts is_line_feed text))
 
 abbrev pub output_by : Result Plan OpenFault → List ℕ → List ℕ
 output_by (Ok plan) text = plan_output plan text

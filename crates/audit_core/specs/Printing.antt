@@ -8,18 +8,18 @@ use Rattle.addr_core.specs.declared.addr.Endpoint.{Endpoint}
 use Rattle.conn_model.specs.declared.event.ConnId.{ConnId}
 use Rattle.conn_model.specs.declared.reply.Reply.{Reply}
 use Rattle.conn_model.specs.Words.{is_conn}
-use Rattle.line_reader.specs.declared.lines.LineFault.{LineFault}
-use Rattle.line_reader.specs.declared.lines.LineFault.TheVariants as lines
+use Rattle.line_reader.specs.declared.lines.ReadFault.{ReadFault}
+use Rattle.line_reader.specs.declared.lines.ReadFault.TheVariants as lines
 use Rattle.replay_core.specs.declared.fault.PrintFault.{PrintFault}
 use Rattle.replay_core.specs.declared.fault.PrintFault.TheVariants as prints
 use Rattle.audit_core.specs.Ended.{counts_text, known_on, line_on}
-use Rattle.audit_core.specs.Record.{open_connections}
+use Rattle.conn_model.specs.Counts.{open_connections}
 use Rattle.audit_core.specs.Standing.{Standing, on_line}
 use Rattle.audit_core.specs.declared.due.Due.{Due}
 use Rattle.audit_core.specs.declared.due.Due.TheVariants as dues
 use Rattle.audit_core.specs.declared.fault.CheckFault.{CheckFault}
 use Rattle.audit_core.specs.declared.fault.Checked.{Checked}
-use Rattle.audit_core.specs.declared.journal.Journal.{Journal}
+use Rattle.audit_core.specs.declared.journal.AuditJournal.{AuditJournal}
 use Rattle.audit_core.specs.declared.journal.Known.{Known}
 use Rattle.audit_core.specs.declared.journal.Name.{Name}
 
@@ -35,7 +35,7 @@ name_cmp a b = ordering_then (nat_cmp a.frontend b.frontend) (nat_cmp a.serial b
 abbrev pub name_of : ConnId → Name
 name_of id = record { frontend = id.frontend; serial = id.serial }
 
-abbrev pub noted_in : Journal → Noted
+abbrev pub noted_in : AuditJournal → Noted
 noted_in journal = record { known = λ id. get name_cmp journal.known (name_of id); unsent = journal.unsent.items }
 
 -- that is known of the connection, and of the others what was
@@ -98,7 +98,7 @@ pub record Writes (sent : List ℕ) (j : Noted) (s : Standing) (text : List ℕ)
   pub same : all_output now k t (kept ++ rest) ≡ all_output sent j s text
 
 -- the fault if no line comes of a record that was right
-abbrev pub second_fault : LineFault → PrintFault
+abbrev pub second_fault : ReadFault → PrintFault
 second_fault lines.TooLong = prints.Read
 second_fault lines.Read = prints.Read
 second_fault lines.NoMemory = prints.NoMemory

@@ -3,15 +3,13 @@ use Rattle.std.specs.Prelude.{◌≡◌, ℕ, ◌+◌, ◌<◌, ◌^◌, List, [
 use Rattle.std.specs.Str.{bytes_eq}
 use Rattle.text_core.specs.Decimal.{decimal}
 use Rattle.conn_model.specs.declared.event.OwnedEvent.{OwnedEvent}
-use Rattle.conn_model.specs.declared.plain.Plain.{Plain}
 use Rattle.conn_model.specs.declared.reply.Reply.{Reply}
-use Rattle.conn_model.specs.Counts.{total}
 use Rattle.conn_model.specs.History.{Entry}
-use Rattle.event_text.specs.Script.{◌>>=◌, ended_lines, event_line, event_with, head_of, lines_after, words_of, Head, IsHandedIn}
+use Rattle.event_text.specs.Script.{◌>>=◌, ended_lines, event_line, event_with, head_of, lines_after, words_of, EventHead, IsHandedIn}
 use Rattle.event_text.specs.Replies.{reply_text}
 
 -- what the first line of an event says, which has the event after that number
-abbrev pub numbered_head : ℕ → List (List ℕ) → Option Head
+abbrev pub numbered_head : ℕ → List (List ℕ) → Option EventHead
 numbered_head number [] = None
 numbered_head number (word ∷ words) = if bytes_eq word (decimal number) then head_of words else None
 
@@ -57,7 +55,3 @@ IsRecord (e ∷ h) lines =
     (before : List (List ℕ)) × (event : List (List ℕ)) × IsRecord h before
     × (numbered_event (length h + 1) event ≡ Some (e.moment, e.event))
     × (lines ≡ before ++ event ++ recorded_reply e.reply ∷ [])
-
--- how many connections are open
-abbrev pub open_connections : Plain → ℕ
-open_connections p = total (λ own. length own.rows) p.frontends

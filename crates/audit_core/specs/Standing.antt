@@ -11,8 +11,8 @@ use Rattle.conn_model.specs.declared.plain.Plain.{Plain}
 use Rattle.conn_model.specs.declared.reply.Reply.{Reply}
 use Rattle.conn_model.specs.Answer.{answer_in}
 use Rattle.replay_core.specs.Turns.{plain_after}
-use Rattle.event_text.specs.Script.{pending_reload, text_with, with_text, Head, Pending}
-use Rattle.audit_core.specs.Record.{open_connections}
+use Rattle.event_text.specs.Script.{pending_reload, text_with, with_text, EventHead, Pending}
+use Rattle.conn_model.specs.Counts.{open_connections}
 use Rattle.audit_core.specs.Line.{event_peer}
 use Rattle.audit_core.specs.Verdict.{fault_at, head_at, reply_at, text_at}
 use Rattle.audit_core.specs.declared.due.Due.{Due}
@@ -56,9 +56,9 @@ after_line s pending =
     else record { plain = s.plain; lines = s.lines + 1; records = s.records; due = dues.Text pending }
 
 -- after the first line of an event
-abbrev pub after_head : Standing → Head → Standing
-after_head s (Head.whole timed) = after_event s timed
-after_head s (Head.reload moment count) = after_line s (pending_reload moment count)
+abbrev pub after_head : Standing → EventHead → Standing
+after_head s (EventHead.whole timed) = after_event s timed
+after_head s (EventHead.reload moment count) = after_line s (pending_reload moment count)
 
 -- after a reply
 abbrev pub after_reply : Standing → Reply → Standing

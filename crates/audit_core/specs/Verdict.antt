@@ -14,8 +14,9 @@ use Rattle.conn_model.specs.declared.reply.Reply.{Reply}
 use Rattle.conn_model.specs.declared.reply.StepFault.{StepFault}
 use Rattle.conn_model.specs.Words.{or_fault}
 use Rattle.conn_model.specs.History.{Entry, after, answer, entry, opening, IsLegal}
-use Rattle.event_text.specs.Script.{bar_text, words_of, Head}
-use Rattle.audit_core.specs.Record.{numbered_head, open_connections, recorded_reply, reply_mark, IsRecord}
+use Rattle.event_text.specs.Script.{bar_text, words_of, EventHead}
+use Rattle.conn_model.specs.Counts.{open_connections}
+use Rattle.audit_core.specs.Record.{numbered_head, recorded_reply, reply_mark, IsRecord}
 use Rattle.audit_core.specs.declared.fault.TheConstants.{MOST_RECORD_LINES}
 use Rattle.audit_core.specs.declared.fault.Checked.{Checked}
 use Rattle.audit_core.specs.declared.fault.CheckFault.{CheckFault}
@@ -30,7 +31,7 @@ abbrev pub is_too_long : ℕ → List ℕ → Bool
 is_too_long at line = nat_lt MOST_LINE_BYTES (length line) || nat_lt MOST_RECORD_LINES at
 
 -- what the first line of an event says, under the number of its entry
-abbrev pub head_at : ℕ → ℕ → List ℕ → Result Head CheckFault
+abbrev pub head_at : ℕ → ℕ → List ℕ → Result EventHead CheckFault
 head_at at number line =
     if is_too_long at line then Err (fault_at at TooLong) else or_fault (fault_at at Format) (numbered_head number (words_of line))
 
@@ -52,31 +53,31 @@ reply_at at answered line =
 
 -- Where the next line is: between two entries, where it has to be the first one of an event; or within the text of a
 -- reload at a moment, of which so many lines are missing after those that came; or where the reply to an event has to be.
-pub data Next : Type 0 where
-  between : Next
-  within : ℕ → ℕ → List (List ℕ) → Next
-  awaiting : ℕ × OwnedEvent → Next
+pub data LinePlace : Type 0 where
+  between : LinePlace
+  within : ℕ → ℕ → List (List ℕ) → LinePlace
+  awaiting : ℕ × OwnedEvent → LinePlace
 
 -- what comes after those lines of a text
-abbrev pub next_of_text : ℕ → ℕ → List (List ℕ) → Next
+abbrev pub next_of_text : ℕ → ℕ → List (List ℕ) → LinePlace
 next_of_text moment missing texts =
-    if missing == 0 then Next.awaiting (moment, Reload (join_with_byte 0x0A texts)) else Next.within moment missing texts
+    if missing == 0 then LinePlace.awaiting (moment, Reload (join_with_byte 0x0A texts)) else LinePlace.within moment missing texts
 
 -- what comes after the first line of an event
-abbrev pub next_of : Head → Next
-next_of (Head.whole timed) = Next.awaiting timed
-next_of (Head.reload moment count) = next_of_text moment count []
+abbrev pub next_of : EventHead → LinePlace
+next_of (EventHead.whole timed) = LinePlace.awaiting timed
+next_of (EventHead.reload moment count) = next_of_text moment count []
 
 -- the history that lines record, which go on after a history and so many lines
-abbrev pub history_on : Plain → List Entry → ℕ → Next → List (List ℕ) → Result (List Entry) CheckFault
-history_on p h before Next.between [] = Ok h
-history_on p h before (Next.within moment missing texts) [] = Err (fault_at (before + 1) Format)
-history_on p h before (Next.awaiting timed) [] = Err (fault_at (before + 1) Format)
-history_on p h before Next.between (line ∷ lines) = head_at (before + 1) (length h + 1) line >>= λ head. history_on p h (before + 1) (next_of head) lines
-history_on p h before (Next.within moment missing texts) (line ∷ lines) =
+abbrev pub history_on : Plain → List Entry → ℕ → LinePlace → List (List ℕ) → Result (List Entry) CheckFault
+history_on p h before LinePlace.between [] = Ok h
+history_on p h before (LinePlace.within moment missing texts) [] = Err (fault_at (before + 1) Format)
+history_on p h before (LinePlace.awaiting timed) [] = Err (fault_at (before + 1) Format)
+history_on p h before LinePlace.between (line ∷ lines) = head_at (before + 1) (length h + 1) line >>= λ head. history_on p h (before + 1) (next_of head) lines
+history_on p h before (LinePlace.within moment missing texts) (line ∷ lines) =
     text_at (before + 1) line >>= λ text. history_on p h (before + 1) (next_of_text moment (missing - 1) (texts ++ text ∷ [])) lines
-history_on p h before (Next.awaiting timed) (line ∷ lines) =
-    reply_at (before + 1) (answer p h timed.0 timed.1) line >>= λ reply. history_on p (entry timed.0 timed.1 reply ∷ h) (before + 1) Next.between lines
+history_on p h before (LinePlace.awaiting timed) (line ∷ lines) =
+    reply_at (before + 1) (answer p h timed.0 timed.1) line >>= λ reply. history_on p (entry timed.0 timed.1 reply ∷ h) (before + 1) LinePlace.between lines
 
 -- the counts of a history
 abbrev pub counts_of : Plain → List Entry → Checked
@@ -88,7 +89,7 @@ counts_from p (Err fault) = Err fault
 
 -- what the check of a text says if a plan is opened
 abbrev pub verdict : Plan → List ℕ → Result Checked CheckFault
-verdict plan text = counts_from (opening plan 0) (history_on (opening plan 0) [] 0 Next.between (parts is_line_feed text))
+verdict plan text = counts_from (opening plan 0) (history_on (opening plan 0) [] 0 LinePlace.between (parts is_line_feed text))
 
 -- no line is too long, and they are not too many
 abbrev pub IsWithinLimits : List (List ℕ) → Type 0

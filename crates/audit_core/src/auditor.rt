@@ -5,12 +5,12 @@ ghost use Rattle.line_reader.specs.declared.lines.TheConstants.{MOST_LINE_BYTES}
 ghost use Rattle.text_core.specs.Decimal.{decimal};
 ghost use Rattle.conn_model.specs.declared.event.TheConstants.{PIECE_LIMIT};
 ghost use Rattle.conn_model.specs.Answer.{answer_in, row_at};
-ghost use Rattle.conn_model.specs.Counts.{server_of, total};
+ghost use Rattle.conn_model.specs.Counts.{server_of, total, open_connections};
 ghost use Rattle.conn_rows.specs.Summaries.{names_in, names_of};
 ghost use Rattle.conn_model.specs.History.{owned_event};
 ghost use Rattle.event_text.specs.Script.{head_read, with_text, words_of, HasLines};
 ghost use Rattle.replay_core.specs.Turns.{plain_after};
-ghost use Rattle.audit_core.specs.Record.{numbered_head, open_connections};
+ghost use Rattle.audit_core.specs.Record.{numbered_head};
 ghost use Rattle.audit_core.specs.Verdict.{fault_at, reply_at, text_at};
 ghost use Rattle.audit_core.specs.Standing.{at_end, is_between, on_due, on_line};
 ghost use Rattle.audit_core.specs.Line.{event_peer};
@@ -28,7 +28,7 @@ use conn_model::event::{ConnId, Event};
 use conn_model::plain::FrontendRows;
 use conn_model::reply::{Reply, StepFault};
 use event_text::{FirstLine, PendingReload, read_bar, read_event};
-use line_reader::LineFault;
+use line_reader::ReadFault;
 use std::alloc::{AllocError, Global};
 use std::marker::Model;
 use std::mem;
@@ -53,7 +53,7 @@ impl Model for Auditor {
     ghost use Rattle.std.specs.Prelude.{◌≡◌, ◌≤◌, length};
     ghost use Rattle.conn_model.specs.declared.event.TheConstants.{PIECE_LIMIT};
     ghost use Rattle.audit_core.specs.Standing.{IsDue, Standing};
-    ghost use Rattle.audit_core.specs.Record.{open_connections};
+    ghost use Rattle.conn_model.specs.Counts.{open_connections};
     ghost use Rattle.audit_core.specs.declared.fault.TheConstants.{MOST_RECORD_LINES};
 
     ghost Value = { Standing };
@@ -214,13 +214,13 @@ impl Auditor {
     }
 
     /// The fault if no next line comes.
-    pub fn reading_fault(&self, fault: LineFault) -> CheckFault
+    pub fn reading_fault(&self, fault: ReadFault) -> CheckFault
         ensures { result ≡ reading_fault (self.now.lines + 1) fault }
     {
         match fault {
-            LineFault::TooLong => fault_at(self.lines + 1, CheckKind::TooLong),
-            LineFault::Read => fault_at(0, CheckKind::Read),
-            LineFault::NoMemory => fault_at(0, CheckKind::NoMemory),
+            ReadFault::TooLong => fault_at(self.lines + 1, CheckKind::TooLong),
+            ReadFault::Read => fault_at(0, CheckKind::Read),
+            ReadFault::NoMemory => fault_at(0, CheckKind::NoMemory),
         }
     }
 

@@ -13,13 +13,13 @@ use text_core::decimal::append_decimal;
 
 /// The name of a connection, in the order of names.
 #[derive(Clone, Copy, PartialEq, Eq, PartialOrd, Ord, Drop)]
-struct Name {
+pub struct Name {
     frontend: u16,
     serial: u64,
 }
 
 impl Name {
-    fn of(id: &ConnId) -> Name
+    pub fn of(id: &ConnId) -> Name
         ensures { result ≡ name_of id.now }
     {
         Name {
@@ -52,16 +52,16 @@ fn brought(peer: Option<Endpoint>, before: Option<Known>) -> Option<Known>
 
 /// The open connections, and the lines of those that ended.
 #[derive(Drop)]
-pub struct Journal {
+pub struct AuditJournal {
     known: BTreeMap<Name, Known>,
     unsent: Vec<u8>,
 }
 
-impl Journal {
+impl AuditJournal {
     pub fn new(alloc: Global) -> Self
         ensures { noted_in result ≡ nothing_noted }
     {
-        Journal {
+        AuditJournal {
             known: BTreeMap::new(alloc),
             unsent: Vec::new(alloc),
         }

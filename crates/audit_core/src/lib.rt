@@ -5,6 +5,7 @@ pub use audit::{report, run_audit};
 pub use auditor::{Auditor, answer, read_numbered};
 pub use check::{check_record, open_auditor};
 pub use fault::{CheckFault, CheckKind, Checked, MOST_RECORD_LINES};
+pub use journal::Name;
 pub use line::audit_line;
 pub use printing::{again, write_bytes};
 pub use recording::{RecordFault, write_journal};

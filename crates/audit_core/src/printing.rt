@@ -17,14 +17,11 @@ ghost use Rattle.audit_core.specs.declared.fault.TheConstants.{MOST_RECORD_LINES
 
 use crate::auditor::Auditor;
 use crate::fault::{CheckFault, CheckKind};
-use crate::journal::Journal;
+use crate::journal::AuditJournal;
 use device_core::{Failed, Input, Output, write_all};
-use line_reader::{LineFault, LineReader, Next};
-use replay_core::PrintFault;
+use line_reader::{LineReader, Next, ReadFault};
+use replay_core::{MOST_UNSENT, PrintFault};
 use std::alloc::Global;
-
-/// How many bytes of lines are collected before they are written.
-const MOST_UNSENT: usize = 65_536;
 
 /// Writes bytes.
 pub fn write_bytes<O: Output>(bytes: &[u8], writer: &mut O) -> Result<(), PrintFault>
@@ -53,17 +50,17 @@ pub fn again(fault: &CheckFault) -> PrintFault
 }
 
 /// The same of a fault if no line comes.
-fn reading_again(fault: LineFault) -> PrintFault
+fn reading_again(fault: ReadFault) -> PrintFault
     ensures { result ≡ second_fault fault }
 {
     match fault {
-        LineFault::NoMemory => PrintFault::NoMemory,
-        LineFault::TooLong | LineFault::Read => PrintFault::Read,
+        ReadFault::NoMemory => PrintFault::NoMemory,
+        ReadFault::TooLong | ReadFault::Read => PrintFault::Read,
     }
 }
 
 /// Takes note of the reply that the next line has to be.
-fn note_due(auditor: &Auditor, journal: &mut Journal) -> Result<(), PrintFault>
+fn note_due(auditor: &Auditor, journal: &mut AuditJournal) -> Result<(), PrintFault>
     ensures noted { OnOk result (noted_in journal.new ≡ noted_with (noted_in journal.old) (due_reply auditor.now.due)) }
     ensures fault { IfErr result (λ f. f ≡ PrintFault.NoMemory) }
 {
@@ -101,7 +98,11 @@ fn finish_again(auditor: &Auditor) -> Result<(), PrintFault>
 }
 
 /// Takes note of the reply that a line has to be, and checks the line once more.
-fn take_line(auditor: &mut Auditor, journal: &mut Journal, line: &[u8]) -> Result<(), PrintFault>
+fn take_line(
+    auditor: &mut Auditor,
+    journal: &mut AuditJournal,
+    line: &[u8],
+) -> Result<(), PrintFault>
     requires { length line.now ≤ MOST_LINE_BYTES }
     ensures ok { OnOk result (on_line auditor.old line.now ≡ Ok auditor.new) }
     ensures next { OnOk result ((auditor.new.lines ≡ auditor.old.lines + 1) × (auditor.new.lines ≤ MOST_RECORD_LINES)) }
@@ -115,7 +116,7 @@ fn take_line(auditor: &mut Auditor, journal: &mut Journal, line: &[u8]) -> Resul
 }
 
 /// Writes the lines that were noted.
-fn send<O: Output>(journal: &mut Journal, writer: &mut O) -> Result<(), PrintFault>
+fn send<O: Output>(journal: &mut AuditJournal, writer: &mut O) -> Result<(), PrintFault>
     ensures ok { OnOk result ((sent : List ℕ) → O.held writer.old ≡ Some sent → O.held writer.new ≡ Some (sent ++ (noted_in journal.old).unsent)) }
     ensures sends { OnOk result ((sent : List ℕ) → O.held writer.old ≡ Some sent → Sends sent (noted_in journal.old) (O.held writer.new) (noted_in journal.new)) }
     ensures empty { OnOk result (noted_in journal.new ≡ record { known = (noted_in journal.old).known; unsent = [] }) }
@@ -135,7 +136,7 @@ fn send<O: Output>(journal: &mut Journal, writer: &mut O) -> Result<(), PrintFau
 }
 
 /// Writes the lines that were noted once they are many.
-fn send_many<O: Output>(journal: &mut Journal, writer: &mut O) -> Result<(), PrintFault>
+fn send_many<O: Output>(journal: &mut AuditJournal, writer: &mut O) -> Result<(), PrintFault>
     ensures sends { OnOk result ((sent : List ℕ) → O.held writer.old ≡ Some sent → Sends sent (noted_in journal.old) (O.held writer.new) (noted_in journal.new)) }
     ensures known { OnOk result ((noted_in journal.new).known ≡ (noted_in journal.old).known) }
     ensures failures { OnOk result (O.failures writer.new ≡ O.failures writer.old) }
@@ -154,7 +155,7 @@ fn send_many<O: Output>(journal: &mut Journal, writer: &mut O) -> Result<(), Pri
 /// to be sent.
 fn print_lines<I: Input, O: Output>(
     auditor: &mut Auditor,
-    journal: &mut Journal,
+    journal: &mut AuditJournal,
     lines: &mut LineReader,
     reader: &mut I,
     writer: &mut O,
@@ -193,7 +194,7 @@ fn print_lines<I: Input, O: Output>(
 /// Adds how many entries a record has and how many connections are open, and writes what is noted.
 fn print_counts<O: Output>(
     auditor: &Auditor,
-    journal: &mut Journal,
+    journal: &mut AuditJournal,
     writer: &mut O,
 ) -> Result<(), PrintFault>
     ensures ok { OnOk result ((sent : List ℕ) → O.held writer.old ≡ Some sent → O.held writer.new ≡ Some (sent ++ ((noted_in journal.old).unsent ++ counts_text (counts_at auditor.now)))) }
@@ -226,7 +227,7 @@ pub fn print_all<I: Input, O: Output>(
         IsSpent (I.failures reader.old) (I.failures reader.new) (I.stalls reader.old) (I.stalls reader.new) (I.calls reader.old) (I.calls reader.new) }
     ensures gave_up { result ≡ Err PrintFault.Write → GaveUp (O.failures writer.old) (O.failures writer.new) (O.stalls writer.old) (O.stalls writer.new) }
 {
-    let mut journal = Journal::new(alloc);
+    let mut journal = AuditJournal::new(alloc);
     let Ok(mut lines) = LineReader::new(alloc) else {
         return Err(PrintFault::NoMemory);
     };

@@ -1,7 +1,7 @@
 -- Least connections.
 use Rattle.std.specs.Prelude.{◌≡◌, ℕ, Bool, true, false, List, length, filter, slice_get, Option, Some, None, option_map, ◌*◌, ◌&&◌, nat_lt, if◌then◌else◌}
 use Rattle.balance_core.specs.declared.load.ServerLoad.{ServerLoad}
-use Rattle.balance_core.specs.declared.least.Candidate.{Candidate}
+use Rattle.balance_core.specs.declared.least.ReadyServer.{ReadyServer}
 use Rattle.balance_core.specs.Loads.{weight_at, connections_at, is_ready_at, going_round}
 use Rattle.balance_core.specs.Orders.{least}
 
@@ -26,13 +26,13 @@ is_ready server = nat_lt 0 server.weight && server.has_room
 abbrev pub carries_less : ServerLoad → ServerLoad → Bool
 carries_less one other = nat_lt (one.connections * other.weight) (other.connections * one.weight)
 
-abbrev pub number_of : Option Candidate → Option ℕ
+abbrev pub number_of : Option ReadyServer → Option ℕ
 number_of candidate = option_map (λ c. c.number) candidate
 
 -- the load is that of the server
-abbrev pub IsSeen : List ServerLoad → Candidate → Type 0
+abbrev pub IsSeen : List ServerLoad → ReadyServer → Type 0
 IsSeen servers candidate = slice_get servers candidate.number ≡ Some candidate.server
 
-abbrev pub lighter_of : Option Candidate → Candidate → Candidate
+abbrev pub lighter_of : Option ReadyServer → ReadyServer → ReadyServer
 lighter_of None candidate = candidate
 lighter_of (Some other) candidate = if carries_less other.server candidate.server then other else candidate

@@ -9,7 +9,7 @@ use crate::load::{Load, ServerLoad};
 
 /// A server that may be offered, and what was seen of it.
 #[derive(Clone, Copy, Debug, PartialEq, Eq)]
-pub struct Candidate {
+pub struct ReadyServer {
     pub number: u16,
     pub server: ServerLoad,
 }
@@ -27,7 +27,7 @@ pub fn pick_least<L: Load>(last: Option<u16>, load: &L) -> Option<u16>
     number(lightest_of(later, begin, count, load))
 }
 
-fn number(candidate: Option<Candidate>) -> Option<u16>
+fn number(candidate: Option<ReadyServer>) -> Option<u16>
     ensures { result ≡ number_of candidate }
 {
     match candidate {
@@ -48,11 +48,11 @@ fn begin_after(last: Option<u16>, count: u16) -> u16
 
 /// The lightest of the servers from `begin` up to `end` and of a later one. Each server is asked once.
 fn lightest_of<L: Load>(
-    later: Option<Candidate>,
+    later: Option<ReadyServer>,
     begin: u16,
     end: u16,
     load: &L,
-) -> Option<Candidate>
+) -> Option<ReadyServer>
     requires range { begin ≤ end }
     requires later { IfSome later (IsSeen (L.servers load.now)) }
     ensures lightest { (rest : List ℕ) → number_of later ≡ least (is_lighter (L.servers load.now)) rest →
@@ -69,13 +69,13 @@ fn lightest_of<L: Load>(
 }
 
 /// The lighter of a server, if it is ready, and a later one.
-fn with_server<L: Load>(later: Option<Candidate>, number: u16, load: &L) -> Option<Candidate>
+fn with_server<L: Load>(later: Option<ReadyServer>, number: u16, load: &L) -> Option<ReadyServer>
     requires { IfSome later (IsSeen (L.servers load.now)) }
     ensures number { number_of result ≡ (if is_ready_at (L.servers load.now) number then lesser (is_lighter (L.servers load.now)) number (number_of later) else number_of later) }
     ensures seen { IfSome result (IsSeen (L.servers load.now)) }
 {
     match load.server(number) {
-        Some(server) if is_ready(&server) => Some(lighter(later, Candidate { number, server })),
+        Some(server) if is_ready(&server) => Some(lighter(later, ReadyServer { number, server })),
         _ => later,
     }
 }
@@ -88,7 +88,7 @@ fn is_ready(server: &ServerLoad) -> bool
 }
 
 /// The later one, if it is lighter.
-fn lighter(later: Option<Candidate>, candidate: Candidate) -> Candidate
+fn lighter(later: Option<ReadyServer>, candidate: ReadyServer) -> ReadyServer
     ensures { result ≡ lighter_of later candidate }
 {
     match later {

@@ -3,7 +3,7 @@
 
 pub use cycle::Cycle;
 pub use least::pick_least;
-pub use load::{Load, MAX_SERVERS, ServerLoad};
+pub use load::{Load, ServerLoad};
 pub use proxy_types::{Method, Place};
 pub use round::{Placed, pick_round};
 pub use source::pick_source;

@@ -2,12 +2,10 @@
 ghost use Rattle.std.specs.Prelude.{◌≡◌, ◌≤◌, ℕ, List, length, slice_get};
 ghost use Rattle.balance_core.specs.declared.load.ServerLoad.{ServerLoad};
 ghost use Rattle.balance_core.specs.Loads.{weight_at, has_room_at};
-ghost use Rattle.balance_core.specs.declared.load.TheConstants.{MAX_SERVERS};
+ghost use Rattle.proxy_types.specs.declared.limits.TheConstants.{MOST_SERVERS};
 
+use proxy_types::MOST_SERVERS;
 use std::marker::Model;
-
-/// A backend has at most so many servers.
-pub const MAX_SERVERS: u16 = 64;
 
 /// What a pick looks at of a server.
 #[derive(Clone, Copy, Debug, PartialEq, Eq)]
@@ -27,7 +25,7 @@ pub trait Load {
     /// How many servers there are.
     fn count(&self) -> u16
         ensures value { result ≡ length (servers self.now) }
-        ensures few { result ≤ MAX_SERVERS };
+        ensures few { result ≤ MOST_SERVERS };
 
     /// The server of that number.
     fn server(&self, number: u16) -> Option<ServerLoad>
@@ -57,7 +55,7 @@ pub fn has_room<L: Load>(load: &L, number: u16) -> bool
 /// Which servers have room, by their numbers.
 #[derive(Drop)]
 pub struct Rooms {
-    rooms: [bool; 64],
+    rooms: [bool; MOST_SERVERS],
 }
 
 impl Model for Rooms {
@@ -76,7 +74,7 @@ impl Rooms {
     pub fn of<L: Load>(load: &L) -> Rooms
         ensures { (number : ℕ) → room_in result number ≡ has_room_at (L.servers load.now) number }
     {
-        let mut rooms = [false; 64];
+        let mut rooms = [false; MOST_SERVERS];
         for number in 0..load.count() {
             rooms[usize::from(number)] = has_room(load, number);
         }

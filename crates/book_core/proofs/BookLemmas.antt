@@ -15,7 +15,8 @@ use Rattle.record_core.specs.Records.{entry_of, history_of, history_on, joined, 
 use Rattle.record_core.proofs.Appending.{history_on_appended, numbered_appended}
 use Rattle.record_core.proofs.Chaining.{chained_appended, joined_appended, numbered_later}
 use Rattle.rtrb.specs.Ring.{sent}
-use Rattle.book_core.specs.Open.{connections_opened, open_connections}
+use Rattle.conn_model.specs.Counts.{open_connections}
+use Rattle.book_core.specs.Open.{connections_opened}
 use Rattle.book_core.specs.Book.{after_cut, new_book, segment_of, state_of, with_entry, with_ring, BookState, IsBook, SegmentProducer}
 use Rattle.book_core.proofs.OpenLemmas.{open_after_answer}
 

@@ -14,11 +14,11 @@ use Rattle.conn_model.specs.declared.ask.Counts.{Counts}
 use Rattle.conn_model.specs.declared.plain.FrontendRows.{FrontendRows}
 use Rattle.conn_model.specs.declared.plain.Plain.{Plain}
 use Rattle.conn_model.specs.declared.plain.TableState.{TableState}
-use Rattle.conn_model.specs.Counts.{count_of, count_of_server, newest_backend, newest_table, offered_in, offered_to, served_in, total}
+use Rattle.conn_model.specs.Counts.{count_of, count_of_server, newest_backend, newest_table, offered_in, offered_to, served_in, total, open_connections}
 use Rattle.conn_model.specs.Servers.{identity_in}
 use Rattle.conn_model.specs.Tables.{entry_counts, open_tracks, trackers}
 use Rattle.conn_model.proofs.Lists.{all-at}
-use Rattle.book_core.specs.Open.{open_connections, IsNothingCounted}
+use Rattle.book_core.specs.Open.{IsNothingCounted}
 
 -- no frontend has a row
 abbrev AreEmpty : List FrontendRows → Type 0

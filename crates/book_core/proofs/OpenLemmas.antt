@@ -19,12 +19,12 @@ use Rattle.conn_model.specs.declared.reply.Reply.{Reply}
 use Rattle.conn_model.specs.declared.reply.Said.{Said}
 use Rattle.conn_model.specs.declared.reply.Said.TheVariants.{Wait, Offer, Refuse, Up, Closed, Reloaded}
 use Rattle.conn_model.specs.Answer.{answer_in, row_at, row_in}
-use Rattle.conn_model.specs.Counts.{total}
+use Rattle.conn_model.specs.Counts.{total, open_connections}
 use Rattle.conn_model.specs.History.{after, arrival, entry, frontend_after, has_ended, id_of, is_last, leaves_open, newest_number, opening, row_after, speaks_to, Entry, IsFrontendWell, IsWell}
 use Rattle.conn_model.specs.Words.{map_from, Rise}
 use Rattle.conn_model.proofs.Lists.{all-at, all-more}
 use Rattle.conn_model.proofs.Replies.{answered, IsNew, IsOld}
-use Rattle.book_core.specs.Open.{connections_ended, connections_opened, open_connections}
+use Rattle.book_core.specs.Open.{connections_ended, connections_opened}
 
 -- Rows of which some go.
 

@@ -1,6 +1,6 @@
--- How many connections are open, and how many more or fewer after an answer.
-use Rattle.std.specs.Prelude.{◌≡◌, ℕ, length, Some, if◌then◌else◌}
-use Rattle.conn_model.specs.Counts.{counts_in, total}
+-- How many connections are open more or fewer after an answer.
+use Rattle.std.specs.Prelude.{◌≡◌, ℕ, Some, if◌then◌else◌}
+use Rattle.conn_model.specs.Counts.{counts_in}
 use Rattle.conn_model.specs.History.{is_last, leaves_open}
 use Rattle.conn_model.specs.declared.ask.Ask.{Ask}
 use Rattle.conn_model.specs.declared.ask.Counts.{Counts}
@@ -8,9 +8,6 @@ use Rattle.conn_model.specs.declared.event.OwnedEvent.{OwnedEvent}
 use Rattle.conn_model.specs.declared.event.OwnedEvent.TheVariants.{Accept, Piece, Connected, ConnectFailed, Close, Expire, Reload}
 use Rattle.conn_model.specs.declared.plain.Plain.{Plain}
 use Rattle.conn_model.specs.declared.reply.Said.{Said}
-
-abbrev pub open_connections : Plain → ℕ
-open_connections p = total (λ own. length own.rows) p.frontends
 
 -- whatever is asked for, no connection is counted there
 abbrev pub IsNothingCounted : Plain → Type 0

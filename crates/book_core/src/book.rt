@@ -1,9 +1,9 @@
 //! A core with its records.
 ghost use Rattle.std.specs.Prelude.{◌≡◌, ◌↔◌, ◌<◌, ◌≤◌, ◌+◌, ◌^◌, [], ◌∷◌, ◌++◌, length, IfOk, IfErr, OnErr, OnOk, Err, Ok};
-ghost use Rattle.conn_model.specs.Counts.{counts_in};
+ghost use Rattle.conn_model.specs.Counts.{counts_in, open_connections};
 ghost use Rattle.conn_model.specs.History.{answer, counts, entry, owned_event};
 ghost use Rattle.record_core.specs.Records.{history_of};
-ghost use Rattle.book_core.specs.Open.{connections_ended, connections_opened, open_connections};
+ghost use Rattle.book_core.specs.Open.{connections_ended, connections_opened};
 ghost use Rattle.rtrb.specs.Ring.{known_free, known_items, received, sent, ConsumerLooked, IsPair, ProducerLooked, SameProducer};
 ghost use Rattle.book_core.specs.Book.{after_cut, book_answer, new_book, segment_of, with_entry, with_ring, IsBook, IsBookFault};
 

@@ -9,7 +9,8 @@ ghost use Rattle.conn_model.specs.History.{after, entry, opening, Entry, IsLegal
 ghost use Rattle.record_core.specs.Records.{history_of, joined, AreNumbered};
 ghost use Rattle.rtrb.specs.Ring.{sent};
 ghost use Rattle.book_core.specs.Book.{BookState, IsBook};
-ghost use Rattle.book_core.specs.Open.{connections_ended, connections_opened, open_connections, IsNothingCounted};
+ghost use Rattle.conn_model.specs.Counts.{open_connections};
+ghost use Rattle.book_core.specs.Open.{connections_ended, connections_opened, IsNothingCounted};
 
 /// Where the base is what a legal history left, as of a core that was opened and then answered events, the
 /// records go on with that history, and the core is the state after both.

@@ -1,6 +1,10 @@
 //! The commands.
 use clap::{Arg, ArgAction, Command, value_parser};
+use proxy_types::MOST_WORKERS;
 use std::alloc::{AllocError, Global};
+
+/// How many workers there are if the words do not say.
+const DEFAULT_WORKERS: &str = "2";
 
 fn file<'a>(alloc: Global) -> Arg<'a> {
     Arg::new(alloc, "FILE")
@@ -103,8 +107,8 @@ fn serve<'a>(alloc: Global) -> Result<Command<'a>, AllocError> {
     let workers = Arg::new(alloc, "workers")
         .long("workers")
         .value_name("N")
-        .value_parser(value_parser!(u16).range(1..=64))
-        .default_value("2")
+        .value_parser(value_parser!(u16).range(1..=i64::from(MOST_WORKERS)))
+        .default_value(DEFAULT_WORKERS)
         .help("How many threads judge connections and pass them on, 1 to 64");
     Command::new(alloc, "serve")
         .about("Takes connections and passes them on, until standard input says `quit` or ends")

@@ -1,11 +1,10 @@
 //! The words of `serve`.
 ghost use Rattle.std.specs.Prelude.{◌≤◌};
+ghost use Rattle.proxy_types.specs.declared.limits.TheConstants.{MOST_WORKERS};
 
 use clap::ArgMatches;
+use proxy_types::MOST_WORKERS;
 use std::alloc::{AllocError, Global};
-
-/// How many workers there are where the words do not say.
-const WORKERS: u16 = 2;
 
 /// The words of the command `serve`.
 #[derive(Drop)]
@@ -14,7 +13,7 @@ pub struct ServeWords {
     /// 1 to 64.
     pub workers: u16,
     pub ghost some_workers: { 1 ≤ workers },
-    pub ghost few_workers: { workers ≤ 64 },
+    pub ghost few_workers: { workers ≤ MOST_WORKERS },
 }
 
 impl ServeWords {
@@ -22,7 +21,7 @@ impl ServeWords {
     pub fn of(alloc: Global, given: &ArgMatches<'_>) -> Result<ServeWords, AllocError> {
         let mut file = String::new(alloc);
         file.push_str(given.get_str("FILE").unwrap_or(""))?;
-        let workers = given.get_one("workers").unwrap_or(WORKERS).clamp(1, 64);
+        let workers = given.get_one("workers").unwrap_or(1).clamp(1, MOST_WORKERS);
         Ok(ServeWords { file, workers })
     }
 }

@@ -5,8 +5,8 @@ use Rattle.list_core.specs.Each.{◌>>=◌}
 use Rattle.acl_core.specs.declared.condition.When.{When}
 use Rattle.acl_core.specs.declared.condition.When.TheVariants as whens
 use Rattle.acl_core.specs.Reading.{condition_of}
-use Rattle.conf_line.specs.declared.statement.Action.{Action}
-use Rattle.conf_line.specs.declared.statement.Action.TheVariants.{Accept, Reject, Track, ExpectProxy}
+use Rattle.conf_line.specs.declared.statement.ActionWords.{ActionWords}
+use Rattle.conf_line.specs.declared.statement.ActionWords.TheVariants.{Accept, Reject, Track, ExpectProxy}
 use Rattle.conf_line.specs.declared.statement.Ruleset.{Ruleset}
 use Rattle.conf_line.specs.declared.statement.Ruleset.TheVariants.{Connection, Session}
 use Rattle.conf_line.specs.declared.statement.Statement.{Statement}
@@ -28,27 +28,27 @@ when_of known (word ∷ rest) =
 -- The action.
 
 -- after `src`: the table of a section, or that of the rule's own
-abbrev pub table_at : ℕ → List (List ℕ) → Result (Action × List (List ℕ)) ConfKind
+abbrev pub table_at : ℕ → List (List ℕ) → Result (ActionWords × List (List ℕ)) ConfKind
 table_at counter [] = Ok (Track (record { counter = counter; table = None }), [])
 table_at counter (word ∷ rest) =
     if bytes_eq word (codes "table") then (name_at rest >>= λ name. Ok (Track (record { counter = counter; table = Some name.0 }), name.1))
     else Ok (Track (record { counter = counter; table = None }), word ∷ rest)
 
 -- after `track-sc0` and the like: the key is the source
-abbrev pub track_at : ℕ → List (List ℕ) → Result (Action × List (List ℕ)) ConfKind
+abbrev pub track_at : ℕ → List (List ℕ) → Result (ActionWords × List (List ℕ)) ConfKind
 track_at counter words = do
   key ← word_at words
   if bytes_eq key.0 (codes "src") then table_at counter key.1 else Err Unsupported
 
 -- after `expect-proxy`, an action of connection rules alone: the layer whose header is expected
-abbrev pub header_at : Ruleset → List (List ℕ) → Result (Action × List (List ℕ)) ConfKind
+abbrev pub header_at : Ruleset → List (List ℕ) → Result (ActionWords × List (List ℕ)) ConfKind
 header_at Session words = Err Unsupported
 header_at Connection words = do
   layer ← word_at words
   if bytes_eq layer.0 (codes "layer4") then Ok (ExpectProxy, layer.1) else Err Unsupported
 
 -- an action of a list, and the words after it
-abbrev pub action_at : Ruleset → List (List ℕ) → Result (Action × List (List ℕ)) ConfKind
+abbrev pub action_at : Ruleset → List (List ℕ) → Result (ActionWords × List (List ℕ)) ConfKind
 action_at list words = do
   word ← word_at words
   if bytes_eq word.0 (codes "accept") then Ok (Accept, word.1)
@@ -68,7 +68,7 @@ ruleset_at words = do
       else Err Unsupported
 
 -- the list and the action, and the words after them
-abbrev pub head_at : List (List ℕ) → Result (Ruleset × (Action × List (List ℕ))) ConfKind
+abbrev pub head_at : List (List ℕ) → Result (Ruleset × (ActionWords × List (List ℕ))) ConfKind
 head_at words = do
   list ← ruleset_at words
   action ← action_at list.0 list.1

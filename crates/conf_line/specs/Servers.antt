@@ -9,7 +9,7 @@ use Rattle.conf_line.specs.declared.statement.LineReading.{LineReading}
 use Rattle.conf_line.specs.declared.statement.ServerOption.{ServerOption}
 use Rattle.conf_line.specs.declared.statement.ServerOption.TheVariants as options
 use Rattle.conf_line.specs.declared.statement.Statement.TheVariants as statements
-use Rattle.conf_line.specs.declared.limits.TheConstants.{GREATEST_WEIGHT, MOST_CONNECTIONS}
+use Rattle.proxy_types.specs.declared.limits.TheConstants.{GREATEST_WEIGHT, MOST_CONNECTIONS}
 use Rattle.conf_line.specs.declared.fault.ConfKind.{ConfKind}
 use Rattle.conf_line.specs.declared.fault.ConfKind.TheVariants.{MissingWord, BadNumber, Unsupported}
 use Rattle.conf_line.specs.Words.{word_at, name_at, number_at, address_at, last_of, onto}

@@ -1,15 +1,15 @@
 -- Numbers within their limits.
 use Rattle.std.specs.Prelude.{◌≡◌, ℕ, ◌≤◌, ◌<◌, false, Option, IfSome}
-use Rattle.conf_line.specs.declared.limits.TheConstants.{MOST_ENTRIES, MOST_CONNECTIONS, GREATEST_WEIGHT, COUNTERS}
-use Rattle.conf_line.specs.declared.statement.Action.{Action}
-use Rattle.conf_line.specs.declared.statement.Action.TheVariants as actions
+use Rattle.proxy_types.specs.declared.limits.TheConstants.{MOST_ENTRIES, MOST_CONNECTIONS, GREATEST_WEIGHT, COUNTERS}
+use Rattle.conf_line.specs.declared.statement.ActionWords.{ActionWords}
+use Rattle.conf_line.specs.declared.statement.ActionWords.TheVariants as actions
 use Rattle.conf_line.specs.declared.statement.LineReading.{LineReading}
 use Rattle.conf_line.specs.declared.statement.ServerWords.{ServerWords}
 use Rattle.conf_line.specs.declared.statement.Statement.{Statement}
 use Rattle.conf_line.specs.declared.statement.Statement.TheVariants as statements
 
 -- a counter is below 3
-abbrev pub IsSoundAction : Action → Type 0
+abbrev pub IsSoundAction : ActionWords → Type 0
 IsSoundAction actions.Accept = Unit {0}
 IsSoundAction actions.Reject = Unit {0}
 IsSoundAction (actions.Track track) = track.counter < COUNTERS

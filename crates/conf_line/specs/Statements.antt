@@ -12,7 +12,7 @@ use Rattle.conf_line.specs.declared.statement.Statement.TheVariants as statement
 use Rattle.conf_line.specs.declared.keyword.Keyword.{Keyword}
 use Rattle.conf_line.specs.declared.keyword.Keyword.TheVariants as k
 use Rattle.conf_line.specs.declared.statement.LineReading.{LineReading}
-use Rattle.conf_line.specs.declared.limits.TheConstants.{MOST_CONNECTIONS}
+use Rattle.proxy_types.specs.declared.limits.TheConstants.{MOST_CONNECTIONS}
 use Rattle.conf_line.specs.Keywords.{keyword_of, check_keyword}
 use Rattle.conf_line.specs.Words.{word_at, end_at, name_at, number_at, bind_at}
 use Rattle.conf_line.specs.Acls.{acl_of}

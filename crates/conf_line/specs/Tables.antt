@@ -11,7 +11,7 @@ use Rattle.conf_line.specs.declared.statement.LineReading.{LineReading}
 use Rattle.conf_line.specs.declared.statement.Statement.TheVariants as statements
 use Rattle.conf_line.specs.declared.statement.TableOption.{TableOption}
 use Rattle.conf_line.specs.declared.statement.TableOption.TheVariants as options
-use Rattle.conf_line.specs.declared.limits.TheConstants.{MOST_ENTRIES}
+use Rattle.proxy_types.specs.declared.limits.TheConstants.{MOST_ENTRIES}
 use Rattle.conf_line.specs.declared.fault.ConfKind.{ConfKind}
 use Rattle.conf_line.specs.declared.fault.ConfKind.TheVariants.{MissingWord, BadNumber, Unsupported}
 use Rattle.conf_line.specs.Words.{number_at, last_of, onto}

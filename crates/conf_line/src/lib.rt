@@ -2,18 +2,16 @@
 #![tactic(auto)]
 
 pub use fault::{ConfFault, ConfKind};
-pub use limits::{COUNTERS, GREATEST_WEIGHT, MOST_CONNECTIONS, MOST_ENTRIES};
 pub use proxy_types::{KeyType, Method, Stores};
 pub use reading::read_line;
 pub use statement::{
-    Action, LineReading, Ruleset, SectionKind, ServerOption, ServerWords, Statement, TableOption,
-    TableWords, TrackWords,
+    ActionWords, LineReading, Ruleset, SectionKind, ServerOption, ServerWords, Statement,
+    TableOption, TableWords, TrackWords,
 };
 
 mod acl;
 mod fault;
 mod keyword;
-mod limits;
 mod reading;
 mod rule;
 mod server;

@@ -10,14 +10,13 @@ ghost use Rattle.conf_line.specs.Rules.{rule_of, choice_of};
 use crate::acl::acl;
 use crate::fault::ConfKind;
 use crate::keyword::{Keyword, check_keyword, keyword_of};
-use crate::limits::MOST_CONNECTIONS;
 use crate::rule::{choice, rule};
 use crate::server::server;
 use crate::statement::{LineReading, SectionKind, Statement};
 use crate::table::table;
 use crate::words::{bind_at, end_at, name_at, number_at, word_at};
 use list_core::Stop;
-use proxy_types::Method;
+use proxy_types::{MOST_CONNECTIONS, Method};
 use std::alloc::Global;
 use text_core::Word;
 

@@ -8,11 +8,11 @@ ghost use Rattle.conf_line.specs.Sound.{IsSoundAction, IsSoundStatement};
 ghost use Rattle.conf_line.specs.Rules.{when_of, table_at, track_at, header_at, action_at, ruleset_at, head_at, rule_of, choice_of};
 
 use crate::fault::ConfKind;
-use crate::limits::COUNTERS;
-use crate::statement::{Action, Ruleset, Statement, TrackWords};
+use crate::statement::{ActionWords, Ruleset, Statement, TrackWords};
 use crate::words::{name_at, word_at};
 use acl_core::{AclFault, Cond, When, read_cond};
 use list_core::Stop;
+use proxy_types::COUNTERS;
 use std::alloc::Global;
 use text_core::Word;
 
@@ -52,7 +52,7 @@ fn when(alloc: Global, known: &[Word], words: &[Word]) -> Result<When, Stop<Conf
 fn table_at<'a, 'w>(
     counter: u8,
     words: &'w [Word<'a>],
-) -> Result<(Action<'a>, &'w [Word<'a>]), ConfKind>
+) -> Result<(ActionWords<'a>, &'w [Word<'a>]), ConfKind>
     requires { counter < COUNTERS }
     ensures value { Sees (λ x. (x.0, x.1.now)) result (table_at counter words.now) }
     ensures sound { IfOk result (λ x. IsSoundAction x.0) }
@@ -61,7 +61,7 @@ fn table_at<'a, 'w>(
         [word, rest @ ..] if word.is(b"table") => {
             let (name, rest) = name_at(rest)?;
             Ok((
-                Action::Track(TrackWords {
+                ActionWords::Track(TrackWords {
                     counter,
                     table: Some(name),
                 }),
@@ -69,7 +69,7 @@ fn table_at<'a, 'w>(
             ))
         }
         _ => Ok((
-            Action::Track(TrackWords {
+            ActionWords::Track(TrackWords {
                 counter,
                 table: None,
             }),
@@ -82,7 +82,7 @@ fn table_at<'a, 'w>(
 fn track_at<'a, 'w>(
     counter: u8,
     words: &'w [Word<'a>],
-) -> Result<(Action<'a>, &'w [Word<'a>]), ConfKind>
+) -> Result<(ActionWords<'a>, &'w [Word<'a>]), ConfKind>
     requires { counter < COUNTERS }
     ensures value { Sees (λ x. (x.0, x.1.now)) result (track_at counter words.now) }
     ensures sound { IfOk result (λ x. IsSoundAction x.0) }
@@ -98,7 +98,7 @@ fn track_at<'a, 'w>(
 fn header_at<'a, 'w>(
     list: Ruleset,
     words: &'w [Word<'a>],
-) -> Result<(Action<'a>, &'w [Word<'a>]), ConfKind>
+) -> Result<(ActionWords<'a>, &'w [Word<'a>]), ConfKind>
     ensures value { Sees (λ x. (x.0, x.1.now)) result (header_at list words.now) }
     ensures sound { IfOk result (λ x. IsSoundAction x.0) }
 {
@@ -107,7 +107,7 @@ fn header_at<'a, 'w>(
         Ruleset::Connection => {
             let (layer, rest) = word_at(words)?;
             if layer.is(b"layer4") {
-                Ok((Action::ExpectProxy, rest))
+                Ok((ActionWords::ExpectProxy, rest))
             } else {
                 Err(ConfKind::Unsupported)
             }
@@ -119,15 +119,15 @@ fn header_at<'a, 'w>(
 fn action_at<'a, 'w>(
     list: Ruleset,
     words: &'w [Word<'a>],
-) -> Result<(Action<'a>, &'w [Word<'a>]), ConfKind>
+) -> Result<(ActionWords<'a>, &'w [Word<'a>]), ConfKind>
     ensures value { Sees (λ x. (x.0, x.1.now)) result (action_at list words.now) }
     ensures sound { IfOk result (λ x. IsSoundAction x.0) }
 {
     let (word, rest) = word_at(words)?;
     if word.is(b"accept") {
-        Ok((Action::Accept, rest))
+        Ok((ActionWords::Accept, rest))
     } else if word.is(b"reject") {
-        Ok((Action::Reject, rest))
+        Ok((ActionWords::Reject, rest))
     } else if word.is(b"track-sc0") {
         track_at(0, rest)
     } else if word.is(b"track-sc1") {
@@ -156,7 +156,9 @@ fn ruleset_at<'a, 'w>(words: &'w [Word<'a>]) -> Result<(Ruleset, &'w [Word<'a>])
 }
 
 /// The list and the action of a rule, and the words after them.
-fn head_at<'a, 'w>(words: &'w [Word<'a>]) -> Result<(Ruleset, Action<'a>, &'w [Word<'a>]), ConfKind>
+fn head_at<'a, 'w>(
+    words: &'w [Word<'a>],
+) -> Result<(Ruleset, ActionWords<'a>, &'w [Word<'a>]), ConfKind>
     ensures value { Sees (λ x. (x.0, (x.1, x.2.now))) result (head_at words.now) }
     ensures sound { IfOk result (λ x. IsSoundAction x.1) }
 {

@@ -6,9 +6,9 @@ ghost use Rattle.conf_line.specs.Words.{onto};
 ghost use Rattle.conf_line.specs.Servers.{has_value, words_after, server_flag, server_number, server_value, server_options, option_weight, option_limit, is_excess, is_disabled, is_send_proxy, is_send_proxy_v2, IsServer, server_of};
 
 use crate::fault::ConfKind;
-use crate::limits::{GREATEST_WEIGHT, MOST_CONNECTIONS};
 use crate::statement::{LineReading, ServerOption, ServerWords, Statement};
 use crate::words::{address_at, after_first, name_at, number_at, word_at};
+use proxy_types::{GREATEST_WEIGHT, MOST_CONNECTIONS};
 use text_core::Word;
 
 /// Whether a number comes after the word.

@@ -24,7 +24,7 @@ pub enum Ruleset {
 
 /// What a rule does once it applies (HAProxy manual, `tcp-request connection`).
 #[derive(Drop)]
-pub enum Action<'a> {
+pub enum ActionWords<'a> {
     Accept,
     Reject,
     Track(TrackWords<'a>),
@@ -99,7 +99,7 @@ pub enum Statement<'a> {
     Bind(Endpoint, bool),
     /// A name, and a test that it means.
     Acl(Word<'a>, Test),
-    Rule(Ruleset, Action<'a>, When),
+    Rule(Ruleset, ActionWords<'a>, When),
     /// The backend that is used, and when.
     UseBackend(Word<'a>, When),
     StickTable(TableWords),

@@ -8,11 +8,10 @@ ghost use Rattle.conf_line.specs.Words.{onto};
 ghost use Rattle.conf_line.specs.Tables.{unit_of, digits_of, size_at, keys_of, stores_with, stores_of, without_value, table_option, table_options, option_keys, option_size, is_keys, is_size, stores_cur, stores_cnt, IsTable, table_of};
 
 use crate::fault::ConfKind;
-use crate::limits::MOST_ENTRIES;
 use crate::statement::{LineReading, Statement, TableOption, TableWords};
 use crate::words::{after_first, number_at};
 use list_core::newest;
-use proxy_types::{KeyType, Stores};
+use proxy_types::{KeyType, MOST_ENTRIES, Stores};
 use text_core::{Word, cut_at};
 
 /// How much the word's unit is.

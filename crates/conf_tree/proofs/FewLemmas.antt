@@ -4,7 +4,7 @@ use native.Mathlib.Omega.{arith}
 use Rattle.std.proofs.lemmas.List.Elements.{filter_map-append}
 use Rattle.conf_tree.specs.declared.claim.Claim.{Claim}
 use Rattle.conf_tree.specs.declared.tree.ConfigLine.{ConfigLine}
-use Rattle.conf_tree.specs.declared.tree.Place.{Place}
+use Rattle.conf_tree.specs.declared.tree.SectionPlace.{SectionPlace}
 use Rattle.conf_line.specs.declared.statement.Statement.{Statement}
 use Rattle.conf_line.specs.declared.statement.Statement.TheVariants as statements
 use Rattle.conf_tree.specs.Config.{claim_of, claims_of, is_frontend, is_backend, is_full}
@@ -38,7 +38,7 @@ counted test (x ∷ xs) ys = by (counted test xs ys) (test x)
 pub below : (n : ℕ) → nat_le 64 n ≡ false → n + 1 ≤ 64
 below n is = grind (arith, is)
 
-frontends_of : (items : List ConfigLine) (line : ℕ) (place : Place) (s : Statement) → is_full items place s ≡ false → length (filter is_frontend (claims_of items)) ≤ 64
+frontends_of : (items : List ConfigLine) (line : ℕ) (place : SectionPlace) (s : Statement) → is_full items place s ≡ false → length (filter is_frontend (claims_of items)) ≤ 64
     → length (filter is_frontend (claims_of items)) + length (filter is_frontend (claims_of (record { line = line; place = place; statement = s } ∷ []))) ≤ 64
 frontends_of items line place statements.Nothing full few = (omega arith)
 frontends_of items line place statements.Global full few = (omega arith)
@@ -55,7 +55,7 @@ frontends_of items line place (statements.Acl name test) full few = (omega arith
 frontends_of items line place (statements.StickTable table) full few = (omega arith)
 frontends_of items line place (statements.Server server) full few = (omega arith)
 
-backends_of : (items : List ConfigLine) (line : ℕ) (place : Place) (s : Statement) → is_full items place s ≡ false → length (filter is_backend (claims_of items)) ≤ 64
+backends_of : (items : List ConfigLine) (line : ℕ) (place : SectionPlace) (s : Statement) → is_full items place s ≡ false → length (filter is_backend (claims_of items)) ≤ 64
     → length (filter is_backend (claims_of items)) + length (filter is_backend (claims_of (record { line = line; place = place; statement = s } ∷ []))) ≤ 64
 backends_of items line place statements.Nothing full few = (omega arith)
 backends_of items line place statements.Global full few = (omega arith)

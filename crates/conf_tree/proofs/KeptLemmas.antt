@@ -12,7 +12,7 @@ use Rattle.conf_line.specs.declared.statement.Statement.TheVariants as statement
 use Rattle.conf_line.specs.Sound.{IsSoundStatement}
 use Rattle.conf_tree.specs.declared.claim.Claim.{Claim}
 use Rattle.conf_tree.specs.declared.tree.ConfigLine.{ConfigLine}
-use Rattle.conf_tree.specs.declared.tree.Place.{Place}
+use Rattle.conf_tree.specs.declared.tree.SectionPlace.{SectionPlace}
 use Rattle.conf_tree.specs.Config.{place_at, place_after, place_of, section_lines, acl_name, acl_names, known_names, claim_of, claims_of}
 use Rattle.conf_tree.specs.Kept.{IsKept, IsNext, names_after, last_section}
 use Rattle.conf_tree.specs.Sections.{opens}
@@ -110,7 +110,7 @@ none_more items item place within none =
     ∙ ap (λ names. distinct (filter_map (λ (i : ConfigLine). acl_name i.statement) (section_lines (place_after items) items) ++ names)) none
     ∙ ap distinct (append-nil (filter_map (λ (i : ConfigLine). acl_name i.statement) (section_lines (place_after items) items)))
 
-names_by : (items : List ConfigLine) (line : ℕ) (place : Place) (s : Statement) → place ≡ place_of (place_after items) (length items) s → (place_after items).first ≤ length items →
+names_by : (items : List ConfigLine) (line : ℕ) (place : SectionPlace) (s : Statement) → place ≡ place_of (place_after items) (length items) s → (place_after items).first ≤ length items →
     names_after (known_names items) s ≡ known_names (items ++ record { line = line; place = place; statement = s } ∷ [])
 names_by items line place statements.Global is within = sym (new_section items (record { line = line; place = place; statement = statements.Global }) (ap (λ p. p.first) is))
 names_by items line place statements.Defaults is within = sym (new_section items (record { line = line; place = place; statement = statements.Defaults }) (ap (λ p. p.first) is))

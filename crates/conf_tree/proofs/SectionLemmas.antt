@@ -10,9 +10,9 @@ use Rattle.std.proofs.lemmas.List.Folds.{list_any-append}
 use Rattle.conf_line.specs.declared.statement.ServerWords.{ServerWords}
 use Rattle.conf_line.specs.declared.statement.Statement.{Statement}
 use Rattle.conf_line.specs.declared.statement.Statement.TheVariants as statements
-use Rattle.conf_tree.specs.declared.limits.TheConstants.{MOST_BINDS, MOST_SERVERS}
+use Rattle.proxy_types.specs.declared.limits.TheConstants.{MOST_BINDS, MOST_SERVERS}
 use Rattle.conf_tree.specs.declared.tree.ConfigLine.{ConfigLine}
-use Rattle.conf_tree.specs.declared.tree.Place.{Place}
+use Rattle.conf_tree.specs.declared.tree.SectionPlace.{SectionPlace}
 use Rattle.conf_tree.specs.Config.{place_of, section_lines, claim_of, claims_of, is_claim_taken, is_server_named, has_server, is_taken, is_bind, is_server, is_full}
 use Rattle.conf_tree.specs.Kept.{last_section}
 use Rattle.conf_tree.specs.Sections.{opens, own_lines}
@@ -94,7 +94,7 @@ last_all (item ∷ rest) none = let parts = neither (opens item.statement) (one_
 
 -- The place of a line.
 
-pub place_opened : (place : Place) (number : ℕ) (s : Statement) → opens s ≡ true → (place_of place number s).first ≡ number
+pub place_opened : (place : SectionPlace) (number : ℕ) (s : Statement) → opens s ≡ true → (place_of place number s).first ≡ number
 place_opened place number statements.Global is = refl
 place_opened place number statements.Defaults is = refl
 place_opened place number (statements.Frontend name) is = refl
@@ -110,7 +110,7 @@ place_opened place number (statements.UseBackend name when) is = absurd cc
 place_opened place number (statements.StickTable table) is = absurd cc
 place_opened place number (statements.Server server) is = absurd cc
 
-pub place_kept : (place : Place) (number : ℕ) (s : Statement) → opens s ≡ false → place_of place number s ≡ place
+pub place_kept : (place : SectionPlace) (number : ℕ) (s : Statement) → opens s ≡ false → place_of place number s ≡ place
 place_kept place number statements.Global is = absurd cc
 place_kept place number statements.Defaults is = absurd cc
 place_kept place number (statements.Frontend name) is = absurd cc
@@ -155,7 +155,7 @@ number_more most test lines item few room =
         rw (length-append those (item ∷ [])) (omega (arith, less))
     by false more = subst (λ xs. length xs ≤ most) (sym (append-nil those)) few
 
-room_of_bind : (items : List ConfigLine) (place : Place) (s : Statement) → is_full items place s ≡ false → HasRoomOf MOST_BINDS is_bind s (section_lines place items)
+room_of_bind : (items : List ConfigLine) (place : SectionPlace) (s : Statement) → is_full items place s ≡ false → HasRoomOf MOST_BINDS is_bind s (section_lines place items)
 room_of_bind items place statements.Nothing full is = absurd cc
 room_of_bind items place statements.Global full is = absurd cc
 room_of_bind items place statements.Defaults full is = absurd cc
@@ -171,7 +171,7 @@ room_of_bind items place (statements.UseBackend name when) full is = absurd cc
 room_of_bind items place (statements.StickTable table) full is = absurd cc
 room_of_bind items place (statements.Server server) full is = absurd cc
 
-room_of_server : (items : List ConfigLine) (place : Place) (s : Statement) → is_full items place s ≡ false → HasRoomOf MOST_SERVERS is_server s (section_lines place items)
+room_of_server : (items : List ConfigLine) (place : SectionPlace) (s : Statement) → is_full items place s ≡ false → HasRoomOf MOST_SERVERS is_server s (section_lines place items)
 room_of_server items place statements.Nothing full is = absurd cc
 room_of_server items place statements.Global full is = absurd cc
 room_of_server items place statements.Defaults full is = absurd cc
@@ -214,7 +214,7 @@ free_in_rest first rest (statements.Server server) free =
     (neither (is_server_named server.name first.statement) (list_any (λ item. is_server_named server.name item.statement) rest) free).1
 
 -- the server before it has another name
-other_before : (words : ServerWords) (line : ℕ) (place : Place) (rest : List ConfigLine) (s : Statement) → has_server (record { line = line; place = place; statement = statements.Server words } ∷ rest) s ≡ false →
+other_before : (words : ServerWords) (line : ℕ) (place : SectionPlace) (rest : List ConfigLine) (s : Statement) → has_server (record { line = line; place = place; statement = statements.Server words } ∷ rest) s ≡ false →
     is_server_named words.name s ≡ false
 other_before words line place rest statements.Nothing free = refl
 other_before words line place rest statements.Global free = refl
@@ -232,7 +232,7 @@ other_before words line place rest (statements.StickTable table) free = refl
 other_before words line place rest (statements.Server server) free =
     other_way words.name server.name (neither (bytes_eq words.name server.name) (list_any (λ item. is_server_named server.name item.statement) rest) free).0
 
-one_name_more : (s : Statement) (line : ℕ) (place : Place) (rest : List ConfigLine) (item : ConfigLine) → has_server rest s ≡ false →
+one_name_more : (s : Statement) (line : ℕ) (place : SectionPlace) (rest : List ConfigLine) (item : ConfigLine) → has_server rest s ≡ false →
     has_server (record { line = line; place = place; statement = s } ∷ rest) item.statement ≡ false → has_server (rest ++ item ∷ []) s ≡ false
 one_name_more statements.Nothing line place rest item before free = refl
 one_name_more statements.Global line place rest item before free = refl
@@ -272,7 +272,7 @@ follow_rest s first rest may = record {
   name = free_in_rest first rest s may.name;
 }
 
-pub may_follow : (items : List ConfigLine) (place : Place) (s : Statement) → is_taken items place s ≡ false → is_full items place s ≡ false → MayFollow s (section_lines place items)
+pub may_follow : (items : List ConfigLine) (place : SectionPlace) (s : Statement) → is_taken items place s ≡ false → is_full items place s ≡ false → MayFollow s (section_lines place items)
 may_follow items place s free full = record {
   binds = room_of_bind items place s full;
   servers = room_of_server items place s full;

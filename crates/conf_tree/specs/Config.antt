@@ -13,32 +13,33 @@ use Rattle.conf_line.specs.declared.fault.ConfKind.{ConfKind}
 use Rattle.conf_line.specs.declared.fault.ConfKind.TheVariants as kinds
 use Rattle.conf_line.specs.declared.fault.ConfFault.{ConfFault}
 use Rattle.conf_line.specs.declared.statement.SectionKind.TheVariants as sections
-use Rattle.conf_tree.specs.declared.tree.Place.{Place}
+use Rattle.conf_tree.specs.declared.tree.SectionPlace.{SectionPlace}
 use Rattle.conf_tree.specs.declared.tree.ConfigLine.{ConfigLine}
 use Rattle.conf_line.specs.declared.statement.Statement.{Statement}
 use Rattle.conf_line.specs.declared.statement.Statement.TheVariants as statements
 use Rattle.conf_tree.specs.declared.claim.Claim.{Claim}
 use Rattle.conf_tree.specs.declared.claim.Claim.TheVariants as claims
 use Rattle.conf_line.specs.declared.statement.LineReading.{LineReading}
-use Rattle.conf_tree.specs.declared.limits.TheConstants.{MOST_SECTIONS, MOST_BINDS, MOST_ACLS, MOST_RULES, MOST_SERVERS}
+use Rattle.proxy_types.specs.declared.limits.TheConstants.{MOST_SECTIONS, MOST_BINDS, MOST_SERVERS}
+use Rattle.conf_tree.specs.declared.limits.TheConstants.{MOST_ACLS, MOST_RULES}
 use Rattle.conf_line.specs.Statements.{line_reading}
 
 -- Sections.
 
 -- before any section
-abbrev pub outside : Place
+abbrev pub outside : SectionPlace
 outside = record { kind = sections.Outside; name = []; first = 0 }
 
-abbrev pub place_at : Option ConfigLine → Place
+abbrev pub place_at : Option ConfigLine → SectionPlace
 place_at None = outside
 place_at (Some item) = item.place
 
 -- the section of the line after those, if it opens none
-abbrev pub place_after : List ConfigLine → Place
+abbrev pub place_after : List ConfigLine → SectionPlace
 place_after items = place_at (newest items)
 
 -- the section of a line that says this, as the item of that number
-abbrev pub place_of : Place → ℕ → Statement → Place
+abbrev pub place_of : SectionPlace → ℕ → Statement → SectionPlace
 place_of place number statements.Global = record { kind = sections.Global; name = []; first = number }
 place_of place number statements.Defaults = record { kind = sections.Defaults; name = []; first = number }
 place_of place number (statements.Frontend name) = record { kind = sections.Frontend; name = name; first = number }
@@ -55,7 +56,7 @@ place_of place number (statements.StickTable table) = place
 place_of place number (statements.Server server) = place
 
 -- the lines of a section, of all those before
-abbrev pub section_lines : Place → List ConfigLine → List ConfigLine
+abbrev pub section_lines : SectionPlace → List ConfigLine → List ConfigLine
 section_lines place items = drop place.first items
 
 -- Names that are declared.
@@ -88,7 +89,7 @@ known_names items = acl_names (section_lines (place_after items) items)
 
 -- what a line claims for itself in the whole text: a frontend's name, a backend's name, an endpoint, or
 -- the table of a name
-abbrev pub claim_of : Place → Statement → Option Claim
+abbrev pub claim_of : SectionPlace → Statement → Option Claim
 claim_of place (statements.Frontend name) = Some (claims.Frontend name)
 claim_of place (statements.Backend name) = Some (claims.Backend name)
 claim_of place (statements.Bind at proxy) = Some (claims.Endpoint at)
@@ -129,7 +130,7 @@ has_server lines (statements.Server server) = list_any (λ item. is_server_named
 has_server lines other = false
 
 -- an earlier line has what may be given once
-abbrev pub is_taken : List ConfigLine → Place → Statement → Bool
+abbrev pub is_taken : List ConfigLine → SectionPlace → Statement → Bool
 is_taken items place reading = is_claim_taken (claims_of items) (claim_of place reading) || has_server (section_lines place items) reading
 
 -- How many there may be: 64 frontends and 64 backends; in a frontend 64 `bind` lines, 256 `acl`
@@ -180,7 +181,7 @@ abbrev pub lines_reach : ℕ → (Statement → Bool) → List ConfigLine → Bo
 lines_reach most test lines = nat_le most (length (filter (λ item. test item.statement) lines))
 
 -- one line more of the kind is too many
-abbrev pub is_full : List ConfigLine → Place → Statement → Bool
+abbrev pub is_full : List ConfigLine → SectionPlace → Statement → Bool
 is_full items place (statements.Frontend name) = claims_reach MOST_SECTIONS is_frontend items
 is_full items place (statements.Backend name) = claims_reach MOST_SECTIONS is_backend items
 is_full items place (statements.Bind at proxy) = lines_reach MOST_BINDS is_bind (section_lines place items)
@@ -197,7 +198,7 @@ is_full items place (statements.Balance method) = false
 is_full items place (statements.StickTable table) = false
 
 -- a line that says this may come after those
-abbrev pub check_line : List ConfigLine → Place → LineReading → Result (Unit {0}) ConfKind
+abbrev pub check_line : List ConfigLine → SectionPlace → LineReading → Result (Unit {0}) ConfKind
 check_line items place reading =
     if reading.repeats || is_taken items place reading.statement then Err kinds.Duplicate
     else if reading.exceeds || is_full items place reading.statement then Err kinds.Limit

@@ -1,7 +1,7 @@
 -- How many sections there are.
 use Rattle.std.specs.Prelude.{List, ◌≤◌, length, filter}
 use Rattle.conf_tree.specs.declared.tree.ConfigLine.{ConfigLine}
-use Rattle.conf_tree.specs.declared.limits.TheConstants.{MOST_SECTIONS}
+use Rattle.proxy_types.specs.declared.limits.TheConstants.{MOST_SECTIONS}
 use Rattle.conf_tree.specs.Config.{claims_of, is_frontend, is_backend}
 
 -- at most 64 lines open a frontend, and at most 64 a backend

@@ -4,7 +4,7 @@ use Rattle.std.specs.List.{AllByRecursion}
 use Rattle.conf_line.specs.Sound.{IsSoundStatement}
 use Rattle.conf_tree.specs.declared.claim.Claim.{Claim}
 use Rattle.conf_tree.specs.declared.tree.ConfigLine.{ConfigLine}
-use Rattle.conf_tree.specs.declared.limits.TheConstants.{MOST_BINDS, MOST_SERVERS}
+use Rattle.proxy_types.specs.declared.limits.TheConstants.{MOST_BINDS, MOST_SERVERS}
 use Rattle.conf_tree.specs.Config.{claims_of, same_claim, has_server, is_bind, is_server}
 use Rattle.conf_tree.specs.Few.{FewSections}
 use Rattle.conf_tree.specs.Rising.{Rises}

@@ -4,7 +4,7 @@ ghost use Rattle.std.specs.List.{list_any};
 ghost use Rattle.conf_tree.specs.Config.{claim_of, same_claim, is_frontend, is_backend};
 ghost use Rattle.conf_tree.specs.Marks.{mark_of};
 
-use crate::tree::Place;
+use crate::tree::SectionPlace;
 use addr_core::Endpoint;
 use conf_line::Statement;
 use list_core::Seq;
@@ -26,7 +26,7 @@ pub enum Claim<'a> {
 }
 
 /// What a line in that section claims.
-pub fn claim_of<'a>(place: &Place<'a>, statement: &Statement<'a>) -> Option<Claim<'a>>
+pub fn claim_of<'a>(place: &SectionPlace<'a>, statement: &Statement<'a>) -> Option<Claim<'a>>
     ensures { result ≡ claim_of place.now statement.now }
 {
     match statement {

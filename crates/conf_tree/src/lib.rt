@@ -2,13 +2,13 @@
 #![tactic(auto)]
 
 pub use conf_line::{
-    Action, ConfFault, ConfKind, KeyType, Method, Ruleset, SectionKind, ServerWords, Statement,
-    Stores, TableWords, TrackWords,
+    ActionWords, ConfFault, ConfKind, KeyType, Method, Ruleset, SectionKind, ServerWords,
+    Statement, Stores, TableWords, TrackWords,
 };
-pub use limits::{MOST_ACLS, MOST_BINDS, MOST_RULES, MOST_SECTIONS, MOST_SERVERS};
+pub use limits::{MOST_ACLS, MOST_RULES};
 pub use names::acl_names;
 pub use reading::read_config;
-pub use tree::{ConfigLine, Place, Tree};
+pub use tree::{ConfigLine, SectionPlace, Tree};
 
 mod claim;
 mod kept;

@@ -10,29 +10,30 @@ ghost use Rattle.conf_tree.specs.Config.{outside, place_after, place_of, section
 
 use crate::claim::claim_of;
 use crate::kept::Kept;
-use crate::limits::{MOST_ACLS, MOST_BINDS, MOST_RULES, MOST_SECTIONS, MOST_SERVERS};
-use crate::tree::{ConfigLine, Place, Tree};
+use crate::limits::{MOST_ACLS, MOST_RULES};
+use crate::tree::{ConfigLine, SectionPlace, Tree};
 use conf_line::{ConfFault, ConfKind, LineReading, SectionKind, Statement, read_line};
 use conf_text::{Line, LineKind, Lines};
 use list_core::{Stop, newest};
+use proxy_types::{MOST_BINDS, MOST_SECTIONS, MOST_SERVERS};
 use std::alloc::{AllocError, Global};
 use text_core::Word;
 
 /// Before any section.
-fn outside<'a>() -> Place<'a>
+fn outside<'a>() -> SectionPlace<'a>
     ensures { result ≡ outside }
 {
-    Place {
+    SectionPlace {
         kind: SectionKind::Outside,
         name: Word::of(&[]),
         first: 0,
     }
 }
 
-fn again<'a>(place: &Place<'a>) -> Place<'a>
+fn again<'a>(place: &SectionPlace<'a>) -> SectionPlace<'a>
     ensures { result ≡ place.now }
 {
-    Place {
+    SectionPlace {
         kind: place.kind,
         name: place.name.again(),
         first: place.first,
@@ -40,7 +41,7 @@ fn again<'a>(place: &Place<'a>) -> Place<'a>
 }
 
 /// The section of the line after those, if it opens none.
-fn place_after<'a>(items: &[ConfigLine<'a>]) -> Place<'a>
+fn place_after<'a>(items: &[ConfigLine<'a>]) -> SectionPlace<'a>
     ensures { result ≡ place_after items.now }
 {
     match newest(items) {
@@ -50,26 +51,30 @@ fn place_after<'a>(items: &[ConfigLine<'a>]) -> Place<'a>
 }
 
 /// The section of a line that says this, as the item of that number.
-fn place_of<'a>(place: Place<'a>, number: usize, statement: &Statement<'a>) -> Place<'a>
+fn place_of<'a>(
+    place: SectionPlace<'a>,
+    number: usize,
+    statement: &Statement<'a>,
+) -> SectionPlace<'a>
     ensures { result ≡ place_of place.entry number statement.now }
 {
     match statement {
-        Statement::Global => Place {
+        Statement::Global => SectionPlace {
             kind: SectionKind::Global,
             name: Word::of(&[]),
             first: number,
         },
-        Statement::Defaults => Place {
+        Statement::Defaults => SectionPlace {
             kind: SectionKind::Defaults,
             name: Word::of(&[]),
             first: number,
         },
-        Statement::Frontend(name) => Place {
+        Statement::Frontend(name) => SectionPlace {
             kind: SectionKind::Frontend,
             name: name.again(),
             first: number,
         },
-        Statement::Backend(name) => Place {
+        Statement::Backend(name) => SectionPlace {
             kind: SectionKind::Backend,
             name: name.again(),
             first: number,
@@ -88,7 +93,7 @@ fn place_of<'a>(place: Place<'a>, number: usize, statement: &Statement<'a>) -> P
 }
 
 /// The lines of a section, of all those before.
-fn section_lines<'t, 'a>(place: &Place, items: &'t [ConfigLine<'a>]) -> &'t [ConfigLine<'a>]
+fn section_lines<'t, 'a>(place: &SectionPlace, items: &'t [ConfigLine<'a>]) -> &'t [ConfigLine<'a>]
     ensures { result.now ≡ section_lines place.now items.now }
 {
     if place.first < items.len() {
@@ -198,7 +203,7 @@ fn server_count(lines: &[ConfigLine]) -> usize
 }
 
 /// Whether an earlier line has what may be given once.
-fn is_taken(kept: &Kept, place: &Place, statement: &Statement) -> bool
+fn is_taken(kept: &Kept, place: &SectionPlace, statement: &Statement) -> bool
     ensures { result ≡ is_taken kept.now place.now statement.now }
 {
     let claim = claim_of(place, statement);
@@ -206,7 +211,7 @@ fn is_taken(kept: &Kept, place: &Place, statement: &Statement) -> bool
 }
 
 /// Whether one line more of the kind is too many.
-fn is_full(kept: &Kept, place: &Place, statement: &Statement) -> bool
+fn is_full(kept: &Kept, place: &SectionPlace, statement: &Statement) -> bool
     ensures { result ≡ is_full kept.now place.now statement.now }
 {
     let items = kept.items();
@@ -230,7 +235,7 @@ fn is_full(kept: &Kept, place: &Place, statement: &Statement) -> bool
 }
 
 /// Whether a line that says this may come after those.
-fn check_line(kept: &Kept, place: &Place, reading: &LineReading) -> Result<(), ConfKind>
+fn check_line(kept: &Kept, place: &SectionPlace, reading: &LineReading) -> Result<(), ConfKind>
     ensures value { result ≡ check_line kept.now place.now reading.now }
     ensures fits { OnOk result (reading.now.exceeds ≡ false) }
     ensures free { OnOk result (is_taken kept.now place.now reading.now.statement ≡ false) }

@@ -6,7 +6,7 @@ use text_core::Word;
 
 /// The section of a line. A line that opens a section is in that section.
 #[derive(Drop)]
-pub struct Place<'a> {
+pub struct SectionPlace<'a> {
     pub kind: SectionKind,
     /// The section's name, empty where it has none.
     pub name: Word<'a>,
@@ -19,7 +19,7 @@ pub struct Place<'a> {
 pub struct ConfigLine<'a> {
     /// From 1.
     pub line: u32,
-    pub place: Place<'a>,
+    pub place: SectionPlace<'a>,
     pub statement: Statement<'a>,
 }
 

@@ -22,8 +22,8 @@ use Rattle.conn_model.specs.Words.{newest}
 use Rattle.conn_model.proofs.Steps.{after-accept, rows_left}
 use Rattle.conn_model.specs.Changes.{with_item}
 use Rattle.conn_rows.specs.Stored.{plan_at}
-use Rattle.conn_core.specs.declared.entering.Arrival.{Arrival}
-use Rattle.conn_core.specs.declared.outcome.Decision.{Decision}
+use Rattle.conn_core.specs.declared.entering.SessionStart.{SessionStart}
+use Rattle.conn_core.specs.declared.outcome.TrackedOutcome.{TrackedOutcome}
 use Rattle.conn_core.specs.declared.outcome.Outcome.{Outcome}
 use Rattle.conn_core.specs.declared.outcome.Outcome.TheVariants.{Wait, Offer, Refuse}
 use Rattle.conn_core.specs.Changes.{entered, entered_row, settled_versions}
@@ -46,7 +46,7 @@ answer_is p clock listener real at own version frontend found fits reply is =
     rw (found.listens, found.there, found.newest_is, found.named, below) (ap (λ r. Ok r) (sym is))
 
 -- the row that a decision leaves is the one that its reply leaves
-row_is : (p : Plain) (arrival : Arrival) (tracks : List Track) (outcome : Outcome) (id : ConnId) → arrival.version ≡ newest_number p →
+row_is : (p : Plain) (arrival : SessionStart) (tracks : List Track) (outcome : Outcome) (id : ConnId) → arrival.version ≡ newest_number p →
     entered_row p.versions arrival tracks outcome id.serial ≡ rows_left p arrival.accepted arrival.real tracks (said_by id 0 outcome)
 row_is p arrival tracks Wait id version = ap (λ v. record (new_row id.serial v arrival.real arrival.accepted) { tracks = by_counter tracks } ∷ []) version
 row_is p arrival tracks (Offer offer) id version =
@@ -70,7 +70,7 @@ versions_are id used number (Offer offer) versions = refl
 versions_are id used number (Refuse cause) versions = refl
 
 -- the state once a connection came in
-pub accepted : (p : Plain) → IsCoreState p → (moment listener : ℕ) (arrival : Arrival) (decision : Decision) (id : ConnId) (own : FrontendRows) →
+pub accepted : (p : Plain) → IsCoreState p → (moment listener : ℕ) (arrival : SessionStart) (decision : TrackedOutcome) (id : ConnId) (own : FrontendRows) →
     slice_get p.frontends id.frontend ≡ Some own → id.serial ≡ own.serial + 1 → arrival.version ≡ newest_number p → arrival.accepted ≡ max p.clock moment →
     accept_answer p (max p.clock moment) listener arrival.real ≡ Ok (reply_by id 0 decision) →
     IsAfter p (entry moment (Accept listener arrival.real) (reply_by id 0 decision)) (record {

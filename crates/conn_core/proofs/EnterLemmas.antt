@@ -6,7 +6,7 @@ use Rattle.std.specs.Option.{option_map_or}
 use Rattle.std.proofs.lemmas.Bool.Decides.{nat_tests}
 use Rattle.plan_types.specs.declared.track.Track.{Track}
 use Rattle.addr_core.specs.declared.addr.Addr.{Addr}
-use Rattle.rule_engine.specs.Judging.{Slots}
+use Rattle.rule_engine.specs.Judging.{TrackSlots}
 use Rattle.rule_engine.specs.Meaning.{present}
 use Rattle.conn_model.specs.declared.event.ConnId.{ConnId}
 use Rattle.conn_model.specs.declared.reply.Cause.{Cause}
@@ -26,8 +26,8 @@ use Rattle.conn_rows.specs.declared.rows.RowsState.{RowsState}
 use Rattle.conn_rows.specs.Value.{state_of, RowsValue}
 use Rattle.list_core.proofs.PlaceLemmas.{get-set}
 use Rattle.conn_model.proofs.Changes.{item_twice}
-use Rattle.conn_core.specs.declared.entering.Arrival.{Arrival}
-use Rattle.conn_core.specs.declared.outcome.Decision.{Decision}
+use Rattle.conn_core.specs.declared.entering.SessionStart.{SessionStart}
+use Rattle.conn_core.specs.declared.outcome.TrackedOutcome.{TrackedOutcome}
 use Rattle.conn_core.specs.declared.outcome.Offer.{Offer}
 use Rattle.conn_core.specs.declared.outcome.Outcome.{Outcome}
 use Rattle.conn_core.specs.declared.outcome.Outcome.TheVariants as outcomes
@@ -69,43 +69,43 @@ sorted-new last serial (r ∷ rows) row given next sorted = (
 
 -- Its frontend.
 
-frontend_set : (frontends : List FrontendRows) (id : ConnId) (own : FrontendRows) (arrival : Arrival) (tracks : List Track) → IsComing frontends id own →
+frontend_set : (frontends : List FrontendRows) (id : ConnId) (own : FrontendRows) (arrival : SessionStart) (tracks : List Track) → IsComing frontends id own →
     with_item id.frontend (with_newcomer arrival tracks) frontends ≡ slice_set frontends id.frontend (with_newcomer arrival tracks own)
 frontend_set frontends id own arrival tracks coming = rw coming.there refl
 
-frontend_new : (frontends : List FrontendRows) (id : ConnId) (own : FrontendRows) (arrival : Arrival) (tracks : List Track) → IsComing frontends id own →
+frontend_new : (frontends : List FrontendRows) (id : ConnId) (own : FrontendRows) (arrival : SessionStart) (tracks : List Track) → IsComing frontends id own →
     slice_get (with_item id.frontend (with_newcomer arrival tracks) frontends) id.frontend ≡ Some (with_newcomer arrival tracks own)
 frontend_new frontends id own arrival tracks coming =
     ap (λ fs. slice_get fs id.frontend) (frontend_set frontends id own arrival tracks coming) ∙ get-set frontends id.frontend own (with_newcomer arrival tracks own) coming.there
 
 -- the connection is open once it came in
-pub newcomer_there : (frontends : List FrontendRows) (id : ConnId) (own : FrontendRows) (arrival : Arrival) (tracks : List Track) → IsComing frontends id own →
+pub newcomer_there : (frontends : List FrontendRows) (id : ConnId) (own : FrontendRows) (arrival : SessionStart) (tracks : List Track) → IsComing frontends id own →
     row_at (with_item id.frontend (with_newcomer arrival tracks) frontends) id ≡ Some (newcomer arrival tracks (own.serial + 1))
 newcomer_there frontends id own arrival tracks coming =
     ap (row_in id.serial) (frontend_new frontends id own arrival tracks coming)
     ∙ ap (λ n. row_in n (Some (with_newcomer arrival tracks own))) coming.next
     ∙ find-new own.serial own.rows (newcomer arrival tracks (own.serial + 1)) coming.given refl
 
-pub newcomer_open : (frontends : List FrontendRows) (id : ConnId) (own : FrontendRows) (arrival : Arrival) (tracks : List Track) → IsComing frontends id own →
+pub newcomer_open : (frontends : List FrontendRows) (id : ConnId) (own : FrontendRows) (arrival : SessionStart) (tracks : List Track) → IsComing frontends id own →
     IsSome (row_at (with_item id.frontend (with_newcomer arrival tracks) frontends) id)
 newcomer_open frontends id own arrival tracks coming = subst (λ o. IsSome o) (sym (newcomer_there frontends id own arrival tracks coming)) refl
 
 -- it waits, and its version judges it
-pub newcomer_waits : (frontends : List FrontendRows) (id : ConnId) (own : FrontendRows) (arrival : Arrival) (tracks : List Track) → IsComing frontends id own →
+pub newcomer_waits : (frontends : List FrontendRows) (id : ConnId) (own : FrontendRows) (arrival : SessionStart) (tracks : List Track) → IsComing frontends id own →
     IsSome (rest_at (with_item id.frontend (with_newcomer arrival tracks) frontends) id)
 newcomer_waits frontends id own arrival tracks coming =
     subst (λ o. IsSome (option_and_then (λ row. rest_in row.phase) o)) (sym (newcomer_there frontends id own arrival tracks coming)) refl
 
-pub newcomer_judged : (frontends : List FrontendRows) (id : ConnId) (own : FrontendRows) (arrival : Arrival) (tracks : List Track) → IsComing frontends id own →
+pub newcomer_judged : (frontends : List FrontendRows) (id : ConnId) (own : FrontendRows) (arrival : SessionStart) (tracks : List Track) → IsComing frontends id own →
     IfSome (row_at (with_item id.frontend (with_newcomer arrival tracks) frontends) id) (λ row. row.version ≡ arrival.version)
 newcomer_judged frontends id own arrival tracks coming = subst (λ o. IfSome o (λ row. row.version ≡ arrival.version)) (sym (newcomer_there frontends id own arrival tracks coming)) refl
 
 -- it tracks those, in the order of counters
-pub newcomer_tracks : (frontends : List FrontendRows) (id : ConnId) (own : FrontendRows) (arrival : Arrival) (tracks : List Track) → IsComing frontends id own →
+pub newcomer_tracks : (frontends : List FrontendRows) (id : ConnId) (own : FrontendRows) (arrival : SessionStart) (tracks : List Track) → IsComing frontends id own →
     tracks_at (with_item id.frontend (with_newcomer arrival tracks) frontends) id ≡ by_counter tracks
 newcomer_tracks frontends id own arrival tracks coming = ap (λ o. option_map_or (λ row. row.tracks) o []) (newcomer_there frontends id own arrival tracks coming)
 
-pub newcomer_sorted : (frontends : List FrontendRows) (id : ConnId) (own : FrontendRows) (arrival : Arrival) → IsComing frontends id own →
+pub newcomer_sorted : (frontends : List FrontendRows) (id : ConnId) (own : FrontendRows) (arrival : SessionStart) → IsComing frontends id own →
     AreSorted (with_item id.frontend (with_newcomer arrival []) frontends) id
 newcomer_sorted frontends id own arrival coming found there =
     let same : with_newcomer arrival [] own ≡ found =
@@ -125,7 +125,7 @@ tracks-new [] row none = rw none refl
 tracks-new (r ∷ rows) row none = ap (λ ts. r.tracks ++ ts) (tracks-new rows row none)
 
 -- a connection that comes in tracks nothing at first
-pub arrival_tracks : (frontends : List FrontendRows) (id : ConnId) (own : FrontendRows) (arrival : Arrival) → IsComing frontends id own →
+pub arrival_tracks : (frontends : List FrontendRows) (id : ConnId) (own : FrontendRows) (arrival : SessionStart) → IsComing frontends id own →
     open_tracks (with_item id.frontend (with_newcomer arrival []) frontends) ≡ open_tracks frontends
 arrival_tracks frontends id own arrival coming =
     ap open_tracks (frontend_set frontends id own arrival [] coming)
@@ -134,7 +134,7 @@ arrival_tracks frontends id own arrival coming =
 -- What becomes of it.
 
 -- the one that came in is changed
-changed_newcomer : (frontends : List FrontendRows) (id : ConnId) (own : FrontendRows) (arrival : Arrival) (tracks : List Track) (change : Row → Row) → IsComing frontends id own →
+changed_newcomer : (frontends : List FrontendRows) (id : ConnId) (own : FrontendRows) (arrival : SessionStart) (tracks : List Track) (change : Row → Row) → IsComing frontends id own →
     with_conn id change (with_item id.frontend (with_newcomer arrival tracks) frontends)
     ≡ with_item id.frontend (λ f. record f { serial = f.serial + 1; rows = f.rows ++ change (newcomer arrival tracks (f.serial + 1)) ∷ [] }) frontends
 changed_newcomer frontends id own arrival tracks change coming =
@@ -143,12 +143,12 @@ changed_newcomer frontends id own arrival tracks change coming =
     ∙ ap (λ rows. slice_set frontends id.frontend (record own { serial = own.serial + 1; rows = rows })) (change-new own.serial change own.rows (newcomer arrival tracks (own.serial + 1)) coming.given refl))
 
 -- it tracks some
-pub arrival_tracking : (frontends : List FrontendRows) (id : ConnId) (own : FrontendRows) (arrival : Arrival) (tracks : List Track) → IsComing frontends id own →
+pub arrival_tracking : (frontends : List FrontendRows) (id : ConnId) (own : FrontendRows) (arrival : SessionStart) (tracks : List Track) → IsComing frontends id own →
     with_conn id (row_with tracks) (with_item id.frontend (with_newcomer arrival []) frontends) ≡ with_item id.frontend (with_newcomer arrival tracks) frontends
 arrival_tracking frontends id own arrival tracks coming = changed_newcomer frontends id own arrival [] (row_with tracks) coming
 
 -- it ended again
-newcomer_gone : (frontends : List FrontendRows) (id : ConnId) (own : FrontendRows) (arrival : Arrival) (tracks : List Track) → IsComing frontends id own →
+newcomer_gone : (frontends : List FrontendRows) (id : ConnId) (own : FrontendRows) (arrival : SessionStart) (tracks : List Track) → IsComing frontends id own →
     without_conn id (with_item id.frontend (with_newcomer arrival tracks) frontends) ≡ with_item id.frontend with_refusal frontends
 newcomer_gone frontends id own arrival tracks coming =
     item_twice id.frontend (with_newcomer arrival tracks) (without_row id.serial) frontends
@@ -156,13 +156,13 @@ newcomer_gone frontends id own arrival tracks coming =
     ∙ ap (λ rows. slice_set frontends id.frontend (record own { serial = own.serial + 1; rows = rows })) (gone-new own.serial own.rows (newcomer arrival tracks (own.serial + 1)) coming.given refl))
 
 -- The rows once a connection came in, which tracks nothing yet.
-pub record HasEntered (old now : RowsValue) (id : ConnId) (arrival : Arrival) : Type 0 where
+pub record HasEntered (old now : RowsValue) (id : ConnId) (arrival : SessionStart) : Type 0 where
   pub frontends : now.frontends ≡ with_item id.frontend (with_newcomer arrival []) old.frontends
   pub versions : now.versions ≡ old.versions
   pub tables : now.tables ≡ old.tables
   pub spare : 3 ≤ now.spare
 
-pub has_entered : (old ready now : RowsValue) (id : ConnId) (arrival : Arrival) → 3 ≤ ready.spare → ready ≡ record old { spare = ready.spare } →
+pub has_entered : (old ready now : RowsValue) (id : ConnId) (arrival : SessionStart) → 3 ≤ ready.spare → ready ≡ record old { spare = ready.spare } →
     now ≡ record ready { frontends = with_item id.frontend (with_arrival arrival.version arrival.real arrival.accepted) ready.frontends } → HasEntered old now id arrival
 has_entered old ready now id arrival room same ok = record {
   frontends = ap (λ (r : RowsValue). r.frontends) ok ∙ ap (λ (r : RowsValue). with_item id.frontend (with_newcomer arrival []) r.frontends) same;
@@ -171,14 +171,14 @@ has_entered old ready now id arrival room same ok = record {
   spare = subst (λ n. 3 ≤ n) (sym (ap (λ (r : RowsValue). r.spare) ok)) room;
 }
 
-pub open_once : (old now : RowsValue) (id : ConnId) (own : FrontendRows) (arrival : Arrival) → IsComing old.frontends id own → HasEntered old now id arrival → IsSome (row_at now.frontends id)
+pub open_once : (old now : RowsValue) (id : ConnId) (own : FrontendRows) (arrival : SessionStart) → IsComing old.frontends id own → HasEntered old now id arrival → IsSome (row_at now.frontends id)
 open_once old now id own arrival coming is = subst (λ fs. IsSome (row_at fs id)) (sym is.frontends) (newcomer_open old.frontends id own arrival [] coming)
 
-pub sorted_once : (old now : RowsValue) (id : ConnId) (own : FrontendRows) (arrival : Arrival) → IsComing old.frontends id own → HasEntered old now id arrival → AreSorted now.frontends id
+pub sorted_once : (old now : RowsValue) (id : ConnId) (own : FrontendRows) (arrival : SessionStart) → IsComing old.frontends id own → HasEntered old now id arrival → AreSorted now.frontends id
 sorted_once old now id own arrival coming is = subst (λ fs. AreSorted fs id) (sym is.frontends) (newcomer_sorted old.frontends id own arrival coming)
 
 -- what could be tracked can be tracked for it
-pub possible_once : (old now : RowsValue) (id : ConnId) (own : FrontendRows) (arrival : Arrival) (slots : Slots) → IsComing old.frontends id own → HasEntered old now id arrival →
+pub possible_once : (old now : RowsValue) (id : ConnId) (own : FrontendRows) (arrival : SessionStart) (slots : TrackSlots) → IsComing old.frontends id own → HasEntered old now id arrival →
     (source : Addr) × ArePossible (open_tracks old.frontends) old.tables [] source slots → (source : Addr) × ArePossible (open_tracks now.frontends) now.tables (tracks_at now.frontends id) source slots
 possible_once old now id own arrival slots coming is can =
     let opens : open_tracks now.frontends ≡ open_tracks old.frontends = ap open_tracks is.frontends ∙ arrival_tracks old.frontends id own arrival coming in
@@ -190,7 +190,7 @@ possible_once old now id own arrival slots coming is can =
     )
 
 -- and then it tracks those
-pub tracking_once : (old now after : RowsValue) (id : ConnId) (own : FrontendRows) (arrival : Arrival) (tracks : List Track) → IsComing old.frontends id own → HasEntered old now id arrival →
+pub tracking_once : (old now after : RowsValue) (id : ConnId) (own : FrontendRows) (arrival : SessionStart) (tracks : List Track) → IsComing old.frontends id own → HasEntered old now id arrival →
     after.frontends ≡ with_conn id (row_with tracks) now.frontends → after.versions ≡ now.versions → after.tables ≡ with_tracks (open_tracks now.frontends) tracks now.tables →
     state_of after ≡ record (state_of old) { frontends = with_item id.frontend (with_newcomer arrival tracks) old.frontends; tables = with_tracks (open_tracks old.frontends) tracks old.tables }
 tracking_once old now after id own arrival tracks coming is fronts versions tables =
@@ -205,11 +205,11 @@ tracking_once old now after id own arrival tracks coming is fronts versions tabl
 -- Decisions.
 
 -- the frontends once a decision of that outcome is kept
-abbrev entered_by : List Version → Arrival → List Track → ConnId → List FrontendRows → Outcome → List FrontendRows
+abbrev entered_by : List Version → SessionStart → List Track → ConnId → List FrontendRows → Outcome → List FrontendRows
 entered_by versions arrival tracks id frontends outcome =
     with_item id.frontend (λ own. record own { serial = own.serial + 1; rows = own.rows ++ entered_row versions arrival tracks outcome (own.serial + 1) }) frontends
 
-entered_offer : (frontends : List FrontendRows) (versions : List Version) (id : ConnId) (own : FrontendRows) (arrival : Arrival) (decision : Decision) (offer : Offer) → IsComing frontends id own →
+entered_offer : (frontends : List FrontendRows) (versions : List Version) (id : ConnId) (own : FrontendRows) (arrival : SessionStart) (decision : TrackedOutcome) (offer : Offer) → IsComing frontends id own →
     decision.outcome ≡ outcomes.Offer offer → with_conn id (row_offered versions offer.seat) (with_item id.frontend (with_newcomer arrival (present decision.tracks)) frontends)
     ≡ with_item id.frontend (entered versions arrival decision) frontends
 entered_offer frontends versions id own arrival decision offer coming is =
@@ -217,13 +217,13 @@ entered_offer frontends versions id own arrival decision offer coming is =
     ∙ ap (entered_by versions arrival (present decision.tracks) id frontends) (sym is)
 
 -- a refused one leaves no row
-entered_skip : (frontends : List FrontendRows) (versions : List Version) (id : ConnId) (own : FrontendRows) (arrival : Arrival) (decision : Decision) (cause : Cause) → IsComing frontends id own →
+entered_skip : (frontends : List FrontendRows) (versions : List Version) (id : ConnId) (own : FrontendRows) (arrival : SessionStart) (decision : TrackedOutcome) (cause : Cause) → IsComing frontends id own →
     decision.outcome ≡ outcomes.Refuse cause → with_item id.frontend with_refusal frontends ≡ with_item id.frontend (entered versions arrival decision) frontends
 entered_skip frontends versions id own arrival decision cause coming is =
     rw coming.there (ap (λ rows. slice_set frontends id.frontend (record own { serial = own.serial + 1; rows = rows })) (sym (append-nil own.rows)
     ∙ ap (λ o. own.rows ++ entered_row versions arrival (present decision.tracks) o (own.serial + 1)) (sym is)))
 
-entered_gone : (frontends : List FrontendRows) (versions : List Version) (id : ConnId) (own : FrontendRows) (arrival : Arrival) (decision : Decision) (cause : Cause) → IsComing frontends id own →
+entered_gone : (frontends : List FrontendRows) (versions : List Version) (id : ConnId) (own : FrontendRows) (arrival : SessionStart) (decision : TrackedOutcome) (cause : Cause) → IsComing frontends id own →
     decision.outcome ≡ outcomes.Refuse cause →
     without_conn id (with_item id.frontend (with_newcomer arrival (present decision.tracks)) frontends) ≡ with_item id.frontend (entered versions arrival decision) frontends
 entered_gone frontends versions id own arrival decision cause coming is =
@@ -231,12 +231,12 @@ entered_gone frontends versions id own arrival decision cause coming is =
 
 -- Tables.
 
-tables_offer : (frontends : List FrontendRows) (tables : List TableState) (id : ConnId) (decision : Decision) (offer : Offer) → decision.outcome ≡ outcomes.Offer offer →
+tables_offer : (frontends : List FrontendRows) (tables : List TableState) (id : ConnId) (decision : TrackedOutcome) (offer : Offer) → decision.outcome ≡ outcomes.Offer offer →
     with_tracks (open_tracks frontends) (present decision.tracks) tables ≡ tables_by frontends tables (reply_by id 0 decision)
 tables_offer frontends tables id decision offer is = rw is refl
 
 -- what a refused connection tracked is no longer tracked
-tables_refused : (frontends : List FrontendRows) (tables : List TableState) (id : ConnId) (own : FrontendRows) (decision : Decision) (cause : Cause) → IsComing frontends id own →
+tables_refused : (frontends : List FrontendRows) (tables : List TableState) (id : ConnId) (own : FrontendRows) (decision : TrackedOutcome) (cause : Cause) → IsComing frontends id own →
     decision.outcome ≡ outcomes.Refuse cause →
     without_tracks (by_counter (present decision.tracks)) (with_tracks (open_tracks frontends) (present decision.tracks) tables) ≡ tables_by frontends tables (reply_by id 0 decision)
 tables_refused frontends tables id own decision cause coming is =
@@ -245,20 +245,20 @@ tables_refused frontends tables id own decision cause coming is =
 
 -- The rows once a decision is kept.
 
-abbrev state_with : RowsValue → ConnId → Arrival → List Track → RowsState
+abbrev state_with : RowsValue → ConnId → SessionStart → List Track → RowsState
 state_with old id arrival tracks = record (state_of old) {
   frontends = with_item id.frontend (with_newcomer arrival tracks) old.frontends;
   tables = with_tracks (open_tracks old.frontends) tracks old.tables;
 }
 
-abbrev state_entered : RowsValue → ConnId → Arrival → Decision → RowsState
+abbrev state_entered : RowsValue → ConnId → SessionStart → TrackedOutcome → RowsState
 state_entered old id arrival decision = record (state_of old) {
   frontends = with_item id.frontend (entered old.versions arrival decision) old.frontends;
   versions = settled_versions arrival.version decision.outcome old.versions;
   tables = tables_by old.frontends old.tables (reply_by id 0 decision);
 }
 
-pub offered_once : (old now after : RowsValue) (id : ConnId) (own : FrontendRows) (arrival : Arrival) (decision : Decision) (offer : Offer) → IsComing old.frontends id own → decision.outcome ≡ outcomes.Offer offer →
+pub offered_once : (old now after : RowsValue) (id : ConnId) (own : FrontendRows) (arrival : SessionStart) (decision : TrackedOutcome) (offer : Offer) → IsComing old.frontends id own → decision.outcome ≡ outcomes.Offer offer →
     state_of now ≡ state_with old id arrival (present decision.tracks) → after ≡ record now { frontends = with_conn id (row_offered now.versions offer.seat) now.frontends; versions = map (with_offer arrival.version offer.seat.line offer.seat.server) now.versions } →
     state_of after ≡ state_entered old id arrival decision
 offered_once old now after id own arrival decision offer coming is came offered =
@@ -273,7 +273,7 @@ offered_once old now after id own arrival decision offer coming is came offered 
     cc (f, v, t)
 
 -- a refused connection that tracks nothing
-pub skipped_once : (old after : RowsValue) (id : ConnId) (own : FrontendRows) (arrival : Arrival) (decision : Decision) (cause : Cause) → IsComing old.frontends id own → decision.outcome ≡ outcomes.Refuse cause →
+pub skipped_once : (old after : RowsValue) (id : ConnId) (own : FrontendRows) (arrival : SessionStart) (decision : TrackedOutcome) (cause : Cause) → IsComing old.frontends id own → decision.outcome ≡ outcomes.Refuse cause →
     present decision.tracks ≡ [] → after ≡ record old { frontends = with_item id.frontend with_refusal old.frontends } → state_of after ≡ state_entered old id arrival decision
 skipped_once old after id own arrival decision cause coming is none skipped =
     let f : after.frontends ≡ with_item id.frontend (entered old.versions arrival decision) old.frontends =
@@ -286,7 +286,7 @@ skipped_once old after id own arrival decision cause coming is none skipped =
     cc (f, v, t)
 
 -- a refused connection that tracks some
-pub removed_once : (old now after : RowsValue) (id : ConnId) (own : FrontendRows) (arrival : Arrival) (decision : Decision) (cause : Cause) → IsComing old.frontends id own → decision.outcome ≡ outcomes.Refuse cause →
+pub removed_once : (old now after : RowsValue) (id : ConnId) (own : FrontendRows) (arrival : SessionStart) (decision : TrackedOutcome) (cause : Cause) → IsComing old.frontends id own → decision.outcome ≡ outcomes.Refuse cause →
     state_of now ≡ state_with old id arrival (present decision.tracks) →
     after ≡ record now { frontends = without_conn id now.frontends; tables = without_tracks (tracks_at now.frontends id) now.tables } → state_of after ≡ state_entered old id arrival decision
 removed_once old now after id own arrival decision cause coming is came removed =

@@ -10,7 +10,7 @@ use Rattle.plan_types.specs.declared.plan.Rule.{Rule}
 use Rattle.plan_types.specs.declared.track.Track.{Track}
 use Rattle.plan_types.specs.Sound.{IsSoundPlan}
 use Rattle.rule_engine.specs.Meaning.{present}
-use Rattle.rule_engine.specs.Judging.{judged, judged_after, no_tracks, Slots}
+use Rattle.rule_engine.specs.Judging.{judged, judged_after, no_tracks, TrackSlots}
 use Rattle.rule_engine.specs.declared.judging.Judged.{Judged}
 use Rattle.rule_engine.proofs.SlotLemmas.{none_made}
 use Rattle.conn_model.specs.declared.event.ConnId.{ConnId}
@@ -30,7 +30,7 @@ use Rattle.conn_model.proofs.Offers.{admission-offers, offered_backend, OffersWe
 use Rattle.conn_model.proofs.Replies.{accepted, Accepted}
 use Rattle.conn_model.proofs.Versions.{newest-at}
 use Rattle.conn_core.specs.declared.facts.RuleFacts.{RuleFacts}
-use Rattle.conn_core.specs.declared.outcome.Decision.{Decision}
+use Rattle.conn_core.specs.declared.outcome.TrackedOutcome.{TrackedOutcome}
 use Rattle.conn_core.specs.declared.outcome.Outcome.{Outcome}
 use Rattle.conn_core.specs.declared.outcome.Outcome.TheVariants as outcomes
 use Rattle.conn_core.specs.Changes.{CanOffer}
@@ -69,7 +69,7 @@ can_offer served versions number version id used (outcomes.Offer offer) sound th
 can_offer served versions number version id used (outcomes.Refuse cause) sound there offers = tt
 
 -- so does one at an accept
-pub accept_offers : (q : Plain) → IsCoreState q → (clock listener : ℕ) (real : PairValue) (id : ConnId) (decision : Decision) (version : Version) → newest q.versions ≡ Some version →
+pub accept_offers : (q : Plain) → IsCoreState q → (clock listener : ℕ) (real : PairValue) (id : ConnId) (decision : TrackedOutcome) (version : Version) → newest q.versions ≡ Some version →
     accept_answer q clock listener real ≡ Ok (reply_by id 0 decision) → CanOffer q.versions version.number decision.outcome
 accept_offers q known clock listener real id decision version newest_is answer =
     let got : Accepted q clock listener real (reply_by id 0 decision) = accepted q clock listener real (reply_by id 0 decision) answer in
@@ -82,7 +82,7 @@ accept_offers q known clock listener real id decision version newest_is answer =
     (subst (λ (v : Version). OffersWell served v.plan (said_by id 0 decision.outcome)) same offers)
 
 -- the reply of what the session rules and then the backend decide
-pub decided_by : (views : List Track → RuleView) (frontend : Frontend) (earlier : Slots) (judged : PairValue) (says : Judged) (result : Result NumberedServer Cause) (outcome : Outcome) →
+pub decided_by : (views : List Track → RuleView) (frontend : Frontend) (earlier : TrackSlots) (judged : PairValue) (says : Judged) (result : Result NumberedServer Cause) (outcome : Outcome) →
     says ≡ judged_after (scene_of views) earlier frontend.session_rules → result ≡ server_unless (views (present says.tracks)) (rejection says) → outcome ≡ outcome_of judged result →
     (id : ConnId) (used : ℕ) → reply_by id used (record { outcome = outcome; tracks = says.tracks }) ≡ decided views frontend id used judged earlier
 decided_by views frontend earlier judged says result outcome says_is result_is outcome_is id used =
@@ -104,7 +104,7 @@ admission_by candidate accept_proxy real others views says less same says_is =
     entry_by s = entry_reply candidate (accept_proxy || s.expects_header) real s.tracks (rejection s)
 
 -- what a list of rules tracks may be tracked
-pub allowed_then : (facts : RuleFacts) (earlier : Slots) (rules : List Rule) (says : Judged) → says ≡ judged_after (scene_of (facts_view facts)) earlier rules → AreAllowed facts earlier → AreAllowed facts says.tracks
+pub allowed_then : (facts : RuleFacts) (earlier : TrackSlots) (rules : List Rule) (says : Judged) → says ≡ judged_after (scene_of (facts_view facts)) earlier rules → AreAllowed facts earlier → AreAllowed facts says.tracks
 allowed_then facts earlier rules says is known = subst (λ (s : Judged). AreAllowed facts s.tracks) (sym is) (allowed_after facts earlier rules known)
 
 -- also the first list of a step

@@ -12,7 +12,7 @@ use Rattle.pp_any.specs.NextPiece.{status_on}
 use Rattle.plan_types.specs.declared.plan.Frontend.{Frontend}
 use Rattle.plan_types.specs.declared.track.Track.{Track}
 use Rattle.rule_engine.specs.Meaning.{present}
-use Rattle.rule_engine.specs.Judging.{no_tracks, Slots}
+use Rattle.rule_engine.specs.Judging.{no_tracks, TrackSlots}
 use Rattle.conn_model.specs.declared.event.ConnId.{ConnId}
 use Rattle.conn_model.specs.declared.event.OwnedEvent.{OwnedEvent}
 use Rattle.conn_model.specs.declared.event.OwnedEvent.TheVariants.{Piece}
@@ -30,7 +30,7 @@ use Rattle.conn_model.specs.declared.plain.Plain.{Plain}
 use Rattle.conn_model.specs.Counts.{change_row}
 use Rattle.conn_model.specs.Words.{Rise}
 use Rattle.conn_model.specs.Rules.{view_of}
-use Rattle.conn_model.specs.Answer.{candidate_of, decision, frontend_in, header_reply, piece_answer, reply_of, reply_with, rest_in, row_at, row_in, said_of, verdict, version_at, waiting_row, Decision as Verdict, NumberedServer}
+use Rattle.conn_model.specs.Answer.{candidate_of, decision, frontend_in, header_reply, piece_answer, reply_of, reply_with, rest_in, row_at, row_in, said_of, verdict, version_at, waiting_row, Decision, NumberedServer}
 use Rattle.conn_model.specs.History.{phase_on, tables_by, with_said}
 use Rattle.conn_model.specs.Tables.{by_counter, open_tracks, tracks_at, with_tracks, without_tracks}
 use Rattle.conn_model.proofs.Lists.{all-found}
@@ -46,7 +46,7 @@ use Rattle.conn_core.specs.Changes.{row_by, settled, settled_tables, settled_ver
 use Rattle.conn_core.specs.Counts.{IsSorted, IsStateOf}
 use Rattle.conn_core.specs.Outcome.{reply_by, said_by}
 use Rattle.conn_core.specs.Tracking.{row_with}
-use Rattle.conn_core.specs.declared.outcome.Decision.{Decision}
+use Rattle.conn_core.specs.declared.outcome.TrackedOutcome.{TrackedOutcome}
 use Rattle.conn_core.specs.declared.outcome.Outcome.{Outcome}
 use Rattle.conn_core.specs.declared.outcome.Outcome.TheVariants as outcomes
 use Rattle.conn_core.proofs.AcceptLemmas.{versions_are}
@@ -240,7 +240,7 @@ no_wait id other used count judged (Ok given) is = let wrong : saids.Wait other 
 no_wait id other used count judged (Err cause) is = let wrong : saids.Wait other count ≡ said_of id used judged (Err cause) = is in cc
 
 -- the open connections once a decision is kept
-frontends_settled : (versions : List Version) (event : OwnedEvent) (id : ConnId) (used : ℕ) (outcome : Outcome) (slots : Slots) (frontends : List FrontendRows) → ((other : ConnId) (count : ℕ) → said_by id used outcome ≡ saids.Wait other count → ⊥) →
+frontends_settled : (versions : List Version) (event : OwnedEvent) (id : ConnId) (used : ℕ) (outcome : Outcome) (slots : TrackSlots) (frontends : List FrontendRows) → ((other : ConnId) (count : ℕ) → said_by id used outcome ≡ saids.Wait other count → ⊥) →
     settled versions id outcome (with_conn id (row_with (present slots)) frontends) ≡ spoken versions event id (reply_with (said_by id used outcome) slots) frontends
 frontends_settled versions event id used outcomes.Wait slots frontends decides = absurd (decides id used refl)
 frontends_settled versions event id used (outcomes.Offer offer) slots frontends decides = changed_twice id (row_with (present slots)) (row_offered versions offer.seat) frontends (λ row. refl)
@@ -257,7 +257,7 @@ tracks_with frontends id tracks there = by (row_at frontends id) refl there
         rw (now, is) refl
 
 -- and the tables
-tables_settled : (id : ConnId) (used : ℕ) (outcome : Outcome) (slots : Slots) (frontends : List FrontendRows) (tables : List TableState) → ((other : ConnId) (count : ℕ) → said_by id used outcome ≡ saids.Wait other count → ⊥) →
+tables_settled : (id : ConnId) (used : ℕ) (outcome : Outcome) (slots : TrackSlots) (frontends : List FrontendRows) (tables : List TableState) → ((other : ConnId) (count : ℕ) → said_by id used outcome ≡ saids.Wait other count → ⊥) →
     IsSome (row_at frontends id) → settled_tables id outcome (with_conn id (row_with (present slots)) frontends) (with_tracks (open_tracks frontends) (present slots) tables)
     ≡ tables_by frontends tables (reply_with (said_by id used outcome) slots)
 tables_settled id used outcomes.Wait slots frontends tables decides there = absurd (decides id used refl)
@@ -265,7 +265,7 @@ tables_settled id used (outcomes.Offer offer) slots frontends tables decides the
 tables_settled id used (outcomes.Refuse cause) slots frontends tables decides there =
     ap (λ ts. without_tracks ts (with_tracks (open_tracks frontends) (present slots) tables)) (tracks_with frontends id (present slots) there)
 
-pub settled_once : (old now after : RowsValue) (event : OwnedEvent) (id : ConnId) (version used : ℕ) (judged : PairValue) (result : Result NumberedServer Cause) (decided : Decision) (reply : Reply) → IsSome (row_at old.frontends id) →
+pub settled_once : (old now after : RowsValue) (event : OwnedEvent) (id : ConnId) (version used : ℕ) (judged : PairValue) (result : Result NumberedServer Cause) (decided : TrackedOutcome) (reply : Reply) → IsSome (row_at old.frontends id) →
     said_by id used decided.outcome ≡ said_of id used judged result →
     now.frontends ≡ with_conn id (row_with (present decided.tracks)) old.frontends → now.versions ≡ old.versions → now.tables ≡ with_tracks (open_tracks old.frontends) (present decided.tracks) old.tables →
     after ≡ record now { frontends = settled now.versions id decided.outcome now.frontends; versions = settled_versions version decided.outcome now.versions; tables = settled_tables id decided.outcome now.frontends now.tables } →
@@ -289,13 +289,13 @@ settled_once old now after event id version used judged result decided reply the
 -- A header that is whole.
 
 -- what is said once the header is whole ends the connection or gives it a server, and either replaces what the piece left
-spoken_fed : (frontends : List FrontendRows) (versions : List Version) (event : OwnedEvent) (id : ConnId) (piece : List ℕ) (used : ℕ) (judged : PairValue) (result : Result NumberedServer Cause) (made : Slots) →
+spoken_fed : (frontends : List FrontendRows) (versions : List Version) (event : OwnedEvent) (id : ConnId) (piece : List ℕ) (used : ℕ) (judged : PairValue) (result : Result NumberedServer Cause) (made : TrackSlots) →
     spoken versions event id (reply_with (said_of id used judged result) made) (with_conn id (row_fed piece) frontends) ≡ spoken versions event id (reply_with (said_of id used judged result) made) frontends
 spoken_fed frontends versions event id piece used judged (Ok given) made =
     changed_twice id (row_fed piece) (row_by versions event (reply_with (said_of id used judged (Ok given)) made)) frontends (λ row. refl)
 spoken_fed frontends versions event id piece used judged (Err cause) made = changed_gone id (row_fed piece) frontends (λ row. refl)
 
-tables_fed : (frontends : List FrontendRows) (tables : List TableState) (id : ConnId) (piece : List ℕ) (used : ℕ) (judged : PairValue) (result : Result NumberedServer Cause) (made : Slots) →
+tables_fed : (frontends : List FrontendRows) (tables : List TableState) (id : ConnId) (piece : List ℕ) (used : ℕ) (judged : PairValue) (result : Result NumberedServer Cause) (made : TrackSlots) →
     tables_by (with_conn id (row_fed piece) frontends) tables (reply_with (said_of id used judged result) made) ≡ tables_by frontends tables (reply_with (said_of id used judged result) made)
 tables_fed frontends tables id piece used judged (Ok given) made = ap (λ ts. with_tracks ts (present made) tables) (open_tracks-same id (row_fed piece) frontends (fed_unseen piece))
 tables_fed frontends tables id piece used judged (Err cause) made =
@@ -316,7 +316,7 @@ decided_once old fed after event id number piece p version frontend used judged 
     fed_rows : RowsValue
     fed_rows = record old { frontends = with_conn id (row_fed piece) old.frontends }
 
-    decided : Verdict
+    decided : Decision
     decided = verdict (view_of (candidate_of p id version frontend) judged.source.addr) frontend no_tracks
 
     said : Reply

@@ -6,7 +6,7 @@ use Rattle.addr_core.specs.declared.addr.Addr.{Addr}
 use Rattle.addr_core.specs.declared.addr.Addr.TheVariants.{V4, V6}
 use Rattle.proxy_types.specs.declared.table.KeyType.{KeyType}
 use Rattle.proxy_types.specs.declared.table.KeyType.TheVariants.{Ip, Ipv6}
-use Rattle.stick_core.specs.declared.entries.TableEntry.{TableEntry}
+use Rattle.stick_core.specs.declared.entries.PlainEntry.{PlainEntry}
 use Rattle.stick_core.specs.Key.{key_in}
 use Rattle.stick_core.specs.PlainEntries.{can_track, is_in, tracked_key, with_tracking}
 use Rattle.plan_types.specs.declared.track.TableId.{TableId}
@@ -28,7 +28,7 @@ key_itself Ipv6 (V4 n) key is = let same : V6 (0xFFFF_0000_0000 + n) ≡ key = l
 key_itself Ipv6 (V6 n) key is = let same : V6 n ≡ key = let it : Some (V6 n) ≡ Some key = is in cc in subst (λ k. key_in Ipv6 k ≡ Some k) same refl
 
 -- a table with a key that it can list tracks an address under it
-tracks_if : (f : Addr → ℕ) (kind : KeyType) (size : ℕ) (entries : List TableEntry) (addr key : Addr) → key_in kind addr ≡ Some key → can_track f size entries key ≡ true →
+tracks_if : (f : Addr → ℕ) (kind : KeyType) (size : ℕ) (entries : List PlainEntry) (addr key : Addr) → key_in kind addr ≡ Some key → can_track f size entries key ≡ true →
     tracked_key f kind size entries addr ≡ Some key
 tracks_if f kind size entries addr key is can = rw (is, can) refl
 
@@ -78,7 +78,7 @@ still_possible before after tables track id source key own is alike = by (table_
     in_same : (table : TableState) → table_key before source table ≡ Some key → table_key before source table ≡ Some track.key →
         tracked_key (trackers after table.id) table.table.kind table.table.size (with_tracking (trackers before table.id) table.table.size track.key table.entries) source ≡ Some key
     in_same table tracked made =
-        let more : List TableEntry = with_tracking (trackers before table.id) table.table.size track.key table.entries in
+        let more : List PlainEntry = with_tracking (trackers before table.id) table.table.size track.key table.entries in
         let keys : track.key ≡ key = let it : Some track.key ≡ Some key = sym made ∙ tracked in cc in
         let both = tracked_is (trackers before table.id) table.table.kind table.table.size table.entries source key tracked in
         let there : is_in key more ≡ true = ap (λ k. is_in k more) (sym keys) ∙ in-tracked (trackers before table.id) table.table.size track.key table.entries in

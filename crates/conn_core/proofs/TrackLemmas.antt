@@ -7,7 +7,7 @@ use Rattle.stick_core.specs.PlainEntries.{tracked_key}
 use Rattle.plan_types.specs.declared.track.TableId.{TableId}
 use Rattle.plan_types.specs.declared.track.Track.{Track}
 use Rattle.rule_engine.specs.Meaning.{present}
-use Rattle.rule_engine.specs.Judging.{Slots, judged_after}
+use Rattle.rule_engine.specs.Judging.{TrackSlots, judged_after}
 use Rattle.rule_engine.proofs.SlotLemmas.{Makes, judged-slots, track}
 use Rattle.plan_types.specs.declared.plan.Rule.{Rule}
 use Rattle.conn_model.specs.declared.plain.TableState.{TableState}
@@ -59,6 +59,6 @@ allowed facts counter number made table key below free there = record {
         rw found both.1
 
 -- so do lists of rules
-pub allowed_after : (facts : RuleFacts) (earlier : Slots) (rules : List Rule) → AreAllowed facts earlier → AreAllowed facts (judged_after (scene_of (facts_view facts)) earlier rules).tracks
+pub allowed_after : (facts : RuleFacts) (earlier : TrackSlots) (rules : List Rule) → AreAllowed facts earlier → AreAllowed facts (judged_after (scene_of (facts_view facts)) earlier rules).tracks
 allowed_after facts earlier rules known =
     judged-slots (scene_of (facts_view facts)) (IsPossible (open_tracks facts.rows.now.frontends) facts.rows.now.tables (present facts.own) facts.source) (allowed facts) earlier rules known

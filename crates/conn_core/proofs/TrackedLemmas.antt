@@ -11,7 +11,7 @@ use Rattle.std.proofs.lemmas.List.Folds.{find-append}
 use Rattle.std.proofs.lemmas.Option.{slice_get-get_or}
 use Rattle.addr_core.specs.declared.addr.Addr.{Addr}
 use Rattle.plan_types.specs.declared.track.Track.{Track}
-use Rattle.rule_engine.specs.Judging.{Slots}
+use Rattle.rule_engine.specs.Judging.{TrackSlots}
 use Rattle.rule_engine.specs.Meaning.{present}
 use Rattle.conn_model.specs.declared.event.ConnId.{ConnId}
 use Rattle.conn_model.specs.declared.plain.Row.{Row}
@@ -132,12 +132,12 @@ still_free counter track tracks less free =
 
 -- The slots from one on can be tracked.
 
-pub record CanTrack (frontends : List FrontendRows) (tables : List TableState) (id : ConnId) (source : Addr) (from : ℕ) (slots : Slots) : Type 0 where
+pub record CanTrack (frontends : List FrontendRows) (tables : List TableState) (id : ConnId) (source : Addr) (from : ℕ) (slots : TrackSlots) : Type 0 where
   pub there : IsSome (row_at frontends id)
   pub sorted : AreSorted frontends id
   pub each : (counter : ℕ) (track : Track) → from ≤ counter → slice_get slots counter ≡ Some (Some track) → IsPossible (open_tracks frontends) tables (tracks_at frontends id) source counter track
 
-next_slots : (frontends : List FrontendRows) (tables : List TableState) (id : ConnId) (source : Addr) (from : ℕ) (slots : Slots) → CanTrack frontends tables id source from slots →
+next_slots : (frontends : List FrontendRows) (tables : List TableState) (id : ConnId) (source : Addr) (from : ℕ) (slots : TrackSlots) → CanTrack frontends tables id source from slots →
     CanTrack frontends tables id source (from + 1) slots
 next_slots frontends tables id source from slots can = record { there = can.there; sorted = can.sorted; each = λ counter track less is. can.each counter track (omega (arith, less)) is }
 
@@ -156,7 +156,7 @@ some_map None f some = some
 some_map (Some row) f some = some
 
 -- once a slot is tracked, the next ones can be
-pub can_next : (frontends : List FrontendRows) (after : List FrontendRows) (tables : List TableState) (id : ConnId) (source : Addr) (from : ℕ) (slots : Slots) (track : Track) →
+pub can_next : (frontends : List FrontendRows) (after : List FrontendRows) (tables : List TableState) (id : ConnId) (source : Addr) (from : ℕ) (slots : TrackSlots) (track : Track) →
     CanTrack frontends tables id source from slots → slice_get slots from ≡ Some (Some track) → after ≡ with_conn id (row_tracking track) frontends →
     AreAlike (open_tracks after) (open_tracks frontends ++ track ∷ []) → CanTrack after (with_track (open_tracks frontends) track tables) id source (from + 1) slots
 can_next frontends after tables id source from slots track can is made alike = record {
@@ -185,7 +185,7 @@ can_next frontends after tables id source from slots track can is made alike = r
         }
 
 -- As far as the slots were tracked one after the other: to track the rest gives what is to come of them all.
-pub record IsTracked (start now : RowsValue) (id : ConnId) (from : ℕ) (slots : Slots) : Type 0 where
+pub record IsTracked (start now : RowsValue) (id : ConnId) (from : ℕ) (slots : TrackSlots) : Type 0 where
   pub frontends : with_conn id (row_with (present (drop from slots))) now.frontends ≡ with_conn id (row_with (present slots)) start.frontends
   pub versions : now.versions ≡ start.versions
   pub tables : with_tracks (open_tracks now.frontends) (present (drop from slots)) now.tables ≡ with_tracks (open_tracks start.frontends) (present slots) start.tables
@@ -193,12 +193,12 @@ pub record IsTracked (start now : RowsValue) (id : ConnId) (from : ℕ) (slots :
   pub room : 3 ≤ now.spare + from
 
 -- the next slot, and those after it
-pub record IsNext (slots : Slots) (from : ℕ) (slot : Option Track) : Type 0 where
+pub record IsNext (slots : TrackSlots) (from : ℕ) (slot : Option Track) : Type 0 where
   pub there : slice_get slots from ≡ Some slot
   pub rest : drop from slots ≡ slot ∷ drop (from + 1) slots
   pub below : from < 3
 
-pub next_slot : (slots : Slots) (from : ℕ) (slot : Option Track) → length slots ≡ 3 → from < 3 → get_or slots from None ≡ slot → IsNext slots from slot
+pub next_slot : (slots : TrackSlots) (from : ℕ) (slot : Option Track) → length slots ≡ 3 → from < 3 → get_or slots from None ≡ slot → IsNext slots from slot
 next_slot slots from slot three below is =
     let within : from < length slots = omega (arith, three, below) in
     record {
@@ -208,7 +208,7 @@ next_slot slots from slot three below is =
     }
 
 -- nothing was tracked yet
-pub none_yet : (rows : RowsValue) (id : ConnId) (slots : Slots) → IsSome (row_at rows.frontends id) → AreSorted rows.frontends id →
+pub none_yet : (rows : RowsValue) (id : ConnId) (slots : TrackSlots) → IsSome (row_at rows.frontends id) → AreSorted rows.frontends id →
     (source : Addr) × ArePossible (open_tracks rows.frontends) rows.tables (tracks_at rows.frontends id) source slots → 3 ≤ rows.spare → IsTracked rows rows id 0 slots
 none_yet rows id slots there sorted can room = record {
   frontends = refl;
@@ -219,18 +219,18 @@ none_yet rows id slots there sorted can room = record {
 }
 
 -- what the next slot tracks can be tracked
-possible : (start now : RowsValue) (id : ConnId) (from : ℕ) (slots : Slots) (track : Track) → IsTracked start now id from slots → IsNext slots from (Some track) →
+possible : (start now : RowsValue) (id : ConnId) (from : ℕ) (slots : TrackSlots) (track : Track) → IsTracked start now id from slots → IsNext slots from (Some track) →
     (source : Addr) × IsPossible (open_tracks now.frontends) now.tables (tracks_at now.frontends id) source from track
 possible start now id from slots track known next = (known.can.0, known.can.1.each from track (omega arith) next.there)
 
-pub counter_below : (start now : RowsValue) (id : ConnId) (from : ℕ) (slots : Slots) (track : Track) → IsTracked start now id from slots → IsNext slots from (Some track) → track.counter < 3
+pub counter_below : (start now : RowsValue) (id : ConnId) (from : ℕ) (slots : TrackSlots) (track : Track) → IsTracked start now id from slots → IsNext slots from (Some track) → track.counter < 3
 counter_below start now id from slots track known next =
     let own = possible start now id from slots track known next in
     let is = own.1.counter_is in
     let below = own.1.below in
     omega (arith, is, below)
 
-pub counter_free : (start now : RowsValue) (id : ConnId) (from : ℕ) (slots : Slots) (track : Track) → IsTracked start now id from slots → IsNext slots from (Some track) →
+pub counter_free : (start now : RowsValue) (id : ConnId) (from : ℕ) (slots : TrackSlots) (track : Track) → IsTracked start now id from slots → IsNext slots from (Some track) →
     IfSome (row_at now.frontends id) (λ row. track_of track.counter row.tracks ≡ None)
 counter_free start now id from slots track known next =
     let own = possible start now id from slots track known next in
@@ -240,14 +240,14 @@ counter_free start now id from slots track known next =
     by None free = tt
     by (Some row) free = free
 
-pub key_possible : (start now : RowsValue) (id : ConnId) (from : ℕ) (slots : Slots) (track : Track) → IsTracked start now id from slots → IsNext slots from (Some track) →
+pub key_possible : (start now : RowsValue) (id : ConnId) (from : ℕ) (slots : TrackSlots) (track : Track) → IsTracked start now id from slots → IsNext slots from (Some track) →
     key_at (open_tracks now.frontends) now.tables track.table track.key ≡ Some track.key
 key_possible start now id from slots track known next =
     let own = possible start now id from slots track known next in
     key_at-itself (open_tracks now.frontends) now.tables track.table own.0 track.key own.1.key
 
 -- an empty slot
-pub after_empty_slot : (start now : RowsValue) (id : ConnId) (from : ℕ) (slots : Slots) → IsNext slots from None → IsTracked start now id from slots → IsTracked start now id (from + 1) slots
+pub after_empty_slot : (start now : RowsValue) (id : ConnId) (from : ℕ) (slots : TrackSlots) → IsNext slots from None → IsTracked start now id from slots → IsTracked start now id (from + 1) slots
 after_empty_slot start now id from slots next known =
     let same : present (drop from slots) ≡ present (drop (from + 1) slots) = ap present next.rest in
     let room = known.room in
@@ -260,7 +260,7 @@ after_empty_slot start now id from slots next known =
     }
 
 -- a slot that is tracked
-pub after_slot : (start now after : RowsValue) (id : ConnId) (from : ℕ) (slots : Slots) (track : Track) → IsNext slots from (Some track) →
+pub after_slot : (start now after : RowsValue) (id : ConnId) (from : ℕ) (slots : TrackSlots) (track : Track) → IsNext slots from (Some track) →
     after ≡ record now { frontends = with_conn id (row_tracking track) now.frontends; tables = with_track (open_tracks now.frontends) track now.tables; spare = now.spare - 1 } →
     AreAlike (open_tracks after.frontends) (open_tracks now.frontends ++ track ∷ []) → IsTracked start now id from slots → IsTracked start after id (from + 1) slots
 after_slot start now after id from slots track next made alike known =
@@ -283,7 +283,7 @@ after_slot start now after id from slots track next made alike known =
     }
 
 -- all slots
-pub all_tracked : (start now : RowsValue) (id : ConnId) (from : ℕ) (slots : Slots) → length slots ≡ 3 → 3 ≤ from → IsTracked start now id from slots →
+pub all_tracked : (start now : RowsValue) (id : ConnId) (from : ℕ) (slots : TrackSlots) → length slots ≡ 3 → 3 ≤ from → IsTracked start now id from slots →
     (now.frontends ≡ with_conn id (row_with (present slots)) start.frontends) × (now.tables ≡ with_tracks (open_tracks start.frontends) (present slots) start.tables)
 all_tracked start now id from slots three past known =
     let none : present (drop from slots) ≡ [] = ap present (drop_all from slots (omega (arith, three, past))) in (

@@ -21,8 +21,8 @@ use Rattle.conn_rows.specs.Stored.{plan_at}
 use Rattle.conn_rows.specs.Value.{RowsValue}
 use Rattle.conn_versions.specs.Versions.{HasServer}
 use Rattle.conn_core.specs.Tracking.{row_with}
-use Rattle.conn_core.specs.declared.entering.Arrival.{Arrival}
-use Rattle.conn_core.specs.declared.outcome.Decision.{Decision}
+use Rattle.conn_core.specs.declared.entering.SessionStart.{SessionStart}
+use Rattle.conn_core.specs.declared.outcome.TrackedOutcome.{TrackedOutcome}
 use Rattle.conn_core.specs.declared.outcome.Outcome.{Outcome}
 use Rattle.conn_core.specs.declared.outcome.Outcome.TheVariants.{Wait, Offer, Refuse}
 
@@ -34,21 +34,21 @@ pub record IsComing (frontends : List FrontendRows) (id : ConnId) (own : Fronten
   pub given : AllByRecursion (λ row. row.serial ≤ own.serial) own.rows
 
 -- a connection that came in and tracks those
-abbrev pub newcomer : Arrival → List Track → ℕ → Row
+abbrev pub newcomer : SessionStart → List Track → ℕ → Row
 newcomer arrival tracks serial = row_with tracks (new_row serial arrival.version arrival.real arrival.accepted)
 
 -- its frontend
-abbrev pub with_newcomer : Arrival → List Track → FrontendRows → FrontendRows
+abbrev pub with_newcomer : SessionStart → List Track → FrontendRows → FrontendRows
 with_newcomer arrival tracks own = record own { serial = own.serial + 1; rows = own.rows ++ newcomer arrival tracks (own.serial + 1) ∷ [] }
 
 -- the row that a decision leaves of a connection
-abbrev pub entered_row : List Version → Arrival → List Track → Outcome → ℕ → List Row
+abbrev pub entered_row : List Version → SessionStart → List Track → Outcome → ℕ → List Row
 entered_row versions arrival tracks Wait serial = newcomer arrival tracks serial ∷ []
 entered_row versions arrival tracks (Offer offer) serial = row_offered versions offer.seat (newcomer arrival tracks serial) ∷ []
 entered_row versions arrival tracks (Refuse cause) serial = []
 
 -- its frontend
-abbrev pub entered : List Version → Arrival → Decision → FrontendRows → FrontendRows
+abbrev pub entered : List Version → SessionStart → TrackedOutcome → FrontendRows → FrontendRows
 entered versions arrival decision own =
     record own { serial = own.serial + 1; rows = own.rows ++ entered_row versions arrival (present decision.tracks) decision.outcome (own.serial + 1) }
 

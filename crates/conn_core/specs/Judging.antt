@@ -9,7 +9,7 @@ use Rattle.plan_types.specs.declared.plan.Backend.{Backend}
 use Rattle.plan_types.specs.declared.plan.Frontend.{Frontend}
 use Rattle.plan_types.specs.declared.track.Track.{Track}
 use Rattle.rule_engine.specs.Meaning.{present}
-use Rattle.rule_engine.specs.Judging.{Slots}
+use Rattle.rule_engine.specs.Judging.{TrackSlots}
 use Rattle.conn_model.specs.declared.ask.Counts.{Counts}
 use Rattle.conn_model.specs.declared.event.ConnId.{ConnId}
 use Rattle.conn_model.specs.declared.reply.Cause.{Cause}
@@ -23,8 +23,8 @@ use Rattle.conn_model.specs.Tables.{open_tracks, table_at}
 use Rattle.conn_model.specs.Words.{or_fault}
 use Rattle.conn_core.specs.Tracking.{ArePossible}
 use Rattle.conn_core.specs.declared.facts.RuleFacts.{RuleFacts}
-use Rattle.conn_core.specs.declared.judging.Verdict.{Verdict}
-use Rattle.conn_core.specs.declared.judging.Verdict.TheVariants.{Assigned, Refused}
+use Rattle.conn_core.specs.declared.judging.ServerVerdict.{ServerVerdict}
+use Rattle.conn_core.specs.declared.judging.ServerVerdict.TheVariants.{Assigned, Refused}
 
 -- one more, where the connection comes to the frontend of that name and is not among the rows yet
 abbrev pub arrival_in : Bool → List ℕ → List ℕ → ℕ
@@ -58,7 +58,7 @@ tracked_counts v track = option_and_then (λ track. option_map (λ table. (table
 abbrev pub source_counts : RuleView → Option TableState → Counts
 source_counts v table = option_map_or (counts_of v v.source) table (record { cur = 0; cnt = 0 })
 
-abbrev pub result_of : Verdict → Result NumberedServer Cause
+abbrev pub result_of : ServerVerdict → Result NumberedServer Cause
 result_of (Assigned number server) = Ok (record { number = number; server = server.now })
 result_of (Refused cause) = Err cause
 
@@ -68,11 +68,11 @@ server_at backend turn = or_fault (NoServer backend.line) (option_and_then (numb
 
 -- the reply to a connection of that judged pair, of which so many bytes of the piece belong to the header, where the
 -- step tracked those before
-abbrev pub decided : (List Track → RuleView) → Frontend → ConnId → ℕ → PairValue → Slots → Reply
+abbrev pub decided : (List Track → RuleView) → Frontend → ConnId → ℕ → PairValue → TrackSlots → Reply
 decided views frontend id used judged made =
     let decision = verdict views frontend made in
     reply_with (said_of id used judged decision.result) decision.made
 
 -- the step may track those
-abbrev pub AreAllowed : RuleFacts → Slots → Type 0
+abbrev pub AreAllowed : RuleFacts → TrackSlots → Type 0
 AreAllowed facts slots = ArePossible (open_tracks facts.rows.now.frontends) facts.rows.now.tables (present facts.own) facts.source slots

@@ -8,7 +8,7 @@ use Rattle.conn_model.specs.declared.reply.Reply.{Reply}
 use Rattle.conn_model.specs.declared.reply.Said.{Said}
 use Rattle.conn_model.specs.declared.reply.Said.TheVariants as saids
 use Rattle.conn_model.specs.Answer.{header_sent, reply_with, NumberedServer}
-use Rattle.conn_core.specs.declared.outcome.Decision.{Decision}
+use Rattle.conn_core.specs.declared.outcome.TrackedOutcome.{TrackedOutcome}
 use Rattle.conn_core.specs.declared.outcome.Offer.{Offer}
 use Rattle.conn_core.specs.declared.outcome.Outcome.{Outcome}
 use Rattle.conn_core.specs.declared.outcome.Outcome.TheVariants.{Wait, Offer as GiveServer, Refuse}
@@ -19,7 +19,7 @@ said_by id used (GiveServer offer) = saids.Offer id used offer.seat.line offer.s
 said_by id used (Refuse cause) = saids.Refuse id used cause
 
 -- the reply to it, with what the step tracks
-abbrev pub reply_by : ConnId → ℕ → Decision → Reply
+abbrev pub reply_by : ConnId → ℕ → TrackedOutcome → Reply
 reply_by id used decision = reply_with (said_by id used decision.outcome) decision.tracks
 
 -- the offer of a server that has that number in its backend

@@ -3,7 +3,7 @@ use Rattle.std.specs.Prelude.{ℕ, List, Some, None, find, slice_get, ◌≡◌,
 use Rattle.std.specs.List.{AllByRecursion}
 use Rattle.addr_core.specs.declared.addr.Addr.{Addr}
 use Rattle.plan_types.specs.declared.track.Track.{Track}
-use Rattle.rule_engine.specs.Judging.{Slots}
+use Rattle.rule_engine.specs.Judging.{TrackSlots}
 use Rattle.rule_engine.proofs.SlotLemmas.{AreSlots}
 use Rattle.conn_model.specs.declared.event.ConnId.{ConnId}
 use Rattle.conn_model.specs.declared.plain.FrontendRows.{FrontendRows}
@@ -20,7 +20,7 @@ pub record IsPossible (tracks : List Track) (tables : List TableState) (own : Li
   pub key : key_at tracks tables track.table source ≡ Some track.key
 
 -- where open connections track those, and the connection itself those of them
-abbrev pub ArePossible : List Track → List TableState → List Track → Addr → Slots → Type 0
+abbrev pub ArePossible : List Track → List TableState → List Track → Addr → TrackSlots → Type 0
 ArePossible tracks tables own source slots = AreSlots (IsPossible tracks tables own source) slots
 
 -- a connection that tracks those too

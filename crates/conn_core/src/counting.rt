@@ -1,6 +1,7 @@
 //! What rules see of tables.
 ghost use Rattle.std.specs.Prelude.{◌≡◌, ◌≤◌, slice_get, position, option_map, if◌then◌else◌};
 ghost use Rattle.std.specs.Str.{bytes_eq};
+ghost use Rattle.proxy_types.specs.declared.limits.TheConstants.{COUNTERS};
 ghost use Rattle.stick_core.specs.PlainEntries.{trackers_at};
 ghost use Rattle.acl_core.specs.declared.criterion.Criterion.TheVariants.{TrackedConnections, TrackedTotal};
 ghost use Rattle.acl_core.specs.declared.criterion.Value.TheVariants.{Absent, Number};
@@ -122,7 +123,7 @@ impl RuleFacts<'_> {
 /// How many of the tracks are of the key of an address in a table of that kind.
 fn key_trackers(tracks: &Tracks, id: TableId, kind: KeyType, addr: &Addr) -> u64
     ensures value { result ≡ trackers_at (trackers (present tracks.now) id) kind addr.now }
-    ensures few { result ≤ 3 }
+    ensures few { result ≤ COUNTERS }
 {
     match key_of(kind, addr) {
         Some(key) => trackers(tracks, id, &key),

@@ -11,7 +11,7 @@ ghost use Rattle.conn_core.specs.Changes.{entered, settled_versions, with_newcom
 ghost use Rattle.conn_core.specs.Outcome.{reply_by};
 ghost use Rattle.conn_core.specs.Tracking.{ArePossible};
 
-use crate::outcome::{Decision, Outcome};
+use crate::outcome::{Outcome, TrackedOutcome};
 use crate::tracking::{STEP_TRACKS, track_all, tracks_nothing};
 use addr_core::Pair;
 use conn_model::event::ConnId;
@@ -21,7 +21,7 @@ use std::alloc::AllocError;
 
 /// A connection that came to a listener.
 #[derive(Drop)]
-pub struct Arrival {
+pub struct SessionStart {
     /// The version of the configuration that judges it.
     pub version: u64,
     /// Its peer and its local end.
@@ -34,8 +34,8 @@ pub struct Arrival {
 pub fn enter(
     rows: &mut Rows,
     id: ConnId,
-    arrival: &Arrival,
-    decision: &Decision,
+    arrival: &SessionStart,
+    decision: &TrackedOutcome,
 ) -> Result<(), AllocError>
     requires coming { (own : FrontendRows) × IsComing rows.old.frontends id own }
     requires can { (source : Addr) × ArePossible (open_tracks rows.old.frontends) rows.old.tables [] source decision.now.tracks }
@@ -67,7 +67,12 @@ pub fn enter(
 }
 
 /// Opens a connection that tracks those.
-fn insert(rows: &mut Rows, id: ConnId, arrival: &Arrival, tracks: &Tracks) -> Result<(), AllocError>
+fn insert(
+    rows: &mut Rows,
+    id: ConnId,
+    arrival: &SessionStart,
+    tracks: &Tracks,
+) -> Result<(), AllocError>
     requires coming { (own : FrontendRows) × IsComing rows.old.frontends id own }
     requires can { (source : Addr) × ArePossible (open_tracks rows.old.frontends) rows.old.tables [] source tracks.now }
     ensures ok { OnOk result (state_of rows.new ≡ record (state_of rows.old) {

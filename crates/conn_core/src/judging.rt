@@ -1,5 +1,5 @@
 //! How a connection is judged.
-ghost use Rattle.std.specs.Prelude.{◌≡◌, ◌||◌, ℕ, Some, find, slice_get};
+ghost use Rattle.std.specs.Prelude.{◌≡◌, ◌||◌, ℕ, Some, find};
 ghost use Rattle.std.specs.Option.{option_copied};
 ghost use Rattle.std.specs.Str.{bytes_eq};
 ghost use Rattle.acl_core.specs.Truth.{applies};
@@ -12,27 +12,20 @@ ghost use Rattle.conn_core.specs.Judging.{decided, facts_view, result_of, server
 ghost use Rattle.conn_core.specs.Outcome.{outcome_of, reply_by};
 
 use crate::facts::RuleFacts;
-use crate::outcome::{Decision, Outcome, offer_of};
-use crate::tracking::NO_TRACKS;
+use crate::outcome::{Outcome, TrackedOutcome, offer_of};
 use acl_core::When;
 use addr_core::Pair;
 use conn_model::reply::Cause;
+use conn_versions::item;
 use plan_types::{Backend, Choice, Frontend, Plan, Server};
-use rule_engine::{Judged, Moment, Tracks, judge, judge_after};
+use rule_engine::{Judged, NO_TRACKS, Tracks, TracksSoFar, judge, judge_after};
 
 /// A server for a connection, or why it gets none.
 #[derive(Drop)]
-pub enum Verdict<'a> {
+pub enum ServerVerdict<'a> {
     /// The server, with its number in its backend.
     Assigned(u16, &'a Server),
     Refused(Cause),
-}
-
-/// The item of that number.
-pub fn item<T>(items: &[T], number: u16) -> Option<&T>
-    ensures { option_copied result ≡ slice_get items.now number }
-{
-    items.get(usize::from(number))
 }
 
 /// The frontend of that name.
@@ -55,7 +48,7 @@ fn has_name(frontend: &Frontend, name: &[u8]) -> bool
 fn applies(when: &When, facts: &RuleFacts<'_>, tracks: &Tracks) -> bool
     ensures { result ≡ applies facts.now.frontend.now.acls (worth (facts_view facts.now (present tracks.now))) when.now }
 {
-    when.applies(&Moment {
+    when.applies(&TracksSoFar {
         scene: facts,
         tracks,
     })
@@ -91,62 +84,62 @@ fn backend_number(facts: &RuleFacts<'_>, tracks: &Tracks) -> Option<u16>
 }
 
 /// The server that is picked for a connection, of its backend.
-fn assign<'a>(facts: &RuleFacts<'a>, tracks: &Tracks) -> Verdict<'a>
+fn assign<'a>(facts: &RuleFacts<'a>, tracks: &Tracks) -> ServerVerdict<'a>
     requires { version_at facts.now.rows.now.versions facts.now.version.now.number ≡ Some facts.now.version.now }
     ensures { result_of result ≡ server_for (facts_view facts.now (present tracks.now)) }
 {
     let Some(number) = backend_number(facts, tracks) else {
-        return Verdict::Refused(Cause::NoBackend(facts.frontend.line));
+        return ServerVerdict::Refused(Cause::NoBackend(facts.frontend.line));
     };
     let Some(backend) = item(facts.version.plan.backends.as_slice(), number) else {
-        return Verdict::Refused(Cause::NoBackend(facts.frontend.line));
+        return ServerVerdict::Refused(Cause::NoBackend(facts.frontend.line));
     };
     let turn = facts.rows.pick(facts.version.number, number, &facts.source);
     picked(backend, turn)
 }
 
 /// The server of that number, if one was picked.
-fn picked(backend: &Backend, turn: Option<u16>) -> Verdict<'_>
+fn picked(backend: &Backend, turn: Option<u16>) -> ServerVerdict<'_>
     ensures { result_of result ≡ server_at backend.now turn }
 {
     let Some(number) = turn else {
-        return Verdict::Refused(Cause::NoServer(backend.line));
+        return ServerVerdict::Refused(Cause::NoServer(backend.line));
     };
     match item(backend.servers.as_slice(), number) {
-        Some(server) => Verdict::Assigned(number, server),
-        None => Verdict::Refused(Cause::NoServer(backend.line)),
+        Some(server) => ServerVerdict::Assigned(number, server),
+        None => ServerVerdict::Refused(Cause::NoServer(backend.line)),
     }
 }
 
 /// A server for a connection after its session rules.
-fn session_verdict<'a>(facts: &RuleFacts<'a>, says: &Judged) -> Verdict<'a>
+fn session_verdict<'a>(facts: &RuleFacts<'a>, says: &Judged) -> ServerVerdict<'a>
     requires { version_at facts.now.rows.now.versions facts.now.version.now.number ≡ Some facts.now.version.now }
     ensures { result_of result ≡ server_unless (facts_view facts.now (present says.now.tracks)) (rejection says.now) }
 {
     match rejecting_line(says) {
-        Some(line) => Verdict::Refused(Cause::Line(line)),
+        Some(line) => ServerVerdict::Refused(Cause::Line(line)),
         None => assign(facts, &says.tracks),
     }
 }
 
-fn outcome(verdict: Verdict<'_>, judged: Pair) -> Outcome
+fn outcome(verdict: ServerVerdict<'_>, judged: Pair) -> Outcome
     ensures { result ≡ outcome_of judged (result_of verdict.entry) }
 {
     match verdict {
-        Verdict::Assigned(number, server) => Outcome::Offer(offer_of(number, server, judged)),
-        Verdict::Refused(cause) => Outcome::Refuse(cause),
+        ServerVerdict::Assigned(number, server) => Outcome::Offer(offer_of(number, server, judged)),
+        ServerVerdict::Refused(cause) => Outcome::Refuse(cause),
     }
 }
 
 /// What becomes of a connection of that judged pair, where the step made those tracks before: the session rules
 /// first, then the backend and its server.
-pub fn decide(judged: Pair, facts: &RuleFacts<'_>, earlier: Tracks) -> Decision
+pub fn decide(judged: Pair, facts: &RuleFacts<'_>, earlier: Tracks) -> TrackedOutcome
     requires { version_at facts.now.rows.now.versions facts.now.version.now.number ≡ Some facts.now.version.now }
     ensures reply { (id : ConnId) (used : ℕ) → reply_by id used result ≡ decided (facts_view facts.now) facts.now.frontend.now id used judged earlier }
     ensures can { AreAllowed facts.now earlier → AreAllowed facts.now result.tracks }
 {
     let says = judge_after(facts.frontend.session_rules.as_slice(), facts, earlier);
-    Decision {
+    TrackedOutcome {
         outcome: outcome(session_verdict(facts, &says), judged),
         tracks: says.tracks,
     }
@@ -161,14 +154,19 @@ fn demands_header(accept_proxy: bool, says: &Judged) -> bool
 
 /// What becomes of a connection at its accept, where so many others of its frontend are open: the limit of the
 /// frontend first, then the connection rules, then it waits where its listener or one of those rules demands a header.
-pub fn admission(accept_proxy: bool, real: Pair, others: u64, facts: &RuleFacts<'_>) -> Decision
+pub fn admission(
+    accept_proxy: bool,
+    real: Pair,
+    others: u64,
+    facts: &RuleFacts<'_>,
+) -> TrackedOutcome
     requires { version_at facts.now.rows.now.versions facts.now.version.now.number ≡ Some facts.now.version.now }
     ensures reply { (state : Plain) (id : ConnId) → view_of (candidate_of state id facts.now.version.now facts.now.frontend.now) real.source.addr ≡ facts_view facts.now →
         reply_by id 0 result ≡ admission (candidate_of state id facts.now.version.now facts.now.frontend.now) accept_proxy real others }
     ensures can { AreAllowed facts.now result.tracks }
 {
     if others >= facts.frontend.limit {
-        return Decision {
+        return TrackedOutcome {
             outcome: Outcome::Refuse(Cause::Line(facts.frontend.limit_line)),
             tracks: NO_TRACKS,
         };
@@ -183,7 +181,7 @@ pub fn admission(accept_proxy: bool, real: Pair, others: u64, facts: &RuleFacts<
             Outcome::Wait
         }
     };
-    Decision {
+    TrackedOutcome {
         outcome,
         tracks: says.tracks,
     }

@@ -23,13 +23,13 @@ ghost use Rattle.conn_core.specs.Tracking.{ArePossible};
 ghost use Rattle.conn_core.specs.Machine.{AreSound, IsOpened, IsNext, IsNextVersion};
 ghost use Rattle.conn_core.specs.Seeing.{SeesNext, SeesWaiting};
 
-use crate::entering::{Arrival, enter};
+use crate::entering::{SessionStart, enter};
 use crate::facts::RuleFacts;
-use crate::judging::{admission, frontend_named, item};
+use crate::judging::{admission, frontend_named};
 use crate::opening::listeners;
-use crate::outcome::{Decision, plain_reply, reply};
+use crate::outcome::{TrackedOutcome, plain_reply, reply};
 use crate::receiving::{can_judge, facts_of, receive};
-use crate::tracking::{NO_TRACKS, STEP_TRACKS};
+use crate::tracking::STEP_TRACKS;
 use addr_core::Pair;
 use config_core::{OpenFault, read_plan};
 use conn_model::ask::{Ask, Counts};
@@ -37,9 +37,11 @@ use conn_model::event::{ConnId, Event, HEADER_WAIT, Why};
 use conn_model::plain::{Listener, Plain};
 use conn_model::reply::{Cause, Reply, Said, StepFault};
 use conn_rows::{RowSummary, Rows, ServerNames};
+use conn_versions::item;
 use list_core::{Duplicate, Seq};
 use plan_core::same_binds;
 use plan_types::{Backend, Plan};
+use rule_engine::NO_TRACKS;
 use std::alloc::{AllocError, Global};
 use std::marker::Model;
 
@@ -125,7 +127,7 @@ impl Core {
         // Every history can be continued from there.
         ensures well { IsWell self.new }
     {
-        let reply = self.work(moment, event);
+        let reply = self.dispatch(moment, event);
         let _clock = self.clock();
         reply
     }
@@ -256,7 +258,7 @@ impl Core {
         self.clock
     }
 
-    fn work(&mut self, moment: u64, event: &Event<'_>) -> Result<Reply, StepFault>
+    fn dispatch(&mut self, moment: u64, event: &Event<'_>) -> Result<Reply, StepFault>
         ensures reply { IfOk result (λ r. answer_in self.old moment (owned_event event.now) ≡ Ok r) }
         ensures new { IfOk result (λ r. self.new ≡ after self.old (entry moment (owned_event event.now) r ∷ [])) }
         ensures fault { IfErr result (λ f. IsFault (owned_event event.now) (answer_in self.old moment (owned_event event.now)) f) }
@@ -286,7 +288,7 @@ impl Core {
             version,
             decision,
         } = self.admit(now, listener, real)?;
-        let arrival = Arrival {
+        let arrival = SessionStart {
             version,
             real,
             accepted: now,
@@ -377,7 +379,7 @@ impl Core {
     }
 
     /// Whether the connection of that name waits for its server to take it.
-    fn awaiting(&self, id: ConnId) -> Result<(), StepFault>
+    fn check_awaits_server(&self, id: ConnId) -> Result<(), StepFault>
         ensures ok { OnOk result ((said : Said) → server_answer self.now id said ≡ Ok (reply_of said)) }
         ensures fault { IfErr result (λ f. (said : Said) → server_answer self.now id said ≡ Err f) }
         ensures no_memory { result ≢ Err StepFault.NoMemory }
@@ -398,7 +400,7 @@ impl Core {
         ensures no_memory { result ≢ Err StepFault.NoMemory }
         ensures err { OnErr result (self.new ≡ self.old) }
     {
-        self.awaiting(id)?;
+        self.check_awaits_server(id)?;
         self.rows.up(id);
         self.clock = self.clock.max(moment);
         Ok(plain_reply(Said::Up { id }))
@@ -411,7 +413,7 @@ impl Core {
         ensures no_memory { result ≢ Err StepFault.NoMemory }
         ensures err { OnErr result (self.new ≡ self.old) }
     {
-        self.awaiting(id)?;
+        self.check_awaits_server(id)?;
         self.rows.remove(id);
         self.rows.forget();
         self.clock = self.clock.max(moment);
@@ -517,16 +519,9 @@ fn forget_after(rows: &mut Rows, said: &Said)
     requires { is_last said.now ≡ true → AreTracksHeld rows.old.frontends (versions_needed rows.old.frontends rows.old.versions) }
     ensures { rows.new ≡ forgotten (is_last said.now) rows.old }
 {
-    if is_last(said) {
+    if said.is_last() {
         rows.forget();
     }
-}
-
-/// Whether a reply is the last one to its connection.
-fn is_last(said: &Said) -> bool
-    ensures { result ≡ is_last said.now }
-{
-    matches!(said, Said::Refuse { .. } | Said::Closed { .. })
 }
 
 /// The number after that one, if there is one: of a connection or a version.
@@ -557,5 +552,5 @@ struct Admission {
     id: ConnId,
     /// The version of the configuration that judges it.
     version: u64,
-    decision: Decision,
+    decision: TrackedOutcome,
 }

@@ -1,6 +1,7 @@
 //! The state in which a plan is opened.
 ghost use Rattle.std.specs.Prelude.{◌≡◌, ◌≤◌, ◌++◌, flat_map, length, IfOk, OnOk};
 ghost use Rattle.std.specs.List.{enumerate_from};
+ghost use Rattle.proxy_types.specs.declared.limits.TheConstants.{MOST_SECTIONS};
 ghost use Rattle.conn_model.specs.History.{listeners_of};
 
 use conn_model::plain::Listener;
@@ -28,7 +29,7 @@ fn push_listeners(
 
 /// The listeners of all frontends, in written order.
 pub fn listeners(alloc: Global, frontends: &[Frontend]) -> Result<Seq<Listener>, AllocError>
-    requires { length frontends.now ≤ 64 }
+    requires { length frontends.now ≤ MOST_SECTIONS }
     ensures { IfOk result (λ all. all ≡ flat_map listeners_of (enumerate_from 0 frontends.now)) }
 {
     let mut all = Seq::new(alloc);

@@ -8,7 +8,7 @@ use addr_core::Pair;
 use arrayvec::ArrayVec;
 use conn_model::event::ConnId;
 use conn_model::reply::{Cause, Reply, Said};
-use conn_rows::Seat;
+use conn_rows::ServerChoice;
 use plan_types::Server;
 use pp_any::{write_v1, write_v2};
 use pp_v1::LINE_LIMIT;
@@ -17,7 +17,7 @@ use rule_engine::Tracks;
 /// A server for a connection.
 #[derive(Drop)]
 pub struct Offer {
-    pub seat: Seat,
+    pub seat: ServerChoice,
     /// What the server is sent before the stream.
     pub send: ArrayVec<u8, LINE_LIMIT>,
 }
@@ -33,16 +33,16 @@ pub enum Outcome {
 
 /// What becomes of a connection, and what the step tracks for it.
 #[derive(Drop)]
-pub struct Decision {
+pub struct TrackedOutcome {
     pub outcome: Outcome,
     pub tracks: Tracks,
 }
 
 /// The reply to a connection of which that becomes. So many bytes of the piece belong to its header.
-pub fn reply(id: ConnId, used: u64, decision: Decision) -> Reply
+pub fn reply(id: ConnId, used: u64, decision: TrackedOutcome) -> Reply
     ensures { result ≡ reply_by id used decision }
 {
-    let Decision { outcome, tracks } = decision;
+    let TrackedOutcome { outcome, tracks } = decision;
     Reply {
         said: said(id, used, outcome),
         tracks: present_tracks(&tracks),
@@ -83,7 +83,7 @@ pub fn offer_of(number: u16, server: &Server, judged: Pair) -> Offer
     ensures { result ≡ offer_of number server.now judged }
 {
     Offer {
-        seat: Seat {
+        seat: ServerChoice {
             server: number,
             line: server.line,
             to: server.to,

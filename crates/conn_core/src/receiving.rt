@@ -19,18 +19,19 @@ ghost use Rattle.conn_core.specs.Machine.{AreSound};
 ghost use Rattle.conn_core.specs.Outcome.{reply_by};
 ghost use Rattle.conn_core.specs.Seeing.{SeesOpen};
 ghost use Rattle.conn_core.specs.Tracking.{ArePossible, AreSorted};
+ghost use Rattle.conn_core.specs.declared.tracking.TheConstants.{STEP_TRACKS};
 
 use crate::facts::RuleFacts;
 use crate::judging;
 use crate::judging::frontend_named;
-use crate::outcome::{Decision, Outcome, plain_reply, reply};
-use crate::tracking::{NO_TRACKS, track_all};
+use crate::outcome::{Outcome, TrackedOutcome, plain_reply, reply};
+use crate::tracking::track_all;
 use addr_core::Pair;
 use conn_model::event::ConnId;
 use conn_model::reply::{Cause, Reply, Said};
 use conn_rows::{HeaderStatus, RowSummary, Rows};
 use pp_v1::Meaning;
-use rule_engine::Tracks;
+use rule_engine::{NO_TRACKS, Tracks};
 
 /// Whether there is what judges a connection of that version: the version, and its frontend in it.
 pub fn can_judge(rows: &Rows, id: ConnId, version: u64) -> bool
@@ -76,7 +77,7 @@ pub fn facts_of(rows: &Rows, id: ConnId, version: u64, judged: Pair) -> Option<R
 }
 
 /// What becomes of a connection whose header is whole.
-fn decision(rows: &Rows, id: ConnId, version: u64, judged: Pair) -> Option<Decision>
+fn decision(rows: &Rows, id: ConnId, version: u64, judged: Pair) -> Option<TrackedOutcome>
     ensures some { IfSome result (λ d. (judge : Judge rows.now.frontends rows.now.versions id version) × ((state : Plain) (used : ℕ) → IsSeen id state rows.now →
         reply_by id used d ≡ decision (candidate_of state id judge.version judge.frontend) used judged no_tracks)) }
     ensures can { IfSome result (λ d. IsSome (row_at rows.now.frontends id) → ArePossible (open_tracks rows.now.frontends) rows.now.tables (tracks_at rows.now.frontends id) judged.source.addr d.tracks) }
@@ -115,7 +116,7 @@ fn decide(rows: &mut Rows, id: ConnId, version: u64, judged: Pair, used: u64) ->
     requires sorted { AreSorted rows.old.frontends id }
     requires judge { Judge rows.old.frontends rows.old.versions id version }
     requires sound { AreSound rows.old.versions }
-    requires room { 3 ≤ rows.old.spare }
+    requires room { STEP_TRACKS ≤ rows.old.spare }
     ensures reply { (judge : Judge rows.old.frontends rows.old.versions id version) (state : Plain) → IsSeen id state rows.old →
         result ≡ decision (candidate_of state id judge.version judge.frontend) used judged no_tracks }
     ensures new { (event : OwnedEvent) → state_of rows.new ≡ record (state_of rows.old) {
@@ -155,7 +156,7 @@ pub fn receive(rows: &mut Rows, id: ConnId, row: &RowSummary, piece: &[u8]) -> R
     requires judge { Judge rows.old.frontends rows.old.versions id row.now.version }
     requires sorted { (own : FrontendRows) → slice_get rows.old.frontends id.frontend ≡ Some own → IsSorted own }
     requires sound { AreSound rows.old.versions }
-    requires room { 3 ≤ rows.old.spare }
+    requires room { STEP_TRACKS ≤ rows.old.spare }
     ensures reply { (p : Plain) → IsStateOf p rows.old → piece_answer p id piece.now ≡ Ok result }
     ensures new { state_of rows.new ≡ record (state_of rows.old) {
       frontends = spoken rows.old.versions (Piece id piece.now) id result rows.old.frontends;

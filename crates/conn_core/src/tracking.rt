@@ -12,13 +12,11 @@ use arrayvec::ArrayVec;
 use conn_model::event::ConnId;
 use conn_rows::Rows;
 use plan_types::{TableId, Track};
-use rule_engine::{COUNTERS, Tracks};
+use proxy_types::COUNTERS;
+use rule_engine::Tracks;
 
-/// The most tracks that a step makes: one by each counter.
+/// The most tracks that a step makes: one by each counter, so it is `COUNTERS`.
 pub const STEP_TRACKS: u64 = 3;
-
-/// No counter tracks.
-pub const NO_TRACKS: Tracks = [None; COUNTERS];
 
 /// What a counter tracks.
 pub fn track_by(tracks: &Tracks, counter: u8) -> Option<Track>
@@ -37,7 +35,7 @@ pub fn track_by(tracks: &Tracks, counter: u8) -> Option<Track>
 /// How many of the tracks are of a key of a table.
 pub fn trackers(tracks: &Tracks, id: TableId, key: &Addr) -> u64
     ensures value { result ≡ trackers (present tracks.now) id key.now }
-    ensures few { result ≤ 3 }
+    ensures few { result ≤ COUNTERS }
 {
     let mut count = 0;
     for slot in tracks {
@@ -59,7 +57,7 @@ fn is_of(track: &Track, id: TableId, key: &Addr) -> bool
 }
 
 /// The tracks there are, in the order of counters.
-pub fn present_tracks(tracks: &Tracks) -> ArrayVec<Track, 3>
+pub fn present_tracks(tracks: &Tracks) -> ArrayVec<Track, COUNTERS>
     ensures { result ≡ record { items = present tracks.now } }
 {
     let mut all = ArrayVec::new();
@@ -86,7 +84,7 @@ pub fn track_all(rows: &mut Rows, id: ConnId, tracks: &Tracks)
     requires there { IsSome (row_at rows.old.frontends id) }
     requires sorted { AreSorted rows.old.frontends id }
     requires can { (source : Addr) × ArePossible (open_tracks rows.old.frontends) rows.old.tables (tracks_at rows.old.frontends id) source tracks.now }
-    requires room { 3 ≤ rows.old.spare }
+    requires room { STEP_TRACKS ≤ rows.old.spare }
     ensures frontends { rows.new.frontends ≡ with_conn id (row_with (present tracks.now)) rows.old.frontends }
     ensures versions { rows.new.versions ≡ rows.old.versions }
     ensures tables { rows.new.tables ≡ with_tracks (open_tracks rows.old.frontends) (present tracks.now) rows.old.tables }

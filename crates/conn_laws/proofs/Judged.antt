@@ -4,7 +4,7 @@ use Rattle.addr_core.specs.PairValue.{PairValue}
 use Rattle.pp_any.specs.NextPiece.{status_on}
 use Rattle.pp_any.specs.Status as statuses
 use Rattle.pp_any.specs.Status.{Status}
-use Rattle.rule_engine.specs.Judging.{no_tracks, Slots}
+use Rattle.rule_engine.specs.Judging.{no_tracks, TrackSlots}
 use Rattle.conn_model.specs.declared.event.ConnId.{ConnId}
 use Rattle.conn_model.specs.declared.event.OwnedEvent.TheVariants.{Accept, Piece}
 use Rattle.conn_model.specs.declared.plain.Plain.{Plain}
@@ -20,10 +20,10 @@ said_judges : (id : ConnId) (used : ℕ) (judged : PairValue) (given : Result Nu
 said_judges id used judged (Ok given) = refl
 said_judges id used judged (Err cause) = refl
 
-decision_judges : (candidate : Candidate) (used : ℕ) (judged : PairValue) (made : Slots) → is_judgement (decision candidate used judged made).said ≡ true
+decision_judges : (candidate : Candidate) (used : ℕ) (judged : PairValue) (made : TrackSlots) → is_judgement (decision candidate used judged made).said ≡ true
 decision_judges candidate used judged made = said_judges candidate.id used judged (verdict (view_of candidate judged.source.addr) candidate.frontend made).result
 
-entry_judges : (candidate : Candidate) (accept_proxy : Bool) (real : PairValue) (made : Slots) (line : Option ℕ) → is_judgement (entry_reply candidate accept_proxy real made line).said ≡ true
+entry_judges : (candidate : Candidate) (accept_proxy : Bool) (real : PairValue) (made : TrackSlots) (line : Option ℕ) → is_judgement (entry_reply candidate accept_proxy real made line).said ≡ true
 entry_judges candidate accept_proxy real made (Some line) = refl
 entry_judges candidate true real made None = refl
 entry_judges candidate false real made None = decision_judges candidate 0 real made

@@ -11,7 +11,7 @@ use Rattle.pp_any.specs.NextPiece.{status_on}
 use Rattle.pp_any.specs.Status as statuses
 use Rattle.pp_any.specs.Status.{Status, status}
 use Rattle.proxy_types.specs.declared.balance.Place.{Place}
-use Rattle.rule_engine.specs.Judging.{no_tracks, Slots}
+use Rattle.rule_engine.specs.Judging.{no_tracks, TrackSlots}
 use Rattle.rule_engine.specs.declared.judging.Judged.{Judged}
 use Rattle.plan_types.specs.declared.plan.Backend.{Backend}
 use Rattle.plan_types.specs.declared.plan.Plan.{Plan}
@@ -69,12 +69,12 @@ refuses_none said id used cause offers is = false≢true (ap is_offer is ∙ off
 waits_none : (said : Said) (id : ConnId) (used : ℕ) → is_offer said ≡ true → saids.Wait id used ≡ said → ⊥
 waits_none said id used offers is = false≢true (ap is_offer is ∙ offers)
 
-pub record IsDecided (candidate : Candidate) (used : ℕ) (judged : PairValue) (made : Slots) (said : Said) : Type 0 where
+pub record IsDecided (candidate : Candidate) (used : ℕ) (judged : PairValue) (made : TrackSlots) (said : Said) : Type 0 where
   pub given : NumberedServer
   pub is_given : IsGiven candidate judged made given
   pub said_is : said ≡ said_of candidate.id used judged (Ok given)
 
-pub decided : (candidate : Candidate) (used : ℕ) (judged : PairValue) (made : Slots) (said : Said) → is_offer said ≡ true → (decision candidate used judged made).said ≡ said → IsDecided candidate used judged made said
+pub decided : (candidate : Candidate) (used : ℕ) (judged : PairValue) (made : TrackSlots) (said : Said) → is_offer said ≡ true → (decision candidate used judged made).said ≡ said → IsDecided candidate used judged made said
 decided candidate used judged made said offers is = by (rejection says) refl
   where
     says : Judged
@@ -97,7 +97,7 @@ decided candidate used judged made said offers is = by (rejection says) refl
     by (Some line) some = absurd (refuses_none said candidate.id used (Line line) offers (sym (ap (λ o. said_of candidate.id used judged (server_unless view o)) some) ∙ is))
 
 -- the slots that a decision leaves
-decision_is : (candidate : Candidate) (used : ℕ) (judged : PairValue) (made : Slots) (given : NumberedServer) → IsGiven candidate judged made given →
+decision_is : (candidate : Candidate) (used : ℕ) (judged : PairValue) (made : TrackSlots) (given : NumberedServer) → IsGiven candidate judged made given →
     decision candidate used judged made ≡ reply_with (said_of candidate.id used judged (Ok given)) (session_rules candidate judged made).tracks
 decision_is candidate used judged made given is =
     let found : server_unless (choice_view candidate judged made) (rejection (session_rules candidate judged made)) ≡ Ok given =

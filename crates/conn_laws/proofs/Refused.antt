@@ -8,7 +8,7 @@ use Rattle.pp_any.specs.Header.{shifted}
 use Rattle.pp_any.specs.NextPiece.{status_on}
 use Rattle.pp_any.specs.Status as statuses
 use Rattle.pp_any.specs.Status.{Status, status}
-use Rattle.rule_engine.specs.Judging.{no_tracks, Slots}
+use Rattle.rule_engine.specs.Judging.{no_tracks, TrackSlots}
 use Rattle.rule_engine.specs.declared.judging.Judged.{Judged}
 use Rattle.plan_types.specs.declared.plan.Plan.{Plan}
 use Rattle.config_core.specs.Meaning.{meaning}
@@ -37,21 +37,21 @@ use Rattle.conn_laws.proofs.Offered.{arrival_of, piece_status, waiter_of}
 
 -- A decision that refuses.
 
-record Refuses (candidate : Candidate) (judged : PairValue) (made : Slots) (used : ℕ) (cause : Cause) (count : ℕ) : Type 0 where
+record Refuses (candidate : Candidate) (judged : PairValue) (made : TrackSlots) (used : ℕ) (cause : Cause) (count : ℕ) : Type 0 where
   pub used_is : used ≡ count
   pub withheld : IsWithheld candidate judged made cause
 
 same_cause : (id other : ConnId) (used count : ℕ) (cause found : Cause) → Refuse id used cause ≡ Refuse other count found → (used ≡ count) × (cause ≡ found)
 same_cause id other used count cause found is = (cc, cc)
 
-withheld_for : (candidate : Candidate) (judged : PairValue) (made : Slots) (cause : Cause) → IsNotRejected (scene_of (view_of candidate judged.source.addr)) made candidate.frontend.session_rules → Lacks (choice_view candidate judged made) cause → IsWithheld candidate judged made cause
+withheld_for : (candidate : Candidate) (judged : PairValue) (made : TrackSlots) (cause : Cause) → IsNotRejected (scene_of (view_of candidate judged.source.addr)) made candidate.frontend.session_rules → Lacks (choice_view candidate judged made) cause → IsWithheld candidate judged made cause
 withheld_for candidate judged made (Line line) none has = absurd has
 withheld_for candidate judged made (Header fault) none has = absurd has
 withheld_for candidate judged made Expired none has = absurd has
 withheld_for candidate judged made (NoBackend line) none has = (none, has)
 withheld_for candidate judged made (NoServer line) none has = (none, has)
 
-refuses : (candidate : Candidate) (used : ℕ) (judged : PairValue) (made : Slots) (id : ConnId) (count : ℕ) (cause : Cause) → NamesBackends (length candidate.version.plan.backends) candidate.frontend → (decision candidate used judged made).said ≡ Refuse id count cause →
+refuses : (candidate : Candidate) (used : ℕ) (judged : PairValue) (made : TrackSlots) (id : ConnId) (count : ℕ) (cause : Cause) → NamesBackends (length candidate.version.plan.backends) candidate.frontend → (decision candidate used judged made).said ≡ Refuse id count cause →
     Refuses candidate judged made used cause count
 refuses candidate used judged made id count cause names is = by (rejection says) refl
   where

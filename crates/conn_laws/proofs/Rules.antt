@@ -2,7 +2,7 @@
 use Rattle.std.specs.Prelude.{ℕ, List, Option, Some, None, refl, IfSome, ◌≡◌, ◌≢◌}
 use Rattle.std.proofs.Common.{sym, ap, ◌∙◌}
 use Rattle.rule_engine.specs.Meaning.{SceneMeaning}
-use Rattle.rule_engine.specs.Judging.{deciding_rule, judged_after, judged_by, verdict_of, Slots}
+use Rattle.rule_engine.specs.Judging.{deciding_rule, judged_after, judged_by, verdict_of, TrackSlots}
 use Rattle.plan_types.specs.declared.plan.Action.{Action}
 use Rattle.plan_types.specs.declared.plan.Action.TheVariants as actions
 use Rattle.plan_types.specs.declared.plan.Rule.{Rule}
@@ -10,7 +10,7 @@ use Rattle.conn_model.specs.Rules.{reject_line, rejection}
 use Rattle.conn_laws.specs.Deciding.{IsNotRejected, IsRejected}
 
 -- a list of rules rejects by the rule that decides
-pub rejected : (scene : SceneMeaning) (made : Slots) (rules : List Rule) (line : ℕ) → rejection (judged_after scene made rules) ≡ Some line → IsRejected scene made rules line
+pub rejected : (scene : SceneMeaning) (made : TrackSlots) (rules : List Rule) (line : ℕ) → rejection (judged_after scene made rules) ≡ Some line → IsRejected scene made rules line
 rejected scene made rules line is = by (deciding_rule scene made rules) refl is
   where
     acts : (place : ℕ) (rule : Rule) → deciding_rule scene made rules ≡ Some (place, rule) → (action : Action) → rule.action ≡ action → reject_line (verdict_of action) rule.line ≡ Some line → IsRejected scene made rules line
@@ -24,7 +24,7 @@ rejected scene made rules line is = by (deciding_rule scene made rules) refl is
     by (Some found) some now = acts found.0 found.1 some found.1.action refl (sym (ap (λ o. rejection (judged_by scene made rules o)) some) ∙ now)
 
 -- and where it does not, that rule is no reject
-pub not_rejected : (scene : SceneMeaning) (made : Slots) (rules : List Rule) → rejection (judged_after scene made rules) ≡ None → IsNotRejected scene made rules
+pub not_rejected : (scene : SceneMeaning) (made : TrackSlots) (rules : List Rule) → rejection (judged_after scene made rules) ≡ None → IsNotRejected scene made rules
 not_rejected scene made rules is = by (deciding_rule scene made rules) refl
   where
     acts : (rule : Rule) → reject_line (verdict_of rule.action) rule.line ≡ None → rule.action ≢ actions.Reject
@@ -37,7 +37,7 @@ not_rejected scene made rules is = by (deciding_rule scene made rules) refl
     by None none = tt
     by (Some found) some = acts found.1 (sym (ap (λ o. rejection (judged_by scene made rules o)) some) ∙ is)
 
-pub no_rejection : (scene : SceneMeaning) (made : Slots) (rules : List Rule) → IsNotRejected scene made rules → rejection (judged_after scene made rules) ≡ None
+pub no_rejection : (scene : SceneMeaning) (made : TrackSlots) (rules : List Rule) → IsNotRejected scene made rules → rejection (judged_after scene made rules) ≡ None
 no_rejection scene made rules is = by (deciding_rule scene made rules) refl is
   where
     acts : (line : ℕ) (action : Action) → action ≢ actions.Reject → reject_line (verdict_of action) line ≡ None

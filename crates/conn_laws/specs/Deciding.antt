@@ -14,7 +14,7 @@ use Rattle.acl_core.specs.Truth.{applies}
 use Rattle.balance_core.specs.Loads.{total_weight}
 use Rattle.balance_core.specs.Source.{mixed, share_of}
 use Rattle.rule_engine.specs.Meaning.{present, SceneMeaning}
-use Rattle.rule_engine.specs.Judging.{deciding_rule, judged_after, no_tracks, Slots}
+use Rattle.rule_engine.specs.Judging.{deciding_rule, judged_after, no_tracks, TrackSlots}
 use Rattle.rule_engine.specs.declared.judging.Judged.{Judged}
 use Rattle.plan_types.specs.declared.plan.Action.TheVariants.{Reject}
 use Rattle.plan_types.specs.declared.plan.Backend.{Backend}
@@ -77,7 +77,7 @@ waiting p id waiter = candidate_of p id waiter.version waiter.frontend
 -- The rules.
 
 -- no rule of the list decides, or the one that does is not a reject
-abbrev pub IsNotRejected : SceneMeaning → Slots → List Rule → Type 0
+abbrev pub IsNotRejected : SceneMeaning → TrackSlots → List Rule → Type 0
 IsNotRejected scene made rules = IfSome (deciding_rule scene made rules) (λ found. found.1.action ≢ Reject)
 
 -- its frontend may have one connection more than so many others, and no connection rule rejects its real source
@@ -86,11 +86,11 @@ pub record IsAdmitted (candidate : Candidate) (real : PairValue) (others : ℕ) 
   pub rules : IsNotRejected (scene_of (view_of candidate real.source.addr)) no_tracks candidate.frontend.connection_rules
 
 -- what the session rules say of the judged source, where the step tracked those before
-abbrev pub session_rules : Candidate → PairValue → Slots → Judged
+abbrev pub session_rules : Candidate → PairValue → TrackSlots → Judged
 session_rules candidate judged made = judged_after (scene_of (view_of candidate judged.source.addr)) made candidate.frontend.session_rules
 
 -- what the choice of a server sees: what they tracked is tracked
-abbrev pub choice_view : Candidate → PairValue → Slots → RuleView
+abbrev pub choice_view : Candidate → PairValue → TrackSlots → RuleView
 choice_view candidate judged made = view_of candidate judged.source.addr (present (session_rules candidate judged made).tracks)
 
 -- the backend that the lines choose has that server for it, by the counts of the open connections
@@ -104,7 +104,7 @@ pub record HasServer (view : RuleView) (given : NumberedServer) : Type 0 where
   pub server_is : numbered_server backend place.server ≡ Some given
 
 -- no session rule rejects its judged source, and its backend has that server for it
-pub record IsGiven (candidate : Candidate) (judged : PairValue) (made : Slots) (given : NumberedServer) : Type 0 where
+pub record IsGiven (candidate : Candidate) (judged : PairValue) (made : TrackSlots) (given : NumberedServer) : Type 0 where
   pub rules : IsNotRejected (scene_of (view_of candidate judged.source.addr)) made candidate.frontend.session_rules
   pub server : HasServer (choice_view candidate judged made) given
 
@@ -112,7 +112,7 @@ pub record IsGiven (candidate : Candidate) (judged : PairValue) (made : Slots) (
 
 -- the answer says that
 abbrev pub Says : Result Reply StepFault → Said → Type 0
-Says answer said = (made : Slots) × (answer ≡ Ok (reply_with said made))
+Says answer said = (made : TrackSlots) × (answer ≡ Ok (reply_with said made))
 
 -- A connection is offered a server at its accept: its frontend has a serial left, and no header is demanded: neither by
 -- its listener nor by a connection rule that was tried.
@@ -184,7 +184,7 @@ may_offer (Reload text) = false
 -- Refusals.
 
 -- the rule of that line is the first that decides, and rejects
-pub record IsRejected (scene : SceneMeaning) (made : Slots) (rules : List Rule) (line : ℕ) : Type 0 where
+pub record IsRejected (scene : SceneMeaning) (made : TrackSlots) (rules : List Rule) (line : ℕ) : Type 0 where
   pub place : ℕ
   pub rule : Rule
   pub decides : deciding_rule scene made rules ≡ Some (place, rule)
@@ -239,7 +239,7 @@ pub record LacksServer (view : RuleView) (line : ℕ) : Type 0 where
   pub line_is : backend.line ≡ line
 
 -- it is judged by that pair, and gets no server for that cause
-abbrev pub IsWithheld : Candidate → PairValue → Slots → Cause → Type 0
+abbrev pub IsWithheld : Candidate → PairValue → TrackSlots → Cause → Type 0
 IsWithheld candidate judged made (Line line) = IsRejected (scene_of (view_of candidate judged.source.addr)) made candidate.frontend.session_rules line
 IsWithheld candidate judged made (Header fault) = ⊥
 IsWithheld candidate judged made Expired = ⊥

@@ -6,6 +6,7 @@ use Rattle.std.proofs.Common.{sym, ap, ◌∙◌, subst, arith}
 use Rattle.std.proofs.lemmas.Bool.{eq-eqb}
 use Rattle.std.proofs.lemmas.Bool.Decides.{nat_tests}
 use Rattle.std.proofs.lemmas.Option.{slice_get-map, slice_get_within}
+use Rattle.list_core.proofs.Items.{get-other}
 use Rattle.addr_core.specs.declared.addr.Addr.{Addr}
 use Rattle.proxy_types.specs.declared.balance.Place.{Place}
 use Rattle.proxy_types.specs.declared.server.ServerIdentity.{ServerIdentity}
@@ -73,13 +74,6 @@ get-set xs [] n x y same there = absurd (let wrong : None ≡ Some y = there in 
 get-set [] (z ∷ ys) n x y same there = absurd (omega (arith, same))
 get-set (w ∷ xs) (z ∷ ys) zero x y same there = refl
 get-set (w ∷ xs) (z ∷ ys) (suc n) x y same there = get-set xs ys n x y (omega (arith, same)) there
-
-get-other : {X : Type 0} (xs : List X) (n m : ℕ) (x : X) → m ≢ n → slice_get (slice_set xs n x) m ≡ slice_get xs m
-get-other [] n m x other = refl
-get-other (y ∷ xs) zero zero x other = absurd (other refl)
-get-other (y ∷ xs) zero (suc m) x other = refl
-get-other (y ∷ xs) (suc n) zero x other = refl
-get-other (y ∷ xs) (suc n) (suc m) x other = get-other xs n m x (λ same. other (ap suc same))
 
 -- what an offer leaves
 moved : (plan : Plan) → IsSoundPlan plan → (place line number : ℕ) (backend : Backend) (server : Server) (cursors : List (Option Place)) → slice_get plan.backends place ≡ Some backend →

@@ -8,7 +8,7 @@ use Rattle.std.proofs.lemmas.List.{length-append}
 use Rattle.std.proofs.lemmas.List.Filters.{length-filter_both}
 use Rattle.std.proofs.lemmas.List.Folds.{list_any-append}
 use Rattle.addr_core.specs.declared.addr.Addr.{Addr}
-use Rattle.stick_core.specs.declared.entries.TableEntry.{TableEntry}
+use Rattle.stick_core.specs.declared.entries.PlainEntry.{PlainEntry}
 use Rattle.addr_core.specs.Same.{same_addr}
 use Rattle.stick_core.specs.PlainEntries.{can_track, counted, has_key, is_idle, is_in, touched, with_tracking, without_first, KeysDiffer}
 use Rattle.addr_core.proofs.SameLemmas.{same_addr-is, same_addr-refl, same_addr-sym}
@@ -16,7 +16,7 @@ use Rattle.conn_model.proofs.Lists.{or_true, or_left, or_right, all-append, all-
 
 -- Keys that differ.
 
-differ-filter : (test : TableEntry → Bool) (entries : List TableEntry) → KeysDiffer entries → KeysDiffer (filter test entries)
+differ-filter : (test : PlainEntry → Bool) (entries : List PlainEntry) → KeysDiffer entries → KeysDiffer (filter test entries)
 differ-filter test [] differ = tt
 differ-filter test (x ∷ entries) differ = by (test x) refl (differ-filter test entries differ.1)
   where
@@ -25,7 +25,7 @@ differ-filter test (x ∷ entries) differ = by (test x) refl (differ-filter test
     by false e rest = rw e rest
 
 -- those of other keys, and then some of this one
-differ-parted : (key : Addr) (entries ys : List TableEntry) → KeysDiffer entries → KeysDiffer ys → AllByRecursion (λ y. y.key ≡ key) ys →
+differ-parted : (key : Addr) (entries ys : List PlainEntry) → KeysDiffer entries → KeysDiffer ys → AllByRecursion (λ y. y.key ≡ key) ys →
     KeysDiffer (filter (λ entry. not (has_key key entry)) entries ++ ys)
 differ-parted key [] ys differ two keys = two
 differ-parted key (x ∷ entries) ys differ two keys = by (has_key key x) refl (differ-parted key entries ys differ.1 two keys)
@@ -39,10 +39,10 @@ differ-parted key (x ∷ entries) ys differ two keys = by (has_key key x) refl (
       rest,
     )
 
-counted-differ : (key : Addr) (entries : List TableEntry) → KeysDiffer entries → KeysDiffer (counted key entries)
+counted-differ : (key : Addr) (entries : List PlainEntry) → KeysDiffer entries → KeysDiffer (counted key entries)
 counted-differ key entries differ = differ-parted key entries _ differ (tt, tt) (refl, tt)
 
-pub touched-differ : (key : Addr) (entries : List TableEntry) → KeysDiffer entries → KeysDiffer (touched key entries)
+pub touched-differ : (key : Addr) (entries : List PlainEntry) → KeysDiffer entries → KeysDiffer (touched key entries)
 touched-differ key entries differ =
     differ-parted key entries (filter (has_key key) entries) differ (differ-filter (has_key key) entries differ)
     (all-filter_if (λ y. y.key ≡ key) (has_key key) entries (all-each (λ y. has_key key y ≡ true → y.key ≡ key) entries (λ y is. same_addr-is y.key key is)))
@@ -55,7 +55,7 @@ all-without {X} P test (x ∷ xs) all = by (test x) refl (all-without P test xs 
     by true e rest = rw e all.1
     by false e rest = rw e (all.0, rest)
 
-without-differ : (test : TableEntry → Bool) (entries : List TableEntry) → KeysDiffer entries → KeysDiffer (without_first test entries)
+without-differ : (test : PlainEntry → Bool) (entries : List PlainEntry) → KeysDiffer entries → KeysDiffer (without_first test entries)
 without-differ test [] differ = tt
 without-differ test (x ∷ entries) differ = by (test x) refl (without-differ test entries differ.1)
   where
@@ -63,7 +63,7 @@ without-differ test (x ∷ entries) differ = by (test x) refl (without-differ te
     by true e rest = rw e differ.1
     by false e rest = rw e (all-without (λ other. same_addr other.key x.key ≡ false) test entries differ.0, rest)
 
-pub tracking-differ : (trackers : Addr → ℕ) (size : ℕ) (key : Addr) (entries : List TableEntry) → KeysDiffer entries → KeysDiffer (with_tracking trackers size key entries)
+pub tracking-differ : (trackers : Addr → ℕ) (size : ℕ) (key : Addr) (entries : List PlainEntry) → KeysDiffer entries → KeysDiffer (with_tracking trackers size key entries)
 tracking-differ trackers size key entries differ = by (is_in key entries || nat_lt (length entries) size)
   where
     by : (b : Bool) → KeysDiffer (if b then counted key entries else counted key (without_first (is_idle trackers) entries))
@@ -97,10 +97,10 @@ without-below {X} test (x ∷ xs) is = by (test x) refl (without-below test xs)
     by true e rest = rw e (omega arith)
     by false e rest = let less : length (without_first test xs) < length xs = rest (rw e at is) in rw e (omega (arith, less))
 
-counted-length : (key : Addr) (entries : List TableEntry) → length (counted key entries) ≡ length (filter (λ entry. not (has_key key entry)) entries) + 1
+counted-length : (key : Addr) (entries : List PlainEntry) → length (counted key entries) ≡ length (filter (λ entry. not (has_key key entry)) entries) + 1
 counted-length key entries = length-append (filter (λ entry. not (has_key key entry)) entries) _
 
-pub touched-length : (key : Addr) (entries : List TableEntry) → length (touched key entries) ≡ length entries
+pub touched-length : (key : Addr) (entries : List PlainEntry) → length (touched key entries) ≡ length entries
 touched-length key entries =
     let parts : length (touched key entries) ≡ length (filter (λ entry. not (has_key key entry)) entries) + length (filter (has_key key) entries) =
     length-append (filter (λ entry. not (has_key key entry)) entries) (filter (has_key key) entries) in
@@ -109,7 +109,7 @@ touched-length key entries =
     omega (arith, parts, both)
 
 -- where the key can be listed
-pub tracking-fits : (trackers : Addr → ℕ) (size : ℕ) (key : Addr) (entries : List TableEntry) → can_track trackers size entries key ≡ true → length entries ≤ size →
+pub tracking-fits : (trackers : Addr → ℕ) (size : ℕ) (key : Addr) (entries : List PlainEntry) → can_track trackers size entries key ≡ true → length entries ≤ size →
     length (with_tracking trackers size key entries) ≤ size
 tracking-fits trackers size key entries can fits = by (is_in key entries) (nat_lt (length entries) size) refl refl
   where
@@ -125,7 +125,7 @@ tracking-fits trackers size key entries can fits = by (is_in key entries) (nat_l
         rw (ea, eb) (omega (arith, less, sum', room))
     by false false ea eb =
         let idle : list_any (is_idle trackers) entries ≡ true = rw (ea, eb) at can in
-        let rest : List TableEntry = without_first (is_idle trackers) entries in
+        let rest : List PlainEntry = without_first (is_idle trackers) entries in
         let fewer : length rest < length entries = without-below (is_idle trackers) entries idle in
         let less : length (filter (λ entry. not (has_key key entry)) rest) ≤ length rest = filter-less (λ entry. not (has_key key entry)) rest in
         let sum' : length (counted key rest) ≡ length (filter (λ entry. not (has_key key entry)) rest) + 1 = counted-length key rest in
@@ -133,7 +133,7 @@ tracking-fits trackers size key entries can fits = by (is_in key entries) (nat_l
 
 -- Keys that stay.
 
-in-parted : (k key : Addr) (entries ys : List TableEntry) → (same_addr key k ≡ true → is_in k ys ≡ true) → is_in k entries ≡ true →
+in-parted : (k key : Addr) (entries ys : List PlainEntry) → (same_addr key k ≡ true → is_in k ys ≡ true) → is_in k entries ≡ true →
     is_in k (filter (λ entry. not (has_key key entry)) entries ++ ys) ≡ true
 in-parted k key [] ys stays is = absurd (false≢true is)
 in-parted k key (x ∷ entries) ys stays is = by (has_key key x) refl (in-parted k key entries ys stays) (or_true (has_key k x) (is_in k entries) is)
@@ -148,15 +148,15 @@ in-parted k key (x ∷ entries) ys stays is = by (has_key key x) refl (in-parted
     by false e later (inl here) = rw e (or_left (has_key k x) (list_any (has_key k) (filter (λ entry. not (has_key key entry)) entries ++ ys)) here)
     by false e later (inr there) = rw e (or_right (has_key k x) (list_any (has_key k) (filter (λ entry. not (has_key key entry)) entries ++ ys)) (later there))
 
-in-counted : (k key : Addr) (entries : List TableEntry) → is_in k entries ≡ true → is_in k (counted key entries) ≡ true
+in-counted : (k key : Addr) (entries : List PlainEntry) → is_in k entries ≡ true → is_in k (counted key entries) ≡ true
 in-counted k key entries is = in-parted k key entries _ (λ same. or_left (same_addr key k) false same) is
 
-in-new : (key : Addr) (entries : List TableEntry) → is_in key (counted key entries) ≡ true
+in-new : (key : Addr) (entries : List PlainEntry) → is_in key (counted key entries) ≡ true
 in-new key entries =
     list_any-append (has_key key) (filter (λ entry. not (has_key key entry)) entries) _
     ∙ or_right (list_any (has_key key) (filter (λ entry. not (has_key key entry)) entries)) (same_addr key key || false) (or_left (same_addr key key) false (same_addr-refl key))
 
-in-own : (key : Addr) (entries : List TableEntry) → is_in key entries ≡ true → is_in key (filter (has_key key) entries) ≡ true
+in-own : (key : Addr) (entries : List PlainEntry) → is_in key entries ≡ true → is_in key (filter (has_key key) entries) ≡ true
 in-own key [] is = is
 in-own key (x ∷ entries) is = by (has_key key x) refl (in-own key entries)
   where
@@ -164,12 +164,12 @@ in-own key (x ∷ entries) is = by (has_key key x) refl (in-own key entries)
     by true e rest = rw e (or_left (has_key key x) (list_any (has_key key) (filter (has_key key) entries)) e)
     by false e rest = rw e (rest (rw e at is))
 
-pub in-touched : (k key : Addr) (entries : List TableEntry) → is_in k entries ≡ true → is_in k (touched key entries) ≡ true
+pub in-touched : (k key : Addr) (entries : List PlainEntry) → is_in k entries ≡ true → is_in k (touched key entries) ≡ true
 in-touched k key entries is =
     in-parted k key entries (filter (has_key key) entries)
     (λ same. let it : key ≡ k = same_addr-is key k same in subst (λ a. is_in a (filter (has_key key) entries) ≡ true) it (in-own key entries (subst (λ a. is_in a entries ≡ true) (sym it) is))) is
 
-in-without : (k : Addr) (test : TableEntry → Bool) (entries : List TableEntry) → ((entry : TableEntry) → has_key k entry ≡ true → test entry ≡ false) → is_in k entries ≡ true →
+in-without : (k : Addr) (test : PlainEntry → Bool) (entries : List PlainEntry) → ((entry : PlainEntry) → has_key k entry ≡ true → test entry ≡ false) → is_in k entries ≡ true →
     is_in k (without_first test entries) ≡ true
 in-without k test [] stays is = is
 in-without k test (x ∷ entries) stays is = by (test x) refl (in-without k test entries stays) (or_true (has_key k x) (is_in k entries) is)
@@ -182,7 +182,7 @@ in-without k test (x ∷ entries) stays is = by (test x) refl (in-without k test
     by false e rest (inr there) = rw e (or_right (has_key k x) (list_any (has_key k) (without_first test entries)) (rest there))
 
 -- a key of which no entry is idle
-pub in-tracking : (trackers : Addr → ℕ) (size : ℕ) (k key : Addr) (entries : List TableEntry) → ((entry : TableEntry) → has_key k entry ≡ true → is_idle trackers entry ≡ false) →
+pub in-tracking : (trackers : Addr → ℕ) (size : ℕ) (k key : Addr) (entries : List PlainEntry) → ((entry : PlainEntry) → has_key k entry ≡ true → is_idle trackers entry ≡ false) →
     is_in k entries ≡ true → is_in k (with_tracking trackers size key entries) ≡ true
 in-tracking trackers size k key entries busy is = by (is_in key entries || nat_lt (length entries) size)
   where
@@ -191,7 +191,7 @@ in-tracking trackers size k key entries busy is = by (is_in key entries || nat_l
     by false = in-counted k key (without_first (is_idle trackers) entries) (in-without k (is_idle trackers) entries busy is)
 
 -- and the one that is tracked
-pub in-tracked : (trackers : Addr → ℕ) (size : ℕ) (key : Addr) (entries : List TableEntry) → is_in key (with_tracking trackers size key entries) ≡ true
+pub in-tracked : (trackers : Addr → ℕ) (size : ℕ) (key : Addr) (entries : List PlainEntry) → is_in key (with_tracking trackers size key entries) ≡ true
 in-tracked trackers size key entries = by (is_in key entries || nat_lt (length entries) size)
   where
     by : (b : Bool) → is_in key (if b then counted key entries else counted key (without_first (is_idle trackers) entries)) ≡ true

@@ -5,7 +5,7 @@ use Rattle.std.proofs.Common.{ap, ◌∙◌, arith}
 use Rattle.std.proofs.lemmas.Bool.{false≢true}
 use Rattle.std.proofs.lemmas.Bool.Decides.{nat_tests}
 use Rattle.std.proofs.lemmas.List.Folds.{list_any-append}
-use Rattle.stick_core.specs.declared.entries.TableEntry.{TableEntry}
+use Rattle.stick_core.specs.declared.entries.PlainEntry.{PlainEntry}
 use Rattle.stick_core.specs.PlainEntries.{has_key, is_idle, is_in}
 use Rattle.addr_core.proofs.SameLemmas.{same_addr-is, same_addr-refl}
 use Rattle.plan_types.specs.declared.track.TableId.{TableId}
@@ -48,7 +48,7 @@ any-length {X} test (x ∷ xs) is = by (test x) refl (any-length test xs)
     by false e rest = rw e (rest (rw e at is))
 
 -- an entry of a key that somebody tracks is not idle
-busy : (tracks : List Track) (track : Track) (id : TableId) (entry : TableEntry) → IsIn tracks track → same_id id track.table ≡ true → has_key track.key entry ≡ true → is_idle (trackers tracks id) entry ≡ false
+busy : (tracks : List Track) (track : Track) (id : TableId) (entry : PlainEntry) → IsIn tracks track → same_id id track.table ≡ true → has_key track.key entry ≡ true → is_idle (trackers tracks id) entry ≡ false
 busy tracks track id entry found on is =
     let ids : id ≡ track.table = same_id-is id track.table on in
     let keys : entry.key ≡ track.key = same_addr-is entry.key track.key is in

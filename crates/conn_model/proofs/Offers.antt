@@ -23,7 +23,7 @@ use Rattle.pp_any.specs.Status as statuses
 use Rattle.pp_any.specs.Status.{Status}
 use Rattle.pp_any.specs.NextPiece.{status_on}
 use Rattle.rule_engine.specs.Meaning.{present}
-use Rattle.rule_engine.specs.Judging.{judged_after, no_tracks, Slots}
+use Rattle.rule_engine.specs.Judging.{judged_after, no_tracks, TrackSlots}
 use Rattle.conn_model.specs.declared.event.ConnId.{ConnId}
 use Rattle.conn_model.specs.declared.event.OwnedEvent.{OwnedEvent}
 use Rattle.conn_model.specs.declared.event.OwnedEvent.TheVariants.{Accept, Piece, Connected, ConnectFailed, Close, Expire, Reload}
@@ -161,13 +161,13 @@ said-offers v id used judged (Some line) (Ok given) is = absurd (let wrong : Err
 abbrev served_there : Candidate → ServerIdentity → ℕ
 served_there candidate = served_by candidate.state.frontends
 
-pub decision-offers : (candidate : Candidate) (used : ℕ) (judged : PairValue) (made : Slots) → OffersWell (served_there candidate) candidate.version.plan (decision candidate used judged made).said
+pub decision-offers : (candidate : Candidate) (used : ℕ) (judged : PairValue) (made : TrackSlots) → OffersWell (served_there candidate) candidate.version.plan (decision candidate used judged made).said
 decision-offers candidate used judged made =
     let views = view_of candidate judged.source.addr in
     let says = judged_after (scene_of views) made candidate.frontend.session_rules in
     said-offers (views (present says.tracks)) candidate.id used judged (rejection says) (server_unless (views (present says.tracks)) (rejection says)) refl
 
-entry-offers : (candidate : Candidate) (accept_proxy : Bool) (real : PairValue) (made : Slots) (line : Option ℕ) →
+entry-offers : (candidate : Candidate) (accept_proxy : Bool) (real : PairValue) (made : TrackSlots) (line : Option ℕ) →
     OffersWell (served_there candidate) candidate.version.plan (entry_reply candidate accept_proxy real made line).said
 entry-offers candidate accept_proxy real made (Some line) = tt
 entry-offers candidate true real made None = tt

@@ -9,7 +9,7 @@ use Rattle.std.proofs.lemmas.List.{map-id}
 use Rattle.std.proofs.lemmas.List.Elements.{filter-append}
 use Rattle.addr_core.specs.declared.addr.Addr.{Addr}
 use Rattle.proxy_types.specs.declared.table.KeyType.{KeyType}
-use Rattle.stick_core.specs.declared.entries.TableEntry.{TableEntry}
+use Rattle.stick_core.specs.declared.entries.PlainEntry.{PlainEntry}
 use Rattle.stick_core.specs.Key.{key_in}
 use Rattle.stick_core.specs.PlainEntries.{can_track, is_in, touched, tracked_key, with_tracking, KeysDiffer}
 use Rattle.list_core.proofs.PlaceLemmas.{find-passes}
@@ -172,7 +172,7 @@ abbrev pub AreOfSource : List Track → Addr → TableState → List Track → T
 AreOfSource tracks source table made = AllByRecursion (λ track. same_id table.id track.table ≡ true → key_for tracks source table ≡ Some track.key) made
 
 -- a table that tracks an address under a key has that key, and can list it
-pub tracked_is : (f : Addr → ℕ) (kind : KeyType) (size : ℕ) (entries : List TableEntry) (addr key : Addr) → tracked_key f kind size entries addr ≡ Some key →
+pub tracked_is : (f : Addr → ℕ) (kind : KeyType) (size : ℕ) (entries : List PlainEntry) (addr key : Addr) → tracked_key f kind size entries addr ≡ Some key →
     (key_in kind addr ≡ Some key) × (can_track f size entries key ≡ true)
 tracked_is f kind size entries addr key is = by (key_in kind addr) refl
   where
@@ -205,7 +205,7 @@ with_tracks-fits tracks (track ∷ made) source table keys fits = by (same_id ta
         let f : Addr → ℕ = trackers tracks table.id in
         let more : Addr → ℕ = trackers (tracks ++ track ∷ []) table.id in
         let size : ℕ = table.table.size in
-        let after : List TableEntry = with_tracking f size track.key table.entries in
+        let after : List PlainEntry = with_tracking f size track.key table.entries in
         let next : TableState = record table { entries = after } in
         let this : table_with tracks track table ≡ next = rw e refl in
         let own = tracked_is f table.table.kind size table.entries source track.key (keys.0 e) in

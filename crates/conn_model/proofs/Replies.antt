@@ -30,7 +30,7 @@ use Rattle.conn_model.specs.declared.plain.Listener.{Listener}
 use Rattle.conn_model.specs.declared.plain.Version.{Version}
 use Rattle.conn_model.specs.declared.plain.Plain.{Plain}
 use Rattle.conn_model.specs.Words.{newest, or_fault}
-use Rattle.rule_engine.specs.Judging.{no_tracks, Slots}
+use Rattle.rule_engine.specs.Judging.{no_tracks, TrackSlots}
 use Rattle.conn_model.specs.Rules.{Candidate, rejection, view_of}
 use Rattle.conn_model.specs.Answer.{awaits_server, row_at, server_answer, version_at, NumberedServer, frontend_in, reply_of, verdict, said_of, decision, candidate_at, candidate_of, judged_pair, rest_in, waiting_row, demands_header, entry_reply, entry_rules, admission, header_reply, accept_answer, piece_answer, close_answer, expire_answer, next_answer, reload_answer, answer_in}
 use Rattle.conn_model.specs.History.{id_of}
@@ -56,7 +56,7 @@ pub said_of-id : (id : ConnId) (used : ℕ) (judged : PairValue) (result : Resul
 said_of-id id used judged (Ok given) = refl
 said_of-id id used judged (Err cause) = refl
 
-pub decision-id : (candidate : Candidate) (used : ℕ) (judged : PairValue) (made : Slots) → id_of (decision candidate used judged made).said ≡ Some candidate.id
+pub decision-id : (candidate : Candidate) (used : ℕ) (judged : PairValue) (made : TrackSlots) → id_of (decision candidate used judged made).said ≡ Some candidate.id
 decision-id candidate used judged made = said_of-id candidate.id used judged (verdict (view_of candidate judged.source.addr) candidate.frontend made).result
 
 pub header_reply-id : (candidate : Candidate) (real : PairValue) (count : ℕ) (status : Status) → id_of (header_reply candidate real count status).said ≡ Some candidate.id
@@ -64,7 +64,7 @@ header_reply-id candidate real count statuses.Wait = refl
 header_reply-id candidate real count (statuses.Fault fault used) = refl
 header_reply-id candidate real count (statuses.Whole used meaning) = decision-id candidate used (judged_pair real meaning) no_tracks
 
-entry_reply-id : (candidate : Candidate) (accept_proxy : Bool) (real : PairValue) (made : Slots) (line : Option ℕ) → id_of (entry_reply candidate accept_proxy real made line).said ≡ Some candidate.id
+entry_reply-id : (candidate : Candidate) (accept_proxy : Bool) (real : PairValue) (made : TrackSlots) (line : Option ℕ) → id_of (entry_reply candidate accept_proxy real made line).said ≡ Some candidate.id
 entry_reply-id candidate accept_proxy real made (Some line) = refl
 entry_reply-id candidate true real made None = refl
 entry_reply-id candidate false real made None = decision-id candidate 0 real made

@@ -14,7 +14,7 @@ use Rattle.plan_types.specs.declared.plan.Frontend.{Frontend}
 use Rattle.plan_types.specs.declared.track.TableId.{TableId}
 use Rattle.plan_types.specs.declared.track.Track.{Track}
 use Rattle.rule_engine.specs.Meaning.{present}
-use Rattle.rule_engine.specs.Judging.{Slots, no_tracks}
+use Rattle.rule_engine.specs.Judging.{TrackSlots, no_tracks}
 use Rattle.rule_engine.proofs.SlotLemmas.{judged-slots, none_made, AreSlots, Makes}
 use Rattle.conn_model.specs.declared.event.ConnId.{ConnId}
 use Rattle.conn_model.specs.declared.event.OwnedEvent.{OwnedEvent}
@@ -84,7 +84,7 @@ rules_make candidate source counter number made table key below free there = key
     keyed (Some id) at = found id at (table_at view.tables id) refl (rw at at there)
 
 -- what the slots hold
-present-all : (P : Track → Type 0) (slots : Slots) → ((n : ℕ) (made : Track) → slice_get slots n ≡ Some (Some made) → P made) → AllByRecursion P (present slots)
+present-all : (P : Track → Type 0) (slots : TrackSlots) → ((n : ℕ) (made : Track) → slice_get slots n ≡ Some (Some made) → P made) → AllByRecursion P (present slots)
 present-all P [] each = tt
 present-all P (None ∷ slots) each = present-all P slots (λ n made there. each (suc n) made there)
 present-all P (Some track ∷ slots) each = (each 0 track refl, present-all P slots (λ n made there. each (suc n) made there))
@@ -92,16 +92,16 @@ present-all P (Some track ∷ slots) each = (each 0 track refl, present-all P sl
 abbrev AreMade : Candidate → Addr → List Track → Type 0
 AreMade candidate source tracks = AllByRecursion (IsOfSource (open_tracks candidate.state.frontends) candidate.state.tables candidate.version.tables source) tracks
 
-slots_made : (candidate : Candidate) (source : Addr) (slots : Slots) → AreSlots (OfSource candidate source) slots → AreMade candidate source (present slots)
+slots_made : (candidate : Candidate) (source : Addr) (slots : TrackSlots) → AreSlots (OfSource candidate source) slots → AreMade candidate source (present slots)
 slots_made candidate source slots known = present-all (OfSource candidate source 0) slots known.each
 
-decision_made : (candidate : Candidate) (used : ℕ) (judged : PairValue) (made : Slots) → AreSlots (OfSource candidate judged.source.addr) made →
+decision_made : (candidate : Candidate) (used : ℕ) (judged : PairValue) (made : TrackSlots) → AreSlots (OfSource candidate judged.source.addr) made →
     AreMade candidate judged.source.addr (decision candidate used judged made).tracks.items
 decision_made candidate used judged made known =
     slots_made candidate judged.source.addr _
     (judged-slots (scene_of (view_of candidate judged.source.addr)) (OfSource candidate judged.source.addr) (rules_make candidate judged.source.addr) made candidate.frontend.session_rules known)
 
-entry_made : (candidate : Candidate) (accept_proxy : Bool) (real : PairValue) (made : Slots) (line : Option ℕ) → AreSlots (OfSource candidate real.source.addr) made →
+entry_made : (candidate : Candidate) (accept_proxy : Bool) (real : PairValue) (made : TrackSlots) (line : Option ℕ) → AreSlots (OfSource candidate real.source.addr) made →
     AreMade candidate real.source.addr (entry_reply candidate accept_proxy real made line).tracks.items
 entry_made candidate accept_proxy real made (Some line) known = slots_made candidate real.source.addr made known
 entry_made candidate true real made None known = slots_made candidate real.source.addr made known

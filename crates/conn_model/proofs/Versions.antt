@@ -6,6 +6,7 @@ use Rattle.std.proofs.Common.{sym, ap, ◌∙◌, arith, append-nil}
 use Rattle.std.proofs.lemmas.Bool.{eq-eqb, eqb-true, false≢true}
 use Rattle.std.proofs.lemmas.Bool.Decides.{nat_tests}
 use Rattle.std.proofs.lemmas.List.{map-append, map-id}
+use Rattle.list_core.proofs.Items.{length-set}
 use Rattle.proxy_types.specs.declared.balance.Place.{Place}
 use Rattle.plan_types.specs.declared.plan.Backend.{Backend}
 use Rattle.plan_types.specs.declared.plan.Plan.{Plan}
@@ -152,11 +153,6 @@ last_no_offer (Closed id why) last = refl
 last_no_offer (Reloaded next) last = refl
 
 -- There are as many cursors as before.
-
-length-set : {X : Type 0} (xs : List X) (n : ℕ) (x : X) → length (slice_set xs n x) ≡ length xs
-length-set [] n x = refl
-length-set (y ∷ xs) zero x = refl
-length-set (y ∷ xs) (suc n) x = cc (length-set xs n x)
 
 cursor-length : (backends : List Backend) (number server : ℕ) (cursors : List (Option Place)) → length (with_cursor backends number server cursors) ≡ length cursors
 cursor-length backends number server cursors = by (slice_get backends number) refl

@@ -13,7 +13,7 @@ use Rattle.pp_any.specs.Status as statuses
 use Rattle.pp_any.specs.Status.{Status}
 use Rattle.pp_any.specs.NextPiece.{status_on}
 use Rattle.rule_engine.specs.Meaning.{present}
-use Rattle.rule_engine.specs.Judging.{judged, judged_after, no_tracks, Slots}
+use Rattle.rule_engine.specs.Judging.{judged, judged_after, no_tracks, TrackSlots}
 use Rattle.rule_engine.specs.declared.judging.Judged.{Judged}
 use Rattle.plan_types.specs.declared.track.Track.{Track}
 use Rattle.plan_types.specs.declared.plan.Server.{Server}
@@ -60,7 +60,7 @@ abbrev pub reply_of : Said → Reply
 reply_of said = record { said = said; tracks = record { items = [] } }
 
 -- a reply of a step that tracks those, by counter
-abbrev pub reply_with : Said → Slots → Reply
+abbrev pub reply_with : Said → TrackSlots → Reply
 reply_with said made = record { said = said; tracks = record { items = present made } }
 
 -- Judging a connection.
@@ -89,10 +89,10 @@ server_unless v None = server_for v
 -- What is decided of a connection: its server, or why it gets none, and what the step tracks, by counter.
 pub record Decision : Type 0 where
   pub result : Result NumberedServer Cause
-  pub made : Slots
+  pub made : TrackSlots
 
 -- The session rules first, and then the backend and its server, where the step tracked those before.
-abbrev pub verdict : (List Track → RuleView) → Frontend → Slots → Decision
+abbrev pub verdict : (List Track → RuleView) → Frontend → TrackSlots → Decision
 verdict views frontend made =
     let says = judged_after (scene_of views) made frontend.session_rules in
     record { result = server_unless (views (present says.tracks)) (rejection says); made = says.tracks }
@@ -108,7 +108,7 @@ said_of id used judged (Ok given) = Offer id used given.server.line given.number
 said_of id used judged (Err cause) = Refuse id used cause
 
 -- once the header is whole, or where none is expected: what the step tracked before is given
-abbrev pub decision : Candidate → ℕ → PairValue → Slots → Reply
+abbrev pub decision : Candidate → ℕ → PairValue → TrackSlots → Reply
 decision candidate used judged made =
     let decided = verdict (view_of candidate judged.source.addr) candidate.frontend made in
     reply_with (said_of candidate.id used judged decided.result) decided.made
@@ -134,7 +134,7 @@ candidate_at p clock number real own version frontend = record {
 }
 
 -- after the connection rules, which may track and may reject by a line: the connection waits where a header is demanded
-abbrev pub entry_reply : Candidate → Bool → PairValue → Slots → Option ℕ → Reply
+abbrev pub entry_reply : Candidate → Bool → PairValue → TrackSlots → Option ℕ → Reply
 entry_reply candidate demanded real made (Some line) = reply_with (Refuse candidate.id 0 (Line line)) made
 entry_reply candidate true real made None = reply_with (Wait candidate.id 0) made
 entry_reply candidate false real made None = decision candidate 0 real made

@@ -28,6 +28,10 @@ abbrev pub total : {X : Type 0} → (X → ℕ) → List X → ℕ
 total worth [] = 0
 total worth (x ∷ xs) = worth x + total worth xs
 
+-- how many connections are open
+abbrev pub open_connections : Plain → ℕ
+open_connections p = total (λ own. length own.rows) p.frontends
+
 -- of a frontend, if it has the name
 abbrev pub open_if : List ℕ → FrontendRows → ℕ
 open_if name own = if bytes_eq own.name name then length own.rows else 0

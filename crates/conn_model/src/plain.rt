@@ -4,7 +4,7 @@ use list_core::Seq;
 use plan_types::{Plan, Table, TableId, Track};
 use pp_any::Rest;
 use proxy_types::{Place, ServerIdentity};
-use stick_core::TableEntry;
+use stick_core::PlainEntry;
 
 /// The server that a connection was given.
 #[derive(Debug, Drop)]
@@ -78,7 +78,7 @@ pub struct Version {
 pub struct TableState {
     pub id: TableId,
     pub table: Table,
-    pub entries: Seq<TableEntry>,
+    pub entries: Seq<PlainEntry>,
 }
 
 /// All that a balancer keeps.

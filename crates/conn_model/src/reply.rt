@@ -5,6 +5,8 @@ use arrayvec::ArrayVec;
 use config_core::OpenFault;
 use plan_types::Track;
 use pp_any::HeaderFault;
+use pp_v1::LINE_LIMIT;
+use proxy_types::COUNTERS;
 
 /// Why a connection is refused.
 #[derive(Clone, Copy, Debug, PartialEq, Eq)]
@@ -43,7 +45,7 @@ pub enum Said {
         /// The source and the destination by which it was judged.
         judged: Pair,
         /// What the server is sent before the stream.
-        send: ArrayVec<u8, 107>,
+        send: ArrayVec<u8, LINE_LIMIT>,
     },
     /// It is refused, and ends.
     Refuse {
@@ -66,12 +68,24 @@ pub enum Said {
     },
 }
 
+impl Said {
+    ghost use Rattle.std.specs.Prelude.{◌≡◌};
+    ghost use Rattle.conn_model.specs.History.{is_last};
+
+    /// Whether it is the last one to its connection.
+    pub fn is_last(&self) -> bool
+        ensures { result ≡ is_last self.now }
+    {
+        matches!(self, Said::Refuse { .. } | Said::Closed { .. })
+    }
+}
+
 /// An answer to an event.
 #[derive(Debug, Drop)]
 pub struct Reply {
     pub said: Said,
     /// The keys that are tracked from this step on, in the order of counters.
-    pub tracks: ArrayVec<Track, 3>,
+    pub tracks: ArrayVec<Track, COUNTERS>,
 }
 
 /// Why an event is not answered. Of several the first in this order is answered.

@@ -3,6 +3,7 @@ use Rattle.std.proofs.Common.{◌≡◌, ℕ, ◌*◌, ◌+◌, Bool, true, fals
 use Rattle.std.proofs.Math.ListN.{length-set}
 use Rattle.std.specs.List.{AllByRecursion}
 use Rattle.std.specs.Option.{option_map_or}
+use Rattle.keyed_list.specs.Entries.{IsFew}
 use Rattle.stick_core.specs.Key.{key_in}
 use Rattle.plan_types.specs.declared.plan.Frontend.{Frontend}
 use Rattle.plan_types.specs.declared.track.Track.{Track}
@@ -28,11 +29,11 @@ use Rattle.conn_tables.proofs.CounterLemmas.{counter_few, trackers_on, tracks_tr
 use Rattle.conn_tables.proofs.PlaceLemmas.{all_set}
 
 -- a frontend is changed, and its rows track what they did
-pub still_rows : (frontends : List StoredFrontend) (tables : List StoredTable) (n : ℕ) (own next : StoredFrontend) → slice_get frontends n ≡ Some own → length next.rows < 2 ^ 56 →
+pub still_rows : (frontends : List StoredFrontend) (tables : List StoredTable) (n : ℕ) (own next : StoredFrontend) → slice_get frontends n ≡ Some own → IsFew (length next.rows) →
     ((id : TableId) (key : Addr) → total (row_on id key) next.rows ≡ total (row_on id key) own.rows) → AreRows frontends tables → AreRows (set frontends n next) tables
 still_rows frontends tables n own next there small same known = record {
   few = rw (length-set frontends n next) known.few;
-  small = all_set (λ own. length own.rows < 2 ^ 56) frontends n next known.small small;
+  small = all_set (λ own. IsFew (length own.rows)) frontends n next known.small small;
   counted = λ id key.
       let all : rows_total (row_on id key) (set frontends n next) + total (row_on id key) own.rows ≡ rows_total (row_on id key) frontends + total (row_on id key) next.rows =
       total-set (λ own. total (row_on id key) own.rows) frontends n own next there in
@@ -79,10 +80,10 @@ none_if None frontends n own next there same = λ worth.
 none_if (Some row) frontends n own next there same = tt
 
 pub still_small : (frontends : List StoredFrontend) (n : ℕ) (own next : StoredFrontend) → slice_get frontends n ≡ Some own → length next.rows ≤ length own.rows →
-    AllByRecursion (λ own. length own.rows < 2 ^ 56) frontends → AllByRecursion (λ own. length own.rows < 2 ^ 56) (set frontends n next)
+    AllByRecursion (λ own. IsFew (length own.rows)) frontends → AllByRecursion (λ own. IsFew (length own.rows)) (set frontends n next)
 still_small frontends n own next there less known =
-    let small : length own.rows < 2 ^ 56 = all-at (λ own. length own.rows < 2 ^ 56) frontends n own known there in
-    all_set (λ own. length own.rows < 2 ^ 56) frontends n next known (omega (arith, small, less))
+    let small : IsFew (length own.rows) = all-at (λ own. IsFew (length own.rows)) frontends n own known there in
+    all_set (λ own. IsFew (length own.rows)) frontends n next known (omega (arith, small, less))
 
 pub fewer : {X : Type 0} (test : X → Bool) (xs : List X) → length (filter test xs) ≤ length xs
 fewer test [] = omega arith
@@ -115,7 +116,7 @@ open_trackers versions (own ∷ frontends) id key =
 pub are_counted : (versions : List Version) (frontends : List StoredFrontend) (tables : List StoredTable) → AreRows frontends tables → AreCounted (open_tracks (map (plain_frontend versions) frontends)) tables
 are_counted versions frontends tables known id key = known.counted id key ∙ sym (open_trackers versions frontends id key)
 
-pub small-empty : (frontends : List Frontend) (last : ℕ) → AllByRecursion (λ (own : StoredFrontend). length own.rows < 2 ^ 56) (map (λ frontend. record { name = frontend.name; serial = last; rows = [] }) frontends)
+pub small-empty : (frontends : List Frontend) (last : ℕ) → AllByRecursion (λ (own : StoredFrontend). IsFew (length own.rows)) (map (λ frontend. record { name = frontend.name; serial = last; rows = [] }) frontends)
 small-empty [] last = tt
 small-empty (f ∷ frontends) last = (omega arith, small-empty frontends last)
 
@@ -130,7 +131,7 @@ rows_few id key (row ∷ rows) =
     let more = rows_few id key rows in
     omega (arith, zero, one, two, more)
 
-all_few : (id : TableId) (key : Addr) (frontends : List StoredFrontend) → AllByRecursion (λ own. length own.rows < 2 ^ 56) frontends → rows_total (row_on id key) frontends ≤ 0x300_0000_0000_0000 * length frontends
+all_few : (id : TableId) (key : Addr) (frontends : List StoredFrontend) → AllByRecursion (λ own. IsFew (length own.rows)) frontends → rows_total (row_on id key) frontends ≤ 0x300_0000_0000_0000 * length frontends
 all_few id key [] small = omega arith
 all_few id key (own ∷ frontends) small =
     let here = rows_few id key own.rows in
@@ -162,12 +163,12 @@ counts_few versions frontends tables addr (Some table) known = by (key_in table.
 -- One tracking more.
 
 -- a frontend tracks one key more, and so do the tables
-pub more_rows : (frontends : List StoredFrontend) (tables rest : List StoredTable) (n : ℕ) (own next : StoredFrontend) (tracking : Tracking) → slice_get frontends n ≡ Some own → length next.rows < 2 ^ 56 →
+pub more_rows : (frontends : List StoredFrontend) (tables rest : List StoredTable) (n : ℕ) (own next : StoredFrontend) (tracking : Tracking) → slice_get frontends n ≡ Some own → IsFew (length next.rows) →
     ((id : TableId) (key : Addr) → total (row_on id key) next.rows ≡ total (row_on id key) own.rows + counter_on id key (Some tracking)) →
     ((id : TableId) (key : Addr) → cur_in id key rest ≡ cur_in id key tables + counter_on id key (Some tracking)) → AreRows frontends tables → AreRows (set frontends n next) rest
 more_rows frontends tables rest n own next tracking there small rows counts known = record {
   few = rw (length-set frontends n next) known.few;
-  small = all_set (λ own. length own.rows < 2 ^ 56) frontends n next known.small small;
+  small = all_set (λ own. IsFew (length own.rows)) frontends n next known.small small;
   counted = λ id key.
       let all : rows_total (row_on id key) (set frontends n next) + total (row_on id key) own.rows ≡ rows_total (row_on id key) frontends + total (row_on id key) next.rows =
       total-set (λ own. total (row_on id key) own.rows) frontends n own next there in

@@ -5,6 +5,7 @@ use Rattle.std.specs.List.{AllByRecursion}
 use Rattle.std.specs.Option.{option_map_or}
 use Rattle.std.specs.Str.{bytes_eq}
 use Rattle.std.proofs.lemmas.Bool.Decides.{nat_tests}
+use Rattle.keyed_list.specs.Entries.{IsFew}
 use Rattle.proxy_types.specs.declared.server.ServerIdentity.{ServerIdentity}
 use Rattle.slot_core.specs.declared.slots.Count.{Count}
 use Rattle.slot_core.specs.declared.slots.SlotIx.{SlotIx}
@@ -160,7 +161,7 @@ rows_few : (worth : StoredRow → ℕ) → ((row : StoredRow) → worth row ≤ 
 rows_few worth one [] = omega arith
 rows_few worth one (row ∷ rows) = let here = one row in let more = rows_few worth one rows in omega (arith, here, more)
 
-all_few : (worth : StoredRow → ℕ) → ((row : StoredRow) → worth row ≤ 1) → (frontends : List StoredFrontend) → AllByRecursion (λ own. length own.rows < 2 ^ 56) frontends →
+all_few : (worth : StoredRow → ℕ) → ((row : StoredRow) → worth row ≤ 1) → (frontends : List StoredFrontend) → AllByRecursion (λ own. IsFew (length own.rows)) frontends →
     rows_total worth frontends ≤ 0x100_0000_0000_0000 * length frontends
 all_few worth one [] small = omega arith
 all_few worth one (own ∷ frontends) small =
@@ -170,7 +171,7 @@ all_few worth one (own ∷ frontends) small =
     omega (arith, here, less, more)
 
 -- not too many
-pub open_few : (frontends : List StoredFrontend) (kept : VersionsValue) → AreServed frontends kept → length frontends ≤ 64 → AllByRecursion (λ own. length own.rows < 2 ^ 56) frontends →
+pub open_few : (frontends : List StoredFrontend) (kept : VersionsValue) → AreServed frontends kept → length frontends ≤ 64 → AllByRecursion (λ own. IsFew (length own.rows)) frontends →
     open_in_all kept.counts < 0xFFFF_FFFF_FFFF_FFFF
 open_few frontends kept known few small =
     let all : open_in_all kept.counts ≡ rows_total (λ row. share (λ count. true) kept.counts (slot_of row.stage)) frontends =

@@ -29,7 +29,7 @@ use Rattle.conn_tables.specs.Tables.{StoredTables, plain_table}
 use Rattle.conn_rows.specs.Value.{RowsValue, rows_of}
 use Rattle.conn_model.specs.Answer.{awaits_server}
 use Rattle.conn_rows.specs.Summaries.{is_waiting, stored_summary, summary_of}
-use Rattle.conn_rows.specs.declared.row.Seat.{Seat}
+use Rattle.conn_rows.specs.declared.row.ServerChoice.{ServerChoice}
 use Rattle.conn_rows.specs.declared.row.Stage.{Stage}
 use Rattle.conn_rows.specs.declared.row.Stage.TheVariants.{Waiting, Offered}
 use Rattle.conn_rows.specs.declared.row.StoredRow.{StoredRow}
@@ -126,7 +126,7 @@ up_plain versions own serial =
             taken true = refl
             taken false = refl
 
-pub offered_plain : (versions : List Version) (own : StoredFrontend) (serial : ℕ) (seat : Seat) (slot : SlotIx) →
+pub offered_plain : (versions : List Version) (own : StoredFrontend) (serial : ℕ) (seat : ServerChoice) (slot : SlotIx) →
     plain_frontend versions (record own { rows = with_stored serial (at_stage (stage_offered seat slot)) own.rows }) ≡ with_row serial (row_offered versions seat) (plain_frontend versions own)
 offered_plain versions own serial seat slot =
     ap (λ rows. record { name = own.name; serial = own.serial; rows = rows }) (with-plain versions serial (at_stage (stage_offered seat slot)) (row_offered versions seat) own.rows (λ row. refl))
@@ -383,7 +383,7 @@ frontends_alike versions others same (own ∷ frontends) =
     cc (here, more)
 
 -- a connection is offered a server, which moves what was last used of its backend
-pub offered_value : (frontends : List StoredFrontend) (versions others : List Version) (tables : StoredTables) (value : RowsValue) (n : ℕ) (id : ConnId) (own : StoredFrontend) (version : ℕ) (seat : Seat) (slot : SlotIx) →
+pub offered_value : (frontends : List StoredFrontend) (versions others : List Version) (tables : StoredTables) (value : RowsValue) (n : ℕ) (id : ConnId) (own : StoredFrontend) (version : ℕ) (seat : ServerChoice) (slot : SlotIx) →
     value_of frontends versions tables ≡ value → n ≡ id.frontend → slice_get frontends id.frontend ≡ Some own → others ≡ map (with_offer version seat.line seat.server) versions →
     value_of (set frontends n (record own { rows = with_stored id.serial (at_stage (stage_offered seat slot)) own.rows })) others tables ≡
     record value { frontends = with_conn id (row_offered value.versions seat) value.frontends; versions = map (with_offer version seat.line seat.server) value.versions }

@@ -4,7 +4,7 @@ use Rattle.std.specs.Prelude.{filter, find, not, OnErr, OnOk}
 use Rattle.std.specs.List.{AllByRecursion}
 use Rattle.std.proofs.lemmas.List.{length-map}
 use Rattle.keyed_list.specs.Entries as keyed
-use Rattle.keyed_list.specs.Entries.{item_at, items_of, with_item, without, AreKept, AreNumbered}
+use Rattle.keyed_list.specs.Entries.{item_at, items_of, with_item, without, AreKept, AreNumbered, IsFew}
 use Rattle.keyed_list.proofs.EntryLemmas.{all-append, all-filter, all-front}
 use Rattle.keyed_list.proofs.BoxLemmas.{kept-front, kept-with_item, kept-without}
 use Rattle.keyed_list.proofs.ItemLemmas.{item_at-is, number-found, numbered-with_item, total-taken, with_item-is, without-is}
@@ -24,8 +24,8 @@ left serial es known = without-is (λ row. row.serial) serial es known.numbered
 pub changed : (serial : ℕ) (row : StoredRow) (change : StoredRow → StoredRow) (es : List (ℕ × StoredRow)) → AreListed es → item_at serial es ≡ Some row → items_of (with_item serial es (change row)) ≡ with_stored serial change (items_of es)
 changed serial row change es known there = with_item-is (λ row. row.serial) serial row change es known.numbered known.kept.rise there
 
-pub few-items : (es : List (ℕ × StoredRow)) → AreListed es → length (items_of es) < 2 ^ 56
-few-items es known = subst (λ n. n < 2 ^ 56) (sym (length-map es (λ e. e.1))) known.kept.few
+pub few-items : (es : List (ℕ × StoredRow)) → AreListed es → IsFew (length (items_of es))
+few-items es known = subst IsFew (sym (length-map es (λ e. e.1))) known.kept.few
 
 total-same : (worth : StoredRow → ℕ) (rows : List StoredRow) → keyed.total worth rows ≡ total worth rows
 total-same worth [] = refl
@@ -63,7 +63,7 @@ listed-front es new' e is known = record {
 
 -- one more, if it was added
 pub listed-push : {X E : Type 0} (result : Result X E) (row : StoredRow) (es new' : List (ℕ × StoredRow)) → OnOk result (new' ≡ es ++ (row.serial, row) ∷ []) → OnErr result (new' ≡ es) →
-    keyed.Rise (λ e. e.0) new' → length new' < 2 ^ 56 → AreListed es → AreListed new'
+    keyed.Rise (λ e. e.0) new' → IsFew (length new') → AreListed es → AreListed new'
 listed-push (Ok x) row es new' ok err rise few known = record {
   numbered = subst (λ es. AreNumbered (λ row. row.serial) es) (sym ok) (all-append (λ e. e.0 ≡ e.1.serial) es ((row.serial, row) ∷ []) known.numbered (refl, tt));
   kept = record { rise = rise; few = few };

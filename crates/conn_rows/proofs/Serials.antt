@@ -4,6 +4,7 @@ use Rattle.std.specs.Prelude.{slice_get, filter, find, ◌==◌, if◌then◌els
 use Rattle.std.specs.List.{position, AllByRecursion}
 use Rattle.std.proofs.lemmas.Bool.Decides.{nat_tests}
 use Rattle.std.proofs.lemmas.List.{length-map}
+use Rattle.keyed_list.specs.Entries.{IsFew}
 use Rattle.conn_rows.specs.declared.row.StoredRow.{StoredRow}
 use Rattle.conn_rows.specs.declared.row.Stage.{Stage}
 use Rattle.conn_rows.specs.Stored.{AreOpen, IsHeld, at_stage, has_serial, with_stored}
@@ -131,8 +132,8 @@ with_stage serial change stage rows rise some value = by (find (has_serial seria
     by (Some row) found some =
         with_same serial (at_stage (change stage)) (λ row. at_stage (change row.stage) row) rows row rise found (ap (λ stage. at_stage (change stage) row) (value row found))
 
-pub few-with : (serial : ℕ) (change : StoredRow → StoredRow) (rows : List StoredRow) → length rows < 2 ^ 56 → length (with_stored serial change rows) < 2 ^ 56
-few-with serial change rows few = subst (λ n. n < 2 ^ 56) (sym (length-map rows (λ row. if row.serial == serial then change row else row))) few
+pub few-with : (serial : ℕ) (change : StoredRow → StoredRow) (rows : List StoredRow) → IsFew (length rows) → IsFew (length (with_stored serial change rows))
+few-with serial change rows few = subst IsFew (sym (length-map rows (λ row. if row.serial == serial then change row else row))) few
 
 pub no_rows : (rows : List StoredRow) → length rows ≡ 0 → rows ≡ []
 no_rows [] none = refl

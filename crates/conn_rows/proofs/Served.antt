@@ -4,6 +4,7 @@ use Rattle.std.specs.Prelude.{filter, find, ◌^◌, ◌<◌, ◌≤◌, slice_g
 use Rattle.std.specs.List.{AllByRecursion}
 use Rattle.std.proofs.lemmas.Bool.Decides.{nat_tests}
 use Rattle.std.specs.Option.{option_map_or}
+use Rattle.keyed_list.specs.Entries.{IsFew}
 use Rattle.plan_types.specs.declared.plan.Frontend.{Frontend}
 use Rattle.plan_types.specs.declared.plan.Plan.{Plan}
 use Rattle.slot_core.specs.declared.slots.SlotIx.{SlotIx}
@@ -18,8 +19,8 @@ use Rattle.conn_model.proofs.Lists.{all-append, all-at, all-filter, all-map, all
 use Rattle.conn_tables.proofs.PlaceLemmas.{all_set}
 use Rattle.conn_versions.specs.Judged.{judged_by, judged_of}
 use Rattle.conn_versions.specs.Versions.{HasServer, VersionsValue}
-use Rattle.conn_rows.specs.declared.row.HeldSeat.{HeldSeat}
-use Rattle.conn_rows.specs.declared.row.Seat.{Seat}
+use Rattle.conn_rows.specs.declared.row.ServerHold.{ServerHold}
+use Rattle.conn_rows.specs.declared.row.ServerChoice.{ServerChoice}
 use Rattle.conn_rows.specs.declared.row.Stage.{Stage}
 use Rattle.conn_rows.specs.declared.row.Stage.TheVariants.{Waiting, Offered}
 use Rattle.conn_rows.specs.declared.row.StoredRow.{StoredRow}
@@ -159,7 +160,7 @@ judged-few : (number : ℕ) (rows : List StoredRow) → total (row_judged number
 judged-few number [] = omega arith
 judged-few number (row ∷ rows) = let one = one-judged number row.version in let more = judged-few number rows in omega (arith, one, more)
 
-pub all_judged_few : (number : ℕ) (frontends : List StoredFrontend) → AllByRecursion (λ own. length own.rows < 2 ^ 56) frontends → rows_total (row_judged number) frontends ≤ 0x100_0000_0000_0000 * length frontends
+pub all_judged_few : (number : ℕ) (frontends : List StoredFrontend) → AllByRecursion (λ own. IsFew (length own.rows)) frontends → rows_total (row_judged number) frontends ≤ 0x100_0000_0000_0000 * length frontends
 all_judged_few number [] small = omega arith
 all_judged_few number (own ∷ frontends) small =
     let here = judged-few number own.rows in
@@ -235,7 +236,7 @@ slots-offer frontends kept rest number line server versions identities known =
     each row is = subst (λ plan. CountsFor rest (slot_of row.stage) (server_of (phase_of plan row.stage))) (plans row) (counts (slot_of row.stage) (server_of (phase_of (plan_at kept.versions row.version) row.stage)) is)
 
 -- and so does the connection that is offered a server
-pub offered_has : (kept rest : VersionsValue) (number : ℕ) (seat : Seat) (slot : SlotIx) → rest.versions ≡ map (with_offer number seat.line seat.server) kept.versions →
+pub offered_has : (kept rest : VersionsValue) (number : ℕ) (seat : ServerChoice) (slot : SlotIx) → rest.versions ≡ map (with_offer number seat.line seat.server) kept.versions →
     (there : HasServer kept.versions number seat.line seat.server) → there.server.to ≡ seat.to → identity_at slot.place rest.counts ≡ Some (identity_in there.backend there.server) →
     (row : StoredRow) → row.version ≡ number → HasSlot rest (at_stage (stage_offered seat slot) row)
 offered_has kept rest number seat slot versions there to identity row judged =
@@ -254,7 +255,7 @@ pub waited : (stage : Stage) → IsSome (rest_within stage) → (place : ℕ) �
 waited (Waiting rest) some place = refl
 waited (Offered held) some place = absurd (cc)
 
-pub not_waiting : (serial : ℕ) (rows : List StoredRow) (stage : Stage) (held : HeldSeat) → IsSome (rest_kept serial rows) → ((row : StoredRow) → find (has_serial serial) rows ≡ Some row → stage ≡ row.stage) → stage ≡ Offered held → ⊥
+pub not_waiting : (serial : ℕ) (rows : List StoredRow) (stage : Stage) (held : ServerHold) → IsSome (rest_kept serial rows) → ((row : StoredRow) → find (has_serial serial) rows ≡ Some row → stage ≡ row.stage) → stage ≡ Offered held → ⊥
 not_waiting serial rows stage held some before is = by (find (has_serial serial) rows) refl some
   where
     wrong : (s : Stage) → stage ≡ s → IsSome (rest_within s) → ⊥
@@ -265,7 +266,7 @@ not_waiting serial rows stage held some before is = by (find (has_serial serial)
     by None none some = absurd (cc)
     by (Some row) found some = wrong row.stage (before row found) some
 
-pub slots_offered : (serial : ℕ) (rows next : List StoredRow) (seat : Seat) (slot : SlotIx) → IsSome (rest_kept serial rows) →
+pub slots_offered : (serial : ℕ) (rows next : List StoredRow) (seat : ServerChoice) (slot : SlotIx) → IsSome (rest_kept serial rows) →
     ((row : StoredRow) → find (has_serial serial) rows ≡ Some row → (place : ℕ) × (slice_get rows place ≡ Some row) × (next ≡ slice_set rows place (at_stage (stage_offered seat slot) row))) →
     (place : ℕ) → total (row_slots place) next ≡ total (row_slots place) rows + slots_at place slot
 slots_offered serial rows next seat slot some places place = by (find (has_serial serial) rows) refl some
@@ -280,7 +281,7 @@ slots_offered serial rows next seat slot some places place = by (find (has_seria
         let is : total (row_slots place) next ≡ total (row_slots place) (slice_set rows at.0 (at_stage (stage_offered seat slot) row)) = ap (total (row_slots place)) at.2 in
         omega (arith, all, none, is)
 
-pub each_offered : (P : StoredRow → Type 0) (serial : ℕ) (rows next : List StoredRow) (seat : Seat) (slot : SlotIx) → IsSome (rest_kept serial rows) →
+pub each_offered : (P : StoredRow → Type 0) (serial : ℕ) (rows next : List StoredRow) (seat : ServerChoice) (slot : SlotIx) → IsSome (rest_kept serial rows) →
     ((row : StoredRow) → find (has_serial serial) rows ≡ Some row → (place : ℕ) × (slice_get rows place ≡ Some row) × (next ≡ slice_set rows place (at_stage (stage_offered seat slot) row))) →
     ((row : StoredRow) → find (has_serial serial) rows ≡ Some row → P (at_stage (stage_offered seat slot) row)) → AllByRecursion P rows → AllByRecursion P next
 each_offered P serial rows next seat slot some places offered all = by (find (has_serial serial) rows) refl some

@@ -9,7 +9,7 @@ use Rattle.conn_rows.specs.declared.row.StoredRow.{StoredRow}
 use Rattle.conn_rows.specs.Stored.{StoredFrontend, plain_frontend, plain_row}
 use Rattle.conn_model.specs.Counts.{open_if, open_named, total}
 use Rattle.plan_types.specs.declared.plan.Frontend.{Frontend}
-use Rattle.plan_types.specs.Sound.{most_frontends}
+use Rattle.proxy_types.specs.declared.limits.TheConstants.{MOST_SECTIONS}
 use Rattle.conn_rows.specs.Value.{rows_total}
 use Rattle.conn_rows.specs.Counts.{open_stored}
 
@@ -28,7 +28,7 @@ pub rows-empty : (worth : StoredRow → ℕ) (frontends : List Frontend) (last :
 rows-empty worth [] last = refl
 rows-empty worth (f ∷ frontends) last = let more = rows-empty worth frontends last in omega (arith, more)
 
-pub few-map : (frontends : List Frontend) (last : ℕ) → length frontends ≤ most_frontends → length {A = StoredFrontend} (map (λ frontend. record { name = frontend.name; serial = last; rows = [] }) frontends) ≤ most_frontends
+pub few-map : (frontends : List Frontend) (last : ℕ) → length frontends ≤ MOST_SECTIONS → length {A = StoredFrontend} (map (λ frontend. record { name = frontend.name; serial = last; rows = [] }) frontends) ≤ MOST_SECTIONS
 few-map frontends last few =
     let as_stored : Frontend → StoredFrontend = λ frontend. record { name = frontend.name; serial = last; rows = [] } in
     let same : length (map as_stored frontends) ≡ length frontends = length-map frontends as_stored in

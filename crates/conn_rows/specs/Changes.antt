@@ -6,7 +6,7 @@ use Rattle.conn_model.specs.declared.plain.Phase.TheVariants.{Offered}
 use Rattle.conn_model.specs.declared.plain.Row.{Row}
 use Rattle.conn_model.specs.declared.plain.Version.{Version}
 use Rattle.conn_model.specs.Changes.{held_after}
-use Rattle.conn_rows.specs.declared.row.Seat.{Seat}
+use Rattle.conn_rows.specs.declared.row.ServerChoice.{ServerChoice}
 use Rattle.conn_rows.specs.declared.row.Stage.{Stage}
 use Rattle.conn_rows.specs.declared.row.Stage.TheVariants as stages
 use Rattle.conn_rows.specs.declared.row.StoredRow.{StoredRow}
@@ -36,10 +36,10 @@ stored_fed piece row = record row { stage = stage_fed piece row.stage }
 -- An offer.
 
 -- a connection that is offered a server of its version
-abbrev pub row_offered : List Version → Seat → Row → Row
+abbrev pub row_offered : List Version → ServerChoice → Row → Row
 row_offered versions seat row = record row { phase = Offered (assignment_in (plan_at versions row.version) seat) }
 
-abbrev pub stage_offered : Seat → SlotIx → Stage
+abbrev pub stage_offered : ServerChoice → SlotIx → Stage
 stage_offered seat slot = stages.Offered (record { seat = seat; slot = slot; is_up = false })
 
 abbrev pub stage_up : Stage → Stage

@@ -17,7 +17,7 @@ use Rattle.conn_model.specs.declared.plain.Version.{Version}
 use Rattle.conn_model.specs.Words.{Rise}
 use Rattle.conn_model.specs.Answer.{version_at}
 use Rattle.conn_model.specs.History.{identity_of}
-use Rattle.conn_rows.specs.declared.row.Seat.{Seat}
+use Rattle.conn_rows.specs.declared.row.ServerChoice.{ServerChoice}
 use Rattle.conn_rows.specs.declared.row.Stage.{Stage}
 use Rattle.conn_rows.specs.declared.row.Stage.TheVariants.{Waiting, Offered}
 use Rattle.conn_rows.specs.declared.row.StoredRow.{StoredRow}
@@ -34,7 +34,7 @@ abbrev pub plan_at : List Version → ℕ → Option Plan
 plan_at versions number = option_map (λ version. version.plan) (version_at versions number)
 
 -- what a seat is by a plan: the plan has the names
-abbrev pub assignment_in : Option Plan → Seat → Assignment
+abbrev pub assignment_in : Option Plan → ServerChoice → Assignment
 assignment_in plan seat = record { server = identity_of plan seat.line seat.server seat.to; line = seat.line; judged = seat.judged }
 
 -- a connection that was offered a server, which took it or did not yet

@@ -2,11 +2,12 @@
 use Rattle.std.specs.Prelude.{ℕ, true, List, length, map, Option, Some, None, IsSome, ◌≡◌, ◌≤◌, ◌<◌, ◌^◌}
 use Rattle.std.specs.List.{AllByRecursion}
 use Rattle.std.specs.Option.{option_map_or}
+use Rattle.keyed_list.specs.Entries.{IsFew}
 use Rattle.addr_core.specs.declared.addr.Addr.{Addr}
 use Rattle.proxy_types.specs.declared.server.ServerIdentity.{ServerIdentity}
 use Rattle.slot_core.specs.declared.slots.SlotIx.{SlotIx}
 use Rattle.slot_core.specs.Counts.{identity_at, open_at, slots_at}
-use Rattle.plan_types.specs.Sound.{most_frontends}
+use Rattle.proxy_types.specs.declared.limits.TheConstants.{MOST_SECTIONS}
 use Rattle.plan_types.specs.declared.track.TableId.{TableId}
 use Rattle.conn_model.specs.declared.plain.FrontendRows.{FrontendRows}
 use Rattle.conn_model.specs.declared.plain.Plain.{Plain}
@@ -51,8 +52,8 @@ row_on id key row = tracks_on id key row.tracks
 
 -- there are not too many frontends, their rows are in memory, and each key of each table counts its trackings
 pub record AreRows (frontends : List StoredFrontend) (tables : List StoredTable) : Type 0 where
-  pub few : length frontends ≤ most_frontends
-  pub small : AllByRecursion (λ own. length own.rows < 2 ^ 56) frontends
+  pub few : length frontends ≤ MOST_SECTIONS
+  pub small : AllByRecursion (λ own. IsFew (length own.rows)) frontends
   pub counted : (id : TableId) (key : Addr) → cur_in id key tables ≡ rows_total (row_on id key) frontends
 
 -- how many open connections of the server of a slot a row is: one, or none

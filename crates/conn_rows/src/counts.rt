@@ -1,6 +1,8 @@
 //! How many connections are open.
 ghost use Rattle.std.specs.Prelude.{◌≡◌, ◌≤◌, ◌<◌, ◌^◌, length};
 ghost use Rattle.std.specs.Str.{bytes_eq};
+ghost use Rattle.keyed_list.specs.Entries.{IsFew};
+ghost use Rattle.proxy_types.specs.declared.limits.TheConstants.{MOST_SECTIONS};
 ghost use Rattle.conn_model.specs.Counts.{total};
 ghost use Rattle.conn_rows.specs.Counts.{open_stored};
 
@@ -15,7 +17,7 @@ fn has_name(own: &FrontendState, name: &[u8]) -> bool
 /// How many connections of a frontend are open, if it has the name.
 fn open_if(own: &FrontendState, name: &[u8]) -> u64
     ensures value { result ≡ open_stored name.now own.now }
-    ensures few { result < 2 ^ 56 }
+    ensures few { IsFew result }
 {
     let count = own.count();
     if has_name(own, name) { count } else { 0 }
@@ -23,7 +25,7 @@ fn open_if(own: &FrontendState, name: &[u8]) -> u64
 
 /// How many connections of the frontends of that name are open.
 pub fn open_named(frontends: &[FrontendState], name: &[u8]) -> u64
-    requires { length frontends.now ≤ 64 }
+    requires { length frontends.now ≤ MOST_SECTIONS }
     ensures value { result ≡ total (open_stored name.now) frontends.now }
     ensures few { result < 2 ^ 63 }
 {

@@ -2,10 +2,12 @@
 ghost use Rattle.std.specs.Prelude.{◌≡◌, ◌+◌, ◌^◌, ◌<◌, ◌≤◌, ℕ, List, [], ◌∷◌, ◌++◌, length, not, filter, find, map, IfOk, IfSome, IfNone, OnOk, OnErr, IsSome, None, Some, vec_len};
 ghost use Rattle.std.specs.List.{AllByRecursion};
 ghost use Rattle.std.specs.Option.{option_copied};
+ghost use Rattle.keyed_list.specs.Entries.{IsFew};
 ghost use Rattle.pp_any.specs.declared.rest.Rest.{Rest};
 ghost use Rattle.pp_any.specs.Rest.{IsRest};
 ghost use Rattle.pp_any.specs.NextPiece.{status_on};
 ghost use Rattle.addr_core.specs.declared.addr.Addr.{Addr};
+ghost use Rattle.proxy_types.specs.declared.limits.TheConstants.{COUNTERS};
 ghost use Rattle.plan_types.specs.declared.track.TableId.{TableId};
 ghost use Rattle.conn_model.specs.declared.plain.Version.{Version};
 ghost use Rattle.conn_model.specs.Counts.{change_row, total};
@@ -20,8 +22,8 @@ ghost use Rattle.conn_rows.specs.Value.{row_judged, row_on, row_slots, rows_tota
 ghost use Rattle.conn_model.specs.Changes.{held_after, row_tracking, with_row};
 ghost use Rattle.conn_rows.specs.Changes.{stage_fed, stage_offered, stage_up, status_of, stored_fed, stored_up, used_by};
 
-use crate::packed::PackedSeat;
-use crate::row::{HeldSeat, Holdings, Seat, Stage, StoredRow};
+use crate::packed::PackedChoice;
+use crate::row::{Holdings, ServerChoice, ServerHold, Stage, StoredRow};
 use crate::row_list::RowList;
 use crate::slots::give_back;
 use addr_core::Pair;
@@ -91,7 +93,7 @@ impl FrontendState {
     /// How many connections are open.
     pub fn count(&self) -> u64
         ensures value { result ≡ length self.now.rows }
-        ensures few { result < 2 ^ 56 }
+        ensures few { IsFew result }
     {
         self.rows.len() as u64
     }
@@ -107,7 +109,7 @@ impl FrontendState {
     pub fn skip(&mut self)
         requires { self.old.serial + 1 < 2 ^ 64 }
         ensures new { self.new ≡ record self.old { serial = self.old.serial + 1 } }
-        ensures few { length self.new.rows < 2 ^ 56 }
+        ensures few { IsFew (length self.new.rows) }
     {
         let _few = self.rows.len();
         self.serial += 1;
@@ -119,7 +121,7 @@ impl FrontendState {
         ensures serial { IfOk result (λ serial. serial ≡ self.old.serial + 1) }
         ensures ok { OnOk result (self.new ≡ record self.old { serial = self.old.serial + 1; rows = self.old.rows ++ stored_arrival (self.old.serial + 1) version real accepted ∷ [] }) }
         ensures err { OnErr result (self.new ≡ self.old) }
-        ensures few { length self.new.rows < 2 ^ 56 }
+        ensures few { IsFew (length self.new.rows) }
     {
         let serial = self.serial + 1;
         let row = StoredRow::new(serial, version, real, accepted);
@@ -141,21 +143,21 @@ impl FrontendState {
         ensures status { (rest : Rest) → rest_kept serial self.old.rows ≡ Some rest → status_of result ≡ status_on rest piece.now }
         ensures used { used_by result ≤ length piece.now }
         ensures new { self.new ≡ record self.old { rows = with_stored serial (stored_fed piece.now) self.old.rows } }
-        ensures few { length self.new.rows < 2 ^ 56 }
+        ensures few { IsFew (length self.new.rows) }
     {
         feed_row(&mut self.rows, serial, piece)
     }
 
     /// Gives a connection that waits to a server.
-    pub fn offer(&mut self, serial: u64, seat: Seat, slot: Slot)
+    pub fn offer(&mut self, serial: u64, seat: ServerChoice, slot: Slot)
         requires { IsSome (rest_kept serial self.old.rows) }
         ensures new { self.new ≡ record self.old { rows = with_stored serial (at_stage (stage_offered seat slot)) self.old.rows } }
         ensures slots { (place : ℕ) → total (row_slots place) self.new.rows ≡ total (row_slots place) self.old.rows + slots_at place slot }
         ensures each { (kept : VersionsValue) → ((row : StoredRow) → find (has_serial serial) self.old.rows ≡ Some row → HasSlot kept (at_stage (stage_offered seat slot) row)) → AllByRecursion (HasSlot kept) self.old.rows → AllByRecursion (HasSlot kept) self.new.rows }
-        ensures few { length self.new.rows < 2 ^ 56 }
+        ensures few { IsFew (length self.new.rows) }
     {
-        let held = HeldSeat {
-            seat: PackedSeat::of(&seat),
+        let held = ServerHold {
+            seat: PackedChoice::of(&seat),
             slot,
             is_up: false,
         };
@@ -171,21 +173,21 @@ impl FrontendState {
     pub fn up(&mut self, serial: u64)
         requires { IsSome (find (has_serial serial) self.old.rows) }
         ensures new { self.new ≡ record self.old { rows = with_stored serial stored_up self.old.rows } }
-        ensures few { length self.new.rows < 2 ^ 56 }
+        ensures few { IsFew (length self.new.rows) }
     {
         up_row(&mut self.rows, serial);
     }
 
     /// Lets a counter of a connection, which tracks nothing, track.
     pub fn track(&mut self, serial: u64, counter: u8, tracking: Tracking)
-        requires counter { counter < 3 }
+        requires counter { counter < COUNTERS }
         requires free { (row : StoredRow) × (find (has_serial serial) self.old.rows ≡ Some row) × (on_counter counter row.tracks ≡ None) }
         ensures plain { (versions : List Version) → plain_frontend versions self.new ≡ with_row serial (row_tracking (track_by counter tracking)) (plain_frontend versions self.old) }
         ensures counts { (id : TableId) (key : Addr) → total (row_on id key) self.new.rows ≡ total (row_on id key) self.old.rows + counter_on id key (Some tracking) }
         ensures slots { (place : ℕ) → total (row_slots place) self.new.rows ≡ total (row_slots place) self.old.rows }
         ensures judged { (number : ℕ) → total (row_judged number) self.new.rows ≡ total (row_judged number) self.old.rows }
         ensures each { (kept : VersionsValue) → AllByRecursion (HasSlot kept) self.old.rows → AllByRecursion (HasSlot kept) self.new.rows }
-        ensures few { length self.new.rows < 2 ^ 56 }
+        ensures few { IsFew (length self.new.rows) }
     {
         put_tracking(&mut self.rows, serial, counter, tracking);
     }
@@ -278,7 +280,7 @@ fn put_stage(rows: &mut RowList, serial: u64, stage: Stage) -> Stage
     requires { IsSome (find (has_serial serial) rows.old) }
     ensures rows { rows.new ≡ with_stored serial (at_stage stage) rows.old }
     ensures before { (row : StoredRow) → find (has_serial serial) rows.old ≡ Some row → result ≡ row.stage }
-    ensures few { length rows.new < 2 ^ 56 }
+    ensures few { IsFew (length rows.new) }
 {
     mem::replace(rows.stage_mut(serial), stage)
 }
@@ -288,7 +290,7 @@ fn up_row(rows: &mut RowList, serial: u64)
     requires rise { Rise (λ row. row.serial) rows.old }
     requires there { IsSome (find (has_serial serial) rows.old) }
     ensures rows { rows.new ≡ with_stored serial stored_up rows.old }
-    ensures few { length rows.new < 2 ^ 56 }
+    ensures few { IsFew (length rows.new) }
 {
     up_stage(rows.stage_mut(serial));
 }
@@ -305,12 +307,12 @@ fn up_stage(stage: &mut Stage)
 /// Lets a counter of a row, which tracks nothing, track.
 fn put_tracking(rows: &mut RowList, serial: u64, counter: u8, tracking: Tracking)
     requires rise { Rise (λ row. row.serial) rows.old }
-    requires counter { counter < 3 }
+    requires counter { counter < COUNTERS }
     requires free { (row : StoredRow) × (find (has_serial serial) rows.old ≡ Some row) × (on_counter counter row.tracks ≡ None) }
     ensures rows { rows.new ≡ with_stored serial (stored_tracking counter tracking) rows.old }
     ensures plain { (versions : List Version) → map (plain_row versions) rows.new ≡ change_row serial (row_tracking (track_by counter tracking)) (map (plain_row versions) rows.old) }
     ensures counts { (id : TableId) (key : Addr) → total (row_on id key) rows.new ≡ total (row_on id key) rows.old + counter_on id key (Some tracking) }
-    ensures few { length rows.new < 2 ^ 56 }
+    ensures few { IsFew (length rows.new) }
 {
     rows.tracks_mut(serial).put(counter, tracking);
 }
@@ -322,7 +324,7 @@ fn feed_row(rows: &mut RowList, serial: u64, piece: &[u8]) -> HeaderStatus
     ensures status { (rest : Rest) → rest_kept serial rows.old ≡ Some rest → status_of result ≡ status_on rest piece.now }
     ensures used { used_by result ≤ length piece.now }
     ensures rows { rows.new ≡ with_stored serial (stored_fed piece.now) rows.old }
-    ensures few { length rows.new < 2 ^ 56 }
+    ensures few { IsFew (length rows.new) }
 {
     feed_stage(rows.stage_mut(serial), piece)
 }

@@ -2,7 +2,7 @@
 #![tactic(auto)]
 
 pub use frontend::HeaderStatus;
-pub use row::{RowSummary, Seat, ServerNames};
+pub use row::{RowSummary, ServerChoice, ServerNames};
 pub use rows::{FrontendSummary, Rows, RowsState};
 
 mod counts;

@@ -3,7 +3,7 @@ ghost use Rattle.std.specs.Prelude.{◌≡◌, ◌/◌, ◌%◌, ◌^◌, true};
 ghost use Rattle.addr_core.specs.Family.{same_family};
 ghost use Rattle.conn_rows.specs.Packed.{joined};
 
-use crate::row::Seat;
+use crate::row::ServerChoice;
 use addr_core::{Addr, Endpoint, Pair};
 use std::marker::Model;
 
@@ -104,26 +104,26 @@ impl PackedPair {
 
 /// The server that a connection was offered, in 80 bytes.
 #[derive(Debug, Drop)]
-pub(crate) struct PackedSeat {
+pub(crate) struct PackedChoice {
     server: u16,
     line: u32,
     to: PackedEndpoint,
     judged: PackedPair,
 }
 
-impl Model for PackedSeat {
-    ghost use Rattle.conn_rows.specs.declared.row.Seat.{Seat};
+impl Model for PackedChoice {
+    ghost use Rattle.conn_rows.specs.declared.row.ServerChoice.{ServerChoice};
 
-    ghost Value = { Seat };
+    ghost Value = { ServerChoice };
 
     ghost view = { λ s. record { server = s.server; line = s.line; to = s.to; judged = s.judged } };
 }
 
-impl PackedSeat {
-    pub(crate) fn of(seat: &Seat) -> PackedSeat
+impl PackedChoice {
+    pub(crate) fn of(seat: &ServerChoice) -> PackedChoice
         ensures { result ≡ seat.now }
     {
-        PackedSeat {
+        PackedChoice {
             server: seat.server,
             line: seat.line,
             to: PackedEndpoint::of(&seat.to),
@@ -131,10 +131,10 @@ impl PackedSeat {
         }
     }
 
-    pub(crate) fn seat(&self) -> Seat
+    pub(crate) fn seat(&self) -> ServerChoice
         ensures { result ≡ self.now }
     {
-        Seat {
+        ServerChoice {
             server: self.server,
             line: self.line,
             to: self.to.endpoint(),

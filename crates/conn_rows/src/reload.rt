@@ -19,7 +19,7 @@ use std::alloc::{AllocError, Global};
 
 /// Adds the version of that number, of that plan, with the tables that begin with it. Without memory the versions and
 /// the tables are as before.
-pub fn bring(
+pub fn install_version(
     kept: &mut Versions,
     tables: &mut Tables,
     alloc: Global,

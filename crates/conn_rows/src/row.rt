@@ -1,5 +1,5 @@
 //! One open connection.
-ghost use Rattle.std.specs.Prelude.{◌≡◌, [], IfOk, None, find, option_and_then, option_map, slice_get};
+ghost use Rattle.std.specs.Prelude.{◌≡◌, [], IfOk, None, find, option_and_then, option_map};
 ghost use Rattle.std.specs.Option.{option_copied, option_map_or};
 ghost use Rattle.plan_types.specs.Lines.{has_line};
 ghost use Rattle.conn_tables.specs.Tracks.{no_trackings};
@@ -9,11 +9,11 @@ ghost use Rattle.conn_model.specs.Counts.{server_of};
 ghost use Rattle.conn_rows.specs.Summaries.{names_in, names_of, stored_summary};
 ghost use Rattle.conn_rows.specs.Stored.{assignment_in, awaits, phase_of, phase_with, plan_at, plain_row, slot_of, stored_arrival, waits};
 
-use crate::packed::{PackedPair, PackedSeat};
+use crate::packed::{PackedChoice, PackedPair};
 use addr_core::{Endpoint, Pair};
 use conn_model::plain::{Assignment, Phase, Row, Version};
 use conn_tables::Trackings;
-use conn_versions::Slot;
+use conn_versions::{Slot, item};
 use list_core::{Duplicate, Seq};
 use plan_types::{Backend, Plan, Server};
 use pp_any::Parser;
@@ -22,7 +22,7 @@ use std::alloc::{AllocError, Global};
 
 /// The server that a connection was offered.
 #[derive(Clone, Copy, Debug, PartialEq, Eq)]
-pub struct Seat {
+pub struct ServerChoice {
     /// The number of the server in its backend, from 0.
     pub server: u16,
     /// The line of the server in the configuration.
@@ -33,8 +33,8 @@ pub struct Seat {
 }
 
 /// The server that a connection was offered. It cannot be dropped.
-pub struct HeldSeat {
-    pub seat: PackedSeat,
+pub struct ServerHold {
+    pub seat: PackedChoice,
     /// The connection is one of those that are open to the server.
     pub slot: Slot,
     /// Whether the server took it.
@@ -68,7 +68,7 @@ pub enum Stage {
     /// It waits for its PROXY header, or for the rest of it.
     Waiting(Parser),
     /// It was offered a server.
-    Offered(HeldSeat),
+    Offered(ServerHold),
 }
 
 impl Stage {
@@ -117,11 +117,11 @@ impl Stage {
     }
 }
 
-impl HeldSeat {
+impl ServerHold {
     fn end(self) -> Slot
         ensures { result ≡ self.slot }
     {
-        let HeldSeat {
+        let ServerHold {
             seat: _seat,
             slot,
             is_up: _,
@@ -249,13 +249,6 @@ fn end_none<T>(value: Option<T>)
     }
 }
 
-/// The item of that number.
-pub fn item<T>(items: &[T], number: u16) -> Option<&T>
-    ensures { option_copied result ≡ slice_get items.now number }
-{
-    items.get(usize::from(number))
-}
-
 /// The version of that number.
 pub fn version_at(versions: &[Version], number: u64) -> Option<&Version>
     ensures { option_copied result ≡ version_at versions.now number }
@@ -308,7 +301,11 @@ fn phase(assignment: Assignment, is_up: bool) -> Phase
     }
 }
 
-fn assignment(alloc: Global, plan: Option<&Plan>, seat: &Seat) -> Result<Assignment, AllocError>
+fn assignment(
+    alloc: Global,
+    plan: Option<&Plan>,
+    seat: &ServerChoice,
+) -> Result<Assignment, AllocError>
     ensures { IfOk result (λ assignment. assignment ≡ assignment_in (option_copied plan.entry) seat.now) }
 {
     Ok(Assignment {
@@ -319,7 +316,7 @@ fn assignment(alloc: Global, plan: Option<&Plan>, seat: &Seat) -> Result<Assignm
 }
 
 /// The names of a server by a plan, which are empty where the plan has no such server.
-fn names<'a>(plan: Option<&'a Plan>, seat: &Seat) -> ServerNames<'a>
+fn names<'a>(plan: Option<&'a Plan>, seat: &ServerChoice) -> ServerNames<'a>
     ensures { names_in result ≡ names_of (assignment_in (option_copied plan.entry) seat.now).server }
 {
     match backend_of(plan, seat.line) {
@@ -349,7 +346,7 @@ fn name_of(server: Option<&Server>) -> &[u8]
 fn identity(
     alloc: Global,
     backend: Option<&Backend>,
-    seat: &Seat,
+    seat: &ServerChoice,
 ) -> Result<ServerIdentity, AllocError>
     ensures { IfOk result (λ server. server ≡ option_map_or (identity_at seat.now.server seat.now.to) (option_copied backend.entry) (nobody seat.now.to)) }
 {

@@ -2,6 +2,7 @@
 ghost use Rattle.std.specs.Prelude.{◌≡◌, ◌+◌, ◌<◌, ◌^◌, ◌∷◌, ◌++◌, ℕ, [], length, filter, find, map, not, IfErr, IfOk, IfSome, IfNone, IsSome, OnOk, OnErr, Some};
 ghost use Rattle.std.specs.List.{AllByRecursion};
 ghost use Rattle.std.specs.Option.{option_copied};
+ghost use Rattle.keyed_list.specs.Entries.{IsFew};
 ghost use Rattle.conn_model.specs.Counts.{total};
 ghost use Rattle.conn_rows.specs.declared.row.StoredRow.{StoredRow};
 ghost use Rattle.conn_rows.specs.Stored.{has_serial, plain_row};
@@ -52,7 +53,7 @@ impl RowList {
     /// How many rows there are, at no cost that grows with it.
     pub fn len(&self) -> usize
         ensures value { result ≡ length self.now }
-        ensures few { result < 2 ^ 56 }
+        ensures few { IsFew result }
     {
         self.entries.len()
     }
@@ -81,7 +82,7 @@ impl RowList {
         requires { IsSome (find (has_serial serial) self.old) }
         ensures* writes_back { sem 𝓛 (lends_stage self.entry serial result) }
         ensures value { (row : StoredRow) → find (has_serial serial) self.old ≡ Some row → result.now ≡ row.stage }
-        ensures few { length self.old < 2 ^ 56 }
+        ensures few { IsFew (length self.old) }
     {
         &mut self.entries.at_mut(serial).stage
     }
@@ -92,7 +93,7 @@ impl RowList {
         requires { IsSome (find (has_serial serial) self.old) }
         ensures* writes_back { sem 𝓛 (lends_tracks self.entry serial result) }
         ensures value { (row : StoredRow) → find (has_serial serial) self.old ≡ Some row → result.now ≡ row.tracks }
-        ensures few { length self.old < 2 ^ 56 }
+        ensures few { IsFew (length self.old) }
     {
         &mut self.entries.at_mut(serial).tracks
     }
@@ -103,7 +104,7 @@ impl RowList {
         ensures ok { OnOk result (self.new ≡ self.old ++ row ∷ []) }
         ensures err { OnErr result (self.new ≡ self.old) }
         ensures value_returned { IfErr result (λ failed. failed.value ≡ row) }
-        ensures few { length self.new < 2 ^ 56 }
+        ensures few { IsFew (length self.new) }
     {
         let pushed = self.entries.push(row.serial, row);
         let _few = self.entries.len();

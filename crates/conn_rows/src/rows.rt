@@ -2,7 +2,9 @@
 ghost use Rattle.std.specs.Prelude.{◌≡◌, ◌+◌, ◌*◌, ◌-◌, ◌^◌, ◌<◌, ◌≤◌, ℕ, List, length, slice_get, option_and_then, option_map, IfOk, IfSome, IfNone, OnOk, OnErr, IsSome, None, Some, map, filter, ◌++◌, ◌∷◌, []};
 ghost use Rattle.std.specs.List.{AllByRecursion};
 ghost use Rattle.std.specs.Option.{option_copied};
+ghost use Rattle.keyed_list.specs.Entries.{IsFew};
 ghost use Rattle.addr_core.specs.declared.addr.Addr.{Addr};
+ghost use Rattle.proxy_types.specs.declared.limits.TheConstants.{COUNTERS};
 ghost use Rattle.plan_types.specs.declared.track.TableId.{TableId};
 ghost use Rattle.pp_any.specs.declared.rest.Rest.{Rest};
 ghost use Rattle.pp_any.specs.NextPiece.{status_on};
@@ -32,15 +34,15 @@ ghost use Rattle.conn_rows.specs.Value.{rows_of, rows_total, state_of, AllRows, 
 use crate::counts;
 use crate::frontend::{FrontendState, HeaderStatus, end_all, end_all_empty};
 use crate::opening::frontends;
-use crate::reload::bring;
-use crate::row::{Holdings, RowSummary, Seat, ServerNames, StoredRow, item, version_at};
+use crate::reload::install_version;
+use crate::row::{Holdings, RowSummary, ServerChoice, ServerNames, StoredRow, version_at};
 use crate::slots::give_back;
 use addr_core::{Addr, Pair};
 use conn_model::ask::Counts;
 use conn_model::event::ConnId;
 use conn_model::plain::{FrontendRows, TableState, Version};
 use conn_tables::Tables;
-use conn_versions::Versions;
+use conn_versions::{Versions, item};
 use list_core::{Seq, newest};
 use plan_types::{Backend, Plan, Server, Table, TableId, Track};
 use rule_engine::Tracks;
@@ -143,7 +145,7 @@ impl Rows {
     pub fn frontend(&self, number: u16) -> Option<FrontendSummary<'_>>
         ensures some { IfSome result (λ summary. (own : FrontendRows) × (slice_get self.now.frontends number ≡ Some own) × Sums own summary) }
         ensures none { IfNone result (slice_get self.now.frontends number ≡ None) }
-        ensures few { IfSome result (λ summary. summary.connections < 2 ^ 56) }
+        ensures few { IfSome result (λ summary. IsFew summary.connections) }
     {
         let own = item(self.frontends.as_slice(), number)?;
         Some(FrontendSummary {
@@ -280,7 +282,7 @@ impl Rows {
 
     /// Gives a connection that waits, and that the version of that number judges, to a server of that version. It takes
     /// no memory.
-    pub fn offer(&mut self, id: ConnId, version: u64, seat: Seat)
+    pub fn offer(&mut self, id: ConnId, version: u64, seat: ServerChoice)
         requires waits { IsSome (rest_at self.old.frontends id) }
         requires judged { IfSome (row_at self.old.frontends id) (λ row. row.version ≡ version) }
         requires server { (there : HasServer self.old.versions version seat.line seat.server) × (there.server.to ≡ seat.to) }
@@ -301,7 +303,7 @@ impl Rows {
     /// Lets a counter of a connection, which tracks nothing, track a key that can be tracked. It takes no memory.
     pub fn track(&mut self, id: ConnId, track: Track)
         requires there { IsSome (row_at self.old.frontends id) }
-        requires counter { track.counter < 3 }
+        requires counter { track.counter < COUNTERS }
         requires free { IfSome (row_at self.old.frontends id) (λ row. track_of track.counter row.tracks ≡ None) }
         requires spare { 0 < self.old.spare }
         requires key { key_at (open_tracks self.old.frontends) self.old.tables track.table track.key ≡ Some track.key }
@@ -339,7 +341,7 @@ impl Rows {
         }) }
         ensures err { OnErr result (self.new ≡ self.old) }
     {
-        bring(&mut self.kept, &mut self.tables, alloc, number, plan)
+        install_version(&mut self.kept, &mut self.tables, alloc, number, plan)
     }
 
     /// Forgets the versions that are neither in force nor of an open connection, and then the tables that no version
@@ -408,7 +410,7 @@ fn take_conn(frontends: &mut Vec<FrontendState>, id: ConnId) -> Option<StoredRow
     ensures none { IfNone result ((worth : StoredRow → ℕ) → rows_total worth frontends.new.items ≡ rows_total worth frontends.old.items) }
     ensures len { length frontends.new.items ≡ length frontends.old.items }
     ensures rows { (kept : VersionsValue) → AllRows (HasSlot kept) frontends.old.items → AllRows (HasSlot kept) frontends.new.items }
-    ensures small { AllByRecursion (λ own. length own.rows < 2 ^ 56) frontends.old.items → AllByRecursion (λ own. length own.rows < 2 ^ 56) frontends.new.items }
+    ensures small { AllByRecursion (λ own. IsFew (length own.rows)) frontends.old.items → AllByRecursion (λ own. IsFew (length own.rows)) frontends.new.items }
 {
     let number = usize::from(id.frontend);
     if number >= frontends.len() {

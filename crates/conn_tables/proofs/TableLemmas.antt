@@ -8,8 +8,8 @@ use Rattle.std.proofs.lemmas.List.Folds.{find-set, find_past}
 use Rattle.std.proofs.lemmas.Option.{get_or_from_slice_get, slice_get_read}
 use Rattle.addr_core.specs.declared.addr.Addr.{Addr}
 use Rattle.addr_core.specs.Same.{same_addr}
-use Rattle.stick_core.specs.declared.entries.Entry.{Entry}
-use Rattle.stick_core.specs.declared.entries.TableEntry.{TableEntry}
+use Rattle.stick_core.specs.declared.entries.StickEntry.{StickEntry}
+use Rattle.stick_core.specs.declared.entries.PlainEntry.{PlainEntry}
 use Rattle.stick_core.specs.Entries.{cur_of}
 use Rattle.stick_core.specs.PlainEntries.{AreTrackers, plain, touched, tracked_key, trackings_of, with_tracking}
 use Rattle.list_core.proofs.PlaceLemmas.{find-passes}
@@ -150,10 +150,10 @@ one_changed id change (t ∷ tables) (suc n) stored next differ there of now =
     let past : same_id t.id id ≡ false = ap (same_id t.id) (sym of) ∙ differ_sym stored.id t.id other in
     rw past (ap (λ ts. plain_table t ∷ ts) (one_changed id change tables n stored next differ.1 there of now))
 
-abbrev state_of : TableId → Table → List TableEntry → TableState
+abbrev state_of : TableId → Table → List PlainEntry → TableState
 state_of id table entries = record { id = id; table = table; entries = entries }
 
-state_is : (i j : TableId) (s t : Table) (e f : List TableEntry) → i ≡ j → s ≡ t → e ≡ f → state_of i s e ≡ state_of j t f
+state_is : (i j : TableId) (s t : Table) (e f : List PlainEntry) → i ≡ j → s ≡ t → e ≡ f → state_of i s e ≡ state_of j t f
 state_is i j s t e f ids tables entries = rw (ids, tables, entries) refl
 
 pub plain_left : (track : Track) (tables : List StoredTable) (n : ℕ) (stored next : StoredTable) → TablesDiffer tables → slice_get tables n ≡ Some stored → stored.id ≡ track.table →
@@ -232,7 +232,7 @@ new_differ version n (t ∷ tables) (s ∷ stored) is =
 pub new_tables : (version : ℕ) (tables : List Table) (stored : List StoredTable) → map plain_table stored ≡ map (new_table version) (enumerate_from 0 tables) → AllByRecursion (IsStored 0) stored → AreTables 0 stored
 new_tables version tables stored is each = record { differ = new_differ version 0 tables stored is; each = each }
 
-pub no_entry : (key : Addr) (entries : List Entry) → plain entries ≡ [] → cur_of key entries ≡ 0
+pub no_entry : (key : Addr) (entries : List StickEntry) → plain entries ≡ [] → cur_of key entries ≡ 0
 no_entry key [] none = refl
 no_entry key (e ∷ entries) none = absurd (cc)
 

@@ -3,7 +3,7 @@ ghost use Rattle.std.specs.Prelude.{◌≡◌, ◌+◌, ◌-◌, ◌≤◌, ◌<
 ghost use Rattle.std.specs.Option.{option_copied};
 ghost use Rattle.std.specs.List.{AllByRecursion, enumerate_from, position};
 ghost use Rattle.addr_core.specs.declared.addr.Addr.{Addr};
-ghost use Rattle.plan_types.specs.Sound.{most_tables};
+ghost use Rattle.proxy_types.specs.declared.limits.TheConstants.{MOST_TABLES};
 ghost use Rattle.stick_core.specs.Entries.{cur_of};
 ghost use Rattle.stick_core.specs.PlainEntries.{AreTrackers, plain, trackings_of, with_tracking};
 ghost use Rattle.plan_types.specs.declared.track.TableId.{TableId};
@@ -21,7 +21,7 @@ use list_core::{Duplicate, Seq};
 use plan_types::{Table, TableId};
 use std::alloc::{AllocError, Global};
 use std::marker::Model;
-use stick_core::Tracked;
+use stick_core::{StickTable, TrackToken};
 
 /// For how many more trackings room is made than asked.
 const EXTRA_ROOM: u64 = 16;
@@ -32,7 +32,7 @@ pub struct StoredTable {
     pub id: TableId,
     /// As the configuration has it.
     pub table: Table,
-    pub entries: stick_core::Table,
+    pub entries: StickTable,
 }
 
 impl StoredTable {
@@ -44,7 +44,7 @@ impl StoredTable {
         Ok(StoredTable {
             id,
             table: table.duplicate(alloc)?,
-            entries: stick_core::Table::new(alloc, table.kind, table.size, table.stores),
+            entries: StickTable::new(alloc, table.kind, table.size, table.stores),
         })
     }
 
@@ -84,7 +84,7 @@ impl StoredTable {
     }
 
     /// Tracks a key, for which there is memory.
-    fn track(&mut self, key: &Addr) -> Tracked
+    fn track(&mut self, key: &Addr) -> TrackToken
         requires stored { (spare : ℕ) × IsStored spare self.old }
         requires below { (other : Addr) → cur_of other self.old.entries.entries < 2 ^ 64 - 1 }
         requires room { 0 < self.old.entries.spare }
@@ -143,7 +143,7 @@ impl Model for Tables {
 impl Tables {
     /// The tables that begin with a version, without entries.
     pub fn new(alloc: Global, version: u64, tables: &[Table]) -> Result<Tables, AllocError>
-        requires { length tables.now ≤ most_tables }
+        requires { length tables.now ≤ MOST_TABLES }
         ensures plain { IfOk result (λ all. map plain_table all.tables ≡ map (new_table version) (enumerate_from 0 tables.now)) }
         ensures counts { IfOk result (λ all. (id : TableId) (key : Addr) → cur_in id key all.tables ≡ 0) }
         ensures spare { IfOk result (λ all. all.spare ≡ 0) }
@@ -171,7 +171,7 @@ impl Tables {
         tables: &[Table],
         ids: &[TableId],
     ) -> Result<(), AllocError>
-        requires few { length tables.now ≤ most_tables }
+        requires few { length tables.now ≤ MOST_TABLES }
         requires next { (before : List (plans.Table × TableId)) × AreNextIds version before tables.now ids.now }
         requires earlier { AllByRecursion (λ stored. stored.id.version < version) self.old.tables }
         ensures ok { OnOk result ((before : List (plans.Table × TableId)) → AreNextIds version before tables.now ids.now →

@@ -1,5 +1,6 @@
 //! What open connections track.
 ghost use Rattle.std.specs.Prelude.{◌≡◌, ◌++◌, ◌<◌, None, Some, option_map, IfOk, OnOk};
+ghost use Rattle.proxy_types.specs.declared.limits.TheConstants.{COUNTERS};
 ghost use Rattle.rule_engine.specs.Meaning.{present};
 ghost use Rattle.conn_tables.specs.Tracks.{at_counter, no_trackings, on_counter, plain_tracks, slots_of, track_by, track_on};
 
@@ -8,12 +9,12 @@ use plan_types::{TableId, Track};
 use rule_engine::Tracks;
 use std::alloc::{AllocError, Global};
 use std::mem;
-use stick_core::Tracked;
+use stick_core::TrackToken;
 
 /// What a counter tracks: a key of a table. It cannot be dropped: it ends in its table.
 pub struct Tracking {
     pub table: TableId,
-    pub token: Tracked,
+    pub token: TrackToken,
 }
 
 impl Tracking {
@@ -62,7 +63,7 @@ impl Trackings {
 
     /// Lets a counter that tracks nothing track.
     pub fn put(&mut self, counter: u8, tracking: Tracking)
-        requires counter { counter < 3 }
+        requires counter { counter < COUNTERS }
         requires free { on_counter counter self.old ≡ None }
         ensures { self.new ≡ at_counter counter tracking self.old }
     {

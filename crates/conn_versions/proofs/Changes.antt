@@ -17,7 +17,7 @@ use Rattle.conn_versions.specs.declared.versions.VersionPicks.{VersionPicks}
 use Rattle.conn_versions.specs.Versions.{has_number}
 use Rattle.conn_versions.specs.Slots.{KeepsPlaces}
 use Rattle.conn_versions.specs.Kept.{AreAllNoted, AreKept, IsKept}
-use Rattle.conn_versions.proofs.Places.{one_item, push-cases, within}
+use Rattle.list_core.proofs.Items.{one_item, push-cases, within}
 use Rattle.conn_versions.proofs.Identities.{noted_named, still_slots}
 
 -- Places of servers that are added.

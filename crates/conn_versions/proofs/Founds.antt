@@ -18,7 +18,7 @@ use Rattle.conn_versions.specs.Versions.{has_number, HasServer}
 use Rattle.conn_versions.specs.Slots.{AreSlots, IsServed}
 use Rattle.conn_versions.specs.Picks.{IsTied}
 use Rattle.conn_versions.specs.Kept.{AreKept, IsKept}
-use Rattle.conn_versions.proofs.Places.{one_item}
+use Rattle.list_core.proofs.Items.{one_item}
 use Rattle.list_core.proofs.PlaceLemmas.{find-passes}
 use Rattle.std.proofs.lemmas.Bool.{eqb-true}
 

@@ -17,7 +17,7 @@ use Rattle.conn_model.specs.Servers.{identity_in}
 use Rattle.conn_model.proofs.Lists.{all-append, all-at, all-more}
 use Rattle.conn_versions.specs.Versions.{open_to}
 use Rattle.conn_versions.specs.Slots.{AreAtPlaces, AreNamed, AreNoted, AreSlots, KeepsPlaces}
-use Rattle.conn_versions.proofs.Places.{length-set, one_item, push-cases, within}
+use Rattle.list_core.proofs.Items.{length-set, one_item, push-cases, within}
 
 -- The count of a server is found by its place.
 

@@ -17,7 +17,7 @@ use Rattle.conn_versions.specs.Judged.{judged_by, judged_in}
 use Rattle.conn_versions.specs.Kept.{connections_of, AreKept, IsKept}
 use Rattle.conn_versions.specs.Versions.{has_number}
 use Rattle.conn_versions.proofs.Changes.{has_other, version_found}
-use Rattle.conn_versions.proofs.Places.{length-set, one_item, set-cases}
+use Rattle.list_core.proofs.Items.{length-set, one_item, set-cases}
 
 -- The version at a place judges what is counted there.
 

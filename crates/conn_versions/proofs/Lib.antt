@@ -1,4 +1,3 @@
-pub mod Places
 pub mod Identities
 pub mod ServerLoads
 pub mod Moves

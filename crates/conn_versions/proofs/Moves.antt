@@ -24,7 +24,7 @@ use Rattle.conn_versions.specs.Versions.{AreSound}
 use Rattle.conn_versions.specs.Slots.{AreNamed, AreSlots, KeepsPlaces}
 use Rattle.conn_versions.specs.Picks.{IsTied}
 use Rattle.conn_versions.specs.Kept.{AreCounted, AreKept, AreTied, IsKept}
-use Rattle.conn_versions.proofs.Places.{get-other, get-set, length-set, one_item, push-cases, set-cases}
+use Rattle.list_core.proofs.Items.{get-other, get-set, length-set, one_item, push-cases, set-cases}
 use Rattle.conn_versions.proofs.Identities.{identity-changed, still_named, still_slots}
 
 -- One backend of a version.

@@ -6,7 +6,7 @@ use Rattle.slot_core.specs.declared.slots.SlotIx.{SlotIx}
 use Rattle.slot_core.specs.Counts.{identity_at, named_at, open_at, IdentitiesDiffer}
 use Rattle.plan_types.specs.declared.plan.Backend.{Backend}
 use Rattle.plan_types.specs.declared.plan.Server.{Server}
-use Rattle.plan_types.specs.Sound.{most_servers}
+use Rattle.proxy_types.specs.declared.limits.TheConstants.{MOST_SERVERS}
 use Rattle.conn_model.specs.Servers.{identity_in}
 
 -- each place is that of the server of its number
@@ -21,7 +21,7 @@ pub record AreSlots (counts : List Count) (backend : Backend) (places : List Slo
 
 -- and no two counts are of one server
 pub record IsServed (counts : List Count) (backend : Backend) (places : List SlotIx) : Type 0 where
-  pub few : length backend.servers ≤ most_servers
+  pub few : length backend.servers ≤ MOST_SERVERS
   pub apart : IdentitiesDiffer counts
   pub slots : AreSlots counts backend places
 

@@ -2,6 +2,7 @@
 //! server.
 #![tactic(auto)]
 
+pub use loads::item;
 pub use slot_core::Slot;
 pub use versions::{Versions, has_line};
 

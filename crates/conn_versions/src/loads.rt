@@ -48,7 +48,8 @@ impl Load for BackendLoad<'_> {
     }
 }
 
-fn item<T>(items: &[T], number: u16) -> Option<&T>
+/// The item of that number, the first being 0.
+pub fn item<T>(items: &[T], number: u16) -> Option<&T>
     ensures { option_copied result ≡ slice_get items.now number }
 {
     items.get(usize::from(number))
@@ -88,6 +89,7 @@ pub struct OneServer<'a> {
 
 impl<'a> Model for OneServer<'a> {
     ghost use Rattle.std.specs.Prelude.{List, length, ◌≤◌};
+    ghost use Rattle.proxy_types.specs.declared.limits.TheConstants.{MOST_SERVERS};
     ghost use Rattle.balance_core.specs.declared.load.ServerLoad.{ServerLoad};
     ghost use Rattle.conn_versions.specs.Picks.{loads_of_one};
 
@@ -95,7 +97,7 @@ impl<'a> Model for OneServer<'a> {
 
     ghost view = { λ o. loads_of_one o.number o.servers.now };
 
-    ghost invariant = { λ o. length o.servers.now ≤ 64 };
+    ghost invariant = { λ o. length o.servers.now ≤ MOST_SERVERS };
 }
 
 impl Load for OneServer<'_> {

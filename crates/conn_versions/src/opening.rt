@@ -2,7 +2,7 @@
 ghost use Rattle.std.specs.Prelude.{◌≡◌, ◌≤◌, map, length, position, slice_get, zip, None, IfOk};
 ghost use Rattle.std.specs.List.{enumerate_from};
 ghost use Rattle.std.specs.Option.{option_copied};
-ghost use Rattle.plan_types.specs.Sound.{most_tables};
+ghost use Rattle.proxy_types.specs.declared.limits.TheConstants.{MOST_TABLES};
 ghost use Rattle.conn_model.specs.Tables.{next_id, same_before, same_kind, same_section, same_stores, same_table, written_tables};
 
 use conn_model::plain::Version;
@@ -30,7 +30,7 @@ pub fn table_ids(
     before: Option<&Version>,
     tables: &[Table],
 ) -> Result<Seq<TableId>, AllocError>
-    requires { length tables.now ≤ most_tables }
+    requires { length tables.now ≤ MOST_TABLES }
     ensures { IfOk result (λ ids. ids ≡ map (next_id version (written_tables (option_copied before.entry))) (enumerate_from 0 tables.now)) }
 {
     let mut ids = Seq::new(alloc);

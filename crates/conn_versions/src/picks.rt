@@ -1,5 +1,6 @@
 //! What picks of a backend go by.
 ghost use Rattle.std.specs.Prelude.{◌≡◌, ◌<◌, ◌≤◌, ℕ, true, length, map, option_map, slice_get, None, Some, IfOk};
+ghost use Rattle.proxy_types.specs.declared.limits.TheConstants.{MOST_SERVERS};
 ghost use Rattle.balance_core.specs.Cycles.{turn_at, IsRound};
 ghost use Rattle.balance_core.specs.Rounds.{next_turn, used_turn, weights_of};
 ghost use Rattle.conn_model.specs.Servers.{cursor_after, identity_in, pick_in, weight_of};
@@ -89,7 +90,7 @@ fn weights_of(alloc: Global, servers: &[Server]) -> Result<Vec<u16>, AllocError>
 
 /// The cycle of a backend.
 fn cycle_of(alloc: Global, servers: &[Server]) -> Result<Cycle, AllocError>
-    requires { length servers.now ≤ 64 }
+    requires { length servers.now ≤ MOST_SERVERS }
     ensures { IfOk result (IsRound (map weight_of servers.now)) }
 {
     let weights = weights_of(alloc, servers)?;
@@ -103,7 +104,7 @@ pub fn picks_of(
     slots: &mut Slots,
     named: &mut NamedPlaces,
 ) -> Result<BackendPicks, AllocError>
-    requires few { length backend.now.servers ≤ 64 }
+    requires few { length backend.now.servers ≤ MOST_SERVERS }
     requires apart { IdentitiesDiffer slots.old }
     requires many { length named.old ≡ length slots.old }
     ensures slots { IfOk result (λ own. AreSlots slots.new backend.now own.slots) }
@@ -179,7 +180,7 @@ fn next_of_server(
     servers: &[Server],
     number: u16,
 ) -> Option<usize>
-    requires few { length servers.now ≤ 64 }
+    requires few { length servers.now ≤ MOST_SERVERS }
     requires round { IsRound (map weight_of servers.now) cycle.now }
     ensures { turn_at cycle.now result ≡ used_turn (map weight_of servers.now) (turn_at cycle.now used) number }
 {
@@ -209,7 +210,7 @@ pub fn use_server(
     own: &mut BackendPicks,
     number: u16,
 ) -> Option<Place>
-    requires few { length backend.now.servers ≤ 64 }
+    requires few { length backend.now.servers ≤ MOST_SERVERS }
     requires tied { IsTied backend.now cursor own.old }
     ensures cursor { result ≡ cursor_after backend.now number cursor }
     ensures tied { IsTied backend.now result own.new }

@@ -1,12 +1,12 @@
 //! The acceptor: what comes to the door goes to the workers in turn, and reloads to the desk.
 ghost use Rattle.std.specs.Prelude.{◌≡◌, Err, IfErr, IfOk, Ok};
 
-use crate::calls::Hall;
-use crate::worker::Arrival;
+use crate::calls::WorkerContext;
+use crate::worker::NewConn;
 use book_core::Receipt;
 use conn_model::reply::{Reply, StepFault};
 use desk_core::{Opening, Pass};
-use link_core::{Clock, Door, Gate, Knock, Link};
+use link_core::{Clock, Door, DoorEvent, Gate, Link};
 use rtrb::{Producer, PushError};
 use std::sync::Wait;
 use std::sync::ledger::Ledger;
@@ -14,12 +14,26 @@ use std::sync::ledger::Ledger;
 /// How many connections wait for a worker at the most.
 pub(crate) const LANE: usize = 64;
 
+/// How often the acceptor rests at the most while it waits for the workers to begin.
+const MOST_RESTS: u64 = 2_000;
+
+/// What came of the acceptor's work.
+#[derive(Clone, Copy, Drop)]
+pub(crate) struct Came {
+    /// Whether all workers began. If not, the door was not asked.
+    pub(crate) began: bool,
+    /// How many connections came.
+    pub(crate) accepted: u64,
+    /// How many of them no lane had room for.
+    pub(crate) held: u64,
+}
+
 /// What the acceptor works with.
 #[derive(Drop)]
-pub(crate) struct Front<'a, M: Ledger, K: Link, D: Door<Link = K>> {
+pub(crate) struct Acceptor<'a, M: Ledger, K: Link, D: Door<Link = K>> {
     pub(crate) door: &'a mut D,
     /// One for each worker.
-    pub(crate) lanes: Vec<Producer<Arrival<K>>>,
+    pub(crate) lanes: Vec<Producer<NewConn<K>>>,
     pub(crate) pass: &'a mut Pass<M>,
 }
 
@@ -34,62 +48,88 @@ fn reply_to(answer: Result<Receipt, StepFault>) -> Result<Reply, StepFault>
     }
 }
 
-impl<'a, M: Ledger, K: Link, D: Door<Link = K>> Front<'a, M, K, D> {
-    /// Takes what comes until the door is closed or the turns are used up, and says how many connections came, and how
-    /// many of them no lane had room for. The lanes are given up then, by which the workers learn of it.
+impl<'a, M: Ledger, K: Link, D: Door<Link = K>> Acceptor<'a, M, K, D> {
+    /// Takes what comes until the door is closed or the turns are used up. The lanes are given up then, by which the
+    /// workers learn of it. The door is asked once all workers began; if one does not within some seconds, the system has
+    /// no thread for it, and nothing is taken.
     pub(crate) fn accept_all<O: Ledger, B: Opening, G: Gate, C: Clock, R: Wait>(
         self,
         rt: &R,
-        hall: &Hall<'_, M, O, B, G, C>,
-    ) -> (u64, u64) {
-        let Front { door, lanes, pass } = self;
+        context: &WorkerContext<'_, M, O, B, G, C>,
+    ) -> Came {
+        let Acceptor { door, lanes, pass } = self;
         let mut lanes = lanes;
         let mut accepted = 0u64;
         let mut held = None;
-        for _turn in 0..hall.turns {
-            if let Some(backlog) = hall.alert.backlog() {
+        if !have_begun(context, lanes.len() as u64) {
+            return Came {
+                began: false,
+                accepted: 0,
+                held: 0,
+            };
+        }
+        for _turn in 0..context.turns {
+            if let Some(backlog) = context.alert.backlog() {
                 door.warn(&backlog);
             }
             if let Some(arrival) = held {
                 held = hand_over(&mut lanes, accepted, arrival);
                 if held.is_some() {
-                    hall.clock.rest();
+                    context.clock.rest();
                 }
                 continue;
             }
             match door.next() {
-                Knock::Conn(listener, real, link) => {
+                DoorEvent::Conn(listener, real, link) => {
                     accepted = accepted.saturating_add(1);
-                    let arrival = Arrival {
+                    let arrival = NewConn {
                         listener,
                         real,
                         link,
                     };
                     held = hand_over(&mut lanes, accepted, arrival);
                 }
-                Knock::Reload(text) => {
-                    let moment = hall.clock.now();
-                    let answer = hall.desk.reload(rt, pass, moment, text.as_str());
+                DoorEvent::Reload(text) => {
+                    let moment = context.clock.now();
+                    let answer = context.desk.reload(rt, pass, moment, text.as_str());
                     if let Ok(receipt) = &answer {
-                        hall.note(rt, receipt.number);
+                        context.note(rt, receipt.number);
                     }
                     door.report(&reply_to(answer));
                 }
-                Knock::Idle => hall.clock.rest(),
-                Knock::Closed => break,
+                DoorEvent::Idle => context.clock.rest(),
+                DoorEvent::Closed => break,
             }
         }
-        (accepted, u64::from(held.is_some()))
+        Came {
+            began: true,
+            accepted,
+            held: u64::from(held.is_some()),
+        }
     }
+}
+
+/// Waits for so many workers to begin; whether they did.
+fn have_begun<M: Ledger, O: Ledger, B: Opening, G: Gate, C: Clock>(
+    context: &WorkerContext<'_, M, O, B, G, C>,
+    workers: u64,
+) -> bool {
+    for _rest in 0..MOST_RESTS {
+        if context.alert.began() >= workers {
+            return true;
+        }
+        context.clock.rest();
+    }
+    false
 }
 
 /// Hands the connection of that number, counted from 1, to its worker. Where too many wait for that worker it comes
 /// back.
 fn hand_over<K: Link>(
-    lanes: &mut [Producer<Arrival<K>>],
+    lanes: &mut [Producer<NewConn<K>>],
     number: u64,
-    arrival: Arrival<K>,
-) -> Option<Arrival<K>> {
+    arrival: NewConn<K>,
+) -> Option<NewConn<K>> {
     let count = lanes.len() as u64;
     if count == 0 {
         return None;

@@ -7,7 +7,7 @@ use addr_core::Pair;
 use book_core::Receipt;
 use conn_model::event::Why;
 use conn_model::reply::{Reply, Said, StepFault};
-use desk_core::{Drive, Driven, LeaseList, Opening, Pass, SharedDesk};
+use desk_core::{Drive, DriveResult, LeaseList, Opening, Pass, SharedDesk};
 use link_core::{Clock, Gate};
 use std::alloc::Global;
 use std::sync::Wait;
@@ -15,7 +15,7 @@ use std::sync::ledger::Ledger;
 
 /// What all workers share.
 #[derive(Drop)]
-pub(crate) struct Hall<'a, M: Ledger, O: Ledger, B: Opening, G, C> {
+pub(crate) struct WorkerContext<'a, M: Ledger, O: Ledger, B: Opening, G, C> {
     pub(crate) alloc: Global,
     pub(crate) desk: &'a SharedDesk<M, O, B>,
     pub(crate) gate: &'a G,
@@ -27,7 +27,7 @@ pub(crate) struct Hall<'a, M: Ledger, O: Ledger, B: Opening, G, C> {
 
 /// What came of a call.
 #[derive(Drop)]
-pub(crate) enum Outcome {
+pub(crate) enum CallOutcome {
     /// The connection is open.
     Open(Said),
     /// The connection ended.
@@ -104,43 +104,46 @@ impl<M: Ledger, O: Ledger> Calls<M, O> {
     pub(crate) fn accept<B: Opening, G: Gate, C: Clock, R: Wait>(
         &mut self,
         rt: &R,
-        hall: &Hall<'_, M, O, B, G, C>,
+        context: &WorkerContext<'_, M, O, B, G, C>,
         key: usize,
         listener: u16,
         real: &Pair,
-    ) -> Outcome {
-        if !self.enter(hall.gate) {
-            return Outcome::Stopped;
+    ) -> CallOutcome {
+        if !self.enter(context.gate) {
+            return CallOutcome::Stopped;
         }
-        let outcome = self.ask_accept(rt, hall, key, listener, real);
-        self.leave(hall.gate);
+        let outcome = self.ask_accept(rt, context, key, listener, real);
+        self.leave(context.gate);
         outcome
     }
 
     fn ask_accept<B: Opening, G: Gate, C: Clock, R: Wait>(
         &mut self,
         rt: &R,
-        hall: &Hall<'_, M, O, B, G, C>,
+        context: &WorkerContext<'_, M, O, B, G, C>,
         key: usize,
         listener: u16,
         real: &Pair,
-    ) -> Outcome {
+    ) -> CallOutcome {
         if !self.leases.make_room(key) {
-            return Outcome::Failed(StepFault::NoMemory);
+            return CallOutcome::Failed(StepFault::NoMemory);
         }
-        let moment = hall.clock.now();
-        match hall.desk.accept(rt, &mut self.pass, moment, listener, real) {
+        let moment = context.clock.now();
+        match context
+            .desk
+            .accept(rt, &mut self.pass, moment, listener, real)
+        {
             Ok((receipt, lease)) => {
-                hall.note(rt, receipt.number);
+                context.note(rt, receipt.number);
                 match lease {
                     Some(lease) => {
                         self.leases.put(key, lease);
-                        Outcome::Open(said(receipt))
+                        CallOutcome::Open(said(receipt))
                     }
-                    None => Outcome::Ended,
+                    None => CallOutcome::Ended,
                 }
             }
-            Err(fault) => Outcome::Failed(fault),
+            Err(fault) => CallOutcome::Failed(fault),
         }
     }
 
@@ -148,45 +151,45 @@ impl<M: Ledger, O: Ledger> Calls<M, O> {
     pub(crate) fn drive<B: Opening, G: Gate, C: Clock, R: Wait>(
         &mut self,
         rt: &R,
-        hall: &Hall<'_, M, O, B, G, C>,
+        context: &WorkerContext<'_, M, O, B, G, C>,
         key: usize,
         drive: &Drive<'_>,
-    ) -> Outcome {
-        if !self.enter(hall.gate) {
-            return Outcome::Stopped;
+    ) -> CallOutcome {
+        if !self.enter(context.gate) {
+            return CallOutcome::Stopped;
         }
-        let outcome = self.ask_drive(rt, hall, key, drive);
-        self.leave(hall.gate);
+        let outcome = self.ask_drive(rt, context, key, drive);
+        self.leave(context.gate);
         outcome
     }
 
     fn ask_drive<B: Opening, G: Gate, C: Clock, R: Wait>(
         &mut self,
         rt: &R,
-        hall: &Hall<'_, M, O, B, G, C>,
+        context: &WorkerContext<'_, M, O, B, G, C>,
         key: usize,
         drive: &Drive<'_>,
-    ) -> Outcome {
+    ) -> CallOutcome {
         let Some(lease) = self.leases.take(key) else {
-            return Outcome::Ended;
+            return CallOutcome::Ended;
         };
-        let moment = hall.clock.now();
-        match hall.desk.drive(rt, &mut self.pass, moment, lease, drive) {
-            Driven::Goes(receipt, lease) => {
-                hall.note(rt, receipt.number);
+        let moment = context.clock.now();
+        match context.desk.drive(rt, &mut self.pass, moment, lease, drive) {
+            DriveResult::Goes(receipt, lease) => {
+                context.note(rt, receipt.number);
                 self.leases.put(key, lease);
-                Outcome::Open(said(receipt))
+                CallOutcome::Open(said(receipt))
             }
-            Driven::Over(receipt) => {
-                hall.note(rt, receipt.number);
+            DriveResult::Over(receipt) => {
+                context.note(rt, receipt.number);
                 if matches!(said(receipt), Said::Closed { .. }) {
                     self.closed += 1;
                 }
-                Outcome::Ended
+                CallOutcome::Ended
             }
-            Driven::Failed(fault, lease) => {
+            DriveResult::Failed(fault, lease) => {
                 self.leases.put(key, lease);
-                Outcome::Failed(fault)
+                CallOutcome::Failed(fault)
             }
         }
     }
@@ -195,15 +198,15 @@ impl<M: Ledger, O: Ledger> Calls<M, O> {
     pub(crate) fn close<B: Opening, G: Gate, C: Clock, R: Wait>(
         &mut self,
         rt: &R,
-        hall: &Hall<'_, M, O, B, G, C>,
+        context: &WorkerContext<'_, M, O, B, G, C>,
         key: usize,
         why: Why,
-    ) -> Outcome {
-        if !self.enter(hall.gate) {
-            return Outcome::Stopped;
+    ) -> CallOutcome {
+        if !self.enter(context.gate) {
+            return CallOutcome::Stopped;
         }
-        let outcome = self.close_at_once(rt, hall, key, why);
-        self.leave(hall.gate);
+        let outcome = self.close_at_once(rt, context, key, why);
+        self.leave(context.gate);
         outcome
     }
 
@@ -211,23 +214,23 @@ impl<M: Ledger, O: Ledger> Calls<M, O> {
     pub(crate) fn close_at_once<B: Opening, G: Gate, C: Clock, R: Wait>(
         &mut self,
         rt: &R,
-        hall: &Hall<'_, M, O, B, G, C>,
+        context: &WorkerContext<'_, M, O, B, G, C>,
         key: usize,
         why: Why,
-    ) -> Outcome {
+    ) -> CallOutcome {
         let Some(lease) = self.leases.take(key) else {
-            return Outcome::Ended;
+            return CallOutcome::Ended;
         };
-        let moment = hall.clock.now();
-        match hall.desk.close(rt, &mut self.pass, moment, lease, why) {
+        let moment = context.clock.now();
+        match context.desk.close(rt, &mut self.pass, moment, lease, why) {
             Ok(receipt) => {
-                hall.note(rt, receipt.number);
+                context.note(rt, receipt.number);
                 self.closed += 1;
-                Outcome::Ended
+                CallOutcome::Ended
             }
             Err((fault, lease)) => {
                 self.leases.put(key, lease);
-                Outcome::Failed(fault)
+                CallOutcome::Failed(fault)
             }
         }
     }

@@ -2,22 +2,24 @@
 ghost use Rattle.std.specs.Prelude.{◌≡◌, ◌<◌, ◌≤◌, ◌+◌, ◌-◌, ◌^◌, [], Some, IfErr, IfOk, sum_by, vec_capacity, vec_len};
 ghost use Rattle.std.specs.Thread.{IsSend};
 ghost use Rattle.rtrb.specs.Ring.{received, sent, IsPair};
+ghost use Rattle.proxy_types.specs.declared.limits.TheConstants.{MOST_WORKERS};
 ghost use Rattle.book_core.specs.Book.{with_ring};
-ghost use Rattle.book_core.specs.Open.{open_connections};
+ghost use Rattle.conn_model.specs.Counts.{open_connections};
+ghost use Rattle.desk_core.specs.declared.desk.TheConstants.{CALL_PARTS};
 ghost use Rattle.desk_core.specs.Books.{IsOf};
 ghost use Rattle.desk_core.specs.Calls.{calls_of};
 ghost use Rattle.desk_core.specs.Leased.{leases_in};
 ghost use Rattle.crew_core.specs.Crew.{IsIdle};
 ghost use Rattle.crew_core.specs.Outlets.{HasHandedOn};
 
-use crate::acceptor::{Front, LANE};
-use crate::calls::Hall;
+use crate::acceptor::{Acceptor, Came, LANE};
+use crate::calls::WorkerContext;
 use crate::outlet::{Outlet, Sink, empty};
 use crate::recorder::Alert;
 use crate::table::Table;
-use crate::worker::{Arrival, Bench, REPORTS, Worker};
+use crate::worker::{NewConn, REPORTS, Worker, WorkerState};
 use book_core::Book;
-use desk_core::{Desk, Lease, LeaseList, Opening, Pass, Shut};
+use desk_core::{ClosedDesk, Desk, Lease, LeaseList, Opening, Pass};
 use link_core::{Clock, Dial, Door, FLOW, Gate, Link, Spares};
 use rtrb::{Producer, RingBuffer};
 use std::alloc::{AllocError, Global};
@@ -60,12 +62,14 @@ pub struct Summary {
     pub recorded: u64,
     /// The segments that the sink refused. They are lost to it.
     pub sink_failed: u64,
+    /// Whether all workers began. If the system had no thread for one of them, the door was not asked.
+    pub began: bool,
 }
 
 /// What is left of a crew.
 pub struct Crew<M: Ledger, O: Ledger, B: Opening, L, S: Sink> {
     pub summary: Summary,
-    pub shut: Shut<M, O, B>,
+    pub shut: ClosedDesk<M, O, B>,
     /// That of the acceptor first, and then those of the workers.
     pub passes: Vec<Pass<M>>,
     /// For each worker, the last one first, the leases whose connections could not be closed because memory ran out.
@@ -76,8 +80,8 @@ pub struct Crew<M: Ledger, O: Ledger, B: Opening, L, S: Sink> {
 
 /// What takes memory before a crew begins.
 struct Rooms<M: Ledger, O: Ledger, K: Link, L: Dial<Link = K>> {
-    benches: Vec<Bench<K>>,
-    lanes: Vec<Producer<Arrival<K>>>,
+    states: Vec<WorkerState<K>>,
+    lanes: Vec<Producer<NewConn<K>>>,
     passes: Vec<Pass<M>>,
     dials: Vec<L>,
     lists: Vec<LeaseList<O>>,
@@ -85,17 +89,19 @@ struct Rooms<M: Ledger, O: Ledger, K: Link, L: Dial<Link = K>> {
     workers: Vec<Worker<M, O, K, L>>,
 }
 
-/// A bench for one worker, and the lane that leads to it.
-fn bench<K: Link>(alloc: Global) -> Result<(Bench<K>, Producer<Arrival<K>>), AllocError> {
+/// What one worker works with, and the lane that leads to it.
+fn make_state<K: Link>(
+    alloc: Global,
+) -> Result<(WorkerState<K>, Producer<NewConn<K>>), AllocError> {
     let (lane, arrivals) = RingBuffer::new(alloc, LANE)?;
-    let bench = Bench {
+    let state = WorkerState {
         arrivals,
         table: Table::new(alloc),
         buffer: Vec::from_elem(alloc, 0u8, FLOW)?,
         spares: Spares::new(alloc)?,
         ready: Vec::with_capacity(alloc, REPORTS)?,
     };
-    Ok((bench, lane))
+    Ok((state, lane))
 }
 
 /// Room for the leases of so many workers, as lists and without the rest of these.
@@ -121,19 +127,19 @@ fn make_rooms<M: Ledger, O: Ledger, K: Link, L: Dial<Link = K> + Drop>(
     alloc: Global,
     workers: usize,
 ) -> Result<Rooms<M, O, K, L>, AllocError>
-    requires { workers ≤ 64 }
-    ensures benches { IfOk result (λ r. vec_len r.benches ≡ workers) }
+    requires { workers ≤ MOST_WORKERS }
+    ensures states { IfOk result (λ r. vec_len r.states ≡ workers) }
     ensures passes { IfOk result (λ r. (vec_len r.passes ≡ 0) × (workers + 1 ≤ vec_capacity r.passes)) }
     ensures dials { IfOk result (λ r. (vec_len r.dials ≡ 0) × (workers ≤ vec_capacity r.dials)) }
     ensures lists { IfOk result (λ r. (vec_len r.lists ≡ 0) × (workers ≤ vec_capacity r.lists)) }
     ensures left { IfOk result (λ r. (vec_len r.left ≡ 0) × (workers ≤ vec_capacity r.left)) }
     ensures workers { IfOk result (λ r. (vec_len r.workers ≡ 0) × (workers ≤ vec_capacity r.workers)) }
 {
-    let mut benches = Vec::with_capacity(alloc, workers)?;
+    let mut states = Vec::with_capacity(alloc, workers)?;
     let mut lanes = Vec::with_capacity(alloc, workers)?;
     for _worker in 0..workers {
-        let (bench, lane) = bench(alloc)?;
-        benches.push(bench)?;
+        let (state, lane) = make_state(alloc)?;
+        states.push(state)?;
         lanes.push(lane)?;
     }
     let passes = Vec::with_capacity(alloc, workers + 1)?;
@@ -141,7 +147,7 @@ fn make_rooms<M: Ledger, O: Ledger, K: Link, L: Dial<Link = K> + Drop>(
     let (lists, left) = make_lists(alloc, workers)?;
     match Vec::with_capacity(alloc, workers) {
         Ok(workers) => Ok(Rooms {
-            benches,
+            states,
             lanes,
             passes,
             dials,
@@ -157,8 +163,8 @@ fn make_rooms<M: Ledger, O: Ledger, K: Link, L: Dial<Link = K> + Drop>(
     }
 }
 
-/// Whether so many threads can be started at one time. If the system refuses one later all the same, the workers
-/// of that half work one after another.
+/// Whether so many threads can be started at one time. If the system refuses one later all the same, a worker does not
+/// begin, and the acceptor takes nothing.
 fn can_spawn<R: Threads>(rt: &R, alloc: Global, workers: usize) -> Result<(), CrewFault> {
     let Ok(mut handles) = Vec::with_capacity(alloc, workers) else {
         return Err(CrewFault::NoMemory);
@@ -193,20 +199,20 @@ fn attend_each<
     G: Gate + Sync,
     C: Clock + Sync,
     R: Threads + Wait + Sync,
->(rt: &R, hall: &Hall<'_, M, O, B, G, C>, workers: &mut [Worker<M, O, K, L>]) {
+>(rt: &R, context: &WorkerContext<'_, M, O, B, G, C>, workers: &mut [Worker<M, O, K, L>]) {
     let threads = workers.len().max(1);
-    thread::for_each_mut(rt, workers, threads, &|_, worker| worker.work(rt, hall));
+    thread::for_each_mut(rt, workers, threads, &|_, worker| worker.work(rt, context));
 }
 
-/// What works at the desk: the workers, and the acceptor in front of them.
+/// What works at the desk: the workers, and the acceptor.
 #[derive(Drop)]
 struct Team<'a, M: Ledger, O: Ledger, K: Link, L: Dial<Link = K>, D: Door<Link = K>> {
     workers: &'a mut [Worker<M, O, K, L>],
-    front: Front<'a, M, K, D>,
+    acceptor: Acceptor<'a, M, K, D>,
 }
 
 /// The workers, and the acceptor beside them in the caller's thread. When all of them have ended, so does the recorder. It
-/// says how many connections came, and how many of them no lane had room for.
+/// says what came of the acceptor's work.
 fn work_beside<
     M: Ledger + Send + Sync,
     O: Ledger + Send + Sync,
@@ -217,14 +223,14 @@ fn work_beside<
     G: Gate + Sync,
     C: Clock + Sync,
     R: Threads + Wait + Sync,
->(rt: &R, hall: &Hall<'_, M, O, B, G, C>, team: Team<'_, M, O, K, L, D>) -> (u64, u64) {
-    let Team { workers, front } = team;
+>(rt: &R, context: &WorkerContext<'_, M, O, B, G, C>, team: Team<'_, M, O, K, L, D>) -> Came {
+    let Team { workers, acceptor } = team;
     let (_all, came) = thread::join(
         rt,
-        || attend_each(rt, hall, workers),
-        move || front.accept_all(rt, hall),
+        || attend_each(rt, context, workers),
+        move || acceptor.accept_all(rt, context),
     );
-    hall.alert.end();
+    context.alert.end();
     came
 }
 
@@ -243,18 +249,18 @@ fn work_and_record<
     R: Threads + Wait + Sync,
 >(
     rt: &R,
-    hall: &Hall<'_, M, O, B, G, C>,
+    context: &WorkerContext<'_, M, O, B, G, C>,
     team: Team<'_, M, O, K, L, D>,
     outlet: Outlet<S>,
-) -> ((u64, u64), (Outlet<S>, u64))
+) -> (Came, (Outlet<S>, u64))
     ensures { HasHandedOn S.takes S.refuses 0 outlet result.1.1 result.1.0 }
 {
     let (handed, came) = thread::join(
         rt,
-        move || hall.hand_on(rt, outlet),
+        move || context.hand_on(rt, outlet),
         move ||
             requires { IsSend M.row × IsSend O.row × IsSend B.row × IsSend K.row × IsSend L.row }
-        { work_beside(rt, hall, team) },
+        { work_beside(rt, context, team) },
     );
     (came, handed)
 }
@@ -266,7 +272,7 @@ fn idle<M: Ledger, O: Ledger, B: Opening, L, S: Sink>(
     dials: Vec<L>,
     outlet: Outlet<S>,
 ) -> Crew<M, O, B, L, S>
-    requires { (desk.given ≡ 0) × (M.parts ≡ 65537) }
+    requires { (desk.given ≡ 0) × (M.parts ≡ CALL_PARTS) }
     ensures idle { IsIdle result.summary }
     ensures nothing { (result.passes.items ≡ []) × (result.left.items ≡ []) × (result.shut.book.made ≡ 0) }
     ensures opened { IsOf B.opening result.shut.book }
@@ -283,6 +289,7 @@ fn idle<M: Ledger, O: Ledger, B: Opening, L, S: Sink>(
             closed: 0,
             recorded,
             sink_failed: 0,
+            began: false,
         },
         shut,
         passes,
@@ -293,32 +300,32 @@ fn idle<M: Ledger, O: Ledger, B: Opening, L, S: Sink>(
 }
 
 /// Gives each dial its worker. The last worker is the first of the list.
-fn man<M: Ledger, O: Ledger, B: Opening, K: Link, L: Dial<Link = K> + Drop>(
+fn make_workers<M: Ledger, O: Ledger, B: Opening, K: Link, L: Dial<Link = K> + Drop>(
     alloc: Global,
     desk: &mut Desk<M, O, B>,
     keeps: bool,
-    benches: Vec<Bench<K>>,
+    states: Vec<WorkerState<K>>,
     dials: Vec<L>,
     workers: &mut Vec<Worker<M, O, K, L>>,
 )
     requires empty { vec_len workers.old ≡ 0 }
     requires room { vec_len dials ≤ vec_capacity workers.old }
-    requires few { vec_len dials ≤ 64 }
-    requires benches { vec_len benches ≡ vec_len dials }
+    requires few { vec_len dials ≤ MOST_WORKERS }
+    requires states { vec_len states ≡ vec_len dials }
     requires given { desk.old.given ≡ 1 }
     ensures given { desk.new.given ≡ vec_len workers.new + 1 }
     ensures len { vec_len workers.new ≡ vec_len dials }
 {
-    let (mut benches, mut dials) = (benches, dials);
-    while let (Some(dial), Some(bench)) = (dials.pop(), benches.pop()) {
+    let (mut states, mut dials) = (states, dials);
+    while let (Some(dial), Some(state)) = (dials.pop(), states.pop()) {
         let number = dials.len() as u16;
         let pass = desk.pass(keeps);
-        workers.push_reserved(Worker::new(alloc, number, pass, bench, dial));
+        workers.push_reserved(Worker::new(alloc, number, pass, state, dial));
     }
 }
 
 /// Takes the workers apart, and says how many replies were `Closed` and how many connections no worker took.
-fn dismiss<M: Ledger, O: Ledger, K: Link, L: Dial<Link = K>>(
+fn take_apart<M: Ledger, O: Ledger, K: Link, L: Dial<Link = K>>(
     workers: Vec<Worker<M, O, K, L>>,
     passes: &mut Vec<Pass<M>>,
     lists: &mut Vec<LeaseList<O>>,
@@ -335,8 +342,8 @@ fn dismiss<M: Ledger, O: Ledger, K: Link, L: Dial<Link = K>>(
     let mut closed = 0u64;
     let mut waiting = 0u64;
     while let Some(worker) = workers.pop() {
-        let Worker { calls, bench, dial } = worker;
-        let Bench { mut arrivals, .. } = bench;
+        let Worker { calls, state, dial } = worker;
+        let WorkerState { mut arrivals, .. } = state;
         let (pass, leases, replies) = calls.into_parts();
         closed = closed.saturating_add(replies);
         waiting = waiting.saturating_add(arrivals.slots() as u64);
@@ -364,7 +371,7 @@ fn leases_alone<O: Ledger>(lists: Vec<LeaseList<O>>, left: Vec<Vec<Lease<O>>>) -
 
 /// Hands back the leases that were not spent, of which each is an open connection's.
 fn hand_back<M: Ledger, O: Ledger, B: Opening>(
-    shut: &mut Shut<M, O, B>,
+    shut: &mut ClosedDesk<M, O, B>,
     lists: Vec<LeaseList<O>>,
     left: Vec<Vec<Lease<O>>>,
 ) -> Vec<Vec<Lease<O>>>
@@ -417,10 +424,10 @@ pub fn run_crew<
     requires ring { IsPair book.segments outlet.segments }
     requires fresh { (book.made ≡ 0) × (open_connections book.state ≡ 0) × (open_connections book.base ≡ 0) }
     requires made_name { made.name ≡ M.name }
-    requires made_parts { (made.parts ≡ M.parts) × (made.parts ≡ 65537) }
+    requires made_parts { (made.parts ≡ M.parts) × (made.parts ≡ CALL_PARTS) }
     requires leases_name { leases.name ≡ O.name }
     requires leases_parts { (leases.parts ≡ O.parts) × (leases.parts ≡ 2 ^ 64 - 1) }
-    requires workers { (vec_len dials ≡ setup.workers) × (1 ≤ setup.workers) × (setup.workers ≤ 64) }
+    requires workers { (vec_len dials ≡ setup.workers) × (1 ≤ setup.workers) × (setup.workers ≤ MOST_WORKERS) }
     // The replies are those of its passes, which are all that were given, and each is a record of the book.
     ensures passes { IfOk result (λ crew. vec_len crew.passes ≡ crew.shut.given) }
     ensures recorded { IfOk result (λ crew. (crew.summary.recorded ≡ calls_of crew.passes.items) × (crew.summary.recorded ≡ crew.shut.book.made)) }
@@ -449,7 +456,7 @@ pub fn run_crew<
         return Err((CrewFault::NoMemory, idle(alloc, desk, dials, outlet)));
     };
     let Rooms {
-        benches,
+        states,
         lanes,
         mut passes,
         dials: mut dials_back,
@@ -458,9 +465,9 @@ pub fn run_crew<
         mut workers,
     } = rooms;
     let mut pass = desk.pass(setup.keeps);
-    man(alloc, &mut desk, setup.keeps, benches, dials, &mut workers);
+    make_workers(alloc, &mut desk, setup.keeps, states, dials, &mut workers);
     let alert = Alert::new();
-    let hall = Hall {
+    let context = WorkerContext {
         alloc,
         desk: desk.shared(),
         gate,
@@ -468,30 +475,31 @@ pub fn run_crew<
         alert: &alert,
         turns: setup.turns,
     };
-    let front = Front {
+    let acceptor = Acceptor {
         door,
         lanes,
         pass: &mut pass,
     };
     let team = Team {
         workers: workers.as_mut_slice(),
-        front,
+        acceptor,
     };
-    let (came, handed) = work_and_record(rt, &hall, team, outlet);
-    let ((accepted, held), (mut outlet, refused)) = (came, handed);
+    let (came, handed) = work_and_record(rt, &context, team, outlet);
+    let (mut outlet, refused) = handed;
     passes.push_reserved(pass);
-    let (closed, waiting) = dismiss(workers, &mut passes, &mut lists, &mut dials_back);
+    let (closed, waiting) = take_apart(workers, &mut passes, &mut lists, &mut dials_back);
     let mut shut = desk.into_book();
     let recorded = shut.count_calls(&mut passes);
     let left = hand_back(&mut shut, lists, left);
     let sink_failed = empty(&mut shut, &mut outlet, refused);
     Ok(Crew {
         summary: Summary {
-            accepted,
-            taken: taken(accepted, waiting.saturating_add(held)),
+            accepted: came.accepted,
+            taken: taken(came.accepted, waiting.saturating_add(came.held)),
             closed,
             recorded,
             sink_failed,
+            began: came.began,
         },
         shut,
         passes,

@@ -1,10 +1,11 @@
 //! The engine of `serve`: a crew, from the configuration's text to the record.
 ghost use Rattle.std.specs.Prelude.{◌≡◌, ◌⊎◌, ◌≤◌, ◌-◌, ◌^◌, [], Err, IfOk, IfErr, OnErr, OnOk, Some, vec_len};
 ghost use Rattle.rtrb.specs.Ring.{received, IsPair};
+ghost use Rattle.proxy_types.specs.declared.limits.TheConstants.{MOST_WORKERS};
 ghost use Rattle.config_core.specs.Meaning.{meaning};
 ghost use Rattle.conn_core.specs.Machine.{IsOpened};
 ghost use Rattle.book_core.specs.Book.{new_book};
-ghost use Rattle.book_core.specs.Open.{open_connections};
+ghost use Rattle.conn_model.specs.Counts.{open_connections};
 ghost use Rattle.crew_core.specs.Writers.{RecordsAll, RecordsFront};
 
 use crate::crew::{Crew, CrewFault, Setup, Summary, run_crew};
@@ -14,7 +15,7 @@ use audit_core::RecordFault;
 use book_core::Book;
 use book_core::laws::open_connections_change;
 use conn_core::{Core, OpenFault};
-use desk_core::{Opening, SettleFault, Settled, settle};
+use desk_core::{CALL_PARTS, Opening, SettleFault, Settled, settle};
 use device_core::Output;
 use link_core::{Clock, Dial, Door, Gate, Link};
 use record_core::Segment;
@@ -75,7 +76,7 @@ pub fn open_book(alloc: Global, text: &str) -> Result<(Book, Consumer<Segment>),
 
 /// Ends what is left of a crew that did nothing.
 fn settle_idle<M: Ledger, O: Ledger, B: Opening, L: Drop, S: Sink>(crew: Crew<M, O, B, L, S>)
-    requires { M.parts ≡ 65537 }
+    requires { M.parts ≡ CALL_PARTS }
 {
     let Crew {
         summary: _,
@@ -115,11 +116,11 @@ fn run<
     requires fresh { (book.made ≡ 0) × (open_connections book.state ≡ 0) × (open_connections book.base ≡ 0) }
     requires ring { IsPair book.segments segments × (received segments ≡ []) }
     requires made_name { made.name ≡ M.name }
-    requires made_parts { (made.parts ≡ M.parts) × (made.parts ≡ 65537) }
+    requires made_parts { (made.parts ≡ M.parts) × (made.parts ≡ CALL_PARTS) }
     requires leases_name { leases.name ≡ O.name }
     requires leases_parts { (leases.parts ≡ O.parts) × (leases.parts ≡ 2 ^ 64 - 1) }
     requires opened { B.opening ≡ Some book }
-    requires workers { (vec_len dials ≡ workers) × (1 ≤ workers) × (workers ≤ 64) }
+    requires workers { (vec_len dials ≡ workers) × (1 ≤ workers) × (workers ≤ MOST_WORKERS) }
     ensures record { IfOk result (λ served. OnOk served.written (RecordsAll book.base served.summary.recorded (W.held writer) (W.held served.writer))) }
     ensures front { IfOk result (λ served. OnErr served.written (RecordsFront book.base served.summary.recorded (W.held writer) (W.held served.writer))) }
 {
@@ -187,7 +188,7 @@ pub fn serve<
 ) -> Result<Served<W>, CrewFault>
     requires fresh { (book.made ≡ 0) × (open_connections book.state ≡ 0) × (open_connections book.base ≡ 0) }
     requires ring { IsPair book.segments segments × (received segments ≡ []) }
-    requires workers { (vec_len dials ≡ workers) × (1 ≤ workers) × (workers ≤ 64) }
+    requires workers { (vec_len dials ≡ workers) × (1 ≤ workers) × (workers ≤ MOST_WORKERS) }
     // What is written is the record of a legal history from the base of the book on, of all decisions that were made.
     ensures record { IfOk result (λ served. OnOk served.written (RecordsAll book.base served.summary.recorded (W.held writer) (W.held served.writer))) }
     // If the writer fails, it has a front of such a record.
@@ -197,7 +198,7 @@ pub fn serve<
         rt,
         alloc,
         book,
-        Blank::new(65_537),
+        Blank::new(CALL_PARTS),
         Blank::new(u64::MAX),
         segments,
         door,

@@ -3,7 +3,7 @@
 
 pub use crew::{Crew, CrewFault, Setup, Summary, run_crew};
 pub use engine::{Served, open_book, serve};
-pub use link_core::{Backlog, Clock, Dial, Dialled, Door, Gate, Knock, Link, Ready};
+pub use link_core::{Backlog, Clock, Dial, Dialled, Door, DoorEvent, Gate, Link, Ready};
 pub use outlet::{Outlet, RING, Sink, SinkFault};
 
 mod acceptor;

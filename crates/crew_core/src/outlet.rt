@@ -4,7 +4,7 @@ ghost use Rattle.rtrb.specs.Ring.{known_items, received, sent, IsPair};
 ghost use Rattle.book_core.specs.Book.{with_ring};
 ghost use Rattle.crew_core.specs.Outlets.{HasHandedOn};
 
-use desk_core::{Opening, Shut};
+use desk_core::{ClosedDesk, Opening};
 use record_core::Segment;
 use rtrb::Consumer;
 use std::sync::ledger::Ledger;
@@ -81,7 +81,7 @@ fn hand_known<S: Sink>(outlet: &mut Outlet<S>, refused: u64) -> u64
 
 /// All segments that are in the ring of a book go to the sink. How many of them it refused, with those before.
 pub(crate) fn empty<M: Ledger, O: Ledger, B: Opening, S: Sink>(
-    shut: &mut Shut<M, O, B>,
+    shut: &mut ClosedDesk<M, O, B>,
     outlet: &mut Outlet<S>,
     refused: u64,
 ) -> u64

@@ -2,7 +2,7 @@
 ghost use Rattle.std.specs.Prelude.{◌≡◌};
 ghost use Rattle.crew_core.specs.Outlets.{HasHandedOn};
 
-use crate::calls::Hall;
+use crate::calls::WorkerContext;
 use crate::outlet::{Outlet, Sink, drain};
 use book_core::CutFault;
 use desk_core::Opening;
@@ -19,7 +19,7 @@ const LONGEST: u64 = 1_000;
 /// A record whose number is a multiple of this one ends a segment.
 const SEGMENT: u64 = 256;
 
-/// What wakes the recorder, what ends it, and what it has to report.
+/// What wakes the recorder, what ends it, what it has to report, and how many workers began.
 #[derive(Drop)]
 pub(crate) struct Alert {
     parker: Parker,
@@ -28,6 +28,8 @@ pub(crate) struct Alert {
     refused: AtomicU64,
     /// How many records at least are in memory because the ring has no room.
     waiting: AtomicU64,
+    /// How many workers began their work.
+    began: AtomicU64,
 }
 
 impl Alert {
@@ -37,7 +39,18 @@ impl Alert {
             is_over: AtomicBool::new(false),
             refused: AtomicU64::new(0),
             waiting: AtomicU64::new(0),
+            began: AtomicU64::new(0),
         }
+    }
+
+    /// A worker begins its work.
+    pub(crate) fn begin(&self) {
+        let _before = self.began.fetch_add(1, Ordering::SeqCst);
+    }
+
+    /// How many workers began their work.
+    pub(crate) fn began(&self) -> u64 {
+        self.began.load(Ordering::SeqCst)
     }
 
     /// The crew's work is over.
@@ -60,7 +73,7 @@ impl Alert {
     }
 }
 
-impl<'a, M: Ledger, O: Ledger, B: Opening, G: Gate, C: Clock> Hall<'a, M, O, B, G, C> {
+impl<'a, M: Ledger, O: Ledger, B: Opening, G: Gate, C: Clock> WorkerContext<'a, M, O, B, G, C> {
     /// A record of that number was made. If it ends a segment, those in memory are handed to the recorder.
     pub(crate) fn note<R: Wait>(&self, rt: &R, number: u64) {
         if number % SEGMENT == 0 {

@@ -1,15 +1,15 @@
 //! What a worker does with one of its connections.
 ghost use Rattle.std.specs.Prelude.{◌≡◌, ◌≤◌, length, take, drop};
 
-use crate::calls::{Hall, Outcome};
+use crate::calls::{CallOutcome, WorkerContext};
 use crate::conn::Stage;
-use crate::worker::{Bench, SERVED, Worker};
+use crate::worker::{SERVED, Worker, WorkerState};
 use addr_core::Endpoint;
 use conn_model::event::Why;
 use conn_model::reply::{Said, StepFault};
 use desk_core::{Drive, Opening};
-use device_core::{Failed, Got};
-use link_core::{Clock, Dial, Dialled, Gate, Link, PIECE, Progress};
+use device_core::{Failed, Got, PIECE_BYTES};
+use link_core::{Clock, Dial, Dialled, Gate, Link, Progress};
 use std::sync::Wait;
 use std::sync::ledger::Ledger;
 
@@ -37,10 +37,10 @@ fn part(bytes: &[u8], from: usize, until: usize) -> &[u8]
 
 /// Reads one piece into the front of the buffer.
 fn read_piece<K: Link>(link: &mut K, buffer: &mut [u8]) -> Result<Got, Failed> {
-    if buffer.len() < PIECE {
+    if buffer.len() < PIECE_BYTES {
         return Err(Failed);
     }
-    link.read(&mut buffer[..PIECE])
+    link.read(&mut buffer[..PIECE_BYTES])
 }
 
 impl<M: Ledger, O: Ledger, K: Link, L: Dial<Link = K>> Worker<M, O, K, L> {
@@ -48,34 +48,39 @@ impl<M: Ledger, O: Ledger, K: Link, L: Dial<Link = K>> Worker<M, O, K, L> {
     pub(crate) fn serve<B: Opening, G: Gate, C: Clock, R: Wait>(
         &mut self,
         rt: &R,
-        hall: &Hall<'_, M, O, B, G, C>,
+        context: &WorkerContext<'_, M, O, B, G, C>,
         key: usize,
     ) {
-        if let Some(why) = self.bench.table.ended(key) {
-            return self.close(rt, hall, key, why);
+        if let Some(why) = self.state.table.ended(key) {
+            return self.close(rt, context, key, why);
         }
-        let Some(conn) = self.bench.table.conn(key) else {
+        let Some(conn) = self.state.table.conn(key) else {
             return;
         };
         match conn.stage {
-            Stage::Header => self.receive(rt, hall, key),
-            Stage::Server(_) if conn.client_flags.is_reset => self.close(rt, hall, key, Why::Fault),
-            Stage::Server(to) => self.dial_server(rt, hall, key, &to),
-            Stage::Bytes => self.relay(rt, hall, key),
+            Stage::Header => self.receive(rt, context, key),
+            Stage::Server(_) if conn.client_flags.is_reset => self.close(
+                rt,
+                context,
+                key,
+                Why::Fault,
+            ),
+            Stage::Server(to) => self.dial_server(rt, context, key, &to),
+            Stage::Bytes => self.relay(rt, context, key),
         }
     }
 
     /// Reads once from a connection that waits for its header.
     fn read(&mut self, key: usize) -> Piece {
-        let Some(conn) = self.bench.table.conn(key) else {
+        let Some(conn) = self.state.table.conn(key) else {
             return Piece::Blocked;
         };
         if !conn.client_flags.reads {
             return Piece::Blocked;
         }
-        match read_piece(&mut conn.client, self.bench.buffer.as_mut_slice()) {
+        match read_piece(&mut conn.client, self.state.buffer.as_mut_slice()) {
             Ok(Got::Bytes(count)) => {
-                conn.client_flags.note_read(count, PIECE);
+                conn.client_flags.note_read(count, PIECE_BYTES);
                 Piece::Bytes(count)
             }
             Ok(Got::Blocked) => {
@@ -90,54 +95,54 @@ impl<M: Ledger, O: Ledger, K: Link, L: Dial<Link = K>> Worker<M, O, K, L> {
     fn receive<B: Opening, G: Gate, C: Clock, R: Wait>(
         &mut self,
         rt: &R,
-        hall: &Hall<'_, M, O, B, G, C>,
+        context: &WorkerContext<'_, M, O, B, G, C>,
         key: usize,
     ) {
         for _piece in 0..PIECES {
             let count = match self.read(key) {
                 Piece::Bytes(count) => count,
                 Piece::Blocked => return,
-                Piece::Over => return self.close(rt, hall, key, Why::Fault),
+                Piece::Over => return self.close(rt, context, key, Why::Fault),
             };
-            let bytes = part(self.bench.buffer.as_slice(), 0, count);
-            match self.calls.drive(rt, hall, key, &Drive::Piece(bytes)) {
-                Outcome::Open(Said::Wait { .. }) => {}
-                Outcome::Open(Said::Offer { used, to, send, .. }) => {
+            let bytes = part(self.state.buffer.as_slice(), 0, count);
+            match self.calls.drive(rt, context, key, &Drive::Piece(bytes)) {
+                CallOutcome::Open(Said::Wait { .. }) => {}
+                CallOutcome::Open(Said::Offer { used, to, send, .. }) => {
                     let rest = (used as usize, count);
-                    return self.offer(rt, hall, key, to, send.as_slice(), rest);
+                    return self.offer(rt, context, key, to, send.as_slice(), rest);
                 }
-                Outcome::Open(_) | Outcome::Stopped => return,
-                Outcome::Ended => return self.forget(key),
-                Outcome::Failed(_) => return self.close(rt, hall, key, Why::Failed),
+                CallOutcome::Open(_) | CallOutcome::Stopped => return,
+                CallOutcome::Ended => return self.forget(key),
+                CallOutcome::Failed(_) => return self.close(rt, context, key, Why::Failed),
             }
         }
-        self.bench.table.enqueue(key);
+        self.state.table.enqueue(key);
     }
 
     /// A connection was offered a server. What is in the buffer from the one place to the other follows its header.
     pub(crate) fn offer<B: Opening, G: Gate, C: Clock, R: Wait>(
         &mut self,
         rt: &R,
-        hall: &Hall<'_, M, O, B, G, C>,
+        context: &WorkerContext<'_, M, O, B, G, C>,
         key: usize,
         to: Endpoint,
         send: &[u8],
         rest: (usize, usize),
     ) {
         let (from, until) = rest;
-        let Bench {
+        let WorkerState {
             table,
             buffer,
             spares,
             ..
-        } = &mut self.bench;
+        } = &mut self.state;
         let Some(conn) = table.conn(key) else {
             return;
         };
         let rest = part(buffer.as_slice(), from, until);
         match conn.offer(spares, to, send, rest) {
-            Ok(()) => self.dial_server(rt, hall, key, &to),
-            Err(_) => self.close(rt, hall, key, Why::Fault),
+            Ok(()) => self.dial_server(rt, context, key, &to),
+            Err(_) => self.close(rt, context, key, Why::Fault),
         }
     }
 
@@ -145,7 +150,7 @@ impl<M: Ledger, O: Ledger, K: Link, L: Dial<Link = K>> Worker<M, O, K, L> {
     fn dial_server<B: Opening, G: Gate, C: Clock, R: Wait>(
         &mut self,
         rt: &R,
-        hall: &Hall<'_, M, O, B, G, C>,
+        context: &WorkerContext<'_, M, O, B, G, C>,
         key: usize,
         to: &Endpoint,
     ) {
@@ -154,16 +159,16 @@ impl<M: Ledger, O: Ledger, K: Link, L: Dial<Link = K>> Worker<M, O, K, L> {
             Dialled::Link(server) => (Drive::Connected, Some(server)),
             Dialled::Failed => (Drive::ConnectFailed, None),
         };
-        match self.calls.drive(rt, hall, key, &drive) {
-            Outcome::Open(_) => {
-                if let (Some(conn), Some(server)) = (self.bench.table.conn(key), server) {
+        match self.calls.drive(rt, context, key, &drive) {
+            CallOutcome::Open(_) => {
+                if let (Some(conn), Some(server)) = (self.state.table.conn(key), server) {
                     conn.connect(server);
-                    self.bench.table.enqueue(key);
+                    self.state.table.enqueue(key);
                 }
             }
-            Outcome::Stopped => {}
-            Outcome::Ended => self.forget(key),
-            Outcome::Failed(_) => self.close(rt, hall, key, Why::Failed),
+            CallOutcome::Stopped => {}
+            CallOutcome::Ended => self.forget(key),
+            CallOutcome::Failed(_) => self.close(rt, context, key, Why::Failed),
         }
     }
 
@@ -171,24 +176,24 @@ impl<M: Ledger, O: Ledger, K: Link, L: Dial<Link = K>> Worker<M, O, K, L> {
     fn relay<B: Opening, G: Gate, C: Clock, R: Wait>(
         &mut self,
         rt: &R,
-        hall: &Hall<'_, M, O, B, G, C>,
+        context: &WorkerContext<'_, M, O, B, G, C>,
         key: usize,
     ) {
-        let Bench {
+        let WorkerState {
             table,
             buffer,
             spares,
             ..
-        } = &mut self.bench;
+        } = &mut self.state;
         let Some(conn) = table.conn(key) else {
             return;
         };
         match conn.relay(spares, buffer.as_mut_slice()) {
-            None => self.close(rt, hall, key, Why::Done),
-            Some(Progress::Fault) => self.close(rt, hall, key, Why::Fault),
-            Some(Progress::More) => self.bench.table.enqueue(key),
+            None => self.close(rt, context, key, Why::Done),
+            Some(Progress::Fault) => self.close(rt, context, key, Why::Fault),
+            Some(Progress::More) => self.state.table.enqueue(key),
             // One side is gone while the other takes nothing: no read would ever find that out.
-            Some(Progress::Idle) if conn.is_reset() => self.close(rt, hall, key, Why::Fault),
+            Some(Progress::Idle) if conn.is_reset() => self.close(rt, context, key, Why::Fault),
             Some(Progress::Idle) => {}
         }
     }
@@ -197,27 +202,27 @@ impl<M: Ledger, O: Ledger, K: Link, L: Dial<Link = K>> Worker<M, O, K, L> {
     pub(crate) fn expire<B: Opening, G: Gate, C: Clock, R: Wait>(
         &mut self,
         rt: &R,
-        hall: &Hall<'_, M, O, B, G, C>,
+        context: &WorkerContext<'_, M, O, B, G, C>,
     ) {
-        let now = hall.clock.now();
-        for _wait in 0..self.bench.table.waiting().min(SERVED) {
+        let now = context.clock.now();
+        for _wait in 0..self.state.table.waiting().min(SERVED) {
             if self.calls.is_stopped {
                 return;
             }
-            let Some(wait) = self.bench.table.due(now) else {
+            let Some(wait) = self.state.table.due(now) else {
                 return;
             };
-            if self.bench.table.waits_for_header(&wait) {
-                self.receive_late(rt, hall, wait.key);
+            if self.state.table.waits_for_header(&wait) {
+                self.receive_late(rt, context, wait.key);
             }
-            if !self.bench.table.waits_for_header(&wait) {
+            if !self.state.table.waits_for_header(&wait) {
                 continue;
             }
-            match self.calls.drive(rt, hall, wait.key, &Drive::Expire) {
-                Outcome::Open(_) | Outcome::Stopped => {}
-                Outcome::Ended => self.forget(wait.key),
-                Outcome::Failed(StepFault::NotDue) => self.bench.table.wait_again(&wait, now),
-                Outcome::Failed(_) => self.close(rt, hall, wait.key, Why::Failed),
+            match self.calls.drive(rt, context, wait.key, &Drive::Expire) {
+                CallOutcome::Open(_) | CallOutcome::Stopped => {}
+                CallOutcome::Ended => self.forget(wait.key),
+                CallOutcome::Failed(StepFault::NotDue) => self.state.table.wait_again(&wait, now),
+                CallOutcome::Failed(_) => self.close(rt, context, wait.key, Why::Failed),
             }
         }
     }
@@ -227,35 +232,35 @@ impl<M: Ledger, O: Ledger, K: Link, L: Dial<Link = K>> Worker<M, O, K, L> {
     fn receive_late<B: Opening, G: Gate, C: Clock, R: Wait>(
         &mut self,
         rt: &R,
-        hall: &Hall<'_, M, O, B, G, C>,
+        context: &WorkerContext<'_, M, O, B, G, C>,
         key: usize,
     ) {
-        if let Some(conn) = self.bench.table.conn(key) {
+        if let Some(conn) = self.state.table.conn(key) {
             conn.client_flags.reads = true;
         }
-        self.receive(rt, hall, key);
+        self.receive(rt, context, key);
     }
 
     /// A connection that was reported to have ended is not kept any longer.
     fn forget(&mut self, key: usize) {
         self.dial.forget(key);
-        self.bench.table.remove(key);
+        self.state.table.remove(key);
     }
 
     /// Ends a connection. If there is no memory to record that, it is tried again in a later turn.
     pub(crate) fn close<B: Opening, G: Gate, C: Clock, R: Wait>(
         &mut self,
         rt: &R,
-        hall: &Hall<'_, M, O, B, G, C>,
+        context: &WorkerContext<'_, M, O, B, G, C>,
         key: usize,
         why: Why,
     ) {
-        match self.calls.close(rt, hall, key, why) {
-            Outcome::Open(_) | Outcome::Ended => self.forget(key),
-            Outcome::Stopped => {}
-            Outcome::Failed(_) => {
+        match self.calls.close(rt, context, key, why) {
+            CallOutcome::Open(_) | CallOutcome::Ended => self.forget(key),
+            CallOutcome::Stopped => {}
+            CallOutcome::Failed(_) => {
                 self.dial.forget(key);
-                self.bench.table.end(key, why);
+                self.state.table.end(key, why);
             }
         }
     }
@@ -264,13 +269,13 @@ impl<M: Ledger, O: Ledger, K: Link, L: Dial<Link = K>> Worker<M, O, K, L> {
     pub(crate) fn stop<B: Opening, G: Gate, C: Clock, R: Wait>(
         &mut self,
         rt: &R,
-        hall: &Hall<'_, M, O, B, G, C>,
+        context: &WorkerContext<'_, M, O, B, G, C>,
     ) {
         for key in 0..self.calls.leases.len() {
-            let why = self.bench.table.ended(key).unwrap_or(Why::Stopped);
-            let _ = self.calls.close_at_once(rt, hall, key, why);
+            let why = self.state.table.ended(key).unwrap_or(Why::Stopped);
+            let _ = self.calls.close_at_once(rt, context, key, why);
             self.dial.forget(key);
         }
-        self.bench.table.clear();
+        self.state.table.clear();
     }
 }

@@ -2,7 +2,7 @@
 
 ghost use Rattle.std.specs.Prelude.{◌≡◌};
 
-use crate::calls::{Calls, Hall, Outcome};
+use crate::calls::{CallOutcome, Calls, WorkerContext};
 use crate::conn::Conn;
 use crate::table::Table;
 use addr_core::Pair;
@@ -30,7 +30,7 @@ const LONGEST_WAIT: u64 = 100;
 
 /// A connection that the acceptor hands to a worker.
 #[derive(Drop)]
-pub(crate) struct Arrival<K: Link> {
+pub(crate) struct NewConn<K: Link> {
     pub(crate) listener: u16,
     pub(crate) real: Pair,
     pub(crate) link: K,
@@ -38,8 +38,8 @@ pub(crate) struct Arrival<K: Link> {
 
 /// What a worker needs besides its pass and its dial. All of it takes memory.
 #[derive(Drop)]
-pub(crate) struct Bench<K: Link> {
-    pub(crate) arrivals: Consumer<Arrival<K>>,
+pub(crate) struct WorkerState<K: Link> {
+    pub(crate) arrivals: Consumer<NewConn<K>>,
     pub(crate) table: Table<K>,
     pub(crate) buffer: Vec<u8>,
     pub(crate) spares: Spares,
@@ -49,7 +49,7 @@ pub(crate) struct Bench<K: Link> {
 /// A worker.
 pub(crate) struct Worker<M: Ledger, O: Ledger, K: Link, L: Dial<Link = K>> {
     pub(crate) calls: Calls<M, O>,
-    pub(crate) bench: Bench<K>,
+    pub(crate) state: WorkerState<K>,
     pub(crate) dial: L,
 }
 
@@ -58,14 +58,14 @@ impl<M: Ledger, O: Ledger, K: Link, L: Dial<Link = K>> Worker<M, O, K, L> {
         alloc: Global,
         number: u16,
         pass: Pass<M>,
-        bench: Bench<K>,
+        state: WorkerState<K>,
         dial: L,
     ) -> Worker<M, O, K, L>
         ensures { result.calls.pass ≡ pass }
     {
         Worker {
             calls: Calls::new(alloc, number, pass),
-            bench,
+            state,
             dial,
         }
     }
@@ -74,34 +74,35 @@ impl<M: Ledger, O: Ledger, K: Link, L: Dial<Link = K>> Worker<M, O, K, L> {
     pub(crate) fn work<B: Opening, G: Gate, C: Clock, R: Wait>(
         &mut self,
         rt: &R,
-        hall: &Hall<'_, M, O, B, G, C>,
+        context: &WorkerContext<'_, M, O, B, G, C>,
     ) {
-        for _turn in 0..hall.turns {
-            self.turn(rt, hall);
-            let has_ended = self.bench.arrivals.is_abandoned() && self.bench.arrivals.is_empty();
+        context.alert.begin();
+        for _turn in 0..context.turns {
+            self.turn(rt, context);
+            let has_ended = self.state.arrivals.is_abandoned() && self.state.arrivals.is_empty();
             if self.calls.is_stopped || has_ended {
                 break;
             }
         }
-        self.stop(rt, hall);
+        self.stop(rt, context);
     }
 
     /// One turn. It costs what is ready, and not what is open.
     fn turn<B: Opening, G: Gate, C: Clock, R: Wait>(
         &mut self,
         rt: &R,
-        hall: &Hall<'_, M, O, B, G, C>,
+        context: &WorkerContext<'_, M, O, B, G, C>,
     ) {
-        let limit = self.bench.table.limit(hall.clock.now(), LONGEST_WAIT);
+        let limit = self.state.table.limit(context.clock.now(), LONGEST_WAIT);
         self.gather(limit);
-        self.take_arrivals(rt, hall);
-        self.expire(rt, hall);
-        for _key in 0..self.bench.table.queued().min(SERVED) {
+        self.take_arrivals(rt, context);
+        self.expire(rt, context);
+        for _key in 0..self.state.table.queued().min(SERVED) {
             if self.calls.is_stopped {
                 return;
             }
-            if let Some(key) = self.bench.table.dequeue() {
-                self.serve(rt, hall, key);
+            if let Some(key) = self.state.table.dequeue() {
+                self.serve(rt, context, key);
             }
         }
     }
@@ -111,12 +112,12 @@ impl<M: Ledger, O: Ledger, K: Link, L: Dial<Link = K>> Worker<M, O, K, L> {
     fn gather(&mut self, limit: u64) {
         let mut limit = limit;
         for _part in 0..ASKED {
-            self.bench.ready.clear();
-            self.dial.wait(limit, &mut self.bench.ready);
-            for ready in &self.bench.ready {
-                self.bench.table.raise(ready);
+            self.state.ready.clear();
+            self.dial.wait(limit, &mut self.state.ready);
+            for ready in &self.state.ready {
+                self.state.table.raise(ready);
             }
-            if self.bench.ready.len() < REPORTS {
+            if self.state.ready.len() < REPORTS {
                 return;
             }
             limit = 0;
@@ -126,14 +127,14 @@ impl<M: Ledger, O: Ledger, K: Link, L: Dial<Link = K>> Worker<M, O, K, L> {
     fn take_arrivals<B: Opening, G: Gate, C: Clock, R: Wait>(
         &mut self,
         rt: &R,
-        hall: &Hall<'_, M, O, B, G, C>,
+        context: &WorkerContext<'_, M, O, B, G, C>,
     ) {
-        for _place in 0..self.bench.arrivals.slots() {
+        for _place in 0..self.state.arrivals.slots() {
             if self.calls.is_stopped {
                 return;
             }
-            if let Ok(arrival) = self.bench.arrivals.pop() {
-                self.accept(rt, hall, arrival);
+            if let Ok(arrival) = self.state.arrivals.pop() {
+                self.accept(rt, context, arrival);
             }
         }
     }
@@ -142,21 +143,21 @@ impl<M: Ledger, O: Ledger, K: Link, L: Dial<Link = K>> Worker<M, O, K, L> {
     fn accept<B: Opening, G: Gate, C: Clock, R: Wait>(
         &mut self,
         rt: &R,
-        hall: &Hall<'_, M, O, B, G, C>,
-        arrival: Arrival<K>,
+        context: &WorkerContext<'_, M, O, B, G, C>,
+        arrival: NewConn<K>,
     ) {
-        let Arrival {
+        let NewConn {
             listener,
             real,
             link,
         } = arrival;
-        let Ok(key) = self.bench.table.make_room(listener) else {
+        let Ok(key) = self.state.table.make_room(listener) else {
             return shut(link);
         };
-        match self.calls.accept(rt, hall, key, listener, &real) {
-            Outcome::Open(said) => self.keep(rt, hall, key, listener, link, &said),
-            Outcome::Ended | Outcome::Stopped => {}
-            Outcome::Failed(_fault) => shut(link),
+        match self.calls.accept(rt, context, key, listener, &real) {
+            CallOutcome::Open(said) => self.keep(rt, context, key, listener, link, &said),
+            CallOutcome::Ended | CallOutcome::Stopped => {}
+            CallOutcome::Failed(_fault) => shut(link),
         }
     }
 
@@ -164,7 +165,7 @@ impl<M: Ledger, O: Ledger, K: Link, L: Dial<Link = K>> Worker<M, O, K, L> {
     fn keep<B: Opening, G: Gate, C: Clock, R: Wait>(
         &mut self,
         rt: &R,
-        hall: &Hall<'_, M, O, B, G, C>,
+        context: &WorkerContext<'_, M, O, B, G, C>,
         key: usize,
         listener: u16,
         link: K,
@@ -172,18 +173,18 @@ impl<M: Ledger, O: Ledger, K: Link, L: Dial<Link = K>> Worker<M, O, K, L> {
     ) {
         let mut conn = Conn::new(link);
         let is_watched = self.dial.watch(key, &mut conn.client);
-        let kept = self.bench.table.insert(listener, conn);
+        let kept = self.state.table.insert(listener, conn);
         if kept != Ok(key) || !is_watched {
-            return self.close(rt, hall, key, Why::Fault);
+            return self.close(rt, context, key, Why::Fault);
         }
         match said {
             Said::Offer { to, send, .. } => {
-                self.offer(rt, hall, key, *to, send.as_slice(), (0, 0));
+                self.offer(rt, context, key, *to, send.as_slice(), (0, 0));
             }
             _ => {
-                let due = hall.clock.now().saturating_add(HEADER_WAIT);
-                self.bench.table.wait(key, due);
-                self.bench.table.enqueue(key);
+                let due = context.clock.now().saturating_add(HEADER_WAIT);
+                self.state.table.wait(key, due);
+                self.state.table.enqueue(key);
             }
         }
     }

@@ -3,14 +3,14 @@
 use crate::link::FakeLink;
 use crate::stage::{Mark, Stage};
 use conn_model::reply::{Reply, StepFault};
-use crew_core::{Backlog, Door, Knock};
+use crew_core::{Backlog, Door, DoorEvent};
 use std::sync::Arc;
 
 /// A door that hands out its knocks, the last of the list first. Then it is closed once that mark is set.
 #[derive(Drop)]
 pub struct FakeDoor {
     pub stage: Arc<Stage>,
-    pub knocks: Vec<Knock<FakeLink>>,
+    pub knocks: Vec<DoorEvent<FakeLink>>,
     pub closes_after: Option<Mark>,
     /// How many reloads went well, and how many did not.
     pub reloads: (u32, u32),
@@ -21,11 +21,11 @@ pub struct FakeDoor {
 impl Door for FakeDoor {
     type Link = FakeLink;
 
-    fn next(&mut self) -> Knock<FakeLink> {
+    fn next(&mut self) -> DoorEvent<FakeLink> {
         match self.knocks.pop() {
             Some(knock) => knock,
-            None if self.stage.has_come(self.closes_after) => Knock::Closed,
-            None => Knock::Idle,
+            None if self.stage.has_come(self.closes_after) => DoorEvent::Closed,
+            None => DoorEvent::Idle,
         }
     }
 

@@ -52,6 +52,7 @@ fn dial_that_fails_ends_its_connection_alone(rt: HostRuntime) {
             closed: 2,
             recorded: 7,
             sink_failed: 0,
+            began: true,
         }),
         bytes: Some((true, true)),
         ..made(7)
@@ -109,6 +110,7 @@ fn header_that_does_not_come_in_time(rt: HostRuntime) {
             closed: 0,
             recorded: 3,
             sink_failed: 0,
+            began: true,
         }),
         bytes: Some((false, false)),
         ..made(3)

@@ -1,6 +1,6 @@
 //! A whole run of a crew, and what came of it.
 ghost use Rattle.std.specs.Prelude.{◌≡◌, ◌≤◌, ◌-◌, ◌^◌, IfSome, Some, vec_len};
-ghost use Rattle.book_core.specs.Open.{open_connections};
+ghost use Rattle.conn_model.specs.Counts.{open_connections};
 ghost use Rattle.rtrb.specs.Ring.{IsPair};
 
 use crate::door::FakeDoor;
@@ -13,8 +13,9 @@ use book_core::laws::open_connections_change;
 use conn_core::Core;
 use conn_model::event::Why;
 use conn_model::reply::{Cause, Said};
-use crew_core::{Backlog, Crew, CrewFault, Knock, Outlet, Setup, Summary, run_crew};
-use desk_core::{Opening, Pass, SettleFault, Settled, settle};
+use crew_core::{Backlog, Crew, CrewFault, DoorEvent, Outlet, Setup, Summary, run_crew};
+use desk_core::{CALL_PARTS, Opening, Pass, SettleFault, Settled, settle};
+use proxy_types::MOST_WORKERS;
 use record_core::{Record, Segment};
 use rtrb::{Consumer, RingBuffer};
 use std::alloc::Global;
@@ -142,20 +143,20 @@ fn open_with_ring(alloc: Global, text: &str, segments: usize) -> Option<(Book, C
 }
 
 /// What comes to the door, the last of it first.
-fn knocks(alloc: Global, stage: &Arc<Stage>, play: &Play<'_>) -> Option<Vec<Knock<FakeLink>>> {
+fn knocks(alloc: Global, stage: &Arc<Stage>, play: &Play<'_>) -> Option<Vec<DoorEvent<FakeLink>>> {
     let real = real_pair()?;
     let mut knocks = Vec::new(alloc);
     for at in 0..play.clients.len() {
         let script = play.clients[play.clients.len() - 1 - at];
         let link = FakeLink::new(Arc::try_clone(stage).ok()?, script);
-        if knocks.push(Knock::Conn(0, real, link)).is_err() {
+        if knocks.push(DoorEvent::Conn(0, real, link)).is_err() {
             return None;
         }
     }
     if let Some(text) = play.reload {
         let mut copy = String::new(alloc);
         copy.push_str(text).ok()?;
-        if knocks.push(Knock::Reload(copy)).is_err() {
+        if knocks.push(DoorEvent::Reload(copy)).is_err() {
             return None;
         }
     }
@@ -215,7 +216,7 @@ fn end<M: Ledger, O: Ledger, B: Opening, L: Drop>(
     crew: Crew<M, O, B, L, Shelf>,
     door: &FakeDoor,
 ) -> Ended
-    requires { M.parts ≡ 65537 }
+    requires { M.parts ≡ CALL_PARTS }
 {
     let Crew {
         summary,
@@ -276,10 +277,10 @@ fn act<
     requires opened { (B.opening ≡ Some book) × IsPair book.segments outlet.segments }
     requires fresh { (book.made ≡ 0) × (open_connections book.state ≡ 0) × (open_connections book.base ≡ 0) }
     requires made_name { made.name ≡ M.name }
-    requires made_parts { (made.parts ≡ M.parts) × (made.parts ≡ 65537) }
+    requires made_parts { (made.parts ≡ M.parts) × (made.parts ≡ CALL_PARTS) }
     requires units_name { units.name ≡ O.name }
     requires units_parts { (units.parts ≡ O.parts) × (units.parts ≡ 2 ^ 64 - 1) }
-    requires workers { (vec_len dials ≡ setup.workers) × (1 ≤ setup.workers) × (setup.workers ≤ 64) }
+    requires workers { (vec_len dials ≡ setup.workers) × (1 ≤ setup.workers) × (setup.workers ≤ MOST_WORKERS) }
 {
     let Fakes {
         mut door,
@@ -330,7 +331,7 @@ pub fn run<R: Threads + Wait + Sync, H: Clock + Copy + Send + Sync + Drop>(
     play: &Play<'_>,
 ) -> Option<Ended> {
     let workers = play.workers;
-    if workers < 1 || workers > 64 {
+    if workers < 1 || workers > MOST_WORKERS {
         return None;
     }
     let stage = Arc::new(alloc, Stage::new(play.step)).ok()?;
@@ -350,7 +351,7 @@ pub fn run<R: Threads + Wait + Sync, H: Clock + Copy + Send + Sync + Drop>(
         rt,
         alloc,
         book,
-        Blank::new(65_537),
+        Blank::new(CALL_PARTS),
         Blank::new(u64::MAX),
         &stage,
         fakes,

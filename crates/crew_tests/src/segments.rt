@@ -35,6 +35,7 @@ fn all_closed(connections: u64, sink_failed: u64) -> Option<Summary> {
         closed: connections,
         recorded: connections.saturating_mul(2),
         sink_failed,
+        began: true,
     })
 }
 

@@ -25,6 +25,7 @@ fn gate_that_is_shut_lets_no_call_pass(rt: HostRuntime) {
             closed: 0,
             recorded: 0,
             sink_failed: 0,
+            began: true,
         }),
         ..made(0)
     };

@@ -111,6 +111,7 @@ fn second_worker_sees_the_first_ones_connection(rt: HostRuntime) {
             closed: 1,
             recorded: 6,
             sink_failed: 0,
+            began: true,
         }),
         calls: Some(6),
         ..made(6)

@@ -20,18 +20,18 @@ use Rattle.record_core.specs.Records.{history_of, record_of}
 use Rattle.rtrb.specs.Ring.{known_free, sent}
 
 -- what a contract sees of a pass: how many of its calls were answered, whether it keeps their records, and those records
-pub record Calls : Type 0 where
+pub record PassState : Type 0 where
   pub calls : ℕ
   pub keeps : Bool
   pub kept : List Record
 
 -- a pass with one more call
-abbrev pub with_call : Calls → Record → Calls
+abbrev pub with_call : PassState → Record → PassState
 with_call p r = record p { calls = p.calls + 1; kept = if p.keeps then p.kept ++ r ∷ [] else p.kept }
 
 -- The event was answered by a book of the desk: the receipt has its next number, and the answer after all its records. The pass
 -- has one call more, with the record of that under this number, which is at least the number of its calls.
-pub record IsAnswered (named : Option BookState) (old new : Calls) (moment : ℕ) (event : OwnedEvent) (receipt : Receipt) : Type 0 where
+pub record IsAnswered (named : Option BookState) (old new : PassState) (moment : ℕ) (event : OwnedEvent) (receipt : Receipt) : Type 0 where
   pub book : BookState
   pub legal : IsDeskBook named book
   pub number : receipt.number ≡ book.made + 1
@@ -81,20 +81,20 @@ abbrev pub IsReloaded : Said → Type 0
 IsReloaded said = (version : ℕ) × (said ≡ Reloaded version)
 
 -- what the passes keep
-abbrev pub kept_of : List Calls → List (List Record)
-kept_of = map (λ (p : Calls). p.kept)
+abbrev pub kept_of : List PassState → List (List Record)
+kept_of = map (λ (p : PassState). p.kept)
 
 -- the calls of all these passes
-abbrev pub calls_of : List Calls → ℕ
-calls_of = sum_by (λ (p : Calls). p.calls)
+abbrev pub calls_of : List PassState → ℕ
+calls_of = sum_by (λ (p : PassState). p.calls)
 
 -- a pass has as many records as calls, if it keeps them, and else none
-abbrev pub IsWhole : Calls → Type 0
+abbrev pub IsWhole : PassState → Type 0
 IsWhole p = length p.kept ≡ (if p.keeps then p.calls else 0)
 
-abbrev pub AreWhole : List Calls → Type 0
+abbrev pub AreWhole : List PassState → Type 0
 AreWhole = All IsWhole
 
 -- all passes keep their records
-abbrev pub AllKeep : List Calls → Type 0
+abbrev pub AllKeep : List PassState → Type 0
 AllKeep = All (λ p. p.keeps ≡ true)

@@ -1,9 +1,9 @@
 //! The leases that are in hand, against the connections that are open.
 ghost use Rattle.std.specs.Prelude.{◌≡◌, ◌≤◌, ◌+◌, reverse, vec_capacity, vec_len};
-ghost use Rattle.book_core.specs.Open.{open_connections};
+ghost use Rattle.conn_model.specs.Counts.{open_connections};
 ghost use Rattle.desk_core.specs.Leased.{ids_of, leases_in};
 
-use crate::desk::Shut;
+use crate::desk::ClosedDesk;
 use crate::lease::Lease;
 use crate::lease_list::LeaseList;
 use crate::naming::Opening;
@@ -72,7 +72,7 @@ fn bound<O: Ledger>(book: &mut ledger::Book<O>, units: &mut Share<O>, left: &mut
     left.push_reserved(LeaseList { leases, ids });
 }
 
-impl<M: Ledger, O: Ledger, B: Opening> Shut<M, O, B> {
+impl<M: Ledger, O: Ledger, B: Opening> ClosedDesk<M, O, B> {
     /// How many connections are open. The leases that are in hand are no more. Nothing is spent, and no memory is taken;
     /// it goes one call deeper for each list, so let the lists be few.
     pub fn count_open(&mut self, left: &mut Vec<LeaseList<O>>) -> u64
@@ -81,7 +81,7 @@ impl<M: Ledger, O: Ledger, B: Opening> Shut<M, O, B> {
         ensures left { left.new.items ≡ left.old.items }
         ensures same { (self.new.book ≡ self.old.book) × (self.new.given ≡ self.old.given) }
     {
-        let Shut {
+        let ClosedDesk {
             book: _,
             made: _,
             leases,

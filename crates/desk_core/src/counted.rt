@@ -4,7 +4,8 @@ ghost use Rattle.conn_model.specs.History.{owned_event};
 ghost use Rattle.conn_model.specs.declared.event.OwnedEvent.TheVariants as owned;
 ghost use Rattle.conn_model.specs.declared.reply.Said.TheVariants.{Closed};
 ghost use Rattle.book_core.specs.Book.{book_answer};
-ghost use Rattle.book_core.specs.Open.{connections_ended, connections_opened, open_connections};
+ghost use Rattle.conn_model.specs.Counts.{open_connections};
+ghost use Rattle.book_core.specs.Open.{connections_ended, connections_opened};
 ghost use Rattle.desk_core.specs.Books.{moment_in, IsDeskBook, IsOf, MomentsRise};
 ghost use Rattle.desk_core.specs.Calls.{IsAnswered, IsCut, IsNotCut, IsRefused, IsReloaded};
 

@@ -4,14 +4,15 @@ ghost use Rattle.std.specs.Option.{option_map};
 ghost use Rattle.conn_model.specs.declared.event.OwnedEvent.TheVariants as owned;
 ghost use Rattle.conn_model.specs.declared.reply.Said.TheVariants.{Closed};
 ghost use Rattle.book_core.specs.Book.{after_cut, segment_of, with_ring};
-ghost use Rattle.book_core.specs.Open.{open_connections};
+ghost use Rattle.conn_model.specs.Counts.{open_connections};
 ghost use Rattle.rtrb.specs.Ring.{known_free, known_items, received, sent, ConsumerLooked, IsPair, ProducerLooked, SameProducer};
+ghost use Rattle.desk_core.specs.declared.desk.TheConstants.{CALL_PARTS};
 ghost use Rattle.desk_core.specs.Books.{IsOf, MomentsRise};
 ghost use Rattle.desk_core.specs.Calls.{open_id, IsAnswered, IsCounted, IsCut, IsNotCut, IsRefused, IsReloaded};
 
 use crate::counted::CountedBook;
-use crate::lease::{Drive, Driven, Lease};
-use crate::locked::Locked;
+use crate::desk_state::DeskState;
+use crate::lease::{Drive, DriveResult, Lease};
 use crate::naming::{AnyOpening, Opening};
 use crate::pass::Pass;
 use addr_core::Pair;
@@ -29,15 +30,15 @@ use std::sync::{Mutex, Wait, ledger};
 /// The part of a desk that threads share: a book in a lock. Each call is one entry of the history of that book, or
 /// none.
 pub struct SharedDesk<M: Ledger, O: Ledger, B: Opening = AnyOpening> {
-    locked: Mutex<Locked<M, O, B>>,
+    desk_state: Mutex<DeskState<M, O, B>>,
 }
 
 impl<M: Ledger, O: Ledger, B: Opening> SharedDesk<M, O, B> {
     ghost use Rattle.desk_core.specs.Driving.{driven_event, IsDriven};
 
-    fn into_locked(self) -> Locked<M, O, B> {
-        let SharedDesk { locked } = self;
-        locked.into_inner()
+    fn into_state(self) -> DeskState<M, O, B> {
+        let SharedDesk { desk_state } = self;
+        desk_state.into_inner()
     }
 
     /// A connection came to a listener, by its number; the pair is its peer and its local end. There is a lease where
@@ -55,7 +56,9 @@ impl<M: Ledger, O: Ledger, B: Opening> SharedDesk<M, O, B> {
         ensures fault { IfErr result (IsRefused B.opening moment (owned.Accept listener real.now)) }
         ensures err { OnErr result (pass.new ≡ pass.old) }
     {
-        self.locked.lock(rt).accept(pass, moment, listener, real)
+        self.desk_state
+            .lock(rt)
+            .accept(pass, moment, listener, real)
     }
 
     /// Something is driven on the connection of the lease.
@@ -66,10 +69,10 @@ impl<M: Ledger, O: Ledger, B: Opening> SharedDesk<M, O, B> {
         moment: u64,
         lease: Lease<O>,
         drive: &Drive<'_>,
-    ) -> Driven<O>
+    ) -> DriveResult<O>
         ensures { IsDriven B.opening pass.old pass.new moment (driven_event lease.id drive.now) lease.id result }
     {
-        self.locked.lock(rt).drive(pass, moment, lease, drive)
+        self.desk_state.lock(rt).drive(pass, moment, lease, drive)
     }
 
     /// The connection of the lease ended. Without memory for the record the lease comes back.
@@ -86,7 +89,7 @@ impl<M: Ledger, O: Ledger, B: Opening> SharedDesk<M, O, B> {
         ensures fault { IfErr result (λ failed. IsRefused B.opening moment (owned.Close lease.id why) failed.0) }
         ensures err { IfErr result (λ failed. (pass.new ≡ pass.old) × (failed.1.id ≡ lease.id)) }
     {
-        self.locked.lock(rt).close(pass, moment, lease, why)
+        self.desk_state.lock(rt).close(pass, moment, lease, why)
     }
 
     /// A new configuration is to come into force: its text. Connections that are open keep theirs.
@@ -102,7 +105,7 @@ impl<M: Ledger, O: Ledger, B: Opening> SharedDesk<M, O, B> {
         ensures fault { IfErr result (IsRefused B.opening moment (owned.Reload text.now)) }
         ensures err { OnErr result (pass.new ≡ pass.old) }
     {
-        self.locked.lock(rt).reload(pass, moment, text)
+        self.desk_state.lock(rt).reload(pass, moment, text)
     }
 
     /// Hands the records that are in memory over as one segment. It takes no memory.
@@ -110,16 +113,20 @@ impl<M: Ledger, O: Ledger, B: Opening> SharedDesk<M, O, B> {
         ensures cut { OnOk result (IsCut B.opening) }
         ensures fault { IfErr result (IsNotCut B.opening) }
     {
-        self.locked.lock(rt).cut()
+        self.desk_state.lock(rt).cut()
     }
 
     /// What is open of that which is asked for, if there is such a thing.
     pub fn ask<R: Wait>(&self, rt: &R, ask: &Ask) -> Option<Counts>
         ensures { IsCounted B.opening ask.now result }
     {
-        self.locked.lock(rt).counts(ask)
+        self.desk_state.lock(rt).counts(ask)
     }
 }
+
+/// Into how many parts the ledger of calls is cut: one for each pass, of which there are at most 65,536, and one that the
+/// desk keeps.
+pub const CALL_PARTS: u64 = 65_537;
 
 /// A book that threads share, and its owner's means to give out passes.
 pub struct Desk<M: Ledger, O: Ledger, B: Opening = AnyOpening> {
@@ -127,13 +134,13 @@ pub struct Desk<M: Ledger, O: Ledger, B: Opening = AnyOpening> {
     shared: SharedDesk<M, O, B>,
     given: u64,
     pool: Share<M>,
-    pub ghost parts: { pool.parts + given ≡ 65537 },
+    pub ghost parts: { pool.parts + given ≡ CALL_PARTS },
     pub ghost no_calls: { pool.amount ≡ 0 },
 }
 
 /// What is left of a desk: its book, and the tokens by which the passes' calls are its records, and the leases its open
 /// connections.
-pub struct Shut<M: Ledger, O: Ledger, B: Opening = AnyOpening> {
+pub struct ClosedDesk<M: Ledger, O: Ledger, B: Opening = AnyOpening> {
     pub(crate) book: Book,
     pub(crate) made: ledger::Book<M>,
     pub(crate) leases: ledger::Book<O>,
@@ -147,12 +154,12 @@ pub struct Shut<M: Ledger, O: Ledger, B: Opening = AnyOpening> {
     pub ghost counted: { book.made ≡ made.total },
     pub ghost leased: { open_connections book.state ≡ leases.total },
     pub ghost lives: { live ≡ leases.total },
-    pub ghost parts: { pool.parts + given ≡ 65537 },
+    pub ghost parts: { pool.parts + given ≡ CALL_PARTS },
     pub ghost no_calls: { pool.amount ≡ 0 },
     pub ghost no_leases: { idle.amount ≡ 0 },
 }
 
-impl<M: Ledger, O: Ledger, B: Opening> Shut<M, O, B> {
+impl<M: Ledger, O: Ledger, B: Opening> ClosedDesk<M, O, B> {
     /// The book.
     pub fn book(&self) -> &Book
         ensures book { result.now ≡ self.now.book }
@@ -196,7 +203,7 @@ impl<M: Ledger, O: Ledger, B: Opening> Desk<M, O, B> {
         requires opened { IsOf B.opening book }
         requires fresh { (book.made ≡ 0) × (open_connections book.state ≡ 0) × (open_connections book.base ≡ 0) }
         requires made_name { made.name ≡ M.name }
-        requires made_parts { (made.parts ≡ M.parts) × (made.parts ≡ 65537) }
+        requires made_parts { (made.parts ≡ M.parts) × (made.parts ≡ CALL_PARTS) }
         requires leases_name { leases.name ≡ O.name }
         requires leases_parts { (leases.parts ≡ O.parts) × (leases.parts ≡ 2 ^ 64 - 1) }
         ensures { result.given ≡ 0 }
@@ -206,7 +213,7 @@ impl<M: Ledger, O: Ledger, B: Opening> Desk<M, O, B> {
         Desk {
             alloc,
             shared: SharedDesk {
-                locked: Mutex::new(Locked {
+                desk_state: Mutex::new(DeskState {
                     counted: CountedBook::new(book, made),
                     leases,
                     idle,
@@ -227,7 +234,7 @@ impl<M: Ledger, O: Ledger, B: Opening> Desk<M, O, B> {
 
     /// A pass with no call, which keeps the records of its calls if that is wanted.
     pub fn pass(&mut self, keeps: bool) -> Pass<M>
-        requires { self.old.given < 65536 }
+        requires { self.old.given + 1 < CALL_PARTS }
         ensures given { self.new.given ≡ self.old.given + 1 }
         ensures pass { (result.calls ≡ 0) × (result.kept ≡ []) × (result.keeps ≡ keeps) }
     {
@@ -248,7 +255,7 @@ impl<M: Ledger, O: Ledger, B: Opening> Desk<M, O, B> {
     }
 
     /// Ends the calls.
-    pub fn into_book(self) -> Shut<M, O, B>
+    pub fn into_book(self) -> ClosedDesk<M, O, B>
         ensures given { result.given ≡ self.given }
         ensures opened { IsOf B.opening result.book }
         ensures rise { MomentsRise result.book.records }
@@ -259,19 +266,19 @@ impl<M: Ledger, O: Ledger, B: Opening> Desk<M, O, B> {
             given,
             pool,
         } = self;
-        let Locked {
+        let DeskState {
             counted,
             leases,
             idle,
             live,
-        } = shared.into_locked();
+        } = shared.into_state();
         let CountedBook {
             book,
             made,
             latest: _,
             of,
         } = counted;
-        Shut {
+        ClosedDesk {
             book,
             made,
             leases,

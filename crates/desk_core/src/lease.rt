@@ -28,7 +28,7 @@ pub enum Drive<'a> {
 }
 
 /// What came of an event on an open connection.
-pub enum Driven<O: Ledger> {
+pub enum DriveResult<O: Ledger> {
     /// It is open.
     Goes(Receipt, Lease<O>),
     /// It ended.

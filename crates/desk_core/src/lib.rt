@@ -1,8 +1,8 @@
 //! A book that many threads share, so that all of them make one history.
 #![tactic(auto)]
 
-pub use desk::{Desk, SharedDesk, Shut};
-pub use lease::{Drive, Driven, Lease};
+pub use desk::{CALL_PARTS, ClosedDesk, Desk, SharedDesk};
+pub use lease::{Drive, DriveResult, Lease};
 pub use lease_list::LeaseList;
 pub use naming::{AnyOpening, Opening};
 pub use pass::Pass;
@@ -12,10 +12,10 @@ pub use settling::{Settled, settle};
 mod bounding;
 mod counted;
 mod desk;
+mod desk_state;
 pub mod laws;
 mod lease;
 mod lease_list;
-mod locked;
 mod naming;
 mod pass;
 mod receipts;

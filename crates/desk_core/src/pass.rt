@@ -19,9 +19,9 @@ pub struct Pass<M: Ledger> {
 
 impl<M: Ledger> Model for Pass<M> {
     ghost use Rattle.std.specs.Prelude.{◌≡◌, length, if◌then◌else◌};
-    ghost use Rattle.desk_core.specs.Calls.{Calls};
+    ghost use Rattle.desk_core.specs.Calls.{PassState};
 
-    ghost Value = { Calls };
+    ghost Value = { PassState };
 
     ghost view = { λ p. record { calls = p.calls; keeps = p.keeps; kept = p.kept.items } };
 

@@ -1,8 +1,9 @@
 //! The calls of passes that are in hand.
 ghost use Rattle.std.specs.Prelude.{◌≡◌, ◌+◌, vec_capacity, vec_len};
+ghost use Rattle.desk_core.specs.declared.desk.TheConstants.{CALL_PARTS};
 ghost use Rattle.desk_core.specs.Calls.{calls_of};
 
-use crate::desk::Shut;
+use crate::desk::ClosedDesk;
 use crate::naming::Opening;
 use crate::pass::Pass;
 use std::sync::ledger;
@@ -40,16 +41,16 @@ fn recount<M: Ledger>(made: &mut ledger::Book<M>, pool: &mut Share<M>, passes: &
     });
 }
 
-impl<M: Ledger, O: Ledger, B: Opening> Shut<M, O, B> {
+impl<M: Ledger, O: Ledger, B: Opening> ClosedDesk<M, O, B> {
     /// How many calls were answered. Where all passes are there, it is the sum of theirs. Nothing is spent.
     pub fn count_calls(&mut self, passes: &mut Vec<Pass<M>>) -> u64
-        requires { M.parts ≡ 65537 }
+        requires { M.parts ≡ CALL_PARTS }
         ensures made { result ≡ self.old.book.made }
         ensures calls { vec_len passes.old ≡ self.old.given → result ≡ calls_of passes.old.items }
         ensures passes { passes.new.items ≡ passes.old.items }
         ensures same { (self.new.book ≡ self.old.book) × (self.new.given ≡ self.old.given) }
     {
-        let Shut {
+        let ClosedDesk {
             book,
             made,
             leases: _,

@@ -6,6 +6,8 @@ use arrayvec::ArrayVec;
 use conn_model::event::{ConnId, OwnedEvent, Why};
 use conn_model::reply::{Cause, Reply, Said};
 use plan_types::Track;
+use pp_v1::LINE_LIMIT;
+use proxy_types::COUNTERS;
 use record_core::Record;
 
 /// Whether the records are equal.
@@ -144,13 +146,13 @@ fn same_pair(one: &Pair, other: &Pair) -> bool
     *one == *other
 }
 
-fn same_bytes(one: &ArrayVec<u8, 107>, other: &ArrayVec<u8, 107>) -> bool
+fn same_bytes(one: &ArrayVec<u8, LINE_LIMIT>, other: &ArrayVec<u8, LINE_LIMIT>) -> bool
     ensures { IsTrue result ↔ (one.now ≡ other.now) }
 {
     one.as_slice() == other.as_slice()
 }
 
-fn same_tracks(one: &ArrayVec<Track, 3>, other: &ArrayVec<Track, 3>) -> bool
+fn same_tracks(one: &ArrayVec<Track, COUNTERS>, other: &ArrayVec<Track, COUNTERS>) -> bool
     ensures { IsTrue result ↔ (one.now ≡ other.now) }
 {
     one.as_slice() == other.as_slice()

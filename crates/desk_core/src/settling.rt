@@ -1,11 +1,13 @@
 //! Whether passes and leases account for the book of a desk.
 ghost use Rattle.std.specs.Prelude.{◌≡◌, ◌≤◌, ◌+◌, ◌^◌, ◌↔◌, IfOk, IfErr, IsTrue, MatchOption, OnOk, ℕ, sum_by, vec_len};
-ghost use Rattle.book_core.specs.Open.{open_connections, IsNothingCounted};
+ghost use Rattle.conn_model.specs.Counts.{open_connections};
+ghost use Rattle.book_core.specs.Open.{IsNothingCounted};
+ghost use Rattle.desk_core.specs.declared.desk.TheConstants.{CALL_PARTS};
 ghost use Rattle.desk_core.specs.Calls.{calls_of, kept_of, AllKeep, AreWhole};
 ghost use Rattle.desk_core.specs.Receipts.{AreReceipts, IsFirstFault, IsReceiptOfOneCall};
 ghost use Rattle.desk_core.specs.Settling.{book_record, AreAll, HaveAllRecords, IsSettleFault};
 
-use crate::desk::Shut;
+use crate::desk::ClosedDesk;
 use crate::lease::Lease;
 use crate::naming::Opening;
 use crate::pass::Pass;
@@ -92,12 +94,12 @@ fn check_book<M: Ledger>(
 /// Whether the passes and the leases of a desk account for its book, of which these segments were handed on. It spends
 /// them, and ends the book.
 pub fn settle<M: Ledger, O: Ledger, B: Opening>(
-    shut: Shut<M, O, B>,
+    shut: ClosedDesk<M, O, B>,
     passes: Vec<Pass<M>>,
     left: Vec<Vec<Lease<O>>>,
     segments: &[Segment],
 ) -> Result<Settled, SettleFault>
-    requires { M.parts ≡ 65537 }
+    requires { M.parts ≡ CALL_PARTS }
     // All passes are there, and their calls are the records.
     ensures passes { OnOk result (vec_len passes ≡ shut.given) }
     ensures made { IfOk result (λ s. (s.made ≡ calls_of passes.items) × (s.made ≡ shut.book.made)) }
@@ -115,7 +117,7 @@ pub fn settle<M: Ledger, O: Ledger, B: Opening>(
     ensures fault { IfErr result (IsSettleFault (AreAll (vec_len passes) shut.given (sum_by (λ leases. vec_len leases) left.items) (open_connections shut.book.state)) (book_record segments.now shut.book) (kept_of passes.items)) }
 {
     nothing_is_counted();
-    let Shut {
+    let ClosedDesk {
         book,
         mut made,
         leases: _,

@@ -1,6 +1,6 @@
 //! Books with no record yet.
 ghost use Rattle.std.specs.Prelude.{◌≡◌, ◌<◌, ◌≤◌, ◌+◌, IfSome, vec_capacity, vec_len};
-ghost use Rattle.book_core.specs.Open.{open_connections};
+ghost use Rattle.conn_model.specs.Counts.{open_connections};
 ghost use Rattle.rtrb.specs.Ring.{IsPair};
 
 use addr_core::{Addr, Endpoint, Pair};

@@ -3,7 +3,7 @@ use addr_core::Pair;
 use conn_model::ask::{Ask, Counts};
 use conn_model::event::Why;
 use conn_model::reply::{Cause, Said, StepFault};
-use desk_core::{Drive, Driven, Lease, Pass, SharedDesk};
+use desk_core::{Drive, DriveResult, Lease, Pass, SharedDesk};
 use std::sync::Wait;
 use std::sync::ledger::Ledger;
 
@@ -78,9 +78,9 @@ fn drive<M: Ledger, O: Ledger, R: Wait>(
     step: &Drive<'_>,
 ) -> (Word, Option<Lease<O>>) {
     match desk.drive(rt, pass, moment, lease, step) {
-        Driven::Goes(receipt, lease) => (word_of(&receipt.reply.said), Some(lease)),
-        Driven::Over(receipt) => (word_of(&receipt.reply.said), None),
-        Driven::Failed(fault, lease) => (fault_word(fault), Some(lease)),
+        DriveResult::Goes(receipt, lease) => (word_of(&receipt.reply.said), Some(lease)),
+        DriveResult::Over(receipt) => (word_of(&receipt.reply.said), None),
+        DriveResult::Failed(fault, lease) => (fault_word(fault), Some(lease)),
     }
 }
 

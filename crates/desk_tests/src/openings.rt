@@ -1,11 +1,11 @@
 //! A desk whose book is named by a type.
 ghost use Rattle.std.specs.Prelude.{◌≡◌, ◌-◌, ◌^◌, Some};
-ghost use Rattle.book_core.specs.Open.{open_connections};
+ghost use Rattle.conn_model.specs.Counts.{open_connections};
 ghost use Rattle.rtrb.specs.Ring.{IsPair};
 
 use crate::books::{RULE, open_with_ring};
 use book_core::Book;
-use desk_core::{Desk, Opening, settle};
+use desk_core::{CALL_PARTS, Desk, Opening, settle};
 use record_core::Segment;
 use rtrb::Consumer;
 use std::alloc::Global;
@@ -23,7 +23,7 @@ fn shut_at_once<M: Ledger, O: Ledger, B: Opening>(
     requires fresh { (book.made ≡ 0) × (open_connections book.state ≡ 0) × (open_connections book.base ≡ 0) }
     requires ring { IsPair book.segments segments }
     requires made_name { made.name ≡ M.name }
-    requires made_parts { (made.parts ≡ M.parts) × (made.parts ≡ 65537) }
+    requires made_parts { (made.parts ≡ M.parts) × (made.parts ≡ CALL_PARTS) }
     requires units_name { units.name ≡ O.name }
     requires units_parts { (units.parts ≡ O.parts) × (units.parts ≡ 2 ^ 64 - 1) }
     requires opened { B.opening ≡ Some book }
@@ -44,7 +44,7 @@ fn clock_and_segments(alloc: Global, book: Book, segments: Consumer<Segment>) ->
     requires ring { IsPair book.segments segments }
     ensures { result.0 ≡ book.base.clock }
 {
-    let (made, units) = (Blank::new(65_537), Blank::new(u64::MAX));
+    let (made, units) = (Blank::new(CALL_PARTS), Blank::new(u64::MAX));
     shut_at_once::<Brand, Brand, Brand>(alloc, book, segments, made, units)
 }
 

@@ -1,12 +1,12 @@
 //! Scripts of calls, which one thread makes at a desk, with what has to come of each.
 ghost use Rattle.std.specs.Prelude.{◌≡◌, ◌<◌, ◌-◌, ◌+◌, ◌^◌};
-ghost use Rattle.book_core.specs.Open.{open_connections};
+ghost use Rattle.conn_model.specs.Counts.{open_connections};
 
 use crate::books::{Three, filled, open_book, pair_from, room};
 use crate::calls::{Call, Word, make};
 use addr_core::Pair;
 use book_core::Book;
-use desk_core::{Desk, Pass, SettleFault, Settled, SharedDesk, settle};
+use desk_core::{CALL_PARTS, Desk, Pass, SettleFault, Settled, SharedDesk, settle};
 use std::alloc::Global;
 use std::marker::Brand;
 use std::sync::Wait;
@@ -79,7 +79,7 @@ fn settled<M: Ledger, O: Ledger, R: Wait>(
 ) -> Option<Seen>
     requires fresh { (book.made ≡ 0) × (open_connections book.state ≡ 0) × (open_connections book.base ≡ 0) }
     requires made_name { made.name ≡ M.name }
-    requires made_parts { (made.parts ≡ M.parts) × (made.parts ≡ 65537) }
+    requires made_parts { (made.parts ≡ M.parts) × (made.parts ≡ CALL_PARTS) }
     requires units_name { units.name ≡ O.name }
     requires units_parts { (units.parts ≡ O.parts) × (units.parts ≡ 2 ^ 64 - 1) }
 {
@@ -112,7 +112,7 @@ pub fn run<R: Wait>(
         rt,
         alloc,
         book,
-        Blank::new(65_537),
+        Blank::new(CALL_PARTS),
         Blank::new(u64::MAX),
         &real,
         keeps,

@@ -1,13 +1,15 @@
 //! Segments that a desk hands over, and what `settle` says of receipts over them.
 ghost use Rattle.std.specs.Prelude.{◌≡◌, ◌<◌, ◌-◌, ◌+◌, ◌^◌};
-ghost use Rattle.book_core.specs.Open.{open_connections};
+ghost use Rattle.conn_model.specs.Counts.{open_connections};
 
 use crate::books::{RULE, Three, filled, open_with_ring, pair_from, room};
 use crate::calls::{accept, close};
 use addr_core::Pair;
 use book_core::{Book, CutFault};
 use conn_model::reply::{Cause, Said};
-use desk_core::{Desk, Lease, Pass, SettleFault, Settled, SharedDesk, Shut, settle};
+use desk_core::{
+    CALL_PARTS, ClosedDesk, Desk, Lease, Pass, SettleFault, Settled, SharedDesk, settle,
+};
 use list_core::Seq;
 use record_core::Segment;
 use rtrb::Consumer;
@@ -98,14 +100,14 @@ fn forged(segment: Segment) -> Segment {
 
 /// What is settled where the two segments are handed in so.
 fn settled_with<M: Ledger, O: Ledger>(
-    shut: Shut<M, O>,
+    shut: ClosedDesk<M, O>,
     passes: Vec<Pass<M>>,
     left: Vec<Vec<Lease<O>>>,
     front: Segment,
     back: Segment,
     hands: Hands,
 ) -> Result<Settled, SettleFault>
-    requires { M.parts ≡ 65537 }
+    requires { M.parts ≡ CALL_PARTS }
 {
     match hands {
         Hands::InOrder => settle(shut, passes, left, &[front, back]),
@@ -117,7 +119,7 @@ fn settled_with<M: Ledger, O: Ledger>(
 
 /// One cut more when the desk is shut and its ring has room again.
 fn seen_of<M: Ledger, O: Ledger>(
-    shut: Shut<M, O>,
+    shut: ClosedDesk<M, O>,
     passes: Vec<Pass<M>>,
     left: Vec<Vec<Lease<O>>>,
     segments: Consumer<Segment>,
@@ -125,7 +127,7 @@ fn seen_of<M: Ledger, O: Ledger>(
     hands: Hands,
     alloc: Global,
 ) -> Seen
-    requires { M.parts ≡ 65537 }
+    requires { M.parts ≡ CALL_PARTS }
 {
     let (mut shut, mut segments) = (shut, segments);
     let [new, three, full] = cuts;
@@ -155,7 +157,7 @@ fn settled<M: Ledger, O: Ledger, R: Wait>(
 ) -> Option<Seen>
     requires fresh { (opened.0.made ≡ 0) × (open_connections opened.0.state ≡ 0) × (open_connections opened.0.base ≡ 0) }
     requires made_name { made.name ≡ M.name }
-    requires made_parts { (made.parts ≡ M.parts) × (made.parts ≡ 65537) }
+    requires made_parts { (made.parts ≡ M.parts) × (made.parts ≡ CALL_PARTS) }
     requires units_name { units.name ≡ O.name }
     requires units_parts { (units.parts ≡ O.parts) × (units.parts ≡ 2 ^ 64 - 1) }
 {
@@ -182,7 +184,7 @@ fn run<R: Wait>(rt: &R, alloc: Global, hands: Hands) -> Option<Seen> {
         rt,
         alloc,
         opened,
-        Blank::new(65_537),
+        Blank::new(CALL_PARTS),
         Blank::new(u64::MAX),
         (real, rejected),
         hands,

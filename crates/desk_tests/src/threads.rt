@@ -1,12 +1,12 @@
 //! Two threads that accept and close connections of one desk.
 ghost use Rattle.std.specs.Prelude.{◌≡◌, ◌<◌, ◌-◌, ◌+◌, ◌^◌};
-ghost use Rattle.book_core.specs.Open.{open_connections};
+ghost use Rattle.conn_model.specs.Counts.{open_connections};
 
 use crate::books::{RULE, filled, open_book, pair_from, room};
 use addr_core::Pair;
 use book_core::Book;
 use conn_model::event::Why;
-use desk_core::{Desk, Lease, Pass, SettleFault, Settled, SharedDesk, settle};
+use desk_core::{CALL_PARTS, Desk, Lease, Pass, SettleFault, Settled, SharedDesk, settle};
 use std::alloc::Global;
 use std::marker::Brand;
 use std::sync::Wait;
@@ -68,7 +68,7 @@ fn both<M: Ledger + Send + Sync, O: Ledger + Send + Sync, R: Threads + Wait + Sy
 ) -> Option<Result<Settled, SettleFault>>
     requires fresh { (book.made ≡ 0) × (open_connections book.state ≡ 0) × (open_connections book.base ≡ 0) }
     requires made_name { made.name ≡ M.name }
-    requires made_parts { (made.parts ≡ M.parts) × (made.parts ≡ 65537) }
+    requires made_parts { (made.parts ≡ M.parts) × (made.parts ≡ CALL_PARTS) }
     requires units_name { units.name ≡ O.name }
     requires units_parts { (units.parts ≡ O.parts) × (units.parts ≡ 2 ^ 64 - 1) }
 {
@@ -100,7 +100,7 @@ fn two_threads<R: Threads + Wait + Sync>(
         rt,
         alloc,
         book,
-        Blank::new(65_537),
+        Blank::new(CALL_PARTS),
         Blank::new(u64::MAX),
         real,
         calls,

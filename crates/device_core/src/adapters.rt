@@ -3,7 +3,7 @@ ghost use Rattle.std.specs.Prelude.{◌≡◌, ◌↔◌, IsTrue};
 ghost use Rattle.device_core.specs.Adapters.{IsPassing, IsReadAnswer, IsWriteAnswer};
 
 use crate::device::{Failed, Got, Input, Output, Put};
-use crate::tally::Tally;
+use crate::tally::CallTally;
 use std::io;
 use std::io::{Error, ErrorKind, Read, Write};
 use std::marker::Model;
@@ -12,7 +12,7 @@ use std::marker::Model;
 #[derive(Drop)]
 pub struct StdDevice<D> {
     inner: D,
-    tally: Tally,
+    tally: CallTally,
 }
 
 /// A reader of `std`. An interrupted read and one that would block are blocked; any other error is a
@@ -39,7 +39,7 @@ impl<D> StdDevice<D> {
     {
         StdDevice {
             inner,
-            tally: Tally::new(),
+            tally: CallTally::new(),
         }
     }
 

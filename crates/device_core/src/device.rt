@@ -1,6 +1,9 @@
 //! What a device is: a reader or a writer that a contract can speak of.
 ghost use Rattle.std.specs.Prelude.{◌≡◌, ℕ, ◌<◌, List, Option, length};
 
+/// How many bytes a loop asks a reader for in one call, at the most.
+pub const PIECE_BYTES: usize = 16_384;
+
 /// What a read gave.
 #[derive(Clone, Copy, PartialEq, Eq)]
 pub enum Got {

@@ -4,7 +4,7 @@
 #![tactic(auto)]
 
 pub use adapters::{FromRead, StdDevice, ToWrite};
-pub use device::{Failed, Got, Input, Output, Put};
+pub use device::{Failed, Got, Input, Output, PIECE_BYTES, Put};
 pub use memory::{MemoryInput, MemoryOutput};
 pub use patience::{MOST_READS, MOST_STALLS, Moved, read_on, write_all};
 pub use schedule::{Calls, Schedule};

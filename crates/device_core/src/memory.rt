@@ -3,7 +3,7 @@ ghost use Rattle.std.specs.Prelude.{◌≡◌, ◌≤◌, ◌++◌, length, drop
 
 use crate::device::{Failed, Got, Input, Output, Put};
 use crate::schedule::{Schedule, Turn};
-use crate::tally::Tally;
+use crate::tally::CallTally;
 use std::alloc::{AllocError, Global};
 use std::marker::Model;
 
@@ -13,7 +13,7 @@ pub struct MemoryInput {
     bytes: Vec<u8>,
     at: usize,
     schedule: Schedule,
-    tally: Tally,
+    tally: CallTally,
 }
 
 impl Model for MemoryInput {
@@ -40,7 +40,7 @@ impl MemoryInput {
             bytes: copy,
             at: 0,
             schedule,
-            tally: Tally::new(),
+            tally: CallTally::new(),
         })
     }
 
@@ -139,7 +139,7 @@ pub struct MemoryOutput {
     bytes: Vec<u8>,
     room: usize,
     schedule: Schedule,
-    tally: Tally,
+    tally: CallTally,
 }
 
 impl Model for MemoryOutput {
@@ -166,7 +166,7 @@ impl MemoryOutput {
             bytes,
             room,
             schedule,
-            tally: Tally::new(),
+            tally: CallTally::new(),
         })
     }
 

@@ -7,17 +7,17 @@ use crate::device::{Failed, Got, Put};
 /// How often a device failed, how many calls were made, and how many of the last in a row were
 /// blocked. Each count stays at the greatest `u64`.
 #[derive(Clone, Copy)]
-pub struct Tally {
+pub struct CallTally {
     pub failures: u64,
     pub calls: u64,
     pub stalls: u64,
 }
 
-impl Tally {
-    pub fn new() -> Tally
+impl CallTally {
+    pub fn new() -> CallTally
         ensures { result ≡ record { failures = 0; calls = 0; stalls = 0 } }
     {
-        Tally {
+        CallTally {
             failures: 0,
             calls: 0,
             stalls: 0,

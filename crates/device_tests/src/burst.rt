@@ -3,7 +3,7 @@ ghost use Rattle.std.specs.Prelude.{◌<◌, ◌≤◌};
 
 use crate::pair::{ALL, Devices, NONE, Plan, make_devices};
 use device_core::Calls;
-use relay_core::{Burst, Drained, Flow, FlowFault, Relay, Stop};
+use relay_core::{Burst, BurstStop, Drained, Flow, FlowFault, Relay};
 use std::alloc::{AllocError, Global};
 
 /// A burst as it is compared: how many bytes were read, why no more were or which side failed, and how many were written,
@@ -18,13 +18,13 @@ fn word_of(answer: Result<Burst, FlowFault>) -> Word {
     }
 }
 
-fn stop_word(stop: Stop) -> &'static str {
+fn stop_word(stop: BurstStop) -> &'static str {
     match stop {
-        Stop::Full => "full",
-        Stop::Short => "short",
-        Stop::Blocked => "blocked",
-        Stop::End => "end",
-        Stop::NoRoom => "no room",
+        BurstStop::Full => "full",
+        BurstStop::Short => "short",
+        BurstStop::Blocked => "blocked",
+        BurstStop::End => "end",
+        BurstStop::NoRoom => "no room",
     }
 }
 
@@ -208,7 +208,7 @@ fn burst_forth(relay: &mut Relay, ends: &mut Devices) -> Word {
 }
 
 /// Two bursts back, which end that way, and one forth after the relay has begun again; and whether it held what it should.
-fn begin_anew(relay: &mut Relay, back: &mut Devices, forth: &mut Devices) -> ([Word; 3], bool) {
+fn begin_again(relay: &mut Relay, back: &mut Devices, forth: &mut Devices) -> ([Word; 3], bool) {
     let first = burst_back(relay, back);
     let second = burst_back(relay, back);
     let has_ended = relay.back_done() && !relay.is_idle();
@@ -220,18 +220,18 @@ fn begin_anew(relay: &mut Relay, back: &mut Devices, forth: &mut Devices) -> ([W
 }
 
 /// The same over devices and a relay that are made.
-fn make_and_begin_anew(alloc: Global) -> Result<([Word; 3], bool), AllocError> {
+fn make_and_begin_again(alloc: Global) -> Result<([Word; 3], bool), AllocError> {
     let mut relay = Relay::new(alloc, 16, b"first", b"")?;
     let mut back = plain_ends(alloc)?;
     let mut forth = plain_ends(alloc)?;
-    Ok(begin_anew(&mut relay, &mut back, &mut forth))
+    Ok(begin_again(&mut relay, &mut back, &mut forth))
 }
 
 #[test]
-fn a_relay_begins_anew_after_an_end(rt: HostRuntime) {
+fn a_relay_begins_again_after_an_end(rt: HostRuntime) {
     let (all, end) = ((10, "short", Some(10)), (0, "end", Some(0)));
     assert_eq!(rt;
-        make_and_begin_anew(rt.alloc()),
+        make_and_begin_again(rt.alloc()),
         Ok(([all, end, all], true))
     );
 }

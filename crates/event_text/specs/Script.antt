@@ -181,24 +181,24 @@ event_by_verb verb words =
 
 -- What the first line of an event says: all of the event with its moment, or a reload at a moment, whose text is on so
 -- many lines after it.
-pub data Head : Type 0 where
-  whole : ℕ × OwnedEvent → Head
-  reload : ℕ → ℕ → Head
+pub data EventHead : Type 0 where
+  whole : ℕ × OwnedEvent → EventHead
+  reload : ℕ → ℕ → EventHead
 
 -- a reload by the words after its verb: its text has a line at least
-abbrev pub reload_of : ℕ → List (List ℕ) → Option Head
+abbrev pub reload_of : ℕ → List (List ℕ) → Option EventHead
 reload_of moment (count ∷ []) = do
   lines ← decimal_of count 0xFFFF_FFFF_FFFF_FFFF
-  if lines == 0 then None else Some (Head.reload moment lines)
+  if lines == 0 then None else Some (EventHead.reload moment lines)
 reload_of moment words = None
 
-abbrev pub head_by_verb : ℕ → List ℕ → List (List ℕ) → Option Head
+abbrev pub head_by_verb : ℕ → List ℕ → List (List ℕ) → Option EventHead
 head_by_verb moment verb words =
     if bytes_eq verb (codes "reload") then reload_of moment words
-    else option_map (λ event. Head.whole (moment, event)) (event_by_verb verb words)
+    else option_map (λ event. EventHead.whole (moment, event)) (event_by_verb verb words)
 
 -- what the words of the first line of an event say
-abbrev pub head_of : List (List ℕ) → Option Head
+abbrev pub head_of : List (List ℕ) → Option EventHead
 head_of (moment ∷ verb ∷ words) = decimal_of moment 0xFFFF_FFFF_FFFF_FFFF >>= λ number. head_by_verb number verb words
 head_of words = None
 
@@ -216,10 +216,10 @@ bar_texts (line ∷ lines) = do
   Some (text ∷ texts)
 
 -- the moment and the event of a first line and all the lines after it
-abbrev pub event_with : Head → List (List ℕ) → Option (ℕ × OwnedEvent)
-event_with (Head.whole timed) [] = Some timed
-event_with (Head.whole timed) (line ∷ lines) = None
-event_with (Head.reload moment count) lines =
+abbrev pub event_with : EventHead → List (List ℕ) → Option (ℕ × OwnedEvent)
+event_with (EventHead.whole timed) [] = Some timed
+event_with (EventHead.whole timed) (line ∷ lines) = None
+event_with (EventHead.reload moment count) lines =
     if length lines == count then option_map (λ texts. (moment, Reload (join_with_byte 0x0A texts))) (bar_texts lines) else None
 
 -- the moment and the event of all of its lines
@@ -258,19 +258,19 @@ event_read buffer (reads.ConnectFailed id) = ConnectFailed id
 event_read buffer (reads.Close id why) = Close id why
 event_read buffer (reads.Expire id) = Expire id
 
-abbrev pub head_read : List ℕ → FirstLine → Head
-head_read buffer (firsts.Whole moment event) = Head.whole (moment, event_read buffer event)
-head_read buffer (firsts.Reload moment lines) = Head.reload moment lines
+abbrev pub head_read : List ℕ → FirstLine → EventHead
+head_read buffer (firsts.Whole moment event) = EventHead.whole (moment, event_read buffer event)
+head_read buffer (firsts.Reload moment lines) = EventHead.reload moment lines
 
 -- what the first line of an event says that is written
-abbrev pub head_written : ℕ → OwnedEvent → Head
-head_written moment (Accept listener real) = Head.whole (moment, Accept listener real)
-head_written moment (Piece id bytes) = Head.whole (moment, Piece id bytes)
-head_written moment (Connected id) = Head.whole (moment, Connected id)
-head_written moment (ConnectFailed id) = Head.whole (moment, ConnectFailed id)
-head_written moment (Close id why) = Head.whole (moment, Close id why)
-head_written moment (Expire id) = Head.whole (moment, Expire id)
-head_written moment (Reload text) = Head.reload moment (length (text_lines text))
+abbrev pub head_written : ℕ → OwnedEvent → EventHead
+head_written moment (Accept listener real) = EventHead.whole (moment, Accept listener real)
+head_written moment (Piece id bytes) = EventHead.whole (moment, Piece id bytes)
+head_written moment (Connected id) = EventHead.whole (moment, Connected id)
+head_written moment (ConnectFailed id) = EventHead.whole (moment, ConnectFailed id)
+head_written moment (Close id why) = EventHead.whole (moment, Close id why)
+head_written moment (Expire id) = EventHead.whole (moment, Expire id)
+head_written moment (Reload text) = EventHead.reload moment (length (text_lines text))
 
 -- what is asked for by the words after `ask frontend`
 abbrev pub frontend_asked : List (List ℕ) → Option Ask
@@ -304,7 +304,7 @@ ask_of (kind ∷ words) =
 
 -- What a line wants: an answer to an event of which it is the first line, or counts.
 pub data Wanted : Type 0 where
-  reply : Head → Wanted
+  reply : EventHead → Wanted
   count : Ask → Wanted
 
 -- what the words of a line want

@@ -5,7 +5,7 @@ ghost use Rattle.std.specs.Str.{bytes_eq};
 ghost use Rattle.conn_model.specs.declared.event.OwnedEvent.{OwnedEvent};
 ghost use Rattle.conn_model.specs.declared.event.TheConstants.{PIECE_LIMIT};
 ghost use Rattle.conn_model.specs.History.{owned_event};
-ghost use Rattle.event_text.specs.Script.{accept_of, ask_of, backend_asked, bare_event_of, bytes_in, bytes_of, close_of, ends_of, entry_asked, event_line, event_by_verb, event_on, event_read, frontend_asked, head_by_verb, head_of, head_read, head_written, id_of, is_upper_digit, piece_of, reload_of, server_asked, wanted, wanted_of, why_of, words_of, HasLines, Head, IsCounted, IsHandedIn, Wanted};
+ghost use Rattle.event_text.specs.Script.{accept_of, ask_of, backend_asked, bare_event_of, bytes_in, bytes_of, close_of, ends_of, entry_asked, event_line, event_by_verb, event_on, event_read, frontend_asked, head_by_verb, head_of, head_read, head_written, id_of, is_upper_digit, piece_of, reload_of, server_asked, wanted, wanted_of, why_of, words_of, HasLines, EventHead, IsCounted, IsHandedIn, Wanted};
 
 use addr_core::{Pair, read_addr, read_endpoint};
 use conn_model::ask::Ask;
@@ -255,7 +255,7 @@ fn read_reload(moment: u64, rest: &[u8]) -> Option<FirstLine>
 
 fn read_whole(moment: u64, verb: &[u8], rest: &[u8], buffer: &mut [u8]) -> Option<FirstLine>
     requires { length buffer.old ≡ PIECE_LIMIT }
-    ensures head { option_map (head_read buffer.new) result ≡ option_map (λ event. Head.whole (moment, event)) (event_by_verb verb.now (words_of rest.now)) }
+    ensures head { option_map (head_read buffer.new) result ≡ option_map (λ event. EventHead.whole (moment, event)) (event_by_verb verb.now (words_of rest.now)) }
     ensures lines { IfSome result HasLines }
     ensures room { length buffer.new ≡ length buffer.old }
 {

@@ -5,18 +5,18 @@ use Rattle.plan_types.specs.declared.plan.Rule.{Rule}
 use Rattle.rule_engine.specs.Meaning.{SceneMeaning}
 use Rattle.rule_engine.specs.declared.judging.Judged.{Judged}
 use Rattle.rule_engine.specs.declared.judging.Verdict.{Verdict}
-use Rattle.rule_engine.specs.Judging.{Slots, after_rule, deciding_rule, is_final, is_true, judged_after, judged_by, verdict_of}
+use Rattle.rule_engine.specs.Judging.{TrackSlots, after_rule, deciding_rule, is_final, is_true, judged_after, judged_by, verdict_of}
 use Rattle.rule_engine.proofs.JudgingLemmas.{decided_later}
 use Rattle.explain_core.specs.declared.tried.Tried.{Tried}
 use Rattle.explain_core.specs.Tried.{decided_by, decided_in, ends_list, tried, tried_rule}
 
 -- a rule that does not end its list
-pub tried_on : (scene : SceneMeaning) (tracks : Slots) (rule : Rule) (rules : List Rule) → ends_list scene tracks rule ≡ false →
+pub tried_on : (scene : SceneMeaning) (tracks : TrackSlots) (rule : Rule) (rules : List Rule) → ends_list scene tracks rule ≡ false →
     tried scene tracks (rule ∷ rules) ≡ tried_rule scene tracks rule ∷ tried scene (after_rule scene tracks rule) rules
 tried_on scene tracks rule rules e = rw e refl
 
 -- and one that does
-pub tried_last : (scene : SceneMeaning) (tracks : Slots) (rule : Rule) (rules : List Rule) → ends_list scene tracks rule ≡ true → tried scene tracks (rule ∷ rules) ≡ tried_rule scene tracks rule ∷ []
+pub tried_last : (scene : SceneMeaning) (tracks : TrackSlots) (rule : Rule) (rules : List Rule) → ends_list scene tracks rule ≡ true → tried scene tracks (rule ∷ rules) ≡ tried_rule scene tracks rule ∷ []
 tried_last scene tracks rule rules e = rw e refl
 
 -- what a list says
@@ -35,7 +35,7 @@ not_decided it e = rw e refl
 is_decided : (it : Tried) → (it.applies && is_final it.action) ≡ true → decided_by it ≡ (verdict_of it.action, it.line)
 is_decided it e = rw e refl
 
-pub decided : (scene : SceneMeaning) (tracks : Slots) (rules : List Rule) → said (judged_after scene tracks rules) ≡ decided_in (tried scene tracks rules)
+pub decided : (scene : SceneMeaning) (tracks : TrackSlots) (rules : List Rule) → said (judged_after scene tracks rules) ≡ decided_in (tried scene tracks rules)
 decided scene tracks [] = refl
 decided scene tracks (rule ∷ rules) = by (decided scene (after_rule scene tracks rule) rules) (ends_list scene tracks rule) refl
   where

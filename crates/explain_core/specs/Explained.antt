@@ -5,7 +5,7 @@ use Rattle.pp_any.specs.declared.rest.Rest.TheVariants.{Read}
 use Rattle.pp_any.specs.NextPiece.{status_on}
 use Rattle.pp_any.specs.Status.{Status, Wait, Whole, Fault}
 use Rattle.rule_engine.specs.Meaning.{present}
-use Rattle.rule_engine.specs.Judging.{Slots, judged, judged_after, no_tracks}
+use Rattle.rule_engine.specs.Judging.{TrackSlots, judged, judged_after, no_tracks}
 use Rattle.rule_engine.specs.declared.judging.Judged.{Judged}
 use Rattle.conn_model.specs.declared.event.ConnId.{ConnId}
 use Rattle.conn_model.specs.declared.event.OwnedEvent.TheVariants.{Accept, Piece}
@@ -41,21 +41,21 @@ abbrev pub entry_says : RuleFacts → Judged
 entry_says facts = judged (scene_of (facts_view facts)) facts.frontend.now.connection_rules
 
 -- what the session rules say, where the step tracks those before
-abbrev pub session_says : RuleFacts → Slots → Judged
+abbrev pub session_says : RuleFacts → TrackSlots → Judged
 session_says facts earlier = judged_after (scene_of (facts_view facts)) earlier facts.frontend.now.session_rules
 
 -- the `use_backend` lines that are tried, unless a session rule rejects
-abbrev pub choices_unless : Option ℕ → RuleFacts → Slots → List TriedChoice
+abbrev pub choices_unless : Option ℕ → RuleFacts → TrackSlots → List TriedChoice
 choices_unless (Some line) facts tracks = []
 choices_unless None facts tracks = tried_choices facts.frontend.now.acls (worth (facts_view facts (present tracks))) facts.frontend.now.choices
 
 -- what is tried once it is known who the client is
-pub record AreTried (facts : RuleFacts) (earlier : Slots) (trials : Trials) : Type 0 where
+pub record AreTried (facts : RuleFacts) (earlier : TrackSlots) (trials : Trials) : Type 0 where
   pub session : trials.session.items ≡ tried (scene_of (facts_view facts)) earlier facts.frontend.now.session_rules
   pub says : trials.says ≡ session_says facts earlier
   pub choices : trials.choices.items ≡ choices_unless (rejection (session_says facts earlier)) facts (session_says facts earlier).tracks
 
-abbrev pub AreTriedBy : RuleFacts → Slots → Option Trials → Type 0
+abbrev pub AreTriedBy : RuleFacts → TrackSlots → Option Trials → Type 0
 AreTriedBy facts earlier None = ⊥
 AreTriedBy facts earlier (Some trials) = AreTried facts earlier trials
 

@@ -7,22 +7,22 @@ use Rattle.acl_core.specs.Truth.{applies}
 use Rattle.plan_types.specs.declared.plan.Choice.{Choice}
 use Rattle.plan_types.specs.declared.plan.Rule.{Rule}
 use Rattle.rule_engine.specs.Meaning.{SceneMeaning}
-use Rattle.rule_engine.specs.Judging.{Slots, after_rule, is_final, is_true, verdict_of}
+use Rattle.rule_engine.specs.Judging.{TrackSlots, after_rule, is_final, is_true, verdict_of}
 use Rattle.rule_engine.specs.declared.judging.Verdict.{Verdict}
 use Rattle.rule_engine.specs.declared.judging.Verdict.TheVariants.{On}
 use Rattle.explain_core.specs.declared.tried.Tried.{Tried}
 use Rattle.explain_core.specs.declared.tried.TriedChoice.{TriedChoice}
 
 -- a rule that is tried once those tracks are made
-abbrev pub tried_rule : SceneMeaning → Slots → Rule → Tried
+abbrev pub tried_rule : SceneMeaning → TrackSlots → Rule → Tried
 tried_rule scene tracks rule = record { line = rule.line; action = rule.action; applies = is_true scene tracks rule; before = tracks }
 
 -- it ends its list
-abbrev pub ends_list : SceneMeaning → Slots → Rule → Bool
+abbrev pub ends_list : SceneMeaning → TrackSlots → Rule → Bool
 ends_list scene tracks rule = is_true scene tracks rule && is_final rule.action
 
 -- the rules that are tried, in order: up to the first that ends the list, and that one
-abbrev pub tried : SceneMeaning → Slots → List Rule → List Tried
+abbrev pub tried : SceneMeaning → TrackSlots → List Rule → List Tried
 tried scene tracks [] = []
 tried scene tracks (rule ∷ rules) =
     tried_rule scene tracks rule ∷ (if ends_list scene tracks rule then [] else tried scene (after_rule scene tracks rule) rules)

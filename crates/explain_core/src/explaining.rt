@@ -22,12 +22,9 @@ use event_text::write_reply;
 use plan_types::Choice;
 use pp_any::{Fed, Parser};
 use pp_v1::Meaning;
-use rule_engine::{Judged, Moment, Tracks, Verdict, judge, judge_after};
+use rule_engine::{Judged, NO_TRACKS, Tracks, TracksSoFar, Verdict, judge, judge_after};
 use std::alloc::{AllocError, Global};
 use thiserror::Error;
-
-/// What the step tracks where no rule tracked anything.
-const NO_TRACKS: Tracks = [None; 3];
 
 /// Why nothing is explained.
 #[derive(Clone, Copy, Debug, Error)]
@@ -119,7 +116,7 @@ fn try_backends(
     match says.verdict {
         Verdict::Reject => Ok(Vec::new(alloc)),
         Verdict::Accept | Verdict::On => {
-            let moment = Moment {
+            let moment = TracksSoFar {
                 scene: facts,
                 tracks: &says.tracks,
             };

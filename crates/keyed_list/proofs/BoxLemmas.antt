@@ -10,7 +10,7 @@ use Rattle.std.specs.declared.cmp.Ordering.{Ordering}
 use Rattle.std.specs.declared.cmp.Ordering.TheVariants.{Less, Equal, Greater}
 use Rattle.std.proofs.lemmas.List.{length-map}
 use Rattle.keyed_list.specs.Boxes.{opened_by}
-use Rattle.keyed_list.specs.Entries.{Rise, AreKept, item_at, without, with_item}
+use Rattle.keyed_list.specs.Entries.{Rise, AreKept, IsFew, item_at, without, with_item}
 use Rattle.keyed_list.proofs.EntryLemmas.{lookup-is, remove-is, set-is, insert-is, rise-with_item, rise-without, rise-last, rise-front, length-without}
 
 module _ {B T : Type 0} (value : B → T) where
@@ -80,7 +80,7 @@ module _ {T : Type 0} where
   pub kept-with_item : (key : ℕ) (item : T) (es new' : List (ℕ × T)) → new' ≡ with_item key es item → AreKept es → AreKept new'
   kept-with_item key item es new' is kept = subst (λ es. AreKept es) (sym is) record {
     rise = rise-with_item key item es kept.rise;
-    few = subst (λ n. n < 2 ^ 56) (sym (length-map es _)) kept.few;
+    few = subst IsFew (sym (length-map es _)) kept.few;
   }
 
   pub kept-without : (key : ℕ) (es new' : List (ℕ × T)) → new' ≡ without key es → AreKept es → AreKept new'

@@ -36,7 +36,11 @@ module _ {T : Type 0} where
   abbrev pub AreNumbered : (T → ℕ) → List (ℕ × T) → Type 0
   AreNumbered number entries = AllByRecursion (λ e. e.0 ≡ number e.1) entries
 
--- the keys rise, and the entries are fewer than memory can hold
+-- no memory holds as many, and the sum of as many for each of 64 lists has 63 bits
+abbrev pub IsFew : ℕ → Type 0
+IsFew number = number < 2 ^ 56
+
+-- the keys rise, and the entries are few
 pub record AreKept {T : Type 0} (entries : List (ℕ × T)) : Type 0 where
   pub rise : Rise (λ e. e.0) entries
-  pub few : length entries < 2 ^ 56
+  pub few : IsFew (length entries)

@@ -2,7 +2,7 @@
 ghost use Rattle.std.specs.Prelude.{◌≡◌, ◌+◌, ◌<◌, ◌^◌, ◌∷◌, ◌++◌, ℕ, [], length, IfErr, IfSome, IfNone, IsSome, OnOk, OnErr, Some, option_to_list};
 ghost use Rattle.std.specs.List.{AllByRecursion};
 ghost use Rattle.std.specs.Option.{option_copied};
-ghost use Rattle.keyed_list.specs.Entries.{item_at, without, with_item, total, Rise};
+ghost use Rattle.keyed_list.specs.Entries.{item_at, without, with_item, total, IsFew, Rise};
 
 use crate::iter::Iter;
 use std::alloc::{AllocFailed, Global};
@@ -58,7 +58,7 @@ impl<T> KeyedList<T> {
     /// The number of entries, at no cost that grows with it. It shows that the keys rise.
     pub fn len(&self) -> usize
         ensures value { result ≡ length self.now }
-        ensures few { result < 2 ^ 56 }
+        ensures few { IsFew result }
         ensures rise { Rise (λ e. e.0) self.now }
     {
         self.tree.len()

@@ -2,7 +2,7 @@
 use arrayvec::ArrayVec;
 use crew_core::Clock;
 use log::{Log, warn};
-use socket_core::{Bell, Pace, SystemClock, Word};
+use socket_core::{Command, CommandSender, Pace, SystemClock};
 use std::io::Read;
 use std::rt::Files;
 use std::time::Duration;
@@ -23,7 +23,7 @@ const MOST_TRIES: u32 = 1_000;
 struct Ear<'a, R: rt::Clock> {
     rt: &'a R,
     file: &'a str,
-    bell: Bell,
+    commands: CommandSender,
     clock: SystemClock<'a, R>,
     unknown: Pace,
     unreadable: Pace,
@@ -39,16 +39,16 @@ impl<'a, R: Files + AllocGlobal + rt::Clock + Log> Ear<'a, R> {
             }
             return;
         };
-        if !self.hand_in(Word::Reload(text)) && self.full.allows(self.clock.now()) {
+        if !self.hand_in(Command::Reload(text)) && self.full.allows(self.clock.now()) {
             warn!(self.rt; "nothing is reloaded: too many reloads wait");
         }
     }
 
     /// Hands a word to the door, and waits for room as long as need be, 10 s at the most; whether there was room.
-    fn hand_in(&mut self, word: Word) -> bool {
+    fn hand_in(&mut self, word: Command) -> bool {
         let mut word = word;
         for _try in 0..MOST_TRIES {
-            match self.bell.ring(word) {
+            match self.commands.send(word) {
                 Ok(()) => return true,
                 Err(back) => word = back,
             }
@@ -105,21 +105,21 @@ impl<'a, R: Files + AllocGlobal + rt::Clock + Log> Ear<'a, R> {
 pub fn read_words<'a, R: Files + AllocGlobal + io::Input + rt::Clock + Log>(
     rt: &'a R,
     file: &'a str,
-    bell: Bell,
+    commands: CommandSender,
 ) {
-    // Without the time the bell is dropped here, which closes the door.
+    // Without the time the sender is dropped here, which closes the door.
     let Ok(clock) = SystemClock::start(rt) else {
         return;
     };
     let mut ear = Ear {
         rt,
         file,
-        bell,
+        commands,
         clock,
         unknown: Pace::new(),
         unreadable: Pace::new(),
         full: Pace::new(),
     };
     ear.listen(&mut rt.reader());
-    let _is_in = ear.bell.ring(Word::Quit);
+    let _is_in = ear.commands.send(Command::Quit);
 }

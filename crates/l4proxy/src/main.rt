@@ -14,126 +14,20 @@
 //! 3 if something cannot be read or written, or memory ran out.
 #![tactic(auto)]
 
-use crate::progress::Terminals;
-use crate::serve::Stand;
-use clap::ArgMatches;
+use crate::serve::ServeSetup;
 use clap::error::ErrorKind;
 use command_line::{ServeWords, commands};
-use conn_core::OpenFault;
 use crew_core::CrewFault;
-use device_core::{FromRead, ToWrite};
-use refusal_text::refusal;
-use replay_core::{PrintFault, ReplayFault, run_check, run_replay};
+use file_commands::{DEVICE, DONE, Terminals, USAGE, run_command};
+use replay_core::PrintFault;
 use socket_core::SystemClock;
 use std::io::IsTerminal;
 use std::process::ExitCode;
 use std::rt::Files;
-use std::{env, fs, io, rt, thread};
+use std::{env, io, rt, thread};
 
-mod audit;
-mod explain;
 mod input;
-mod pipe;
-mod progress;
 mod serve;
-mod whatif;
-
-/// All was done.
-const DONE: u8 = 0;
-
-/// What was handed in is refused.
-const REFUSED: u8 = 1;
-
-/// The words are no command.
-const USAGE: u8 = 2;
-
-/// Something cannot be read or written, or memory ran out.
-const DEVICE: u8 = 3;
-
-/// Says why a configuration is refused. If memory runs out, the line and the fault's name are said alone.
-fn explain_refusal(rt: &(impl AllocGlobal + Eprint), file: &str, text: &str, fault: &OpenFault) {
-    let _written = match refusal(rt.alloc(), file, text, fault) {
-        Ok(message) => eprintln!(rt; "{message}"),
-        Err(_) => eprintln!(rt; "{file}: {fault}"),
-    };
-}
-
-/// Says what cannot be read.
-fn unreadable(rt: &impl Eprint, what: &str) -> u8 {
-    let _written = eprintln!(rt; "l4proxy: {what}: cannot be read");
-    DEVICE
-}
-
-/// Which file the fault speaks of.
-fn place<'a>(fault: &ReplayFault, file: &'a str, script: &'a str) -> &'a str {
-    match fault {
-        ReplayFault::Config(_) | ReplayFault::NoMemory => file,
-        ReplayFault::Format(_) | ReplayFault::TooLong(_) | ReplayFault::Read => script,
-        ReplayFault::Write => "standard output",
-    }
-}
-
-/// Opens what can be read. A directory can be opened, and not read.
-fn open_script<R: Files>(rt: &R, script: &str) -> Option<R::File> {
-    let kind = fs::metadata(rt, script).ok()?;
-    if kind.is_dir() {
-        return None;
-    }
-    fs::open(rt, script).ok()
-}
-
-/// Replays a script. The configuration is read before the script is opened.
-fn replay_files<R: Files + AllocGlobal + Print + Eprint>(rt: &R, file: &str, script: &str) -> u8 {
-    let Ok(text) = fs::read_to_string(rt, file) else {
-        return unreadable(rt, file);
-    };
-    let Some(opened) = open_script(rt, script) else {
-        return unreadable(rt, script);
-    };
-    let mut reader = FromRead::of(opened);
-    let mut writer = ToWrite::of(io::writer(rt));
-    match run_replay(rt.alloc(), text.as_str(), &mut reader, &mut writer) {
-        Ok(_done) => DONE,
-        Err(fault) => {
-            match &fault {
-                ReplayFault::Config(refused) => explain_refusal(rt, file, text.as_str(), refused),
-                _ => {
-                    let what = place(&fault, file, script);
-                    let _written = eprintln!(rt; "l4proxy: {what}: {fault}");
-                }
-            }
-            fault.status()
-        }
-    }
-}
-
-/// Which device or file a fault speaks of.
-fn printed_place<'a>(fault: &PrintFault, file: &'a str) -> &'a str {
-    match fault {
-        PrintFault::Read | PrintFault::NoMemory => file,
-        PrintFault::Write => "standard output",
-    }
-}
-
-/// Says whether a configuration is right.
-fn check_file<R: Files + AllocGlobal + Print + Eprint>(rt: &R, file: &str) -> u8 {
-    let Ok(text) = fs::read_to_string(rt, file) else {
-        return unreadable(rt, file);
-    };
-    let mut writer = ToWrite::of(io::writer(rt));
-    match run_check(rt.alloc(), text.as_str(), &mut writer) {
-        Ok(None) => DONE,
-        Ok(Some(fault)) => {
-            explain_refusal(rt, file, text.as_str(), &fault);
-            REFUSED
-        }
-        Err(fault) => {
-            let what = printed_place(&fault, file);
-            let _written = eprintln!(rt; "l4proxy: {what}: {fault}");
-            fault.status()
-        }
-    }
-}
 
 /// What the words ask for.
 #[derive(Drop)]
@@ -155,23 +49,6 @@ fn run<R: Files + AllocGlobal + io::Input + Print + Eprint + rt::Clock>(
         Some(("serve", given)) => Ok(Asked::Serve(ServeWords::of(rt.alloc(), given)?)),
         Some((name, given)) => Ok(Asked::Done(run_command(rt, name, given, terminals))),
         None => Ok(Asked::Done(USAGE)),
-    }
-}
-
-fn run_command<R: Files + AllocGlobal + io::Input + Print + Eprint + rt::Clock>(
-    rt: &R,
-    name: &str,
-    given: &ArgMatches<'_>,
-    terminals: Terminals,
-) -> u8 {
-    match (name, given.get_str("FILE"), given.get_str("SCRIPT")) {
-        ("check", Some(file), _) => check_file(rt, file),
-        ("replay", Some(file), Some(script)) => replay_files(rt, file, script),
-        ("pipe", Some(_), _) => pipe::run(rt, given),
-        ("audit", Some(_), _) => audit::run(rt, given, terminals),
-        ("explain", Some(_), _) => explain::run(rt, given),
-        ("whatif", _, _) => whatif::run(rt, given, terminals),
-        _ => USAGE,
     }
 }
 
@@ -208,23 +85,23 @@ fn main(rt: HostRuntime) -> ExitCode {
         Ok(clock) => clock,
         Err(error) => return ExitCode::from(serve::fail(&rt, &error)),
     };
-    let stand = match serve::open(&rt, &clock, &words) {
-        Ok(stand) => stand,
+    let setup = match serve::open(&rt, &clock, &words) {
+        Ok(setup) => setup,
         Err(status) => return ExitCode::from(status),
     };
-    let Stand {
+    let ServeSetup {
         book,
         segments,
         mut door,
-        bell,
+        commands,
         dials,
-    } = stand;
+    } = setup;
     // What goes to a thread is made here, where the runtime is known. The reader of standard input is not waited for:
     // it may be in a read when the crew ends for another cause.
     let ServeWords { file, workers, .. } = words;
     let reader = match rt.clone() {
         Ok(handle) => thread::spawn(&rt, move || {
-            input::read_words(&handle, file.as_str(), bell)
+            input::read_words(&handle, file.as_str(), commands)
         })
         .is_ok(),
         Err(_) => false,
@@ -233,7 +110,7 @@ fn main(rt: HostRuntime) -> ExitCode {
         book.end();
         return ExitCode::from(serve::fail(&rt, &CrewFault::Spawn));
     }
-    ExitCode::from(serve::attend(&rt, &clock, book, segments, &mut door, dials, workers))
+    ExitCode::from(serve::run(&rt, &clock, book, segments, &mut door, dials, workers))
 }
 
 /// Prints why the words are no command, or the help that they ask for.

@@ -1,22 +1,24 @@
 //! `l4proxy serve`: connections of sockets, until standard input says `quit` or ends.
 ghost use Rattle.std.specs.Prelude.{◌≡◌, ◌≤◌, [], IfOk, vec_len};
 ghost use Rattle.rtrb.specs.Ring.{received, IsPair};
-ghost use Rattle.book_core.specs.Open.{open_connections};
+ghost use Rattle.proxy_types.specs.declared.limits.TheConstants.{MOST_WORKERS};
+ghost use Rattle.conn_model.specs.Counts.{open_connections};
 
-use crate::{DEVICE, DONE, REFUSED, explain_refusal, unreadable};
 use addr_core::{Endpoint, write_endpoint};
 use book_core::Book;
 use command_line::ServeWords;
 use conn_core::OpenFault;
 use conn_model::reply::{Reply, StepFault};
-use crew_core::{Backlog, Clock, Dial, Door, Knock, Served, open_book, serve};
+use crew_core::{Backlog, Clock, CrewFault, Dial, Door, DoorEvent, Served, open_book, serve};
 use desk_core::SettleFault;
 use device_core::ToWrite;
+use file_commands::{DEVICE, DONE, REFUSED, explain_refusal, unreadable};
 use log::Log;
 use record_core::Segment;
 use rtrb::Consumer;
 use socket_core::{
-    Bell, DialFault, Listeners, SocketDial, SocketDoor, SocketLink, SystemClock, listen, make_dials,
+    CommandSender, DialFault, Listeners, SocketDial, SocketDoor, SocketLink, SystemClock, listen,
+    make_dials,
 };
 use std::alloc::{AllocError, Global};
 use std::net::Net;
@@ -29,12 +31,12 @@ use std::{fmt, fs, io, rt};
 const OTHER_FILES: u64 = 12;
 
 /// What is ready before the first connection is taken.
-pub struct Stand<'a, R: Net + Log + rt::Clock> {
+pub struct ServeSetup<'a, R: Net + Log + rt::Clock> {
     pub book: Book,
     /// The reading end of the ring of the book.
     pub segments: Consumer<Segment>,
     pub door: SocketDoor<'a, R, SystemClock<'a, R>>,
-    pub bell: Bell,
+    pub commands: CommandSender,
     pub dials: Vec<SocketDial<'a, R>>,
 }
 
@@ -125,7 +127,7 @@ fn open_sockets<'a, R: Files + Net + Log + rt::Clock + AllocGlobal + Eprint>(
 ) -> Result<
     (
         SocketDoor<'a, R, SystemClock<'a, R>>,
-        Bell,
+        CommandSender,
         Vec<SocketDial<'a, R>>,
     ),
     u8,
@@ -143,12 +145,12 @@ fn open_sockets<'a, R: Files + Net + Log + rt::Clock + AllocGlobal + Eprint>(
     };
     say_listeners(rt, book, &listeners);
     let most = most_connections(rt, listeners.len(), workers);
-    let (mut door, bell) = match SocketDoor::new(rt, alloc, clock, listeners, most) {
+    let (mut door, commands) = match SocketDoor::new(rt, alloc, clock, listeners, most) {
         Ok(opened) => opened,
         Err(fault) => return Err(fail(rt, &fault)),
     };
     match make_dials(rt, alloc, &mut door, workers) {
-        Ok(dials) => Ok((door, bell, dials)),
+        Ok(dials) => Ok((door, commands, dials)),
         Err(fault) => Err(fail(rt, &fault)),
     }
 }
@@ -158,20 +160,20 @@ pub fn open<'a, R: Files + Net + Log + rt::Clock + AllocGlobal + Eprint>(
     rt: &'a R,
     clock: &'a SystemClock<'a, R>,
     words: &ServeWords,
-) -> Result<Stand<'a, R>, u8>
-    ensures made { IfOk result (λ stand. stand.book.made ≡ 0) }
-    ensures state { IfOk result (λ stand. open_connections stand.book.state ≡ 0) }
-    ensures base { IfOk result (λ stand. open_connections stand.book.base ≡ 0) }
-    ensures ring { IfOk result (λ stand. IsPair stand.book.segments stand.segments × (received stand.segments ≡ [])) }
-    ensures dials { IfOk result (λ stand. vec_len stand.dials ≡ words.now.workers) }
+) -> Result<ServeSetup<'a, R>, u8>
+    ensures made { IfOk result (λ setup. setup.book.made ≡ 0) }
+    ensures state { IfOk result (λ setup. open_connections setup.book.state ≡ 0) }
+    ensures base { IfOk result (λ setup. open_connections setup.book.base ≡ 0) }
+    ensures ring { IfOk result (λ setup. IsPair setup.book.segments setup.segments × (received setup.segments ≡ [])) }
+    ensures dials { IfOk result (λ setup. vec_len setup.dials ≡ words.now.workers) }
 {
     let (book, segments) = read_book(rt, words.file.as_str())?;
     match open_sockets(rt, clock, &book, words.workers) {
-        Ok((door, bell, dials)) => Ok(Stand {
+        Ok((door, commands, dials)) => Ok(ServeSetup {
             book,
             segments,
             door,
-            bell,
+            commands,
             dials,
         }),
         Err(status) => {
@@ -228,7 +230,7 @@ struct ReadyDoor<'a, R: Eprint, D: Door<Link = SocketLink>> {
 impl<'a, R: Eprint, D: Door<Link = SocketLink>> Door for ReadyDoor<'a, R, D> {
     type Link = SocketLink;
 
-    fn next(&mut self) -> Knock<SocketLink> {
+    fn next(&mut self) -> DoorEvent<SocketLink> {
         if !self.is_ready {
             self.is_ready = true;
             let _written = eprintln!(self.rt; "l4proxy: ready");
@@ -246,7 +248,7 @@ impl<'a, R: Eprint, D: Door<Link = SocketLink>> Door for ReadyDoor<'a, R, D> {
 }
 
 /// Serves until the door is closed, and writes the record on standard output meanwhile. Then says what was served.
-pub fn attend<
+pub fn run<
     R: Threads + Wait + AllocGlobal + Print + Eprint + Sync,
     L: Dial<Link = SocketLink> + Send + Drop,
     D: Door<Link = SocketLink>,
@@ -262,7 +264,7 @@ pub fn attend<
 ) -> u8
     requires fresh { (book.made ≡ 0) × (open_connections book.state ≡ 0) × (open_connections book.base ≡ 0) }
     requires ring { IsPair book.segments segments × (received segments ≡ []) }
-    requires workers { (vec_len dials ≡ workers) × (1 ≤ workers) × (workers ≤ 64) }
+    requires workers { (vec_len dials ≡ workers) × (1 ≤ workers) × (workers ≤ MOST_WORKERS) }
 {
     let mut door = ReadyDoor {
         rt,
@@ -281,6 +283,7 @@ pub fn attend<
         workers,
         writer,
     ) {
+        Ok(served) if !served.summary.began => fail(rt, &CrewFault::Spawn),
         Ok(served) => say_served(rt, &served),
         Err(fault) => fail(rt, &fault),
     }

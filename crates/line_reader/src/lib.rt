@@ -1,6 +1,6 @@
 //! The lines of a reader, read a block at a time.
 #![tactic(auto)]
 
-pub use lines::{LineFault, LineReader, MOST_LINE_BYTES, Next};
+pub use lines::{LineReader, MOST_LINE_BYTES, Next, ReadFault};
 
 mod lines;

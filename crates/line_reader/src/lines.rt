@@ -26,7 +26,7 @@ pub enum Next {
 }
 
 /// Why no line came.
-pub enum LineFault {
+pub enum ReadFault {
     /// The next line is longer than `MOST_LINE_BYTES`.
     TooLong,
     /// The reader failed, or its patience ran out.
@@ -59,7 +59,7 @@ impl LineReader {
     ghost use Rattle.std.specs.Io.KnownBytes.{Consumes, Keeps};
     ghost use Rattle.device_core.specs.Patience.{IsUnblocked};
     ghost use Rattle.line_reader.specs.Lines.{ConsumesAll, Gathers, Gives, IsGivenUp};
-    ghost use Rattle.line_reader.specs.declared.lines.LineFault.TheVariants.{NoMemory, Read, TooLong};
+    ghost use Rattle.line_reader.specs.declared.lines.ReadFault.TheVariants.{NoMemory, Read, TooLong};
 
     pub fn new(alloc: Global) -> Result<LineReader, AllocError>
         ensures { IfOk result (λ r. r ≡ record { line = []; kept = []; reads = MOST_READS }) }
@@ -88,18 +88,18 @@ impl LineReader {
     }
 
     /// Moves so many of the bytes that are kept to the end of the line, and skips so many more.
-    fn take(&mut self, count: usize, skipped: usize) -> Result<(), LineFault>
+    fn take(&mut self, count: usize, skipped: usize) -> Result<(), ReadFault>
         requires { count + skipped ≤ length self.old.kept }
         ensures line { OnOk result (self.new.line ≡ self.old.line ++ take count self.old.kept) }
         ensures kept { OnOk result (self.new.kept ≡ drop (count + skipped) self.old.kept) }
         ensures reads { self.new.reads ≡ self.old.reads }
         ensures fits { OnOk result (length self.new.line ≤ MOST_LINE_BYTES) }
         ensures err { OnErr result (self.new ≡ self.old) }
-        ensures too_long { IfErr result (λ f. f ≡ LineFault.TooLong → MOST_LINE_BYTES < length self.old.line + count) }
-        ensures not_read { result ≢ Err LineFault.Read }
+        ensures too_long { IfErr result (λ f. f ≡ ReadFault.TooLong → MOST_LINE_BYTES < length self.old.line + count) }
+        ensures not_read { result ≢ Err ReadFault.Read }
     {
         if self.line.len().saturating_add(count) > MOST_LINE_BYTES {
-            return Err(LineFault::TooLong);
+            return Err(ReadFault::TooLong);
         }
         let from = self.at;
         if self
@@ -107,14 +107,14 @@ impl LineReader {
             .extend_from_slice(&self.block[from..from + count])
             .is_err()
         {
-            return Err(LineFault::NoMemory);
+            return Err(ReadFault::NoMemory);
         }
         self.at += count + skipped;
         Ok(())
     }
 
     /// Moves to the line what is kept of it, and says whether the line ended.
-    fn take_kept(&mut self) -> Result<bool, LineFault>
+    fn take_kept(&mut self) -> Result<bool, ReadFault>
         requires { IsUnended self.old.line }
         ensures ended { result ≡ Ok true → BeginsWithLine (self.old.line ++ self.old.kept) self.new.line self.new.kept }
         ensures unended { result ≡ Ok false → IsUnended self.new.line }
@@ -123,8 +123,8 @@ impl LineReader {
         ensures reads { self.new.reads ≡ self.old.reads }
         ensures fits { OnOk result (length self.new.line ≤ MOST_LINE_BYTES) }
         ensures err { OnErr result (self.new ≡ self.old) }
-        ensures too_long { IfErr result (λ f. f ≡ LineFault.TooLong → BeginsTooLong (self.old.line ++ self.old.kept)) }
-        ensures not_read { result ≢ Err LineFault.Read }
+        ensures too_long { IfErr result (λ f. f ≡ ReadFault.TooLong → BeginsTooLong (self.old.line ++ self.old.kept)) }
+        ensures not_read { result ≢ Err ReadFault.Read }
     {
         match memchr(b'\n', self.kept()) {
             Some(at) => {
@@ -140,13 +140,13 @@ impl LineReader {
     }
 
     /// Reads the next block, where nothing is kept of the last one, and says whether there is one.
-    fn read_block<I: Input>(&mut self, reader: &mut I) -> Result<bool, LineFault>
+    fn read_block<I: Input>(&mut self, reader: &mut I) -> Result<bool, ReadFault>
         requires { self.old.kept ≡ [] }
         ensures some { result ≡ Ok true → Consumes (I.left reader.old) (I.left reader.new) self.new.kept }
         ensures end { result ≡ Ok false → ConsumesAll (I.left reader.old) (I.left reader.new) [] }
         ensures none { result ≢ Ok true → self.new.kept ≡ [] }
         ensures line { self.new.line ≡ self.old.line }
-        ensures err { IfErr result (λ f. f ≡ LineFault.Read) }
+        ensures err { IfErr result (λ f. f ≡ ReadFault.Read) }
         ensures err_moved { OnErr result (Keeps (I.left reader.old) (I.left reader.new)) }
         ensures failures { OnOk result (I.failures reader.new ≡ I.failures reader.old) }
         ensures stalls { OnOk result (I.stalls reader.new ≡ 0) }
@@ -163,23 +163,23 @@ impl LineReader {
                 Ok(true)
             }
             Ok(Moved::End) => Ok(false),
-            Err(Failed) => Err(LineFault::Read),
+            Err(Failed) => Err(ReadFault::Read),
         }
     }
 
     /// Takes the next line, which `line` then gives. Nothing is lost by a fault; but the next line would begin after
     /// what was read until then, so a caller ends there.
-    pub fn advance<I: Input>(&mut self, reader: &mut I) -> Result<Next, LineFault>
+    pub fn advance<I: Input>(&mut self, reader: &mut I) -> Result<Next, ReadFault>
         ensures gives { IfOk result (λ next. Gives next self.old self.new (I.left reader.old) (I.left reader.new)) }
         ensures err { OnErr result (Gathers self.old self.new (I.left reader.old) (I.left reader.new)) }
-        ensures too_long { IfErr result (λ f. f ≡ LineFault.TooLong → BeginsTooLong (self.new.line ++ self.new.kept)) }
+        ensures too_long { IfErr result (λ f. f ≡ ReadFault.TooLong → BeginsTooLong (self.new.line ++ self.new.kept)) }
 
         // Each read is counted, and one that failed is reported.
         ensures calls { I.calls reader.new ≡ raised_by (self.old.reads - self.new.reads) (I.calls reader.old) }
         ensures no_more { self.new.reads ≤ self.old.reads }
-        ensures failures { result ≢ Err LineFault.Read → I.failures reader.new ≡ I.failures reader.old }
-        ensures stalls { result ≢ Err LineFault.Read → IsUnblocked (I.stalls reader.old) (I.stalls reader.new) }
-        ensures given_up { result ≡ Err LineFault.Read →
+        ensures failures { result ≢ Err ReadFault.Read → I.failures reader.new ≡ I.failures reader.old }
+        ensures stalls { result ≢ Err ReadFault.Read → IsUnblocked (I.stalls reader.old) (I.stalls reader.new) }
+        ensures given_up { result ≡ Err ReadFault.Read →
             IsGivenUp (I.failures reader.old) (I.failures reader.new) (I.stalls reader.old) (I.stalls reader.new) self.new.reads }
     {
         self.line.clear();

@@ -3,8 +3,8 @@
 
 pub use flags::Flags;
 pub use spares::Spares;
-pub use stream::{FLOW, PIECE, Progress, pump};
-pub use traits::{Backlog, Clock, Dial, Dialled, Door, Gate, Knock, Link, Ready};
+pub use stream::{FLOW, Progress, pump};
+pub use traits::{Backlog, Clock, Dial, Dialled, Door, DoorEvent, Gate, Link, Ready};
 
 mod flags;
 mod spares;

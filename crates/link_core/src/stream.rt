@@ -6,13 +6,11 @@ ghost use Rattle.relay_core.specs.Relay.{flow_of, opposite, stream_of};
 
 use crate::flags::Flags;
 use crate::traits::Link;
-use relay_core::{Burst, Drained, Relay, Stop, Way};
+use device_core::PIECE_BYTES;
+use relay_core::{Burst, BurstStop, Drained, Relay, Way};
 
-/// How many bytes each direction of a connection holds at the most.
+/// How many bytes each direction of a connection holds at the most. The buffer of a worker holds as many.
 pub const FLOW: usize = 65_536;
-
-/// How many bytes are read in one call at the most. The buffer of a worker holds as many as a flow does.
-pub const PIECE: usize = 16_384;
 
 /// How many bursts a direction makes before other connections have their turn.
 const ROUNDS: u32 = 2;
@@ -48,9 +46,9 @@ fn can_move(relay: &Relay, way: Way, input: &Flags, output: &Flags) -> bool {
 /// Lowers what a burst found not to be ready.
 fn note(burst: &Burst, input: &mut Flags, output: &mut Flags) {
     match burst.stop {
-        Stop::Full | Stop::NoRoom => {}
-        Stop::Short => input.note_short_read(),
-        Stop::Blocked | Stop::End => input.reads = false,
+        BurstStop::Full | BurstStop::NoRoom => {}
+        BurstStop::Short => input.note_short_read(),
+        BurstStop::Blocked | BurstStop::End => input.reads = false,
     }
     if burst.drained == Drained::Blocked {
         output.writes = false;
@@ -82,14 +80,14 @@ pub fn pump<K: Link>(
     ensures carries { HasCarried (stream_of (K.left input.old) (flow_of way relay.old) (K.held output.old)) (stream_of (K.left input.new) (flow_of way relay.new) (K.held output.new)) }
     ensures other { flow_of (opposite way) relay.new ≡ flow_of (opposite way) relay.old }
 {
-    if buffer.len() < PIECE {
+    if buffer.len() < PIECE_BYTES {
         return Progress::Fault;
     }
     for _round in 0..ROUNDS {
         if !can_move(relay, way, input_flags, output_flags) {
             return Progress::Idle;
         }
-        let Ok(burst) = relay.burst(way, input, output, buffer, PIECE) else {
+        let Ok(burst) = relay.burst(way, input, output, buffer, PIECE_BYTES) else {
             return Progress::Fault;
         };
         note(&burst, input_flags, output_flags);

@@ -16,7 +16,7 @@ pub trait Link: Input + Output + Drop {
 
 /// What came to the door.
 #[derive(Drop)]
-pub enum Knock<K> {
+pub enum DoorEvent<K> {
     /// A connection to a listener, by its number; the pair is its peer and its local end.
     Conn(u16, Pair, K),
     /// A new configuration is to come into force: its text.
@@ -41,7 +41,7 @@ pub trait Door {
     type Link: Link;
 
     /// What came next.
-    fn next(&mut self) -> Knock<Self::Link>;
+    fn next(&mut self) -> DoorEvent<Self::Link>;
 
     /// What became of the reload that was last handed out.
     fn report(&mut self, answer: &Result<Reply, StepFault>);

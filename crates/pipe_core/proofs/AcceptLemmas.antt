@@ -20,7 +20,7 @@ use Rattle.conn_model.specs.declared.plain.FrontendRows.{FrontendRows}
 use Rattle.conn_model.specs.declared.plain.Plain.{Plain}
 use Rattle.conn_model.specs.declared.plain.Row.{Row}
 use Rattle.conn_model.specs.declared.plain.Version.{Version}
-use Rattle.rule_engine.specs.Judging.{no_tracks, Slots}
+use Rattle.rule_engine.specs.Judging.{no_tracks, TrackSlots}
 use Rattle.conn_model.specs.Rules.{Candidate, rejection, view_of}
 use Rattle.conn_model.specs.Answer.{admission, answer_in, candidate_at, candidate_of, decision, demands_header, entry_reply, entry_rules, frontend_in, header_reply, judged_pair, new_row, row_in, said_of, verdict, NumberedServer}
 use Rattle.conn_model.specs.History.{after, by_counter, entry, id_of, new_version, newest_number, opening, tables_by, with_said, IsWell}
@@ -40,14 +40,14 @@ UsesAtMost most (saids.Up id) = ⊥
 UsesAtMost most (saids.Closed id why) = ⊥
 UsesAtMost most (saids.Reloaded version) = ⊥
 
-decision_uses : (candidate : Candidate) (used most : ℕ) (judged : PairValue) (made : Slots) → used ≤ most → UsesAtMost most (decision candidate used judged made).said
+decision_uses : (candidate : Candidate) (used most : ℕ) (judged : PairValue) (made : TrackSlots) → used ≤ most → UsesAtMost most (decision candidate used judged made).said
 decision_uses candidate used most judged made within = by (verdict (view_of candidate judged.source.addr) candidate.frontend made).result
   where
     by : (result : Result NumberedServer Cause) → UsesAtMost most (said_of candidate.id used judged result)
     by (Ok given) = within
     by (Err cause) = tt
 
-entry_uses : (candidate : Candidate) (accept_proxy : Bool) (real : PairValue) (made : Slots) (line : Option ℕ) → UsesAtMost 0 (entry_reply candidate accept_proxy real made line).said
+entry_uses : (candidate : Candidate) (accept_proxy : Bool) (real : PairValue) (made : TrackSlots) (line : Option ℕ) → UsesAtMost 0 (entry_reply candidate accept_proxy real made line).said
 entry_uses candidate accept_proxy real made (Some line) = tt
 entry_uses candidate true real made None = tt
 entry_uses candidate false real made None = decision_uses candidate 0 0 real made (omega arith)

@@ -14,7 +14,7 @@ use Rattle.pipe_core.specs.Stream.{Carried, Dropped, ReadsAll, Delivery, Deliver
 use Rattle.pipe_core.specs.declared.end.PipeEnd.TheVariants as ends
 use Rattle.pipe_core.specs.declared.end.PipeFault.{PipeFault}
 use Rattle.pipe_core.specs.declared.end.PipeFault.TheVariants as faults
-use Rattle.pipe_core.specs.declared.header.Offer.{Offer}
+use Rattle.pipe_core.specs.declared.header.HeaderOffer.{HeaderOffer}
 use Rattle.pipe_core.proofs.StreamLemmas.{appends-both, consumes-both, consumes-nil}
 
 -- the first write failed
@@ -76,12 +76,12 @@ wrote_known None sent text wrote = absurd wrote
 wrote_known (Some now) sent text wrote = ap (λ xs. Some xs) wrote
 
 -- the bytes of an offer, and those after them
-offer_text : (offer : Offer) (buffer got : List ℕ) →
+offer_text : (offer : HeaderOffer) (buffer got : List ℕ) →
     (offer.send.items ++ take (offer.to - offer.from) (drop offer.from buffer)) ++ got ≡ offer.send.items ++ (take (offer.to - offer.from) (drop offer.from buffer) ++ got)
 offer_text offer buffer got = append_assoc offer.send.items (take (offer.to - offer.from) (drop offer.from buffer)) got
 
 -- all that the server gets was written
-pub piped : (p : Plain) (name : List ℕ) (listener : ℕ) (real : PairValue) (l0 l1 l2 h0 h1 : Option (List ℕ)) (buffer : List ℕ) (offer : Offer) (count : ℕ) → listener_of p name ≡ Some listener →
+pub piped : (p : Plain) (name : List ℕ) (listener : ℕ) (real : PairValue) (l0 l1 l2 h0 h1 : Option (List ℕ)) (buffer : List ℕ) (offer : HeaderOffer) (count : ℕ) → listener_of p name ≡ Some listener →
     HasOffer (said_to p listener real) l0 l1 buffer offer → Delivery l1 l2 h0 h1 (offer.send.items ++ take (offer.to - offer.from) (drop offer.from buffer)) count → ReadsAll l1 l2 →
     (input sent : List ℕ) → l0 ≡ Some input → h0 ≡ Some sent → IsPipedFrom p name real input sent l2 h1 (ends.Offered count)
 piped p name listener real l0 l1 l2 h0 h1 buffer offer count listens has delivery all input sent left held = record {
@@ -118,7 +118,7 @@ piped p name listener real l0 l1 l2 h0 h1 buffer offer count listens has deliver
         known.2 ∙ ap (λ xs. (has.got ++ delivery.got) ++ xs) nothing ∙ append-nil (has.got ++ delivery.got)
 
 -- the first bytes of it were written
-pub cut : (p : Plain) (name : List ℕ) (listener : ℕ) (real : PairValue) (l0 l1 l2 h0 h1 : Option (List ℕ)) (buffer : List ℕ) (offer : Offer) → listener_of p name ≡ Some listener →
+pub cut : (p : Plain) (name : List ℕ) (listener : ℕ) (real : PairValue) (l0 l1 l2 h0 h1 : Option (List ℕ)) (buffer : List ℕ) (offer : HeaderOffer) → listener_of p name ≡ Some listener →
     HasOffer (said_to p listener real) l0 l1 buffer offer → DeliveryFront l1 l2 h0 h1 (offer.send.items ++ take (offer.to - offer.from) (drop offer.from buffer)) →
     (input sent : List ℕ) → l0 ≡ Some input → h0 ≡ Some sent → IsCutShort p name real input sent l2 h1
 cut p name listener real l0 l1 l2 h0 h1 buffer offer listens has delivery input sent left held = record {

@@ -12,7 +12,8 @@ use Rattle.std.proofs.lemmas.Option.{slice_get-get_or}
 use Rattle.std.proofs.lemmas.Slice.Eq.{bytes_eq-Decides}
 use Rattle.addr_core.specs.declared.addr.Addr.TheVariants.{V4}
 use Rattle.addr_core.specs.PairValue.{PairValue}
-use Rattle.plan_types.specs.Sound.{most_binds, IsSoundFrontend, IsSoundPlan, IsWithin}
+use Rattle.proxy_types.specs.declared.limits.TheConstants.{MOST_BINDS}
+use Rattle.plan_types.specs.Sound.{IsSoundFrontend, IsSoundPlan, IsWithin}
 use Rattle.plan_types.specs.declared.plan.Bind.{Bind}
 use Rattle.plan_types.specs.declared.plan.Frontend.{Frontend}
 use Rattle.plan_types.specs.declared.plan.Plan.{Plan}
@@ -46,7 +47,7 @@ others s number [] less = tt
 others s number (bind ∷ binds) less = (grind (arith, nat_tests, less), others s number binds less)
 
 abbrev HasBinds : List Frontend → Type 0
-HasBinds frontends = AllByRecursion (λ (f : Frontend). IsWithin most_binds (length f.binds)) frontends
+HasBinds frontends = AllByRecursion (λ (f : Frontend). IsWithin MOST_BINDS (length f.binds)) frontends
 
 abbrev all_listeners : ℕ → List Frontend → List Listener
 all_listeners s frontends = flat_map listeners_of (enumerate_from s frontends)
@@ -59,7 +60,7 @@ first_of s zero (f ∷ frontends) bound less = by f.binds bound.0
     rest : List Listener
     rest = all_listeners (s + 1) frontends
 
-    by : (binds : List Bind) → IsWithin most_binds (length binds) →
+    by : (binds : List Bind) → IsWithin MOST_BINDS (length binds) →
         (position_or_len (is_of (s + 0)) (map (λ (bind : Bind). record { frontend = s; at = bind.at; accept_proxy = bind.accept_proxy }) binds ++ rest) < length (map (λ (bind : Bind). record { frontend = s; at = bind.at; accept_proxy = bind.accept_proxy }) binds ++ rest))
         × (position_or_len (is_of (s + 0)) (map (λ (bind : Bind). record { frontend = s; at = bind.at; accept_proxy = bind.accept_proxy }) binds ++ rest) ≤ 64 * 0)
     by [] within = absurd (omega (arith, within.0))
@@ -97,7 +98,7 @@ has_listener plan last sound name number is = (place, ap (λ o. option_and_then 
     within = omega (arith, (position-Some (λ own. bytes_eq own.name name) rows number nobody is).0, length-map plan.frontends (rows_of last))
 
     bound : HasBinds plan.frontends
-    bound = all-more (IsSoundFrontend (length plan.tables) (length plan.backends)) (λ f. IsWithin most_binds (length f.binds)) plan.frontends (λ f known. known.binds) sound.each_frontend
+    bound = all-more (IsSoundFrontend (length plan.tables) (length plan.backends)) (λ f. IsWithin MOST_BINDS (length f.binds)) plan.frontends (λ f known. known.binds) sound.each_frontend
 
     place : ℕ
     place = position_or_len (is_of number) all

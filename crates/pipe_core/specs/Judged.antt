@@ -14,9 +14,9 @@ use Rattle.pipe_core.specs.Waiting.{IsOffered, Waits}
 use Rattle.pipe_core.specs.declared.end.PipeEnd.TheVariants as ends
 use Rattle.pipe_core.specs.declared.header.Judgement.{Judgement}
 use Rattle.pipe_core.specs.declared.header.Judgement.TheVariants as judgements
-use Rattle.pipe_core.specs.declared.header.Offer.{Offer}
-use Rattle.pipe_core.specs.declared.header.Verdict.{Verdict}
-use Rattle.pipe_core.specs.declared.header.Verdict.TheVariants as verdicts
+use Rattle.pipe_core.specs.declared.header.HeaderOffer.{HeaderOffer}
+use Rattle.pipe_core.specs.declared.header.HeaderVerdict.{HeaderVerdict}
+use Rattle.pipe_core.specs.declared.header.HeaderVerdict.TheVariants as verdicts
 
 -- whatever follows, nothing is passed on, and the connection is refused for that cause
 abbrev pub IsRefused : (List ℕ → Result Reply StepFault) → List ℕ → Cause → Type 0
@@ -35,7 +35,7 @@ IsWithin piece (judgements.Offered send used) = used ≤ length piece
 IsWithin piece (judgements.Refused cause) = Unit {0}
 
 -- what was read is offered a server, and the last of it is in the buffer, after the header
-pub record HasOffer (said : List ℕ → Result Reply StepFault) (old new' : Option (List ℕ)) (buffer : List ℕ) (offer : Offer) : Type 0 where
+pub record HasOffer (said : List ℕ → Result Reply StepFault) (old new' : Option (List ℕ)) (buffer : List ℕ) (offer : HeaderOffer) : Type 0 where
   pub got : List ℕ
   pub read : Consumes old new' got
   pub from : offer.from ≤ offer.to
@@ -55,7 +55,7 @@ pub record HasNoOffer (said : List ℕ → Result Reply StepFault) (old new' : O
   pub waits : end_by got (said got) ≡ Some ends.Unfinished
 
 -- what is known of a connection by what is said to its bytes
-abbrev pub IsJudged : (List ℕ → Result Reply StepFault) → Option (List ℕ) → Option (List ℕ) → List ℕ → Verdict → Type 0
+abbrev pub IsJudged : (List ℕ → Result Reply StepFault) → Option (List ℕ) → Option (List ℕ) → List ℕ → HeaderVerdict → Type 0
 IsJudged said old new' buffer (verdicts.Offered offer) = HasOffer said old new' buffer offer
 IsJudged said old new' buffer (verdicts.Refused cause) = HasRefusal said old new' cause
 IsJudged said old new' buffer verdicts.Unfinished = HasNoOffer said old new' × ReadsAll old new'

@@ -19,10 +19,8 @@ use arrayvec::ArrayVec;
 use conn_core::Core;
 use conn_model::event::{ConnId, Event};
 use conn_model::reply::{Cause, Reply, Said, StepFault};
-use device_core::{Input, Moved};
-
-/// The most bytes of a piece of a header.
-const PIECE_BYTES: usize = 16_384;
+use device_core::{Input, Moved, PIECE_BYTES};
+use pp_v1::LINE_LIMIT;
 
 /// What a piece of a header decides.
 #[derive(Drop)]
@@ -31,7 +29,7 @@ pub enum Judgement {
     Wait,
     /// The connection is offered a server, which is sent these bytes first.
     Offered {
-        send: ArrayVec<u8, 107>,
+        send: ArrayVec<u8, LINE_LIMIT>,
         /// How many bytes of the piece belong to the header.
         used: usize,
     },
@@ -40,8 +38,8 @@ pub enum Judgement {
 
 /// What became of a connection.
 #[derive(Drop)]
-pub enum Verdict {
-    Offered(Offer),
+pub enum HeaderVerdict {
+    Offered(HeaderOffer),
     Refused(Cause),
     /// The input ended in the header.
     Unfinished,
@@ -49,9 +47,9 @@ pub enum Verdict {
 
 /// A server for a connection.
 #[derive(Drop)]
-pub struct Offer {
+pub struct HeaderOffer {
     /// What the server is sent first.
-    pub send: ArrayVec<u8, 107>,
+    pub send: ArrayVec<u8, LINE_LIMIT>,
     /// Where in the buffer the bytes begin that came with the header, after it.
     pub from: usize,
     /// Where they end.
@@ -59,7 +57,7 @@ pub struct Offer {
 }
 
 /// The only fault of a step that has a reply.
-fn want_of_memory(fault: StepFault) -> PipeFault
+fn lack_of_memory(fault: StepFault) -> PipeFault
     requires { fault ≡ StepFault.NoMemory }
     ensures { result ≡ PipeFault.NoMemory }
 {
@@ -78,7 +76,7 @@ fn judge_piece(core: &mut Core, id: ConnId, piece: &[u8]) -> Result<Judgement, P
 {
     let reply = match core.step(0, &Event::Piece(id, piece)) {
         Ok(reply) => reply,
-        Err(fault) => return Err(want_of_memory(fault)),
+        Err(fault) => return Err(lack_of_memory(fault)),
     };
     let Reply {
         said,
@@ -124,7 +122,7 @@ fn judge_header<I: Input>(
     reader: &mut I,
     buffer: &mut [u8],
     reads: &mut u32,
-) -> Result<Verdict, PipeFault>
+) -> Result<HeaderVerdict, PipeFault>
     requires room { 0 < length buffer.old }
     requires waits { Holds core.old id [] }
     ensures ok { IfOk result (λ verdict. IsJudged (λ bytes. answer_in core.old 0 (owned.Piece id bytes)) (I.left reader.old) (I.left reader.new) buffer.new verdict) }
@@ -139,18 +137,18 @@ fn judge_header<I: Input>(
 {
     loop {
         let Moved::Bytes(count) = receive_piece(reader, buffer, reads)? else {
-            return Ok(Verdict::Unfinished);
+            return Ok(HeaderVerdict::Unfinished);
         };
         match judge_piece(core, id, &buffer[..count])? {
             Judgement::Wait => {}
             Judgement::Offered { send, used } => {
-                return Ok(Verdict::Offered(Offer {
+                return Ok(HeaderVerdict::Offered(HeaderOffer {
                     send,
                     from: used,
                     to: count,
                 }));
             }
-            Judgement::Refused(cause) => return Ok(Verdict::Refused(cause)),
+            Judgement::Refused(cause) => return Ok(HeaderVerdict::Refused(cause)),
         }
     }
 }
@@ -163,7 +161,7 @@ pub fn judge<I: Input>(
     reader: &mut I,
     buffer: &mut [u8],
     reads: &mut u32,
-) -> Result<Verdict, PipeFault>
+) -> Result<HeaderVerdict, PipeFault>
     requires room { 0 < length buffer.old }
     requires opening { (plan : Plan) × (core.old ≡ opening plan 0) }
     requires listens { (name : List ℕ) × (listener_of core.old name ≡ Some listener) }
@@ -179,7 +177,7 @@ pub fn judge<I: Input>(
 {
     let reply = match core.step(0, &Event::Accept(listener, real)) {
         Ok(reply) => reply,
-        Err(fault) => return Err(want_of_memory(fault)),
+        Err(fault) => return Err(lack_of_memory(fault)),
     };
     let Reply {
         said,
@@ -187,12 +185,12 @@ pub fn judge<I: Input>(
     } = reply;
     match said {
         Said::Wait { id, .. } => judge_header(core, id, reader, buffer, reads),
-        Said::Offer { send, .. } => Ok(Verdict::Offered(Offer {
+        Said::Offer { send, .. } => Ok(HeaderVerdict::Offered(HeaderOffer {
             send,
             from: 0,
             to: 0,
         })),
-        Said::Refuse { cause, .. } => Ok(Verdict::Refused(cause)),
+        Said::Refuse { cause, .. } => Ok(HeaderVerdict::Refused(cause)),
         Said::Up { .. } | Said::Closed { .. } | Said::Reloaded { .. } => unreachable!(),
     }
 }

@@ -15,7 +15,7 @@ ghost use Rattle.pipe_core.specs.Stream.{ReadsAll, Delivery, DeliveryFront};
 ghost use Rattle.pipe_core.specs.Pipe.{as_listener, frontend_of, listener_of, IsEnded, IsPiped, IsPipedFrom, IsStopped};
 
 use crate::end::{PipeEnd, PipeFault};
-use crate::header::{Offer, Verdict, judge};
+use crate::header::{HeaderOffer, HeaderVerdict, judge};
 use crate::stream::{pass_on, send};
 use addr_core::Pair;
 use conn_core::{Core, OpenFault};
@@ -82,7 +82,7 @@ fn first_listener(core: &Core, name: &[u8]) -> Result<u16, PipeFault>
 /// Passes a connection on that was offered a server: what the server is sent first, the bytes that came with the
 /// header, and all that the reader still gives. It says how many bytes these are.
 fn serve<I: Input, O: Output>(
-    offer: &Offer,
+    offer: &HeaderOffer,
     reader: &mut I,
     writer: &mut O,
     buffer: &mut [u8],
@@ -130,12 +130,12 @@ fn pipe<I: Input, O: Output>(
     let listener = first_listener(core, name)?;
     let mut reads = MOST_READS;
     match judge(core, listener, real, reader, buffer, &mut reads)? {
-        Verdict::Offered(offer) => {
+        HeaderVerdict::Offered(offer) => {
             let written = serve(&offer, reader, writer, buffer, &mut reads)?;
             Ok(PipeEnd::Offered(written))
         }
-        Verdict::Refused(cause) => Ok(PipeEnd::Refused(cause)),
-        Verdict::Unfinished => Ok(PipeEnd::Unfinished),
+        HeaderVerdict::Refused(cause) => Ok(PipeEnd::Refused(cause)),
+        HeaderVerdict::Unfinished => Ok(PipeEnd::Unfinished),
     }
 }
 

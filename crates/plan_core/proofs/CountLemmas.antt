@@ -11,7 +11,7 @@ use Rattle.conf_tree.specs.Config.{is_bind, is_server}
 use Rattle.conf_tree.specs.Sound.{IsSoundSection}
 use Rattle.plan_types.specs.declared.plan.Backend.{Backend}
 use Rattle.plan_types.specs.declared.plan.Table.{Table}
-use Rattle.plan_types.specs.Sound.{most_binds, most_servers}
+use Rattle.proxy_types.specs.declared.limits.TheConstants.{MOST_BINDS, MOST_SERVERS}
 use Rattle.plan_core.specs.declared.fault.PlanFault.{PlanFault}
 use Rattle.plan_core.specs.declared.fault.PlanKind.TheVariants.{NoBind}
 use Rattle.plan_core.specs.declared.proxies.Proxy.{Proxy}
@@ -128,8 +128,8 @@ is_one_server at (statements.Rule list action when) = refl
 is_one_server at (statements.StickTable table) = refl
 is_one_server at (statements.Server server) = refl
 
-pub few_binds : (own : List ConfigLine) → IsSoundSection own → length (all_of line_bind own) ≤ most_binds
+pub few_binds : (own : List ConfigLine) → IsSoundSection own → length (all_of line_bind own) ≤ MOST_BINDS
 few_binds own sound = rw (as_many line_bind is_bind is_one_bind own) sound.binds
 
-pub few_servers : (own : List ConfigLine) → IsSoundSection own → length (all_of line_server own) ≤ most_servers
+pub few_servers : (own : List ConfigLine) → IsSoundSection own → length (all_of line_server own) ≤ MOST_SERVERS
 few_servers own sound = rw (as_many line_server is_server is_one_server own) sound.servers

@@ -6,7 +6,7 @@ use Rattle.std.specs.List.{AllByRecursion, cons_option, list_any}
 use Rattle.std.proofs.lemmas.Bool.Decides.{nat_tests}
 use Rattle.conf_tree.specs.declared.claim.Claim.{Claim}
 use Rattle.conf_tree.specs.declared.tree.ConfigLine.{ConfigLine}
-use Rattle.conf_tree.specs.declared.tree.Place.{Place}
+use Rattle.conf_tree.specs.declared.tree.SectionPlace.{SectionPlace}
 use Rattle.conf_line.specs.declared.statement.Statement.{Statement}
 use Rattle.conf_line.specs.declared.statement.Statement.TheVariants as statements
 use Rattle.conf_tree.specs.Config as config
@@ -27,7 +27,7 @@ use Rattle.plan_core.specs.Proxies.{line_head, base_after, proxy_with, proxies, 
 
 -- How many there are.
 
-one_frontend : (setting : Statement) (line : ℕ) (place : Place) (base own : List ConfigLine) (rest : List Proxy) (claims : List Claim) → length (filter is_frontend rest) ≡ length (filter config.is_frontend claims) →
+one_frontend : (setting : Statement) (line : ℕ) (place : SectionPlace) (base own : List ConfigLine) (rest : List Proxy) (claims : List Claim) → length (filter is_frontend rest) ≡ length (filter config.is_frontend claims) →
     length (filter is_frontend (option_to_list (option_map (proxy_with base own) (line_head line setting)) ++ rest)) ≡ length (filter config.is_frontend (cons_option (config.claim_of place setting) claims))
 one_frontend statements.Nothing line place base own rest claims same = same
 one_frontend statements.Global line place base own rest claims same = same
@@ -44,7 +44,7 @@ one_frontend (statements.Rule list action when) line place base own rest claims 
 one_frontend (statements.StickTable table) line place base own rest claims same = same
 one_frontend (statements.Server server) line place base own rest claims same = same
 
-one_backend : (setting : Statement) (line : ℕ) (place : Place) (base own : List ConfigLine) (rest : List Proxy) (claims : List Claim) → length (filter is_backend rest) ≡ length (filter config.is_backend claims) →
+one_backend : (setting : Statement) (line : ℕ) (place : SectionPlace) (base own : List ConfigLine) (rest : List Proxy) (claims : List Claim) → length (filter is_backend rest) ≡ length (filter config.is_backend claims) →
     length (filter is_backend (option_to_list (option_map (proxy_with base own) (line_head line setting)) ++ rest)) ≡ length (filter config.is_backend (cons_option (config.claim_of place setting) claims))
 one_backend statements.Nothing line place base own rest claims same = same
 one_backend statements.Global line place base own rest claims same = same

@@ -9,7 +9,7 @@ use Rattle.conf_line.specs.declared.statement.Statement.TheVariants as statement
 use Rattle.conf_tree.specs.declared.claim.Claim.{Claim}
 use Rattle.conf_tree.specs.declared.claim.Claim.TheVariants as claims
 use Rattle.conf_tree.specs.declared.tree.ConfigLine.{ConfigLine}
-use Rattle.conf_tree.specs.declared.tree.Place.{Place}
+use Rattle.conf_tree.specs.declared.tree.SectionPlace.{SectionPlace}
 use Rattle.conf_tree.specs.Config.{claim_of, claims_of, same_claim, is_server_named, has_server}
 use Rattle.conf_tree.specs.Sections.{own_lines}
 use Rattle.conf_tree.specs.Sound.{ClaimsDiffer, ServersDiffer}
@@ -37,7 +37,7 @@ AreOtherNames name all = AllByRecursion (λ other. other ≢ name) all
 
 -- Frontends.
 
-frontend_apart : (s : Statement) (at : ℕ) (place : Place) (base own : List ConfigLine) (name : List ℕ) (rest : List Proxy) (all : List Claim) → (AreOthers (claims.Frontend name) all → AreOtherNames name (names (frontends rest))) →
+frontend_apart : (s : Statement) (at : ℕ) (place : SectionPlace) (base own : List ConfigLine) (name : List ℕ) (rest : List Proxy) (all : List Claim) → (AreOthers (claims.Frontend name) all → AreOtherNames name (names (frontends rest))) →
     AreOthers (claims.Frontend name) (cons_option (claim_of place s) all) → AreOtherNames name (names (frontends (option_to_list (option_map (proxy_with base own) (line_head at s)) ++ rest)))
 frontend_apart statements.Nothing at place base own name rest all later others = later others
 frontend_apart statements.Global at place base own name rest all later others = later others
@@ -60,7 +60,7 @@ frontends_apart name base (item ∷ rest) others =
     frontend_apart item.statement item.line item.place base (own_lines rest) name (proxies (base_after base (own_lines rest) item.statement) rest) (claims_of rest)
     (λ more. frontends_apart name (base_after base (own_lines rest) item.statement) rest more) others
 
-one_frontend : (s : Statement) (at : ℕ) (place : Place) (base own : List ConfigLine) (rest : List Proxy) (all : List Claim) →
+one_frontend : (s : Statement) (at : ℕ) (place : SectionPlace) (base own : List ConfigLine) (rest : List Proxy) (all : List Claim) →
     ((name : List ℕ) → AreOthers (claims.Frontend name) all → AreOtherNames name (names (frontends rest))) → (ClaimsDiffer all → NamesDiffer (names (frontends rest))) →
     ClaimsDiffer (cons_option (claim_of place s) all) → NamesDiffer (names (frontends (option_to_list (option_map (proxy_with base own) (line_head at s)) ++ rest)))
 one_frontend statements.Nothing at place base own rest all apart later differ = later differ
@@ -86,7 +86,7 @@ frontends_differ base (item ∷ rest) differ =
 
 -- Backends.
 
-backend_apart : (s : Statement) (at : ℕ) (place : Place) (base own : List ConfigLine) (name : List ℕ) (rest : List Proxy) (all : List Claim) → (AreOthers (claims.Backend name) all → AreOtherNames name (names (backends rest))) →
+backend_apart : (s : Statement) (at : ℕ) (place : SectionPlace) (base own : List ConfigLine) (name : List ℕ) (rest : List Proxy) (all : List Claim) → (AreOthers (claims.Backend name) all → AreOtherNames name (names (backends rest))) →
     AreOthers (claims.Backend name) (cons_option (claim_of place s) all) → AreOtherNames name (names (backends (option_to_list (option_map (proxy_with base own) (line_head at s)) ++ rest)))
 backend_apart statements.Nothing at place base own name rest all later others = later others
 backend_apart statements.Global at place base own name rest all later others = later others
@@ -109,7 +109,7 @@ backends_apart name base (item ∷ rest) others =
     backend_apart item.statement item.line item.place base (own_lines rest) name (proxies (base_after base (own_lines rest) item.statement) rest) (claims_of rest)
     (λ more. backends_apart name (base_after base (own_lines rest) item.statement) rest more) others
 
-one_backend : (s : Statement) (at : ℕ) (place : Place) (base own : List ConfigLine) (rest : List Proxy) (all : List Claim) →
+one_backend : (s : Statement) (at : ℕ) (place : SectionPlace) (base own : List ConfigLine) (rest : List Proxy) (all : List Claim) →
     ((name : List ℕ) → AreOthers (claims.Backend name) all → AreOtherNames name (names (backends rest))) → (ClaimsDiffer all → NamesDiffer (names (backends rest))) →
     ClaimsDiffer (cons_option (claim_of place s) all) → NamesDiffer (names (backends (option_to_list (option_map (proxy_with base own) (line_head at s)) ++ rest)))
 one_backend statements.Nothing at place base own rest all apart later differ = later differ

@@ -6,8 +6,8 @@ use Rattle.std.specs.List.{AllByRecursion, cons_option}
 use Rattle.std.specs.Option.{option_or}
 use Rattle.std.specs.Str.{bytes_eq}
 use Rattle.std.proofs.lemmas.List.Quantifiers.{position-Some}
-use Rattle.conf_line.specs.declared.statement.Action as line
-use Rattle.conf_line.specs.declared.statement.Action.TheVariants as words
+use Rattle.conf_line.specs.declared.statement.ActionWords as line
+use Rattle.conf_line.specs.declared.statement.ActionWords.TheVariants as words
 use Rattle.conf_line.specs.declared.statement.Ruleset.{Ruleset}
 use Rattle.conf_line.specs.declared.statement.Ruleset.TheVariants.{Connection, Session}
 use Rattle.conf_line.specs.declared.statement.Statement.{Statement}
@@ -26,7 +26,8 @@ use Rattle.plan_types.specs.declared.plan.Plan.{Plan}
 use Rattle.plan_types.specs.declared.plan.Rule.{Rule}
 use Rattle.plan_types.specs.declared.plan.Table.{Table}
 use Rattle.plan_types.specs.declared.plan.Server.{Server}
-use Rattle.plan_types.specs.Sound.{IsSoundAction, RulesRise, AreSoundRules, ChoicesRise, IsWithin, IsSoundFrontend, IsSoundServer, IsSoundBackend, IsSoundTable, IsSoundPlan, most_frontends, most_backends, most_tables, most_connections, most_entries, greatest_weight}
+use Rattle.proxy_types.specs.declared.limits.TheConstants.{GREATEST_WEIGHT, MOST_CONNECTIONS, MOST_ENTRIES, MOST_SECTIONS, MOST_TABLES}
+use Rattle.plan_types.specs.Sound.{IsSoundAction, RulesRise, AreSoundRules, ChoicesRise, IsWithin, IsSoundFrontend, IsSoundServer, IsSoundBackend, IsSoundTable, IsSoundPlan}
 use Rattle.plan_core.specs.declared.fields.Limit.{Limit}
 use Rattle.plan_core.specs.declared.fields.Named.{Named}
 use Rattle.plan_core.specs.declared.proxies.Proxy.{Proxy}
@@ -52,7 +53,7 @@ some_table : (tables : List Table) (name : List ℕ) (named : Option (List ℕ))
 some_table tables name None = within (is_table_of name) tables
 some_table tables name (Some other) = within (λ (table : Table). bytes_eq table.name other) tables
 
-some_action : (tables : List Table) (name : List ℕ) (action : line.Action) → lines.IsSoundAction action → IfSome (action_of tables name action) (IsSoundAction (length tables))
+some_action : (tables : List Table) (name : List ℕ) (action : line.ActionWords) → lines.IsSoundAction action → IfSome (action_of tables name action) (IsSoundAction (length tables))
 some_action tables name words.Accept sound = tt
 some_action tables name words.Reject sound = tt
 some_action tables name words.ExpectProxy sound = tt
@@ -253,7 +254,7 @@ or_some : {X : Type 0} (P : X → Type 0) (a b : Option X) → IfSome a P → If
 or_some P None b one other = other
 or_some P (Some x) b one other = one
 
-some_limit : (at : ℕ) (s : Statement) → IsSoundStatement s → IfSome (line_limit at s) (λ limit. IsWithin most_connections limit.limit)
+some_limit : (at : ℕ) (s : Statement) → IsSoundStatement s → IfSome (line_limit at s) (λ limit. IsWithin MOST_CONNECTIONS limit.limit)
 some_limit at statements.Nothing sound = tt
 some_limit at statements.Global sound = tt
 some_limit at statements.Defaults sound = tt
@@ -269,21 +270,21 @@ some_limit at (statements.Rule list action when) sound = tt
 some_limit at (statements.StickTable table) sound = tt
 some_limit at (statements.Server server) sound = tt
 
-last_limit : (items : List ConfigLine) → AreSoundStatements items → IfSome (last_of line_limit items) (λ limit. IsWithin most_connections limit.limit)
+last_limit : (items : List ConfigLine) → AreSoundStatements items → IfSome (last_of line_limit items) (λ limit. IsWithin MOST_CONNECTIONS limit.limit)
 last_limit [] sound = tt
 last_limit (item ∷ rest) sound =
-    or_some (λ limit. IsWithin most_connections limit.limit) (last_of line_limit rest) (line_limit item.line item.statement) (last_limit rest sound.1) (some_limit item.line item.statement sound.0)
+    or_some (λ limit. IsWithin MOST_CONNECTIONS limit.limit) (last_of line_limit rest) (line_limit item.line item.statement) (last_limit rest sound.1) (some_limit item.line item.statement sound.0)
 
-sound_limit : (proxy : Proxy) → IsSoundProxy proxy → IsWithin most_connections (limit_in proxy).limit
+sound_limit : (proxy : Proxy) → IsSoundProxy proxy → IsWithin MOST_CONNECTIONS (limit_in proxy).limit
 sound_limit proxy sound =
     by (setting_in line_limit proxy)
-    (or_some (λ limit. IsWithin most_connections limit.limit) (last_of line_limit proxy.own) (last_of line_limit proxy.base) (last_limit proxy.own sound.own) (last_limit proxy.base sound.base))
+    (or_some (λ limit. IsWithin MOST_CONNECTIONS limit.limit) (last_of line_limit proxy.own) (last_of line_limit proxy.base) (last_limit proxy.own sound.own) (last_limit proxy.base sound.base))
   where
-    by : (o : Option Limit) → IfSome o (λ limit. IsWithin most_connections limit.limit) → IsWithin most_connections (unwrap_or o (record { limit = 2000; line = proxy.head.line })).limit
+    by : (o : Option Limit) → IfSome o (λ limit. IsWithin MOST_CONNECTIONS limit.limit) → IsWithin MOST_CONNECTIONS (unwrap_or o (record { limit = 2000; line = proxy.head.line })).limit
     by None is = (omega arith, omega arith)
     by (Some limit) is = is
 
-some_words : (at : ℕ) (s : Statement) → IsSoundStatement s → IfSome (line_table at s) (λ words. IsWithin most_entries words.size)
+some_words : (at : ℕ) (s : Statement) → IsSoundStatement s → IfSome (line_table at s) (λ words. IsWithin MOST_ENTRIES words.size)
 some_words at statements.Nothing sound = tt
 some_words at statements.Global sound = tt
 some_words at statements.Defaults sound = tt
@@ -299,25 +300,25 @@ some_words at (statements.Rule list action when) sound = tt
 some_words at (statements.StickTable table) sound = sound
 some_words at (statements.Server server) sound = tt
 
-last_words : (items : List ConfigLine) → AreSoundStatements items → IfSome (last_of line_table items) (λ words. IsWithin most_entries words.size)
+last_words : (items : List ConfigLine) → AreSoundStatements items → IfSome (last_of line_table items) (λ words. IsWithin MOST_ENTRIES words.size)
 last_words [] sound = tt
 last_words (item ∷ rest) sound =
-    or_some (λ words. IsWithin most_entries words.size) (last_of line_table rest) (line_table item.line item.statement) (last_words rest sound.1) (some_words item.line item.statement sound.0)
+    or_some (λ words. IsWithin MOST_ENTRIES words.size) (last_of line_table rest) (line_table item.line item.statement) (last_words rest sound.1) (some_words item.line item.statement sound.0)
 
 sound_tables : (all : List Proxy) → AllByRecursion IsSoundProxy all → AllByRecursion IsSoundTable (tables_in all)
 sound_tables [] sound = tt
 sound_tables (proxy ∷ rest) sound = by (last_of line_table proxy.own) (last_words proxy.own sound.0.own) (sound_tables rest sound.1)
   where
-    by : (o : Option TableWords) → IfSome o (λ words. IsWithin most_entries words.size) → AllByRecursion IsSoundTable (tables_in rest) →
+    by : (o : Option TableWords) → IfSome o (λ words. IsWithin MOST_ENTRIES words.size) → AllByRecursion IsSoundTable (tables_in rest) →
         AllByRecursion IsSoundTable (cons_option (option_map (table_with proxy.head) o) (tables_in rest))
     by None is later = later
     by (Some words) is later = (is, later)
 
-weight_sound : (weight : Option ℕ) → IfSome weight (λ w. w ≤ greatest_weight) → unwrap_or weight 1 ≤ greatest_weight
+weight_sound : (weight : Option ℕ) → IfSome weight (λ w. w ≤ GREATEST_WEIGHT) → unwrap_or weight 1 ≤ GREATEST_WEIGHT
 weight_sound None is = omega arith
 weight_sound (Some w) is = is
 
-limit_sound : (limit : Option ℕ) → IfSome limit (λ l. l ≤ most_connections) → unwrap_or limit 0 ≤ most_connections
+limit_sound : (limit : Option ℕ) → IfSome limit (λ l. l ≤ MOST_CONNECTIONS) → unwrap_or limit 0 ≤ MOST_CONNECTIONS
 limit_sound None is = omega arith
 limit_sound (Some l) is = is
 
@@ -378,7 +379,7 @@ sound_backends (proxy ∷ rest) sound = by (is_backend proxy) (sound_backends re
 
 pub sound_plan : (items : List ConfigLine) (plan : Plan) (tables : List Table) (backends : List Backend) (all : List Proxy) → IsSoundTree items → plan_faults items ≡ [] → all ≡ proxies [] items →
     tables ≡ plan.tables → backends ≡ plan.backends → plan.tables ≡ tables_in all → plan.backends ≡ backends_in all → plan.frontends ≡ map (frontend_of tables backends) (frontends all) →
-    length plan.frontends ≤ most_frontends → length plan.backends ≤ most_backends → length plan.tables ≤ most_tables → IsSoundPlan plan
+    length plan.frontends ≤ MOST_SECTIONS → length plan.backends ≤ MOST_SECTIONS → length plan.tables ≤ MOST_TABLES → IsSoundPlan plan
 sound_plan items plan tables backends all tree faultless of_items of_tables of_backends all_tables all_backends of_frontends few_frontends few_backends few_tables =
     let sound : AllByRecursion IsSoundProxy (proxies [] items) = all_proxies [] items tt tree.statements tree.rises tree.sections in
     record {

@@ -12,7 +12,7 @@ use Rattle.acl_core.specs.declared.condition.When.TheVariants as whens
 use Rattle.acl_core.specs.declared.criterion.Criterion.{Criterion}
 use Rattle.acl_core.specs.declared.criterion.Criterion.TheVariants as criteria
 use Rattle.conf_tree.specs.declared.tree.ConfigLine.{ConfigLine}
-use Rattle.conf_line.specs.declared.statement.Action.{Action}
+use Rattle.conf_line.specs.declared.statement.ActionWords.{ActionWords}
 use Rattle.conf_line.specs.declared.statement.Statement.{Statement}
 use Rattle.conf_line.specs.declared.statement.Statement.TheVariants as statements
 use Rattle.plan_core.specs.declared.fault.PlanFault.{PlanFault}
@@ -134,7 +134,7 @@ when_faults tables backends all name line (whens.Unless condition) = condition_f
 -- The faults of a line.
 
 -- a rule tracks in a table that is not there
-abbrev pub track_fault : List Table → List ℕ → ℕ → Action → Option PlanFault
+abbrev pub track_fault : List Table → List ℕ → ℕ → ActionWords → Option PlanFault
 track_fault tables name line action = if is_some (action_of tables name action) then None else Some (fault_at line kinds.NoTable)
 
 -- a backend is used that is not there

@@ -6,8 +6,8 @@ use Rattle.std.specs.Str.{bytes_eq}
 use Rattle.acl_core.specs.TestValue.{TestValue}
 use Rattle.acl_core.specs.declared.condition.Acl.{Acl}
 use Rattle.acl_core.specs.declared.condition.When.{When}
-use Rattle.conf_line.specs.declared.statement.Action as tree
-use Rattle.conf_line.specs.declared.statement.Action.TheVariants as words
+use Rattle.conf_line.specs.declared.statement.ActionWords as tree
+use Rattle.conf_line.specs.declared.statement.ActionWords.TheVariants as words
 use Rattle.conf_tree.specs.declared.tree.ConfigLine.{ConfigLine}
 use Rattle.conf_tree.specs.Config.{acl_names}
 use Rattle.proxy_types.specs.declared.balance.Method.{Method}
@@ -26,7 +26,7 @@ use Rattle.plan_types.specs.declared.plan.Choice.{Choice}
 use Rattle.plan_types.specs.declared.plan.Rule.{Rule}
 use Rattle.plan_types.specs.declared.plan.Server.{Server}
 use Rattle.plan_types.specs.declared.plan.Table.{Table}
-use Rattle.plan_core.specs.declared.proxies.Head.{Head}
+use Rattle.plan_core.specs.declared.proxies.SectionHead.{SectionHead}
 use Rattle.plan_core.specs.declared.proxies.Proxy.{Proxy}
 use Rattle.plan_core.specs.declared.fields.TheConstants.{DEFAULT_CONNECTIONS}
 use Rattle.plan_core.specs.declared.fields.Limit.{Limit}
@@ -93,7 +93,7 @@ method_in proxy = unwrap_or (setting_in line_method proxy) RoundRobin
 
 -- Tables.
 
-abbrev pub table_with : Head → TableWords → Table
+abbrev pub table_with : SectionHead → TableWords → Table
 table_with head words = record {
   section = head.section;
   name = head.name;
@@ -123,7 +123,7 @@ abbrev pub track_with : ℕ → ℕ → Action
 track_with counter table = actions.Track counter table
 
 -- what a rule does, if the table that it means is there
-abbrev pub action_of : List Table → List ℕ → tree.Action → Option Action
+abbrev pub action_of : List Table → List ℕ → tree.ActionWords → Option Action
 action_of tables name words.Accept = Some actions.Accept
 action_of tables name words.Reject = Some actions.Reject
 action_of tables name (words.Track track) = option_map (track_with track.counter) (table_number tables name track.table)

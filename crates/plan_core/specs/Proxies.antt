@@ -7,11 +7,11 @@ use Rattle.conf_line.specs.declared.statement.Statement.TheVariants as statement
 use Rattle.plan_types.specs.declared.plan.Section.{Section}
 use Rattle.plan_types.specs.declared.plan.Section.TheVariants as sections
 pub use Rattle.plan_types.specs.Tables.{is_frontend_section}
-use Rattle.plan_core.specs.declared.proxies.Head.{Head}
+use Rattle.plan_core.specs.declared.proxies.SectionHead.{SectionHead}
 use Rattle.plan_core.specs.declared.proxies.Proxy.{Proxy}
 
 -- the frontend or backend that a line opens
-abbrev pub line_head : ℕ → Statement → Option Head
+abbrev pub line_head : ℕ → Statement → Option SectionHead
 line_head line (statements.Frontend name) = Some (record { section = sections.Frontend; name = name; line = line })
 line_head line (statements.Backend name) = Some (record { section = sections.Backend; name = name; line = line })
 line_head line other = None
@@ -21,7 +21,7 @@ abbrev pub base_after : List ConfigLine → List ConfigLine → Statement → Li
 base_after base own statements.Defaults = own
 base_after base own other = base
 
-abbrev pub proxy_with : List ConfigLine → List ConfigLine → Head → Proxy
+abbrev pub proxy_with : List ConfigLine → List ConfigLine → SectionHead → Proxy
 proxy_with base own head = record { head = head; own = own; base = base }
 
 -- the frontend or backend that an item opens, with its own lines

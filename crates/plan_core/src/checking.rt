@@ -11,7 +11,7 @@ use crate::fault::{PlanFault, PlanKind};
 use crate::fields::{Named, default_in, last_bind};
 use crate::proxies::{Proxy, is_frontend};
 use crate::tables::{action_of, number_of};
-use conf_tree::{Action, ConfigLine, Statement};
+use conf_tree::{ActionWords, ConfigLine, Statement};
 use plan_types::{Backend, Table};
 use text_core::Word;
 
@@ -110,7 +110,7 @@ fn default_fault(backends: &[Backend], setting: &Option<Named>) -> Option<PlanFa
     })
 }
 
-fn track_fault(tables: &[Table], name: &Word, line: u32, action: &Action) -> Option<PlanFault>
+fn track_fault(tables: &[Table], name: &Word, line: u32, action: &ActionWords) -> Option<PlanFault>
     requires { length tables.now ≤ 65535 }
     ensures { result ≡ track_fault tables.now name.now line action.now }
 {

@@ -2,7 +2,7 @@
 ghost use Rattle.std.specs.Prelude.{◌≡◌, ◌<◌, ◌≤◌, [], ◌++◌, length, position, option_to_list, IfOk, IfSome, OnOk};
 ghost use Rattle.conf_tree.specs.Few.{FewSections};
 ghost use Rattle.conf_tree.specs.Sections.{opens, own_lines};
-ghost use Rattle.plan_types.specs.Sound.{most_frontends, most_backends, most_tables};
+ghost use Rattle.proxy_types.specs.declared.limits.TheConstants.{MOST_SECTIONS, MOST_TABLES};
 ghost use Rattle.plan_core.specs.Proxies.{line_head, base_after, line_proxy, proxies, is_frontend, is_backend, frontends, backends};
 
 use conf_tree::{ConfigLine, Statement};
@@ -14,11 +14,11 @@ use text_core::Word;
 
 /// Lines of a configuration, which borrow it. Contracts see their list.
 #[derive(Drop)]
-pub struct Lines<'a> {
+pub struct SectionLines<'a> {
     items: &'a [ConfigLine<'a>],
 }
 
-impl<'a> Model for Lines<'a> {
+impl<'a> Model for SectionLines<'a> {
     ghost use Rattle.std.specs.Prelude.{List};
     ghost use Rattle.conf_tree.specs.declared.tree.ConfigLine.{ConfigLine};
 
@@ -27,13 +27,13 @@ impl<'a> Model for Lines<'a> {
     ghost view = { λ l. l.items.now };
 }
 
-impl<'a> Lines<'a> {
+impl<'a> SectionLines<'a> {
     ghost use Rattle.std.specs.Prelude.{◌≡◌};
 
     pub fn of(items: &'a [ConfigLine<'a>]) -> Self
         ensures { result ≡ items.now }
     {
-        Lines { items }
+        SectionLines { items }
     }
 
     pub fn items(&self) -> &'a [ConfigLine<'a>]
@@ -45,7 +45,7 @@ impl<'a> Lines<'a> {
 
 /// The line that opens a frontend or a backend.
 #[derive(Drop)]
-pub struct Head<'a> {
+pub struct SectionHead<'a> {
     pub section: Section,
     pub name: Word<'a>,
     pub line: u32,
@@ -54,23 +54,23 @@ pub struct Head<'a> {
 /// A frontend or a backend.
 #[derive(Drop)]
 pub struct Proxy<'a> {
-    pub head: Head<'a>,
+    pub head: SectionHead<'a>,
     /// The lines of the section.
-    pub own: Lines<'a>,
+    pub own: SectionLines<'a>,
     /// The lines of the `defaults` in force, which count where the section itself says nothing.
-    pub base: Lines<'a>,
+    pub base: SectionLines<'a>,
 }
 
-fn line_head<'a>(item: &ConfigLine<'a>) -> Option<Head<'a>>
+fn line_head<'a>(item: &ConfigLine<'a>) -> Option<SectionHead<'a>>
     ensures { result ≡ line_head item.now.line item.now.statement }
 {
     match &item.statement {
-        Statement::Frontend(name) => Some(Head {
+        Statement::Frontend(name) => Some(SectionHead {
             section: Section::Frontend,
             name: name.again(),
             line: item.line,
         }),
-        Statement::Backend(name) => Some(Head {
+        Statement::Backend(name) => Some(SectionHead {
             section: Section::Backend,
             name: name.again(),
             line: item.line,
@@ -131,8 +131,8 @@ fn line_proxy<'a>(
     match line_head(item) {
         Some(head) => Some(Proxy {
             head,
-            own: Lines::of(own_lines(after)),
-            base: Lines::of(base),
+            own: SectionLines::of(own_lines(after)),
+            base: SectionLines::of(base),
         }),
         None => None,
     }
@@ -169,9 +169,9 @@ pub fn proxies_in<'a>(
 ) -> Result<Seq<Proxy<'a>>, AllocError>
     requires { FewSections items.now }
     ensures value { IfOk result (λ all. all ≡ proxies [] items.now) }
-    ensures frontends { IfOk result (λ all. length (frontends all) ≤ most_frontends) }
-    ensures backends { IfOk result (λ all. length (backends all) ≤ most_backends) }
-    ensures both { IfOk result (λ all. length all ≤ most_tables) }
+    ensures frontends { IfOk result (λ all. length (frontends all) ≤ MOST_SECTIONS) }
+    ensures backends { IfOk result (λ all. length (backends all) ≤ MOST_SECTIONS) }
+    ensures both { IfOk result (λ all. length all ≤ MOST_TABLES) }
 {
     let all = all_proxies(alloc, items)?;
     Ok(all)

@@ -111,18 +111,18 @@ pub fn stores_meant(tables: &[Table], name: &Word, named: &Option<Word>) -> Opti
 }
 
 /// What a rule of the frontend of that name does, if the table that it means is there.
-pub fn action_of(tables: &[Table], name: &Word, action: &conf_tree::Action) -> Option<Action>
+pub fn action_of(tables: &[Table], name: &Word, action: &conf_tree::ActionWords) -> Option<Action>
     requires { length tables.now ≤ 65535 }
     ensures { result ≡ action_of tables.now name.now action.now }
 {
     match action {
-        conf_tree::Action::Accept => Some(Action::Accept),
-        conf_tree::Action::Reject => Some(Action::Reject),
-        conf_tree::Action::Track(track) => match table_number(tables, name, &track.table) {
+        conf_tree::ActionWords::Accept => Some(Action::Accept),
+        conf_tree::ActionWords::Reject => Some(Action::Reject),
+        conf_tree::ActionWords::Track(track) => match table_number(tables, name, &track.table) {
             Some(table) => Some(Action::Track(track.counter, table)),
             None => None,
         },
-        conf_tree::Action::ExpectProxy => Some(Action::ExpectProxy),
+        conf_tree::ActionWords::ExpectProxy => Some(Action::ExpectProxy),
     }
 }
 

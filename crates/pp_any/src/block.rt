@@ -10,18 +10,18 @@ use crate::rest::Rest;
 use crate::state::State;
 use arrayvec::ArrayVec;
 use pp_v1::Meaning;
-use pp_v2::{Family, read_block};
+use pp_v2::{Family, MOST_PAIR_BYTES, read_block};
 
 /// The bytes that were read of a pair of that family, and how many are missing to the end of the block.
 #[derive(Drop)]
 pub struct Block {
     pub family: Family,
-    pub bytes: ArrayVec<u8, 36>,
+    pub bytes: ArrayVec<u8, MOST_PAIR_BYTES>,
     pub missing: u32,
 }
 
 /// Takes from a piece what is wanting of a pair.
-fn take_pair(family: Family, bytes: &mut ArrayVec<u8, 36>, piece: &[u8])
+fn take_pair(family: Family, bytes: &mut ArrayVec<u8, MOST_PAIR_BYTES>, piece: &[u8])
     requires { length bytes.old.items ≤ pair_length family }
     ensures { bytes.new.items ≡ take (pair_length family) (bytes.old.items ++ piece.now) }
 {

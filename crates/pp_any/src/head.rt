@@ -16,7 +16,7 @@ use pp_v2::{SIGNATURE, V2Fault, command_fault, family_fault, read_head};
 
 /// The bytes that were read of the first 16.
 #[derive(Drop)]
-pub struct Head {
+pub struct HeaderStart {
     pub bytes: ArrayVec<u8, 16>,
 }
 
@@ -68,14 +68,14 @@ fn feed_after(head: &[u8; 16], piece: &[u8], read: usize) -> Fed
     }
 }
 
-impl Head {
+impl HeaderStart {
     /// A head of which the first byte was read.
-    pub fn after_first_byte() -> Head
+    pub fn after_first_byte() -> HeaderStart
         ensures { result.bytes.items ≡ 13 ∷ [] }
     {
         let mut bytes = ArrayVec::new();
         bytes.push(b'\r');
-        Head { bytes }
+        HeaderStart { bytes }
     }
 
     pub fn feed(self, piece: &[u8]) -> Fed
@@ -83,7 +83,7 @@ impl Head {
         ensures answers { Answers self.bytes.items piece.now result }
         ensures used { used_in result ≤ length piece.now }
     {
-        let Head { mut bytes } = self;
+        let HeaderStart { mut bytes } = self;
         for (at, byte) in piece.iter().enumerate() {
             bytes.push(*byte);
             if let Ok(head) = <&[u8; 16]>::try_from(bytes.as_slice()) {
@@ -93,6 +93,6 @@ impl Head {
                 return Fed::Bad(HeaderFault::from(fault), at + 1);
             }
         }
-        Fed::More(Parser::at(State::Head(Head { bytes })))
+        Fed::More(Parser::at(State::Head(HeaderStart { bytes })))
     }
 }

@@ -16,7 +16,7 @@ const BEGINNING: [u8; 6] = *b"PROXY ";
 
 /// The bytes of a line that has not ended.
 #[derive(Drop)]
-pub struct Line {
+pub struct HeaderLine {
     pub bytes: ArrayVec<u8, LINE_LIMIT>,
 }
 
@@ -51,14 +51,14 @@ fn last_decision(bytes: &[u8]) -> Option<Result<Meaning, HeaderFault>>
     None
 }
 
-impl Line {
+impl HeaderLine {
     /// A line of which the first byte was read.
-    pub fn after_first_byte() -> Line
+    pub fn after_first_byte() -> HeaderLine
         ensures { result.bytes.items ≡ 80 ∷ [] }
     {
         let mut bytes = ArrayVec::new();
         bytes.push(b'P');
-        Line { bytes }
+        HeaderLine { bytes }
     }
 
     pub fn feed(self, piece: &[u8]) -> Fed
@@ -66,13 +66,13 @@ impl Line {
         ensures answers { Answers self.bytes.items piece.now result }
         ensures used { used_in result ≤ length piece.now }
     {
-        let Line { mut bytes } = self;
+        let HeaderLine { mut bytes } = self;
         for (at, byte) in piece.iter().enumerate() {
             bytes.push(*byte);
             if let Some(decision) = last_decision(bytes.as_slice()) {
                 return Fed::of(decision, at + 1);
             }
         }
-        Fed::More(Parser::at(State::Line(Line { bytes })))
+        Fed::More(Parser::at(State::Line(HeaderLine { bytes })))
     }
 }

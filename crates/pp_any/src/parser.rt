@@ -7,8 +7,8 @@ ghost use Rattle.pp_any.specs.NextPiece.{Tells};
 use crate::block::Block;
 use crate::fault::HeaderFault;
 use crate::fed::Fed;
-use crate::head::Head;
-use crate::line::Line;
+use crate::head::HeaderStart;
+use crate::line::HeaderLine;
 use crate::rest::Rest;
 use crate::skip::Skip;
 use crate::state::State;
@@ -65,8 +65,8 @@ fn start(piece: &[u8]) -> Fed
         return Fed::More(Parser::new());
     };
     match *first {
-        b'P' => Line::after_first_byte().feed(&piece[1..]).later(1),
-        b'\r' => Head::after_first_byte().feed(&piece[1..]).later(1),
+        b'P' => HeaderLine::after_first_byte().feed(&piece[1..]).later(1),
+        b'\r' => HeaderStart::after_first_byte().feed(&piece[1..]).later(1),
         _ => Fed::Bad(HeaderFault::NotProxy, 1),
     }
 }

@@ -7,6 +7,10 @@ use crate::fault::V2Fault;
 /// The bytes that a header begins with.
 pub const SIGNATURE: [u8; 12] = *b"\r\n\r\n\0\r\nQUIT\n";
 
+/// The most bytes of a pair in a block: two addresses of IPv6 and two ports (proxy-protocol.txt,
+/// section 2.2).
+pub const MOST_PAIR_BYTES: usize = 36;
+
 /// The family of the addresses that a header declares.
 #[derive(Clone, Copy, Debug, PartialEq, Eq)]
 pub enum Family {
@@ -21,7 +25,7 @@ impl Family {
     {
         match *self {
             Family::V4 => 12,
-            Family::V6 => 36,
+            Family::V6 => MOST_PAIR_BYTES as u8,
         }
     }
 }

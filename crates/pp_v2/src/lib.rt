@@ -3,8 +3,8 @@
 
 pub use block::read_block;
 pub use fault::V2Fault;
-pub use head::{Family, Head, SIGNATURE, command_fault, family_fault, read_head};
-pub use writing::write_v2;
+pub use head::{Family, Head, MOST_PAIR_BYTES, SIGNATURE, command_fault, family_fault, read_head};
+pub use writing::{MOST_WRITTEN_BYTES, write_v2};
 
 mod block;
 mod fault;

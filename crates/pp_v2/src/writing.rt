@@ -12,8 +12,12 @@ const IPV4_HEAD: [u8; 16] = *b"\r\n\r\n\0\r\nQUIT\n\x21\x11\x00\x0c";
 
 const IPV6_HEAD: [u8; 16] = *b"\r\n\r\n\0\r\nQUIT\n\x21\x21\x00\x24";
 
-fn append(header: &mut ArrayVec<u8, 52>, bytes: &[u8])
-    requires { length header.old.items + length bytes.now ≤ 52 }
+/// The most bytes of a header that is written: 16, and the `MOST_PAIR_BYTES` of a pair of IPv6
+/// (proxy-protocol.txt, section 2.2).
+pub const MOST_WRITTEN_BYTES: usize = 52;
+
+fn append(header: &mut ArrayVec<u8, MOST_WRITTEN_BYTES>, bytes: &[u8])
+    requires { length header.old.items + length bytes.now ≤ MOST_WRITTEN_BYTES }
     ensures { header.new.items ≡ header.old.items ++ bytes.now }
 {
     let Ok(()) = header.try_extend_from_slice(bytes) else {
@@ -21,7 +25,7 @@ fn append(header: &mut ArrayVec<u8, 52>, bytes: &[u8])
     };
 }
 
-fn header_of(pair: &Pair) -> ArrayVec<u8, 52>
+fn header_of(pair: &Pair) -> ArrayVec<u8, MOST_WRITTEN_BYTES>
     ensures header { result.items ≡ header_of pair.now }
     ensures source { IsEndpoint pair.now.source }
     ensures destination { IsEndpoint pair.now.destination }
@@ -51,7 +55,7 @@ fn header_of(pair: &Pair) -> ArrayVec<u8, 52>
 
 /// The header of version 2 that declares the pair under the command PROXY: 28 bytes for addresses of IPv4,
 /// 52 for those of IPv6. Its block has the pair and nothing after it.
-pub fn write_v2(pair: &Pair) -> ArrayVec<u8, 52>
+pub fn write_v2(pair: &Pair) -> ArrayVec<u8, MOST_WRITTEN_BYTES>
     ensures header { result.items ≡ header_of pair.now }
     ensures length { length result.items ≡ 16 + pair_length (family_in pair.now.source.addr) }
 

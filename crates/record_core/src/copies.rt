@@ -7,6 +7,8 @@ use conn_model::event::{Event, OwnedEvent};
 use conn_model::reply::{Reply, Said};
 use list_core::Seq;
 use plan_types::Track;
+use pp_v1::LINE_LIMIT;
+use proxy_types::COUNTERS;
 use std::alloc::{AllocError, Global};
 
 /// The event with memory of its own. Only the bytes of a piece and the text of a reload need memory.
@@ -63,7 +65,7 @@ fn copy_said(said: &Said) -> Said
     }
 }
 
-fn copy_bytes(bytes: &ArrayVec<u8, 107>) -> ArrayVec<u8, 107>
+fn copy_bytes(bytes: &ArrayVec<u8, LINE_LIMIT>) -> ArrayVec<u8, LINE_LIMIT>
     ensures { result ≡ bytes.now }
 {
     let mut copy = ArrayVec::new();
@@ -73,7 +75,7 @@ fn copy_bytes(bytes: &ArrayVec<u8, 107>) -> ArrayVec<u8, 107>
     copy
 }
 
-fn copy_tracks(tracks: &ArrayVec<Track, 3>) -> ArrayVec<Track, 3>
+fn copy_tracks(tracks: &ArrayVec<Track, COUNTERS>) -> ArrayVec<Track, COUNTERS>
     ensures { result ≡ tracks.now }
 {
     let mut copy = ArrayVec::new();

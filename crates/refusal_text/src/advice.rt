@@ -1,4 +1,4 @@
-//! What a fault of a configuration means, for whoever wrote it.
+//! What a fault of a configuration means, for its author.
 use acl_core::AclFault;
 use conf_text::LineKind;
 use conf_tree::ConfKind;

@@ -1,12 +1,9 @@
 //! The line of a configuration that a fault names, and the word of it that is wrong.
-use conf_text::LineKind;
+use conf_text::{LineKind, MOST_WORDS};
 use conf_tree::{ConfKind, read_config};
 use config_core::OpenFault;
 use plan_core::PlanKind;
 use std::alloc::{AllocError, Global};
-
-/// How many words a line has at most.
-const MOST_WORDS: usize = 64;
 
 /// A part of a line: its bytes from `from` on and before `to`.
 #[derive(Clone, Copy)]

@@ -4,8 +4,8 @@ use Rattle.std.proofs.lemmas.List.{take-append-le}
 use Rattle.relay_core.specs.declared.flow.FlowFault.{FlowFault}
 use Rattle.relay_core.specs.declared.flow.Filled.{Filled}
 use Rattle.relay_core.specs.declared.flow.Filled.TheVariants as filled
-use Rattle.relay_core.specs.declared.burst.Stop.{Stop}
-use Rattle.relay_core.specs.declared.burst.Stop.TheVariants as stop
+use Rattle.relay_core.specs.declared.burst.BurstStop.{BurstStop}
+use Rattle.relay_core.specs.declared.burst.BurstStop.TheVariants as stop
 use Rattle.relay_core.specs.Flow.{Held, IsFillAnswer, after_fill, read_in}
 use Rattle.relay_core.specs.Burst.{after_reads, fill_count, fill_stop, is_end}
 
@@ -35,7 +35,7 @@ held_after flow limit part rest (Ok filled.Blocked) fits = rw (append-nil flow.b
 held_after flow limit part rest (Ok filled.NoRoom) fits = rw (append-nil flow.bytes, or_same flow.ended) refl
 held_after flow limit part rest (Err e) fits = rw (append-nil flow.bytes, or_same flow.ended) refl
 
-pub held_on : (flow : Held) (limit count : ℕ) (stopped : Result Stop FlowFault) (part rest : List ℕ) (answer : Result Filled FlowFault) →
+pub held_on : (flow : Held) (limit count : ℕ) (stopped : Result BurstStop FlowFault) (part rest : List ℕ) (answer : Result Filled FlowFault) →
     count ≡ fill_count answer → stopped ≡ fill_stop answer limit → fill_count answer ≤ length part →
     after_fill flow answer part ≡ after_reads flow count stopped (part ++ rest)
 held_on flow limit count stopped part rest answer p q fits = rw (p, q) (sym (held_after flow limit part rest answer fits))

@@ -5,8 +5,8 @@ use Rattle.relay_core.specs.declared.flow.FlowFault.{FlowFault}
 use Rattle.relay_core.specs.declared.flow.FlowFault.TheVariants.{Read, Write}
 use Rattle.relay_core.specs.declared.flow.Filled.{Filled}
 use Rattle.relay_core.specs.declared.flow.Filled.TheVariants as filled
-use Rattle.relay_core.specs.declared.burst.Stop.{Stop}
-use Rattle.relay_core.specs.declared.burst.Stop.TheVariants as stop
+use Rattle.relay_core.specs.declared.burst.BurstStop.{BurstStop}
+use Rattle.relay_core.specs.declared.burst.BurstStop.TheVariants as stop
 use Rattle.relay_core.specs.declared.burst.Burst.{Burst}
 use Rattle.relay_core.specs.Flow.{Held, room, asks_reader, drained_count, drain_calls, drain_stalls}
 
@@ -21,7 +21,7 @@ IsAllOf None bytes = Unit {0}
 IsAllOf (Some left) bytes = left ≡ bytes
 
 -- Why so many bytes of at most that many were read.
-abbrev pub IsStop : ℕ → ℕ → Option (List ℕ) → List ℕ → Result Stop FlowFault → Type 0
+abbrev pub IsStop : ℕ → ℕ → Option (List ℕ) → List ℕ → Result BurstStop FlowFault → Type 0
 IsStop count limit left piece (Ok stop.Full) = count ≡ limit
 IsStop count limit left piece (Ok stop.Short) = (0 < count) × (count < limit)
 IsStop count limit left piece (Ok stop.Blocked) = count < limit
@@ -30,11 +30,11 @@ IsStop count limit left piece (Ok stop.NoRoom) = ⊥
 IsStop count limit left piece (Err e) = (count < limit) × (e ≡ Read)
 
 -- The same of a burst, by whether it asks the reader.
-abbrev pub IsBurstStop : Bool → Held → ℕ → ℕ → Option (List ℕ) → List ℕ → Result Stop FlowFault → Type 0
+abbrev pub IsBurstStop : Bool → Held → ℕ → ℕ → Option (List ℕ) → List ℕ → Result BurstStop FlowFault → Type 0
 IsBurstStop false flow count limit left piece answer = (count ≡ 0) × (answer ≡ Ok (if flow.ended then stop.End else stop.NoRoom))
 IsBurstStop true flow count limit left piece answer = IsStop count limit left piece answer
 
-abbrev pub is_end : Result Stop FlowFault → Bool
+abbrev pub is_end : Result BurstStop FlowFault → Bool
 is_end (Ok stop.Full) = false
 is_end (Ok stop.Short) = false
 is_end (Ok stop.Blocked) = false
@@ -43,7 +43,7 @@ is_end (Ok stop.NoRoom) = false
 is_end (Err e) = false
 
 -- the flow after the reads of a burst
-abbrev pub after_reads : Held → ℕ → Result Stop FlowFault → List ℕ → Held
+abbrev pub after_reads : Held → ℕ → Result BurstStop FlowFault → List ℕ → Held
 after_reads flow count answer piece = record flow { bytes = flow.bytes ++ take count piece; ended = flow.ended || is_end answer }
 
 -- So many bytes came in by reads of at most `most` bytes each, and by one more of them at most than so many bytes fill.
@@ -52,7 +52,7 @@ HasAsked false most count old new = new ≡ old
 HasAsked true most count old new = (n : ℕ) × (0 < n) × (count ≤ n * most) × (n * most ≤ count + most) × (new ≡ raised_by n old)
 
 -- the reader's failures, and its blocked calls in a row after the reads of a burst
-abbrev pub stop_failures : Result Stop FlowFault → ℕ → ℕ
+abbrev pub stop_failures : Result BurstStop FlowFault → ℕ → ℕ
 stop_failures (Ok answer) count = count
 stop_failures (Err e) count = raised count
 
@@ -61,7 +61,7 @@ abbrev pub stalls_before : ℕ → ℕ → ℕ
 stalls_before zero stalls = stalls
 stalls_before (suc count) stalls = 0
 
-abbrev pub stop_stalls : Bool → ℕ → Result Stop FlowFault → ℕ → ℕ
+abbrev pub stop_stalls : Bool → ℕ → Result BurstStop FlowFault → ℕ → ℕ
 stop_stalls false count answer stalls = stalls
 stop_stalls true count (Ok stop.Full) stalls = 0
 stop_stalls true count (Ok stop.Short) stalls = 0
@@ -78,7 +78,7 @@ fill_count (Ok filled.Blocked) = 0
 fill_count (Ok filled.NoRoom) = 0
 fill_count (Err e) = 0
 
-abbrev pub fill_stop : Result Filled FlowFault → ℕ → Result Stop FlowFault
+abbrev pub fill_stop : Result Filled FlowFault → ℕ → Result BurstStop FlowFault
 fill_stop (Ok (filled.Bytes n)) limit = Ok (if nat_lt n limit then stop.Short else stop.Full)
 fill_stop (Ok filled.End) limit = Ok stop.End
 fill_stop (Ok filled.Blocked) limit = Ok stop.Blocked
@@ -127,10 +127,10 @@ burst_write_stalls (Err Read) count = count
 burst_write_stalls (Err Write) count = 0
 
 -- The new flow is the old one after reads of at most so many bytes, which ended so or without a fault.
-abbrev pub HasGathered : Held → Held → ℕ → Option (List ℕ) → List ℕ → Result Stop FlowFault → Type 0
+abbrev pub HasGathered : Held → Held → ℕ → Option (List ℕ) → List ℕ → Result BurstStop FlowFault → Type 0
 HasGathered old new limit left piece answer =
     (count : ℕ) × IsBurstStop (asks_reader old) old count limit left piece answer × (new ≡ after_reads old count answer piece)
 
 -- The same, where the reads came to no fault.
 abbrev pub HasStopped : Held → Held → ℕ → Option (List ℕ) → List ℕ → Type 0
-HasStopped old new limit left piece = (stop : Stop) × HasGathered old new limit left piece (Ok stop)
+HasStopped old new limit left piece = (stop : BurstStop) × HasGathered old new limit left piece (Ok stop)

@@ -11,7 +11,7 @@ use device_core::{Input, Output};
 
 /// Why a burst read no more.
 #[derive(Clone, Copy, PartialEq, Eq)]
-pub enum Stop {
+pub enum BurstStop {
     /// The last read came in full, so more may be there.
     Full,
     /// The last read gave fewer bytes than were asked for.
@@ -28,7 +28,7 @@ pub enum Stop {
 #[derive(Clone, Copy, PartialEq, Eq)]
 pub struct Burst {
     pub read: usize,
-    pub stop: Stop,
+    pub stop: BurstStop,
     pub drained: Drained,
 }
 
@@ -110,7 +110,11 @@ impl Flow {
         writer: &mut O,
         piece: &mut [u8],
         most: usize,
-    ) -> (usize, Result<Stop, FlowFault>, Result<Drained, FlowFault>)
+    ) -> (
+        usize,
+        Result<BurstStop, FlowFault>,
+        Result<Drained, FlowFault>,
+    )
         requires some { 0 < most }
         requires fits { most ≤ length piece.old }
         requires empty { self.old.bytes ≡ [] }
@@ -132,7 +136,7 @@ impl Flow {
         let limit = self.room().min(piece.len());
         let (count, stop) = gather(reader, piece, limit, most);
         let drained = self.hand_on(writer, &piece[..count], stop.is_ok());
-        if let Ok(Stop::End) = stop {
+        if let Ok(BurstStop::End) = stop {
             self.end();
         }
         (count, stop, drained)
@@ -145,7 +149,11 @@ impl Flow {
         writer: &mut O,
         piece: &mut [u8],
         most: usize,
-    ) -> (usize, Result<Stop, FlowFault>, Result<Drained, FlowFault>)
+    ) -> (
+        usize,
+        Result<BurstStop, FlowFault>,
+        Result<Drained, FlowFault>,
+    )
         requires some { 0 < most }
         requires fits { most ≤ length piece.old }
         requires held { self.old.bytes ≡ [] → asks_reader self.old ≡ false }
@@ -178,7 +186,11 @@ impl Flow {
         writer: &mut O,
         piece: &mut [u8],
         most: usize,
-    ) -> (usize, Result<Stop, FlowFault>, Result<Drained, FlowFault>)
+    ) -> (
+        usize,
+        Result<BurstStop, FlowFault>,
+        Result<Drained, FlowFault>,
+    )
         requires some { 0 < most }
         requires fits { most ≤ length piece.old }
         ensures within { result.0 ≤ length piece.old }

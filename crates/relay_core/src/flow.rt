@@ -103,7 +103,7 @@ impl Flow {
         self.is_empty() && !self.ended
     }
 
-    /// Begins anew, with nothing held. The memory stays.
+    /// Begins again, with nothing held. The memory stays.
     pub fn reset(&mut self)
         ensures { self.new ≡ record self.old { bytes = []; ended = false } }
     {

@@ -3,7 +3,7 @@ ghost use Rattle.std.specs.Prelude.{◌≡◌, true, ◌<◌, ◌≤◌, length,
 ghost use Rattle.std.specs.Io.KnownBytes.{Consumes};
 ghost use Rattle.relay_core.specs.Burst.{IsStop, HasAsked, stop_failures, stop_stalls, fill_count, fill_stop};
 
-use crate::burst::Stop;
+use crate::burst::BurstStop;
 use crate::flow::{Filled, FlowFault};
 use crate::once::read_front;
 use device_core::Input;
@@ -15,7 +15,7 @@ pub(crate) fn gather<I: Input>(
     piece: &mut [u8],
     limit: usize,
     most: usize,
-) -> (usize, Result<Stop, FlowFault>)
+) -> (usize, Result<BurstStop, FlowFault>)
     requires some { 0 < limit }
     requires fits { limit ≤ length piece.old }
     requires most { 0 < most }
@@ -33,22 +33,22 @@ pub(crate) fn gather<I: Input>(
             Ok(Filled::Bytes(more)) => {
                 count += more;
                 if more < asked {
-                    return (count, Ok(Stop::Short));
+                    return (count, Ok(BurstStop::Short));
                 }
             }
-            Ok(Filled::End) => return (count, Ok(Stop::End)),
-            Ok(_) => return (count, Ok(Stop::Blocked)),
+            Ok(Filled::End) => return (count, Ok(BurstStop::End)),
+            Ok(_) => return (count, Ok(BurstStop::Blocked)),
             Err(fault) => return (count, Err(fault)),
         }
     }
-    (count, Ok(Stop::Full))
+    (count, Ok(BurstStop::Full))
 }
 
 /// What one fill is as a burst, where it asked for `limit` bytes.
 pub(crate) fn stop_at(
     filled: Result<Filled, FlowFault>,
     limit: usize,
-) -> (usize, Result<Stop, FlowFault>)
+) -> (usize, Result<BurstStop, FlowFault>)
     ensures count { result.0 ≡ fill_count filled }
     ensures stop { result.1 ≡ fill_stop filled limit }
 {
@@ -56,14 +56,14 @@ pub(crate) fn stop_at(
         Ok(Filled::Bytes(count)) => (
             count,
             Ok(if count < limit {
-                Stop::Short
+                BurstStop::Short
             } else {
-                Stop::Full
+                BurstStop::Full
             }),
         ),
-        Ok(Filled::End) => (0, Ok(Stop::End)),
-        Ok(Filled::Blocked) => (0, Ok(Stop::Blocked)),
-        Ok(Filled::NoRoom) => (0, Ok(Stop::NoRoom)),
+        Ok(Filled::End) => (0, Ok(BurstStop::End)),
+        Ok(Filled::Blocked) => (0, Ok(BurstStop::Blocked)),
+        Ok(Filled::NoRoom) => (0, Ok(BurstStop::NoRoom)),
         Err(fault) => (0, Err(fault)),
     }
 }

@@ -1,10 +1,10 @@
 //! Bytes on their way from a reader to a writer: none is lost, none comes twice, and none overtakes another.
 #![tactic(auto)]
 
-pub use burst::{Burst, Stop};
+pub use burst::{Burst, BurstStop};
 pub use flow::{Drained, Filled, Flow, FlowFault};
 pub use law::run_carries;
-pub use pass::Moved;
+pub use pass::Passed;
 pub use relay::Relay;
 pub use way::Way;
 

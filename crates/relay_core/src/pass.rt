@@ -12,7 +12,7 @@ use device_core::{Input, Output};
 
 /// What a pass did: its fill, and its drain.
 #[derive(Clone, Copy)]
-pub struct Moved {
+pub struct Passed {
     pub filled: Filled,
     pub drained: Drained,
 }
@@ -25,7 +25,7 @@ impl Flow {
         reader: &mut I,
         writer: &mut O,
         piece: &mut [u8],
-    ) -> Result<Moved, FlowFault>
+    ) -> Result<Passed, FlowFault>
         requires { 0 < length piece.old }
         ensures filled { IfOk result (λ m. IsFillAnswer (asks_reader self.old) self.old (length piece.old) (I.left reader.old) (Ok m.filled)) }
         ensures drained { IfOk result (λ m. IsDrainAnswer (after_fill self.old (Ok m.filled) piece.new).bytes (Ok m.drained)) }
@@ -51,7 +51,7 @@ impl Flow {
         let (filled, drained) = self.pass_both(reader, writer, piece);
         let filled = filled?;
         let drained = drained?;
-        Ok(Moved { filled, drained })
+        Ok(Passed { filled, drained })
     }
 
     /// Writes bytes past the flow, and holds what the writer did not take.

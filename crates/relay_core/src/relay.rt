@@ -8,7 +8,7 @@ ghost use Rattle.relay_core.specs.Pass.{pass_read, pass_written, pass_read_failu
 
 use crate::burst::Burst;
 use crate::flow::{Flow, FlowFault};
-use crate::pass::Moved;
+use crate::pass::Passed;
 use device_core::{Input, Output};
 use std::alloc::{AllocError, Global};
 use std::marker::Model;
@@ -52,7 +52,7 @@ impl Relay {
         reader: &mut I,
         writer: &mut O,
         piece: &mut [u8],
-    ) -> Result<Moved, FlowFault>
+    ) -> Result<Passed, FlowFault>
         requires { 0 < length piece.old }
         ensures other { self.new.back ≡ self.old.back }
         ensures filled { IfOk result (λ m. IsFillAnswer (asks_reader self.old.forth) self.old.forth (length piece.old) (I.left reader.old) (Ok m.filled)) }
@@ -85,7 +85,7 @@ impl Relay {
         reader: &mut I,
         writer: &mut O,
         piece: &mut [u8],
-    ) -> Result<Moved, FlowFault>
+    ) -> Result<Passed, FlowFault>
         requires { 0 < length piece.old }
         ensures other { self.new.forth ≡ self.old.forth }
         ensures filled { IfOk result (λ m. IsFillAnswer (asks_reader self.old.back) self.old.back (length piece.old) (I.left reader.old) (Ok m.filled)) }
@@ -189,7 +189,7 @@ impl Relay {
         self.forth.is_idle() && self.back.is_idle()
     }
 
-    /// Begins anew, as a new relay that gets these first bytes. It takes no memory.
+    /// Begins again, as a new relay that gets these first bytes. It takes no memory.
     pub fn reset(&mut self, send: &[u8], rest: &[u8])
         requires { length send.now + length rest.now ≤ self.old.forth.capacity }
         ensures forth { self.new.forth ≡ record { bytes = send.now ++ rest.now; ended = false; capacity = self.old.forth.capacity } }

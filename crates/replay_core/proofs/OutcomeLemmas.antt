@@ -12,20 +12,20 @@ use Rattle.conn_model.proofs.Goes.{whole_in_parts}
 use Rattle.conn_model.proofs.Well.{after-nil}
 use Rattle.event_text.specs.Script.{Pending}
 use Rattle.event_text.specs.Replies.{count_line}
-use Rattle.replay_core.specs.Replay.{Asked, Outcome, after_line, answer_text, asked_at, before_rest, history_after, outcome, script_outcome}
+use Rattle.replay_core.specs.Replay.{Asked, ReplayOutcome, after_line, answer_text, asked_at, before_rest, history_after, outcome, script_outcome}
 use Rattle.replay_core.specs.Turns.{outcome_in, plain_after, script_outcome_in, turn}
-use Rattle.replay_core.specs.Progress.{Progress, total_of}
+use Rattle.replay_core.specs.Progress.{ReplayProgress, total_of}
 use Rattle.replay_core.specs.declared.fault.ReplayFault.{ReplayFault}
 
 -- an answer leaves the state after the history that it leaves
-same_after : (p : Plain) (h : List Entry) (moment : ℕ) (event : OwnedEvent) (answered : Result Reply StepFault) (rest : List Entry → Outcome) (rest_in : Plain → Outcome)
+same_after : (p : Plain) (h : List Entry) (moment : ℕ) (event : OwnedEvent) (answered : Result Reply StepFault) (rest : List Entry → ReplayOutcome) (rest_in : Plain → ReplayOutcome)
     → IsWell p → IsLegal p h → ((g : List Entry) → IsLegal p g → rest g ≡ rest_in (after p g)) → answer p h moment event ≡ answered
     → rest (history_after h moment event answered) ≡ rest_in (plain_after (after p h) moment event answered)
 same_after p h moment event (Ok reply) rest rest_in well legal next is =
     next (entry moment event reply ∷ h) (legal, is) ∙ ap rest_in (sym (whole_in_parts p well (entry moment event reply ∷ []) h (legal, is)))
 same_after p h moment event (Err fault) rest rest_in well legal next is = next h legal
 
-same_line : (p : Plain) (h : List Entry) (asks : Result Asked ReplayFault) (rest : List Entry → Option Pending → Outcome) (rest_in : Plain → Option Pending → Outcome)
+same_line : (p : Plain) (h : List Entry) (asks : Result Asked ReplayFault) (rest : List Entry → Option Pending → ReplayOutcome) (rest_in : Plain → Option Pending → ReplayOutcome)
     → IsWell p → IsLegal p h → ((g : List Entry) (reload : Option Pending) → IsLegal p g → rest g reload ≡ rest_in (after p g) reload) → after_line p h asks rest ≡ turn (after p h) asks rest_in
 same_line p h (Err fault) rest rest_in well legal next = refl
 same_line p h (Ok (Asked.nothing reload)) rest rest_in well legal next = next h reload legal
@@ -46,7 +46,7 @@ pub same_script_outcome : (plan : Plan) (script : List ℕ) → IsWell (opening 
 same_script_outcome plan script well =
     same_outcome (opening plan 0) [] None 0 (parts is_line_feed script) well tt ∙ ap (λ p. outcome_in p None 0 (parts is_line_feed script)) (after-nil (opening plan 0) well)
 
-abbrev pub start : Plan → Progress
+abbrev pub start : Plan → ReplayProgress
 start plan = record { plain = opening plan 0; reload = None; before = 0; answered = 0; unsent = [] }
 
 -- in all, after what was written before

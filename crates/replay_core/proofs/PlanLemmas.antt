@@ -3,7 +3,7 @@ use Rattle.std.proofs.Common.{◌≡◌, ◌⊎◌, ℕ, List, ◌++◌, Option,
 use Rattle.plan_types.specs.declared.plan.Plan.{Plan}
 use Rattle.config_core.specs.Meaning.{meaning}
 use Rattle.conn_model.specs.History.{IsWell, opening}
-use Rattle.replay_core.specs.Replay.{IsCutAtEnd, IsCutShort, IsEndedBy, IsFront, IsReplayed, IsStopped, Outcome, script_outcome}
+use Rattle.replay_core.specs.Replay.{IsCutAtEnd, IsCutShort, IsEndedBy, IsFront, IsReplayed, IsStopped, ReplayOutcome, script_outcome}
 use Rattle.replay_core.specs.Reading.{IsCut, IsCutAfterAll, Ends, WritesAll}
 use Rattle.replay_core.specs.declared.fault.ReplayFault.{ReplayFault}
 use Rattle.replay_core.specs.declared.fault.ReplayFault.TheVariants.{Config, Format, TooLong, Read, Write, NoMemory}
@@ -16,9 +16,9 @@ writes_script config script sent held lines plan means well wrote =
     record {
       plan = plan;
       means = means;
-      ends = sym (ap (λ (o : Outcome). o.fault) same) ∙ wrote.ends;
-      wrote = wrote.wrote ∙ ap (λ (o : Outcome). Some o.text) same;
-      counts = sym (ap (λ (o : Outcome). o.lines) same ∙ zero-add (script_outcome plan script).lines) ∙ wrote.counts;
+      ends = sym (ap (λ (o : ReplayOutcome). o.fault) same) ∙ wrote.ends;
+      wrote = wrote.wrote ∙ ap (λ (o : ReplayOutcome). Some o.text) same;
+      counts = sym (ap (λ (o : ReplayOutcome). o.lines) same ∙ zero-add (script_outcome plan script).lines) ∙ wrote.counts;
     }
 
 stopped_by : (config script sent : List ℕ) (held : Option (List ℕ)) (lines : ℕ) (fault : ReplayFault) (plan : Plan) → meaning config ≡ Ok plan → IsWell (opening plan 0)
@@ -28,8 +28,8 @@ stopped_by config script sent held lines fault plan means well wrote =
     record {
       plan = plan;
       means = means;
-      ends = sym (ap (λ (o : Outcome). o.fault) same) ∙ wrote.ends;
-      wrote = wrote.wrote ∙ ap (λ (o : Outcome). Some o.text) same;
+      ends = sym (ap (λ (o : ReplayOutcome). o.fault) same) ∙ wrote.ends;
+      wrote = wrote.wrote ∙ ap (λ (o : ReplayOutcome). Some o.text) same;
     }
 
 cut_short : (config script sent : List ℕ) (left held : Option (List ℕ)) (plan : Plan) → meaning config ≡ Ok plan → IsWell (opening plan 0)
@@ -41,7 +41,7 @@ cut_short config script sent left held plan means well cut = record {
   rest = cut.rest;
   is_left = cut.is_left;
   is_read = cut.is_read;
-  front = λ more. subst (λ (o : Outcome). IsFront held o.text) (total_start plan sent (cut.got ++ more) well) (cut.front more);
+  front = λ more. subst (λ (o : ReplayOutcome). IsFront held o.text) (total_start plan sent (cut.got ++ more) well) (cut.front more);
 }
 
 cut_at_end : (config script sent : List ℕ) (left held : Option (List ℕ)) (plan : Plan) → meaning config ≡ Ok plan → IsWell (opening plan 0)
@@ -50,7 +50,7 @@ cut_at_end config script sent left held plan means well cut = record {
   plan = plan;
   means = means;
   is_left = cut.is_left;
-  front = subst (λ (o : Outcome). IsFront held o.text) (total_start plan sent script well) cut.front;
+  front = subst (λ (o : ReplayOutcome). IsFront held o.text) (total_start plan sent script well) cut.front;
 }
 
 cut_either : (config script sent : List ℕ) (left held : Option (List ℕ)) (plan : Plan) → meaning config ≡ Ok plan → IsWell (opening plan 0)

@@ -8,19 +8,19 @@ use Rattle.conn_model.specs.declared.plain.Plain.{Plain}
 use Rattle.event_text.specs.Script.{Pending}
 use Rattle.line_reader.specs.Lines.{ConsumesAll, Gathers, GivesLastLine, GivesLine, GivesNothing, LineState}
 use Rattle.line_reader.specs.Unended.{BeginsTooLong}
-use Rattle.line_reader.specs.declared.lines.LineFault.{LineFault}
-use Rattle.line_reader.specs.declared.lines.LineFault.TheVariants as lines
+use Rattle.line_reader.specs.declared.lines.ReadFault.{ReadFault}
+use Rattle.line_reader.specs.declared.lines.ReadFault.TheVariants as lines
 use Rattle.line_reader.specs.declared.lines.TheConstants.{MOST_LINE_BYTES}
 use Rattle.replay_core.specs.Replay.{asked_at, ending, final_outcome, script_fault}
 use Rattle.replay_core.specs.Turns.{outcome_in, script_outcome_in, turn}
-use Rattle.replay_core.specs.Progress.{Progress, Continues, IsFrontOf, IsLineFault, total, total_of, total_of_lines}
+use Rattle.replay_core.specs.Progress.{ReplayProgress, Continues, IsFrontOf, IsLineFault, total, total_of, total_of_lines}
 use Rattle.replay_core.specs.Reading.{Reaches, AnswersAll, IsCut, StopsAtLine, Stops}
 use Rattle.replay_core.specs.declared.fault.ReplayFault.{ReplayFault}
 use Rattle.replay_core.specs.declared.fault.ReplayFault.TheVariants.{Config, Format, TooLong, Read, Write, NoMemory}
 use Rattle.replay_core.proofs.ContinueLemmas.{front_continues, front_sent, continues_line, continues_more, continues_sent, continues_start}
 
 -- nothing read yet
-pub reaches_start : (sent : List ℕ) (s : Progress) (script : List ℕ) (left held : Option (List ℕ)) (kept : List ℕ) → kept ≡ [] → left ≡ Some script → held ≡ Some sent
+pub reaches_start : (sent : List ℕ) (s : ReplayProgress) (script : List ℕ) (left held : Option (List ℕ)) (kept : List ℕ) → kept ≡ [] → left ≡ Some script → held ≡ Some sent
     → Reaches sent s script left held s kept
 reaches_start sent s script left held kept none is_left is_held =
     subst (Reaches sent s script left held s) (sym none)
@@ -34,7 +34,7 @@ given : (rest : List ℕ) (left new : Option (List ℕ)) (bytes : List ℕ) → 
 given rest left new bytes is moved = consumed rest new bytes (subst (λ l. Consumes l new bytes) is moved)
 
 -- more bytes
-reaches_more : (sent : List ℕ) (s : Progress) (script : List ℕ) (left held : Option (List ℕ)) (t : Progress) (kept bytes : List ℕ) (less : Option (List ℕ))
+reaches_more : (sent : List ℕ) (s : ReplayProgress) (script : List ℕ) (left held : Option (List ℕ)) (t : ReplayProgress) (kept bytes : List ℕ) (less : Option (List ℕ))
     → Reaches sent s script left held t kept → Consumes left less bytes → Reaches sent s script less held t (kept ++ bytes)
 reaches_more sent s script left held t kept bytes less reaches moved =
     let taken = given reaches.rest left less bytes reaches.is_left moved in
@@ -47,13 +47,13 @@ reaches_more sent s script left held t kept bytes less reaches moved =
     }
 
 -- the same bytes, in other places
-reaches_gathered : (sent : List ℕ) (s : Progress) (script : List ℕ) (left held : Option (List ℕ)) (t : Progress) (old new : LineState) (less : Option (List ℕ))
+reaches_gathered : (sent : List ℕ) (s : ReplayProgress) (script : List ℕ) (left held : Option (List ℕ)) (t : ReplayProgress) (old new : LineState) (less : Option (List ℕ))
     → Reaches sent s script left held t old.kept → Gathers old new left less → Reaches sent s script less held t (new.line ++ new.kept)
 reaches_gathered sent s script left held t old new less reaches gathers =
     subst (Reaches sent s script less held t) gathers.same (reaches_more sent s script left held t old.kept gathers.bytes less reaches gathers.moved)
 
 -- a line more
-pub reaches_line : (sent : List ℕ) (s : Progress) (script : List ℕ) (left held : Option (List ℕ)) (t u : Progress) (old new : LineState) (less : Option (List ℕ))
+pub reaches_line : (sent : List ℕ) (s : ReplayProgress) (script : List ℕ) (left held : Option (List ℕ)) (t u : ReplayProgress) (old new : LineState) (less : Option (List ℕ))
     → Reaches sent s script left held t old.kept → GivesLine old new left less
     → ((now : List ℕ) (more : List (List ℕ)) → total_of_lines now u more ≡ total_of_lines now t (new.line ∷ more)) → Reaches sent s script less held u new.kept
 reaches_line sent s script left held t u old new less reaches gives step =
@@ -67,7 +67,7 @@ reaches_line sent s script left held t u old new less reaches gives step =
     }
 
 -- answers written
-pub reaches_sent : (sent : List ℕ) (s : Progress) (script : List ℕ) (left held : Option (List ℕ)) (t : Progress) (kept : List ℕ) (new : Option (List ℕ)) (u : Progress)
+pub reaches_sent : (sent : List ℕ) (s : ReplayProgress) (script : List ℕ) (left held : Option (List ℕ)) (t : ReplayProgress) (kept : List ℕ) (new : Option (List ℕ)) (u : ReplayProgress)
     → Reaches sent s script left held t kept → ((now more : List ℕ) → held ≡ Some now → Continues now t more new u more) → Reaches sent s script left new u kept
 reaches_sent sent s script left held t kept new u reaches step = record {
   got = reaches.got;
@@ -77,7 +77,7 @@ reaches_sent sent s script left held t kept new u reaches step = record {
   continues = continues_sent sent s reaches.got held t kept new u reaches.continues step;
 }
 
-pub cut_reaches : (sent : List ℕ) (s : Progress) (script : List ℕ) (left held : Option (List ℕ)) (t : Progress) (kept : List ℕ) → Reaches sent s script left held t kept
+pub cut_reaches : (sent : List ℕ) (s : ReplayProgress) (script : List ℕ) (left held : Option (List ℕ)) (t : ReplayProgress) (kept : List ℕ) → Reaches sent s script left held t kept
     → IsCut sent s script left held
 cut_reaches sent s script left held t kept reaches = record {
   got = reaches.got;
@@ -88,7 +88,7 @@ cut_reaches sent s script left held t kept reaches = record {
 }
 
 -- a write that failed
-pub stops_write : (sent : List ℕ) (s : Progress) (script : List ℕ) (left held : Option (List ℕ)) (t u : Progress) (kept : List ℕ) (new : Option (List ℕ)) (fault : ReplayFault) → fault ≡ Write
+pub stops_write : (sent : List ℕ) (s : ReplayProgress) (script : List ℕ) (left held : Option (List ℕ)) (t u : ReplayProgress) (kept : List ℕ) (new : Option (List ℕ)) (fault : ReplayFault) → fault ≡ Write
     → Reaches sent s script left held t kept → ((now more : List ℕ) → held ≡ Some now → IsFrontOf now t more new) → Stops sent s script left new u fault
 stops_write sent s script left held t u kept new fault is reaches front =
     subst (Stops sent s script left new u) (sym is)
@@ -100,7 +100,7 @@ stops_write sent s script left held t u kept new fault is reaches front =
       front = front_sent sent s reaches.got held t kept new reaches.continues front;
     })
 
-stops_by : (sent : List ℕ) (s : Progress) (script : List ℕ) (left held : Option (List ℕ)) (u : Progress) (fault : ReplayFault) → IsLineFault fault
+stops_by : (sent : List ℕ) (s : ReplayProgress) (script : List ℕ) (left held : Option (List ℕ)) (u : ReplayProgress) (fault : ReplayFault) → IsLineFault fault
     → StopsAtLine sent s script left held u (Some fault) → Stops sent s script left held u fault
 stops_by sent s script left held u (Config f) kind stopped = absurd kind
 stops_by sent s script left held u (Format line) kind stopped = stopped
@@ -110,7 +110,7 @@ stops_by sent s script left held u Write kind stopped = absurd kind
 stops_by sent s script left held u NoMemory kind stopped = absurd kind
 
 -- a line that ends it
-pub stops_line : (sent : List ℕ) (s : Progress) (script : List ℕ) (left held : Option (List ℕ)) (t u : Progress) (old new : LineState) (less : Option (List ℕ)) (fault : ReplayFault)
+pub stops_line : (sent : List ℕ) (s : ReplayProgress) (script : List ℕ) (left held : Option (List ℕ)) (t u : ReplayProgress) (old new : LineState) (less : Option (List ℕ)) (fault : ReplayFault)
     → Reaches sent s script left held t old.kept → GivesLine old new left less
     → ((fault ≡ NoMemory) ⊎ (IsLineFault fault × ((now : List ℕ) (more : List (List ℕ)) → total now u (final_outcome (Some fault)) ≡ total_of_lines now t (new.line ∷ more))))
     → Stops sent s script less held u fault
@@ -135,14 +135,14 @@ all_left rest None less bytes is moved = cc
 all_left rest (Some xs) less bytes is moved = let same : xs ≡ rest = cc in (sym same ∙ moved.0, moved.1)
 
 -- all bytes
-all_read : (sent : List ℕ) (s : Progress) (script : List ℕ) (left held : Option (List ℕ)) (t : Progress) (kept bytes : List ℕ) (less : Option (List ℕ))
+all_read : (sent : List ℕ) (s : ReplayProgress) (script : List ℕ) (left held : Option (List ℕ)) (t : ReplayProgress) (kept bytes : List ℕ) (less : Option (List ℕ))
     → (reaches : Reaches sent s script left held t kept) → ConsumesAll left less bytes → total_of reaches.continues.now t (kept ++ bytes) ≡ total_of sent s script
 all_read sent s script left held t kept bytes less reaches moved =
     let all = all_left reaches.rest left less bytes reaches.is_left moved in
     reaches.continues.same bytes ∙ ap (total_of sent s) (sym (reaches.is_read ∙ ap (λ xs. reaches.got ++ xs) all.0))
 
 -- the end after the last line feed
-ended_by : (sent : List ℕ) (s : Progress) (script : List ℕ) (left held : Option (List ℕ)) (t : Progress) (old new : LineState) (less : Option (List ℕ)) (fault : Option ReplayFault)
+ended_by : (sent : List ℕ) (s : ReplayProgress) (script : List ℕ) (left held : Option (List ℕ)) (t : ReplayProgress) (old new : LineState) (less : Option (List ℕ)) (fault : Option ReplayFault)
     → Reaches sent s script left held t old.kept → GivesNothing old new left less → ending t.reload t.before ≡ final_outcome fault → AnswersAll sent s script held t fault
 ended_by sent s script left held t old new less fault reaches gives end = record {
   now = reaches.continues.now;
@@ -151,13 +151,13 @@ ended_by sent s script left held t old new less fault reaches gives end = record
       ∙ all_read sent s script left held t old.kept gives.bytes less reaches gives.moved;
 }
 
-pub done_end : (sent : List ℕ) (s : Progress) (script : List ℕ) (left held : Option (List ℕ)) (t : Progress) (old new : LineState) (less : Option (List ℕ))
+pub done_end : (sent : List ℕ) (s : ReplayProgress) (script : List ℕ) (left held : Option (List ℕ)) (t : ReplayProgress) (old new : LineState) (less : Option (List ℕ))
     → Reaches sent s script left held t old.kept → GivesNothing old new left less → ending t.reload t.before ≡ final_outcome None → (less ≡ Some []) × AnswersAll sent s script held t None
 done_end sent s script left held t old new less reaches gives end =
     ((all_left reaches.rest left less gives.bytes reaches.is_left gives.moved).1, ended_by sent s script left held t old new less None reaches gives end)
 
 -- the last line
-done_by : (sent : List ℕ) (s : Progress) (script : List ℕ) (left held : Option (List ℕ)) (t u : Progress) (old new : LineState) (less : Option (List ℕ)) (fault : Option ReplayFault)
+done_by : (sent : List ℕ) (s : ReplayProgress) (script : List ℕ) (left held : Option (List ℕ)) (t u : ReplayProgress) (old new : LineState) (less : Option (List ℕ)) (fault : Option ReplayFault)
     → Reaches sent s script left held t old.kept → GivesLastLine old new left less
     → ((now : List ℕ) → total now u (final_outcome fault) ≡ total_of_lines now t (new.line ∷ [])) → AnswersAll sent s script held u fault
 done_by sent s script left held t u old new less fault reaches gives step = record {
@@ -166,14 +166,14 @@ done_by sent s script left held t u old new less fault reaches gives step = reco
   same = step reaches.continues.now ∙ ap (total_of_lines reaches.continues.now t) (sym gives.is_line) ∙ all_read sent s script left held t old.kept gives.bytes less reaches gives.moved;
 }
 
-pub done_last : (sent : List ℕ) (s : Progress) (script : List ℕ) (left held : Option (List ℕ)) (t u : Progress) (old new : LineState) (less : Option (List ℕ))
+pub done_last : (sent : List ℕ) (s : ReplayProgress) (script : List ℕ) (left held : Option (List ℕ)) (t u : ReplayProgress) (old new : LineState) (less : Option (List ℕ))
     → Reaches sent s script left held t old.kept → GivesLastLine old new left less
     → ((now : List ℕ) → total now u (final_outcome None) ≡ total_of_lines now t (new.line ∷ [])) → (less ≡ Some []) × AnswersAll sent s script held u None
 done_last sent s script left held t u old new less reaches gives step =
     ((all_left reaches.rest left less gives.bytes reaches.is_left gives.moved).1, done_by sent s script left held t u old new less None reaches gives step)
 
 -- a fault once all of the script was read
-stops_after_all : (sent : List ℕ) (s : Progress) (script : List ℕ) (held : Option (List ℕ)) (u : Progress) (less : Option (List ℕ)) (fault : ReplayFault) → IsLineFault fault → less ≡ Some []
+stops_after_all : (sent : List ℕ) (s : ReplayProgress) (script : List ℕ) (held : Option (List ℕ)) (u : ReplayProgress) (less : Option (List ℕ)) (fault : ReplayFault) → IsLineFault fault → less ≡ Some []
     → AnswersAll sent s script held u (Some fault) → Stops sent s script less held u fault
 stops_after_all sent s script held u less fault kind is done =
     stops_by sent s script less held u fault kind
@@ -188,7 +188,7 @@ stops_after_all sent s script held u less fault kind is done =
     })
 
 -- a line that is missing at the end
-pub stops_end : (sent : List ℕ) (s : Progress) (script : List ℕ) (left held : Option (List ℕ)) (t : Progress) (old new : LineState) (less : Option (List ℕ)) (fault : ReplayFault)
+pub stops_end : (sent : List ℕ) (s : ReplayProgress) (script : List ℕ) (left held : Option (List ℕ)) (t : ReplayProgress) (old new : LineState) (less : Option (List ℕ)) (fault : ReplayFault)
     → Reaches sent s script left held t old.kept → GivesNothing old new left less → IsLineFault fault × (ending t.reload t.before ≡ final_outcome (Some fault))
     → Stops sent s script less held t fault
 stops_end sent s script left held t old new less fault reaches gives stop =
@@ -196,7 +196,7 @@ stops_end sent s script left held t old new less fault reaches gives stop =
     (ended_by sent s script left held t old new less (Some fault) reaches gives stop.1)
 
 -- a fault in the last line, or after it
-pub stops_last : (sent : List ℕ) (s : Progress) (script : List ℕ) (left held : Option (List ℕ)) (t u : Progress) (old new : LineState) (less : Option (List ℕ)) (fault : ReplayFault)
+pub stops_last : (sent : List ℕ) (s : ReplayProgress) (script : List ℕ) (left held : Option (List ℕ)) (t u : ReplayProgress) (old new : LineState) (less : Option (List ℕ)) (fault : ReplayFault)
     → Reaches sent s script left held t old.kept → GivesLastLine old new left less
     → ((fault ≡ NoMemory) ⊎ (IsLineFault fault × ((now : List ℕ) → total now u (final_outcome (Some fault)) ≡ total_of_lines now t (new.line ∷ []))))
     → Stops sent s script less held u fault
@@ -231,7 +231,7 @@ too_long p reload before bytes begins more =
     sym (ap (outcome_in p reload before) first.2 ∙ turned)
 
 -- no next line
-pub stops_reading : (sent : List ℕ) (s : Progress) (script : List ℕ) (left held : Option (List ℕ)) (t : Progress) (old new : LineState) (less : Option (List ℕ)) (fault : LineFault)
+pub stops_reading : (sent : List ℕ) (s : ReplayProgress) (script : List ℕ) (left held : Option (List ℕ)) (t : ReplayProgress) (old new : LineState) (less : Option (List ℕ)) (fault : ReadFault)
     → Reaches sent s script left held t old.kept → Gathers old new left less → (fault ≡ lines.TooLong → BeginsTooLong (new.line ++ new.kept))
     → Stops sent s script less held t (script_fault (t.before + 1) fault)
 stops_reading sent s script left held t old new less lines.TooLong reaches gathers long =

@@ -3,13 +3,13 @@ use Rattle.std.specs.Prelude.{◌≡◌, ◌⊎◌, ℕ, Bool, true, false, List
 use Rattle.device_core.specs.Device.{raised, raised_by}
 use Rattle.device_core.specs.Patience.{IsWornOut}
 use Rattle.device_core.specs.declared.patience.TheConstants.{MOST_READS}
-use Rattle.replay_core.specs.Progress.{Progress, Continues, IsFrontOf, total, total_of}
+use Rattle.replay_core.specs.Progress.{ReplayProgress, Continues, IsFrontOf, total, total_of}
 use Rattle.replay_core.specs.Replay.{IsFront, final_outcome}
 use Rattle.replay_core.specs.declared.fault.ReplayFault.{ReplayFault}
 use Rattle.replay_core.specs.declared.fault.ReplayFault.TheVariants.{Config, Format, TooLong, Read, Write, NoMemory}
 
 -- What was read of the script comes to what is kept of it comes to after another progress.
-pub record Reaches (sent : List ℕ) (s : Progress) (script : List ℕ) (left held : Option (List ℕ)) (t : Progress) (kept : List ℕ) : Type 0 where
+pub record Reaches (sent : List ℕ) (s : ReplayProgress) (script : List ℕ) (left held : Option (List ℕ)) (t : ReplayProgress) (kept : List ℕ) : Type 0 where
   pub got : List ℕ
   pub rest : List ℕ
   pub is_left : left ≡ Some rest
@@ -17,13 +17,13 @@ pub record Reaches (sent : List ℕ) (s : Progress) (script : List ℕ) (left he
   pub continues : Continues sent s got held t kept
 
 -- All of the script was answered, or all of it before a fault.
-pub record AnswersAll (sent : List ℕ) (s : Progress) (script : List ℕ) (held : Option (List ℕ)) (t : Progress) (fault : Option ReplayFault) : Type 0 where
+pub record AnswersAll (sent : List ℕ) (s : ReplayProgress) (script : List ℕ) (held : Option (List ℕ)) (t : ReplayProgress) (fault : Option ReplayFault) : Type 0 where
   pub now : List ℕ
   pub is_held : held ≡ Some now
   pub same : total now t (final_outcome fault) ≡ total_of sent s script
 
 -- What is held is the front of what is written of any script that begins with what was read.
-pub record IsCut (sent : List ℕ) (s : Progress) (script : List ℕ) (left held : Option (List ℕ)) : Type 0 where
+pub record IsCut (sent : List ℕ) (s : ReplayProgress) (script : List ℕ) (left held : Option (List ℕ)) : Type 0 where
   pub got : List ℕ
   pub rest : List ℕ
   pub is_left : left ≡ Some rest
@@ -31,7 +31,7 @@ pub record IsCut (sent : List ℕ) (s : Progress) (script : List ℕ) (left held
   pub front : IsFrontOf sent s got held
 
 -- The fault of a line ends it, whatever follows what was read; where nothing is left, nothing follows.
-pub record StopsAtLine (sent : List ℕ) (s : Progress) (script : List ℕ) (left held : Option (List ℕ)) (t : Progress) (fault : Option ReplayFault) : Type 0 where
+pub record StopsAtLine (sent : List ℕ) (s : ReplayProgress) (script : List ℕ) (left held : Option (List ℕ)) (t : ReplayProgress) (fault : Option ReplayFault) : Type 0 where
   pub got : List ℕ
   pub rest : List ℕ
   pub now : List ℕ
@@ -41,7 +41,7 @@ pub record StopsAtLine (sent : List ℕ) (s : Progress) (script : List ℕ) (lef
   pub same : (more : List ℕ) → (rest ≡ [] → more ≡ []) → total now t (final_outcome fault) ≡ total_of sent s (got ++ more)
 
 -- how a fault ends a replay before the last answers are written
-abbrev pub Stops : List ℕ → Progress → List ℕ → Option (List ℕ) → Option (List ℕ) → Progress → ReplayFault → Type 0
+abbrev pub Stops : List ℕ → ReplayProgress → List ℕ → Option (List ℕ) → Option (List ℕ) → ReplayProgress → ReplayFault → Type 0
 Stops sent s script left held t (Config fault) = ⊥
 Stops sent s script left held t (Format line) = StopsAtLine sent s script left held t (Some (Format line))
 Stops sent s script left held t (TooLong line) = StopsAtLine sent s script left held t (Some (TooLong line))
@@ -59,18 +59,18 @@ writes_answers Write = false
 writes_answers NoMemory = false
 
 -- All answers to a script were written, and so many they are.
-pub record WritesAll (sent : List ℕ) (s : Progress) (script : List ℕ) (held : Option (List ℕ)) (lines : ℕ) (fault : Option ReplayFault) : Type 0 where
+pub record WritesAll (sent : List ℕ) (s : ReplayProgress) (script : List ℕ) (held : Option (List ℕ)) (lines : ℕ) (fault : Option ReplayFault) : Type 0 where
   pub ends : (total_of sent s script).fault ≡ fault
   pub wrote : held ≡ Some (total_of sent s script).text
   pub counts : (total_of sent s script).lines ≡ lines
 
 -- All of the script was read, and what is held is the front of its answers.
-pub record IsCutAfterAll (sent : List ℕ) (s : Progress) (script : List ℕ) (left held : Option (List ℕ)) : Type 0 where
+pub record IsCutAfterAll (sent : List ℕ) (s : ReplayProgress) (script : List ℕ) (left held : Option (List ℕ)) : Type 0 where
   pub is_left : left ≡ Some []
   pub front : IsFront held (total_of sent s script).text
 
 -- how a fault ends a replay
-abbrev pub Ends : List ℕ → Progress → List ℕ → Option (List ℕ) → Option (List ℕ) → ℕ → ReplayFault → Type 0
+abbrev pub Ends : List ℕ → ReplayProgress → List ℕ → Option (List ℕ) → Option (List ℕ) → ℕ → ReplayFault → Type 0
 Ends sent s script left held lines (Config fault) = ⊥
 Ends sent s script left held lines (Format line) = WritesAll sent s script held lines (Some (Format line))
 Ends sent s script left held lines (TooLong line) = WritesAll sent s script held lines (Some (TooLong line))

@@ -10,27 +10,27 @@ use Rattle.conn_model.specs.declared.reply.Reply.{Reply}
 use Rattle.conn_model.specs.declared.reply.StepFault.{StepFault}
 use Rattle.conn_model.specs.History.{Entry, answer, counts, entry, opening}
 use Rattle.config_core.specs.Meaning.{meaning}
-use Rattle.event_text.specs.Script.{Head, Pending, Wanted, bar_text, pending_reload, text_with, wanted, wanted_of, with_text, words_of}
+use Rattle.event_text.specs.Script.{EventHead, Pending, Wanted, bar_text, pending_reload, text_with, wanted, wanted_of, with_text, words_of}
 use Rattle.event_text.specs.Replies.{count_line, fault_line, reply_line}
 use Rattle.event_text.specs.declared.script.Request.{Request}
-use Rattle.line_reader.specs.declared.lines.LineFault.{LineFault}
-use Rattle.line_reader.specs.declared.lines.LineFault.TheVariants as lines
+use Rattle.line_reader.specs.declared.lines.ReadFault.{ReadFault}
+use Rattle.line_reader.specs.declared.lines.ReadFault.TheVariants as lines
 use Rattle.line_reader.specs.declared.lines.TheConstants.{MOST_LINE_BYTES}
 use Rattle.replay_core.specs.declared.session.TheConstants.{MOST_LINES}
 use Rattle.replay_core.specs.declared.fault.ReplayFault.{ReplayFault}
 use Rattle.replay_core.specs.declared.fault.ReplayFault.TheVariants.{Config, Format, TooLong, Read, Write, NoMemory}
 
 -- What comes of a script: the lines of its answers, how many these are, and the fault of the line that ends it, if one does.
-pub record Outcome : Type 0 where
+pub record ReplayOutcome : Type 0 where
   pub text : List ℕ
   pub lines : ℕ
   pub fault : Option ReplayFault
 
-abbrev pub final_outcome : Option ReplayFault → Outcome
+abbrev pub final_outcome : Option ReplayFault → ReplayOutcome
 final_outcome fault = record { text = []; lines = 0; fault = fault }
 
 -- so many answers, before what comes after them
-abbrev pub before_rest : List ℕ → ℕ → Outcome → Outcome
+abbrev pub before_rest : List ℕ → ℕ → ReplayOutcome → ReplayOutcome
 before_rest text lines rest = record { text = text ++ rest.text; lines = lines + rest.lines; fault = rest.fault }
 
 -- ---- one line
@@ -47,8 +47,8 @@ pub data Asked : Type 0 where
 
 abbrev pub asked_by : Wanted → Asked
 asked_by (Wanted.count ask) = Asked.of_counts ask
-asked_by (Wanted.reply (Head.whole timed)) = Asked.of_event timed
-asked_by (Wanted.reply (Head.reload moment lines)) = Asked.nothing (Some (pending_reload moment lines))
+asked_by (Wanted.reply (EventHead.whole timed)) = Asked.of_event timed
+asked_by (Wanted.reply (EventHead.reload moment lines)) = Asked.nothing (Some (pending_reload moment lines))
 
 -- a reload is answered once no line of its text is missing
 abbrev pub asked_with : Pending → Asked
@@ -69,7 +69,7 @@ asked_at reload number line =
     if nat_lt MOST_LINE_BYTES (length line) || nat_lt MOST_LINES number then Err (TooLong number) else asked_else number (asked_in reload line)
 
 -- what ends a replay where no line of that number comes
-abbrev pub script_fault : ℕ → LineFault → ReplayFault
+abbrev pub script_fault : ℕ → ReadFault → ReplayFault
 script_fault number lines.TooLong = TooLong number
 script_fault number lines.Read = Read
 script_fault number lines.NoMemory = NoMemory
@@ -96,7 +96,7 @@ history_after h moment event (Ok reply) = entry moment event reply ∷ h
 history_after h moment event (Err fault) = h
 
 -- what comes of a line after a history, and of the rest
-abbrev pub after_line : Plain → List Entry → Result Asked ReplayFault → (List Entry → Option Pending → Outcome) → Outcome
+abbrev pub after_line : Plain → List Entry → Result Asked ReplayFault → (List Entry → Option Pending → ReplayOutcome) → ReplayOutcome
 after_line p h (Err fault) rest = final_outcome (Some fault)
 after_line p h (Ok (Asked.nothing reload)) rest = rest h reload
 after_line p h (Ok (Asked.of_counts ask)) rest = before_rest (count_line ask (counts p h ask)) 1 (rest h None)
@@ -104,17 +104,17 @@ after_line p h (Ok (Asked.of_event timed)) rest =
     let answered = answer p h timed.0 timed.1 in before_rest (answer_text answered) 1 (rest (history_after h timed.0 timed.1 answered) None)
 
 -- after the last line: where lines of a reload are missing, the next one lacks its form
-abbrev pub ending : Option Pending → ℕ → Outcome
+abbrev pub ending : Option Pending → ℕ → ReplayOutcome
 ending None before = final_outcome None
 ending (Some reload) before = final_outcome (Some (Format (before + 1)))
 
 -- what comes of lines, after a history and so many lines, where lines of a reload may be missing
-abbrev pub outcome : Plain → List Entry → Option Pending → ℕ → List (List ℕ) → Outcome
+abbrev pub outcome : Plain → List Entry → Option Pending → ℕ → List (List ℕ) → ReplayOutcome
 outcome p h reload before [] = ending reload before
 outcome p h reload before (line ∷ lines) = after_line p h (asked_at reload (before + 1) line) (λ g next. outcome p g next (before + 1) lines)
 
 -- what comes of a script where a plan is opened
-abbrev pub script_outcome : Plan → List ℕ → Outcome
+abbrev pub script_outcome : Plan → List ℕ → ReplayOutcome
 script_outcome plan script = outcome (opening plan 0) [] None 0 (parts is_line_feed script)
 
 -- ---- a whole replay

@@ -4,6 +4,7 @@
 pub use check::run_check;
 pub use fault::{PrintFault, ReplayFault};
 pub use replay::{Replayed, run_replay};
+pub use session::MOST_UNSENT;
 
 mod check;
 mod fault;

@@ -9,7 +9,7 @@ ghost use Rattle.config_core.specs.Meaning.{meaning};
 ghost use Rattle.conn_core.specs.Machine.{IsOpened};
 ghost use Rattle.config_core.specs.declared.fault.OpenFault.{OpenFault};
 ghost use Rattle.replay_core.specs.Replay.{IsEndedBy, IsReplayed};
-ghost use Rattle.replay_core.specs.Progress.{GaveUp, Progress};
+ghost use Rattle.replay_core.specs.Progress.{GaveUp, ReplayProgress};
 ghost use Rattle.replay_core.specs.Reading.{Ends, IsSpent, Stops, WritesAll, writes_answers};
 
 use crate::fault::ReplayFault;
@@ -40,7 +40,7 @@ fn writes_answers(fault: &ReplayFault) -> bool
 
 /// Writes what was answered before a fault, and says which fault ends the replay.
 fn finish<O: Output>(session: &mut Session, fault: ReplayFault, writer: &mut O) -> ReplayFault
-    ensures early_end { (sent : List ℕ) (s : Progress) (script : List ℕ) (left : Option (List ℕ)) →
+    ensures early_end { (sent : List ℕ) (s : ReplayProgress) (script : List ℕ) (left : Option (List ℕ)) →
         Stops sent s script left (O.held writer.old) session.old fault → Ends sent s script left (O.held writer.new) session.new.answered result }
     ensures gave_up { result ≡ ReplayFault.Write →
         ((fault ≡ ReplayFault.Write) × (writer.new ≡ writer.old)) ⊎ ((fault ≢ ReplayFault.Write) × GaveUp (O.failures writer.old) (O.failures writer.new) (O.stalls writer.old) (O.stalls writer.new)) }

@@ -22,15 +22,15 @@ use event_text::{
     FirstLine, PendingReload, Request, read_bar, read_request, write_counts, write_fault,
     write_reply,
 };
-use line_reader::LineFault;
+use line_reader::ReadFault;
 use std::alloc::{AllocError, Global};
 use std::marker::Model;
 
 /// How many lines a script has at most.
 pub const MOST_LINES: u64 = 1_000_000;
 
-/// How many bytes of answers are collected before they are written.
-const MOST_UNSENT: usize = 65_536;
+/// How many bytes of answers or lines are collected before they are written.
+pub const MOST_UNSENT: usize = 65_536;
 
 /// A core between two lines of a script, with the answers that were not yet written. It cannot be dropped: it ends by
 /// `end`.
@@ -48,11 +48,11 @@ pub struct Session {
 
 impl Model for Session {
     ghost use Rattle.std.specs.Prelude.{◌≡◌, ◌≤◌, ◌<◌, length, IfSome};
-    ghost use Rattle.replay_core.specs.Progress.{Progress};
+    ghost use Rattle.replay_core.specs.Progress.{ReplayProgress};
     ghost use Rattle.replay_core.specs.declared.session.TheConstants.{MOST_LINES};
     ghost use Rattle.conn_model.specs.declared.event.TheConstants.{PIECE_LIMIT};
 
-    ghost Value = { Progress };
+    ghost Value = { ReplayProgress };
 
     ghost view = { λ s. record { plain = s.core; reload = s.reload; before = s.before; answered = s.answered; unsent = s.unsent.items } };
 
@@ -171,13 +171,13 @@ impl Session {
     }
 
     /// The fault that ends the replay where no next line comes.
-    pub fn script_fault(&self, fault: LineFault) -> ReplayFault
+    pub fn script_fault(&self, fault: ReadFault) -> ReplayFault
         ensures { result ≡ script_fault (self.now.before + 1) fault }
     {
         match fault {
-            LineFault::TooLong => ReplayFault::TooLong(self.before + 1),
-            LineFault::Read => ReplayFault::Read,
-            LineFault::NoMemory => ReplayFault::NoMemory,
+            ReadFault::TooLong => ReplayFault::TooLong(self.before + 1),
+            ReadFault::Read => ReplayFault::Read,
+            ReadFault::NoMemory => ReplayFault::NoMemory,
         }
     }
 

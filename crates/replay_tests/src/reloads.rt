@@ -231,7 +231,7 @@ fn each_read_fails_within_a_reload(rt: HostRuntime) {
 /// Where memory runs out the answers that were written are a front of them: this test is run with each allocation
 /// failing in turn.
 #[test]
-fn want_of_memory_within_a_reload(rt: HostRuntime) {
+fn lack_of_memory_within_a_reload(rt: HostRuntime) {
     if let Ok(end) = replay_all(rt.alloc(), Course::Plain, Course::Plain) {
         let (word, number, written) = end;
         let is_without_memory = word == "memory" && number == 0 && written.is_some();

@@ -7,7 +7,7 @@ use Rattle.plan_types.specs.declared.plan.Action.TheVariants.{Track, ExpectProxy
 use Rattle.plan_types.specs.declared.plan.Rule.{Rule}
 use Rattle.rule_engine.specs.Meaning.{SceneMeaning}
 use Rattle.rule_engine.specs.declared.judging.Judged.{Judged}
-use Rattle.rule_engine.specs.Judging.{Slots, is_true, after_rule, after_track, is_final, decides, deciding_rule, is_expectation, expects, expects_header, judged_by, judged_after}
+use Rattle.rule_engine.specs.Judging.{TrackSlots, is_true, after_rule, after_track, is_final, decides, deciding_rule, is_expectation, expects, expects_header, judged_by, judged_after}
 
 abbrev shifted : {X : Type 0} → ℕ × X → ℕ × X
 shifted (n, x) = (n + 1, x)
@@ -23,7 +23,7 @@ find-enumerate : {X : Type 0} (test other : ℕ × X → Bool) (k : ℕ) (xs : L
 find-enumerate test other k [] same = refl
 find-enumerate test other k (x ∷ xs) same = found test other k x xs (other (k, x)) (same k x) refl (find-enumerate test other (k + 1) xs same)
 
-decides-past : (scene : SceneMeaning) (tracks : Slots) (rule : Rule) (rules : List Rule) (n : ℕ) (x : Rule) →
+decides-past : (scene : SceneMeaning) (tracks : TrackSlots) (rule : Rule) (rules : List Rule) (n : ℕ) (x : Rule) →
     decides scene tracks (rule ∷ rules) (n + 1, x) ≡ decides scene (after_rule scene tracks rule) rules (n, x)
 decides-past scene tracks rule rules n x = rw add-one refl
 
@@ -34,10 +34,10 @@ abbrev pub also_expecting : Bool → Judged → Judged
 also_expecting before says = record says { expects_header = says.expects_header || before }
 
 -- the first rule of a list expects a header
-abbrev pub first_expects : SceneMeaning → Slots → Rule → Bool
+abbrev pub first_expects : SceneMeaning → TrackSlots → Rule → Bool
 first_expects scene tracks rule = is_expectation rule.action && is_true scene tracks rule
 
-expects-past : (scene : SceneMeaning) (tracks : Slots) (rule : Rule) (rules : List Rule) (n : ℕ) (x : Rule) →
+expects-past : (scene : SceneMeaning) (tracks : TrackSlots) (rule : Rule) (rules : List Rule) (n : ℕ) (x : Rule) →
     expects scene tracks (rule ∷ rules) (n + 1, x) ≡ expects scene (after_rule scene tracks rule) rules (n, x)
 expects-past scene tracks rule rules n x = rw add-one refl
 
@@ -53,7 +53,7 @@ or_true : (b : Bool) → (b || true) ≡ true
 or_true true = refl
 or_true false = refl
 
-expects_header-more : (scene : SceneMeaning) (tracks : Slots) (rule : Rule) (rules : List Rule) →
+expects_header-more : (scene : SceneMeaning) (tracks : TrackSlots) (rule : Rule) (rules : List Rule) →
     expects_header scene tracks (rule ∷ rules) ≡ (expects_header scene (after_rule scene tracks rule) rules || first_expects scene tracks rule)
 expects_header-more scene tracks rule rules = by (first_expects scene tracks rule) refl
   where
@@ -69,14 +69,14 @@ expects_header-more scene tracks rule rules = by (first_expects scene tracks rul
     by true e = rw (e, or_true later) refl
     by false e = rw (e, or_false later) rest
 
-one_more : (scene : SceneMeaning) (tracks : Slots) (rule : Rule) (rules : List Rule) (decided : Option (ℕ × Rule)) →
+one_more : (scene : SceneMeaning) (tracks : TrackSlots) (rule : Rule) (rules : List Rule) (decided : Option (ℕ × Rule)) →
     judged_by scene tracks (rule ∷ rules) (option_map shifted decided)
     ≡ also_expecting (first_expects scene tracks rule) (judged_by scene (after_rule scene tracks rule) rules decided)
 one_more scene tracks rule rules None = rw (expects_header-more scene tracks rule rules) refl
 one_more scene tracks rule rules (Some (n, x)) = rw (add-one, expects_header-more scene tracks rule (take n rules)) refl
 
 -- a rule that does not decide
-pub decided_later : (scene : SceneMeaning) (tracks : Slots) (rule : Rule) (rules : List Rule) → (is_final rule.action && is_true scene tracks rule) ≡ false →
+pub decided_later : (scene : SceneMeaning) (tracks : TrackSlots) (rule : Rule) (rules : List Rule) → (is_final rule.action && is_true scene tracks rule) ≡ false →
     judged_after scene tracks (rule ∷ rules) ≡ also_expecting (first_expects scene tracks rule) (judged_after scene (after_rule scene tracks rule) rules)
 decided_later scene tracks rule rules e =
     let there : deciding_rule scene tracks (rule ∷ rules) ≡ option_map shifted (deciding_rule scene (after_rule scene tracks rule) rules) =
@@ -94,7 +94,7 @@ expecting_both : (before : Bool) (says : Judged) → also_expecting before (also
 expecting_both before says = rw (or_true says.expects_header) refl
 
 -- a rule whose condition is not true
-pub passed : (scene : SceneMeaning) (tracks : Slots) (rule : Rule) (rules : List Rule) → is_true scene tracks rule ≡ false →
+pub passed : (scene : SceneMeaning) (tracks : TrackSlots) (rule : Rule) (rules : List Rule) → is_true scene tracks rule ≡ false →
     judged_after scene tracks (rule ∷ rules) ≡ judged_after scene tracks rules
 passed scene tracks rule rules e =
     let same : after_rule scene tracks rule ≡ tracks = rw e refl in
@@ -105,7 +105,7 @@ passed scene tracks rule rules e =
     ∙ ap (λ m. judged_after scene m rules) same
 
 -- a rule that tracks
-pub tracked_past : (scene : SceneMeaning) (tracks : Slots) (rule : Rule) (rules : List Rule) (counter number : ℕ) → is_true scene tracks rule ≡ true → rule.action ≡ Track counter number →
+pub tracked_past : (scene : SceneMeaning) (tracks : TrackSlots) (rule : Rule) (rules : List Rule) (counter number : ℕ) → is_true scene tracks rule ≡ true → rule.action ≡ Track counter number →
     judged_after scene tracks (rule ∷ rules) ≡ judged_after scene (after_track scene tracks counter number) rules
 tracked_past scene tracks rule rules counter number e is =
     let same : after_rule scene tracks rule ≡ after_track scene tracks counter number = rw (e, is) refl in
@@ -116,7 +116,7 @@ tracked_past scene tracks rule rules counter number e is =
     ∙ ap (λ m. judged_after scene m rules) same
 
 -- a rule that expects a header
-pub expected_past : (scene : SceneMeaning) (tracks : Slots) (rule : Rule) (rules : List Rule) (before : Bool) → is_true scene tracks rule ≡ true → rule.action ≡ ExpectProxy →
+pub expected_past : (scene : SceneMeaning) (tracks : TrackSlots) (rule : Rule) (rules : List Rule) (before : Bool) → is_true scene tracks rule ≡ true → rule.action ≡ ExpectProxy →
     also_expecting before (judged_after scene tracks (rule ∷ rules)) ≡ also_expecting true (judged_after scene tracks rules)
 expected_past scene tracks rule rules before e is =
     let same : after_rule scene tracks rule ≡ tracks = rw (e, is) refl in

@@ -10,13 +10,13 @@ use Rattle.plan_types.specs.declared.plan.Rule.{Rule}
 use Rattle.plan_types.specs.declared.track.TableId.{TableId}
 use Rattle.plan_types.specs.declared.track.Track.{Track}
 use Rattle.rule_engine.specs.Meaning.{SceneMeaning, present}
-use Rattle.rule_engine.specs.Judging.{Slots, no_tracks, is_free, with_track, after_track, after_action, after_rule, after_rules, is_true, is_empty, deciding_rule, judged_by, judged_after}
+use Rattle.rule_engine.specs.Judging.{TrackSlots, no_tracks, is_free, with_track, after_track, after_action, after_rule, after_rules, is_true, is_empty, deciding_rule, judged_by, judged_after}
 
 abbrev pub track : ℕ → TableId → Addr → Track
 track counter table key = record { counter = counter; table = table; key = key }
 
 -- there are three slots, and each track has the property with its place
-pub record AreSlots (P : ℕ → Track → Type 0) (slots : Slots) : Type 0 where
+pub record AreSlots (P : ℕ → Track → Type 0) (slots : TrackSlots) : Type 0 where
   pub three : length slots ≡ 3
   pub each : (counter : ℕ) (made : Track) → slice_get slots counter ≡ Some (Some made) → P counter made
 
@@ -60,7 +60,7 @@ empty_slot None is = absurd (false≢true is)
 empty_slot (Some None) is = refl
 empty_slot (Some (Some made)) is = absurd (false≢true is)
 
-filled : (P : ℕ → Track → Type 0) (slots : Slots) (counter : ℕ) (new' : Track) → AreSlots P slots → P counter new' → AreSlots P (slice_set slots counter (Some new'))
+filled : (P : ℕ → Track → Type 0) (slots : TrackSlots) (counter : ℕ) (new' : Track) → AreSlots P slots → P counter new' → AreSlots P (slice_set slots counter (Some new'))
 filled P slots counter new' known has = record { three = length-set slots counter (Some new') ∙ known.three; each = each }
   where
     each : (n : ℕ) (made : Track) → slice_get (slice_set slots counter (Some new')) n ≡ Some (Some made) → P n made
@@ -73,7 +73,7 @@ filled P slots counter new' known has = record { three = length-set slots counte
 
 -- Along a list.
 
-after_track-slots : (scene : SceneMeaning) (P : ℕ → Track → Type 0) → Makes scene P → (slots : Slots) (counter number : ℕ) → AreSlots P slots → AreSlots P (after_track scene slots counter number)
+after_track-slots : (scene : SceneMeaning) (P : ℕ → Track → Type 0) → Makes scene P → (slots : TrackSlots) (counter number : ℕ) → AreSlots P slots → AreSlots P (after_track scene slots counter number)
 after_track-slots scene P makes slots counter number known = by (is_free scene slots counter) refl
   where
     keyed : (o : Option (TableId × Addr)) → scene.key (present slots) number ≡ o → is_free scene slots counter ≡ true → AreSlots P (with_track slots counter o)
@@ -88,24 +88,24 @@ after_track-slots scene P makes slots counter number known = by (is_free scene s
     by false e = rw e known
     by true e = rw e (keyed (scene.key (present slots) number) refl e)
 
-after_action-slots : (scene : SceneMeaning) (P : ℕ → Track → Type 0) → Makes scene P → (slots : Slots) (action : Action) → AreSlots P slots → AreSlots P (after_action scene slots action)
+after_action-slots : (scene : SceneMeaning) (P : ℕ → Track → Type 0) → Makes scene P → (slots : TrackSlots) (action : Action) → AreSlots P slots → AreSlots P (after_action scene slots action)
 after_action-slots scene P makes slots actions.Accept known = known
 after_action-slots scene P makes slots actions.Reject known = known
 after_action-slots scene P makes slots (actions.Track counter number) known = after_track-slots scene P makes slots counter number known
 after_action-slots scene P makes slots actions.ExpectProxy known = known
 
-after_rule-slots : (scene : SceneMeaning) (P : ℕ → Track → Type 0) → Makes scene P → (slots : Slots) (rule : Rule) → AreSlots P slots → AreSlots P (after_rule scene slots rule)
+after_rule-slots : (scene : SceneMeaning) (P : ℕ → Track → Type 0) → Makes scene P → (slots : TrackSlots) (rule : Rule) → AreSlots P slots → AreSlots P (after_rule scene slots rule)
 after_rule-slots scene P makes slots rule known = by (is_true scene slots rule) refl
   where
     by : (b : Bool) → is_true scene slots rule ≡ b → AreSlots P (after_rule scene slots rule)
     by true e = rw e (after_action-slots scene P makes slots rule.action known)
     by false e = rw e known
 
-after_rules-slots : (scene : SceneMeaning) (P : ℕ → Track → Type 0) → Makes scene P → (slots : Slots) (rules : List Rule) → AreSlots P slots → AreSlots P (after_rules scene slots rules)
+after_rules-slots : (scene : SceneMeaning) (P : ℕ → Track → Type 0) → Makes scene P → (slots : TrackSlots) (rules : List Rule) → AreSlots P slots → AreSlots P (after_rules scene slots rules)
 after_rules-slots scene P makes slots [] known = known
 after_rules-slots scene P makes slots (rule ∷ rules) known = after_rules-slots scene P makes (after_rule scene slots rule) rules (after_rule-slots scene P makes slots rule known)
 
-pub judged-slots : (scene : SceneMeaning) (P : ℕ → Track → Type 0) → Makes scene P → (slots : Slots) (rules : List Rule) → AreSlots P slots → AreSlots P (judged_after scene slots rules).tracks
+pub judged-slots : (scene : SceneMeaning) (P : ℕ → Track → Type 0) → Makes scene P → (slots : TrackSlots) (rules : List Rule) → AreSlots P slots → AreSlots P (judged_after scene slots rules).tracks
 judged-slots scene P makes slots rules known = by (deciding_rule scene slots rules)
   where
     by : (decided : Option (ℕ × Rule)) → AreSlots P (judged_by scene slots rules decided).tracks

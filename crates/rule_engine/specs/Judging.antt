@@ -15,14 +15,14 @@ use Rattle.rule_engine.specs.Meaning.{SceneMeaning, present}
 
 -- The tracks that a list has made so far: a slot for each counter.
 
-abbrev pub Slots : Type 0
-Slots = List (Option Track)
+abbrev pub TrackSlots : Type 0
+TrackSlots = List (Option Track)
 
-abbrev pub no_tracks : Slots
+abbrev pub no_tracks : TrackSlots
 no_tracks = None ∷ None ∷ None ∷ []
 
 -- the condition of the rule is true once those tracks are made
-abbrev pub is_true : SceneMeaning → Slots → Rule → Bool
+abbrev pub is_true : SceneMeaning → TrackSlots → Rule → Bool
 is_true scene tracks rule = applies scene.acls (scene.worth (present tracks)) rule.when
 
 -- Tracks.
@@ -33,29 +33,29 @@ is_empty None = false
 is_empty (Some None) = true
 is_empty (Some (Some track)) = false
 
-abbrev pub is_free : SceneMeaning → Slots → ℕ → Bool
+abbrev pub is_free : SceneMeaning → TrackSlots → ℕ → Bool
 is_free scene tracks counter = is_empty (slice_get tracks counter) && scene.is_free counter
 
 -- one more track, where there is something to track
-abbrev pub with_track : Slots → ℕ → Option (TableId × Addr) → Slots
+abbrev pub with_track : TrackSlots → ℕ → Option (TableId × Addr) → TrackSlots
 with_track tracks counter None = tracks
 with_track tracks counter (Some (table, key)) = slice_set tracks counter (Some (record { counter = counter; table = table; key = key }))
 
 -- the counter tracks in the table of that number, if it is free
-abbrev pub after_track : SceneMeaning → Slots → ℕ → ℕ → Slots
+abbrev pub after_track : SceneMeaning → TrackSlots → ℕ → ℕ → TrackSlots
 after_track scene tracks counter number = if is_free scene tracks counter then with_track tracks counter (scene.key (present tracks) number) else tracks
 
-abbrev pub after_action : SceneMeaning → Slots → Action → Slots
+abbrev pub after_action : SceneMeaning → TrackSlots → Action → TrackSlots
 after_action scene tracks actions.Accept = tracks
 after_action scene tracks actions.Reject = tracks
 after_action scene tracks (actions.Track counter number) = after_track scene tracks counter number
 after_action scene tracks actions.ExpectProxy = tracks
 
 -- a rule whose condition is true tracks what it can
-abbrev pub after_rule : SceneMeaning → Slots → Rule → Slots
+abbrev pub after_rule : SceneMeaning → TrackSlots → Rule → TrackSlots
 after_rule scene tracks rule = if is_true scene tracks rule then after_action scene tracks rule.action else tracks
 
-abbrev pub after_rules : SceneMeaning → Slots → List Rule → Slots
+abbrev pub after_rules : SceneMeaning → TrackSlots → List Rule → TrackSlots
 after_rules scene tracks [] = tracks
 after_rules scene tracks (rule ∷ rules) = after_rules scene (after_rule scene tracks rule) rules
 
@@ -69,11 +69,11 @@ is_final (actions.Track counter number) = false
 is_final actions.ExpectProxy = false
 
 -- a final rule decides at its place if its condition is true once the rules before it have tracked
-abbrev pub decides : SceneMeaning → Slots → List Rule → ℕ × Rule → Bool
+abbrev pub decides : SceneMeaning → TrackSlots → List Rule → ℕ × Rule → Bool
 decides scene tracks rules (place, rule) = is_final rule.action && is_true scene (after_rules scene tracks (take place rules)) rule
 
 -- the least place at which a rule decides, with that rule
-abbrev pub deciding_rule : SceneMeaning → Slots → List Rule → Option (ℕ × Rule)
+abbrev pub deciding_rule : SceneMeaning → TrackSlots → List Rule → Option (ℕ × Rule)
 deciding_rule scene tracks rules = find (decides scene tracks rules) (enumerate_from 0 rules)
 
 abbrev pub verdict_of : Action → Verdict
@@ -91,15 +91,15 @@ is_expectation (actions.Track counter number) = false
 is_expectation actions.ExpectProxy = true
 
 -- such a rule expects a header at its place if its condition is true once the rules before it have tracked
-abbrev pub expects : SceneMeaning → Slots → List Rule → ℕ × Rule → Bool
+abbrev pub expects : SceneMeaning → TrackSlots → List Rule → ℕ × Rule → Bool
 expects scene tracks rules (place, rule) = is_expectation rule.action && is_true scene (after_rules scene tracks (take place rules)) rule
 
 -- one of the rules expects a header, where all of them are tried
-abbrev pub expects_header : SceneMeaning → Slots → List Rule → Bool
+abbrev pub expects_header : SceneMeaning → TrackSlots → List Rule → Bool
 expects_header scene tracks rules = is_some (find (expects scene tracks rules) (enumerate_from 0 rules))
 
 -- what the list says, by the rule that decides it: the rules before that one are tried
-abbrev pub judged_by : SceneMeaning → Slots → List Rule → Option (ℕ × Rule) → Judged
+abbrev pub judged_by : SceneMeaning → TrackSlots → List Rule → Option (ℕ × Rule) → Judged
 judged_by scene tracks rules None = record {
   verdict = verdicts.On;
   line = 0;
@@ -114,7 +114,7 @@ judged_by scene tracks rules (Some (place, rule)) = record {
 }
 
 -- what the list says, after those tracks
-abbrev pub judged_after : SceneMeaning → Slots → List Rule → Judged
+abbrev pub judged_after : SceneMeaning → TrackSlots → List Rule → Judged
 judged_after scene tracks rules = judged_by scene tracks rules (deciding_rule scene tracks rules)
 
 abbrev pub judged : SceneMeaning → List Rule → Judged

@@ -1,9 +1,10 @@
 //! Going through a list of rules.
 ghost use Rattle.std.specs.Prelude.{◌≡◌, ◌<◌, false, IsTrue};
+ghost use Rattle.proxy_types.specs.declared.limits.TheConstants.{COUNTERS};
 ghost use Rattle.rule_engine.specs.Meaning.{present};
 ghost use Rattle.rule_engine.specs.Judging.{is_true, is_free, after_rule, after_track, judged, judged_after};
 
-use crate::scene::{COUNTERS, Scene, Tracks};
+use crate::scene::{NO_TRACKS, Scene, Tracks};
 use acl_core::{Acl, Criterion, Value, View};
 use plan_types::{Action, Rule, Track};
 
@@ -30,12 +31,12 @@ pub struct Judged {
 
 /// A connection once those tracks are made, as conditions see it.
 #[derive(Drop)]
-pub struct Moment<'a, S> {
+pub struct TracksSoFar<'a, S> {
     pub scene: &'a S,
     pub tracks: &'a Tracks,
 }
 
-impl<'a, S: Scene> View for Moment<'a, S> {
+impl<'a, S: Scene> View for TracksSoFar<'a, S> {
     ghost worth = { λ moment. (S.meaning moment.scene.now).worth (present moment.tracks.now) };
 
     ghost acls = { λ moment. (S.meaning moment.scene.now).acls };
@@ -53,7 +54,7 @@ impl<'a, S: Scene> View for Moment<'a, S> {
 pub fn is_true<S: Scene>(scene: &S, tracks: &Tracks, rule: &Rule) -> bool
     ensures { result ≡ is_true (S.meaning scene.now) tracks.now rule.now }
 {
-    rule.when.applies(&Moment { scene, tracks })
+    rule.when.applies(&TracksSoFar { scene, tracks })
 }
 
 /// Whether the counter tracks nothing.
@@ -117,7 +118,7 @@ fn outcome(verdict: Verdict, line: u32, tracks: Tracks, expects_header: bool) ->
 pub fn judge<S: Scene>(rules: &[Rule], scene: &S) -> Judged
     ensures { result ≡ judged (S.meaning scene.now) rules.now }
 {
-    judge_after(rules, scene, [None; COUNTERS])
+    judge_after(rules, scene, NO_TRACKS)
 }
 
 /// The same where earlier lists made those tracks.

@@ -5,12 +5,13 @@ ghost use Rattle.rule_engine.specs.Meaning.{present};
 use acl_core::{Acl, Criterion, Value};
 use addr_core::Addr;
 use plan_types::{TableId, Track};
-
-/// How many counters there are: sc0, sc1 and sc2.
-pub const COUNTERS: usize = 3;
+use proxy_types::COUNTERS;
 
 /// The tracks that a list of rules has made, by counter.
 pub type Tracks = [Option<Track>; COUNTERS];
+
+/// No counter tracks.
+pub const NO_TRACKS: Tracks = [None; COUNTERS];
 
 /// A connection in its section, before a list of rules. What the list has tracked so far comes by
 /// counter.

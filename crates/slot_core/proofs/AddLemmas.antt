@@ -6,7 +6,7 @@ use Rattle.std.specs.List.{position}
 use Rattle.proxy_types.specs.declared.server.ServerIdentity.{ServerIdentity}
 use Rattle.slot_core.specs.declared.slots.Count.{Count}
 use Rattle.slot_core.specs.Counts.{closed, identity_at, is_of, named_at, open_at, open_in, IdentitiesDiffer}
-use Rattle.slot_core.proofs.Items.{get-set}
+use Rattle.list_core.proofs.Items.{get-set}
 use Rattle.slot_core.proofs.CountLemmas.{differ-added, differ-replaced, identity-added, identity-last, identity-replaced, named-within, open-added, open-replaced, open_in-same, open_there}
 
 pub record IsAdded (identity : ServerIdentity) (place : ℕ) (old : List Count) (named : List Bool) (next : List Count) : Type 0 where

@@ -12,7 +12,7 @@ use Rattle.proxy_types.specs.declared.server.ServerIdentity.{ServerIdentity}
 use Rattle.slot_core.specs.declared.slots.Count.{Count}
 use Rattle.slot_core.specs.declared.slots.SlotIx.{SlotIx}
 use Rattle.slot_core.specs.Counts.{is_of, place_of, closed, open_at, open_in, open_in_all, identity_at, named_at, changed, with_open, slots_at, IdentitiesDiffer}
-use Rattle.slot_core.proofs.Items.{absent, found, get-other, get-set, one_item}
+use Rattle.list_core.proofs.Items.{absent, found, get-other, get-set, one_item}
 use Rattle.addr_core.specs.declared.addr.Addr.{Addr}
 use Rattle.addr_core.specs.declared.addr.Endpoint.{Endpoint}
 use Rattle.addr_core.specs.Same.{same_addr, same_endpoint}

@@ -1,4 +1,3 @@
-pub mod Items
 pub mod CountLemmas
 pub mod TotalLemmas
 pub mod AddLemmas

@@ -13,7 +13,7 @@ use Rattle.slot_core.specs.declared.totals.BackendTotal.{BackendTotal}
 use Rattle.slot_core.specs.Counts.{closed, changed, is_of, open_at, open_in, with_open}
 use Rattle.slot_core.specs.Totals.{has_name, is_unused, name_at, connections_at, servers_at, with_connections, with_servers, with_total, servers_in, AreCounts, AreTotals, AreTotalsOf, IsTotal}
 use Rattle.slot_core.proofs.CountLemmas.{differ-added, differ-changed, differ-replaced, open_there}
-use Rattle.slot_core.proofs.Items.{absent, all-at, found, get-last, get-other, get-pushed, get-set, length-set, one_item, push-cases, set-cases, within}
+use Rattle.list_core.proofs.Items.{absent, all-at, found, get-last, get-other, get-pushed, get-set, length-set, one_item, push-cases, set-cases, within}
 
 -- Sums over the servers of a backend.
 

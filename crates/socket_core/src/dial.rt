@@ -2,7 +2,7 @@
 use crate::WAKE;
 use crate::addresses::socket_address;
 use crate::alarm::Alarm;
-use crate::link::{Progress, SocketLink};
+use crate::link::{DialProgress, SocketLink};
 use addr_core::Endpoint;
 use link_core::{Dial, Dialled, Ready};
 use mio::event::Event;
@@ -117,9 +117,9 @@ impl<'a, R: Net> Dial for SocketDial<'a, R> {
             },
         };
         match progress {
-            Progress::Connected => Dialled::Link(link),
-            Progress::Failed => Dialled::Failed,
-            Progress::UnderWay => match self.under_way.insert(key, link) {
+            DialProgress::Connected => Dialled::Link(link),
+            DialProgress::Failed => Dialled::Failed,
+            DialProgress::UnderWay => match self.under_way.insert(key, link) {
                 Ok(_) => Dialled::Later,
                 Err(_) => Dialled::Failed,
             },

@@ -1,13 +1,13 @@
-//! The door: connections of the listeners, and the words of an operator.
+//! The door: connections of the listeners, and the commands of an operator.
 use crate::alarm::Alarm;
+use crate::commands::{Command, CommandSender, MOST_COMMANDS};
+use crate::fd_budget::{FdBudget, FdPermit};
 use crate::link::SocketLink;
 use crate::listeners::{ListenFault, Listeners};
 use crate::pace::Pace;
-use crate::ports::{Arrival, Ports};
-use crate::seats::{Seat, Seats};
-use crate::words::{Bell, MOST_WORDS, Word};
+use crate::ports::{AcceptResult, Ports};
 use conn_model::reply::{Reply, Said, StepFault};
-use link_core::{Backlog, Clock, Door, Knock};
+use link_core::{Backlog, Clock, Door, DoorEvent};
 use log::{Log, info, warn};
 use mio::Waker;
 use rtrb::{Consumer, RingBuffer};
@@ -16,20 +16,20 @@ use std::io;
 use std::net::Net;
 use std::sync::Arc;
 
-/// How long the door waits for a knock, and how long it accepts nothing after the system refused to give a connection,
+/// How long the door waits for a next_event, and how long it accepts nothing after the system refused to give a connection,
 /// in ms.
 const WAIT: u64 = 100;
 
 /// How long the door waits where nothing is accepted after the system refused to give a connection, in ms.
 const PAUSE: u64 = 10;
 
-/// Where connections come in, and words.
+/// Where connections come in, and commands.
 #[derive(Drop)]
 pub struct SocketDoor<'a, R: Log, C: Clock> {
     rt: &'a R,
     clock: &'a C,
     ports: Ports,
-    words: Consumer<Word>,
+    commands: Consumer<Command>,
     // Kept for as long as the ports: a wake is lost if its waker is dropped first.
     waker: Arc<Waker, Global>,
     /// What wakes the workers.
@@ -43,7 +43,7 @@ pub struct SocketDoor<'a, R: Log, C: Clock> {
     is_closed: bool,
     /// Whether as many connections are open as may be.
     is_full: bool,
-    seats: Arc<Seats, Global>,
+    budget: Arc<FdBudget, Global>,
     full: Pace,
     refused: Pace,
     lost: Pace,
@@ -54,25 +54,25 @@ pub struct SocketDoor<'a, R: Log, C: Clock> {
 }
 
 impl<'a, R: Log + Net, C: Clock> SocketDoor<'a, R, C> {
-    /// A door over these listeners, and the bell by which words come to it. No more than `most` connections are open at
-    /// one time.
+    /// A door over these listeners, and the sender by which commands come to it. No more than `most` connections are open
+    /// at one time.
     pub fn new(
         rt: &'a R,
         alloc: Global,
         clock: &'a C,
         listeners: Listeners,
         most: u64,
-    ) -> Result<(SocketDoor<'a, R, C>, Bell), ListenFault> {
+    ) -> Result<(SocketDoor<'a, R, C>, CommandSender), ListenFault> {
         let ports = Ports::new(rt, alloc, listeners)?;
         let waker = ports.waker(alloc)?;
-        let (to_door, words) = RingBuffer::new(alloc, MOST_WORDS)?;
-        let bell = Bell::new(to_door, Arc::try_clone(&waker)?);
-        let seats = Seats::new(most, Arc::try_clone(&waker)?);
+        let (to_door, commands) = RingBuffer::new(alloc, MOST_COMMANDS)?;
+        let sender = CommandSender::new(to_door, Arc::try_clone(&waker)?);
+        let budget = FdBudget::new(most, Arc::try_clone(&waker)?);
         let door = SocketDoor {
             rt,
             clock,
             ports,
-            words,
+            commands,
             waker,
             workers: Vec::new(alloc),
             given: 0,
@@ -80,7 +80,7 @@ impl<'a, R: Log + Net, C: Clock> SocketDoor<'a, R, C> {
             resumes: None,
             is_closed: false,
             is_full: false,
-            seats: Arc::new(alloc, seats).map_err(|_| ListenFault::NoMemory)?,
+            budget: Arc::new(alloc, budget).map_err(|_| ListenFault::NoMemory)?,
             full: Pace::new(),
             refused: Pace::new(),
             lost: Pace::new(),
@@ -88,7 +88,7 @@ impl<'a, R: Log + Net, C: Clock> SocketDoor<'a, R, C> {
             unwritten: Pace::new(),
             segments: 0,
         };
-        Ok((door, bell))
+        Ok((door, sender))
     }
 }
 
@@ -117,12 +117,12 @@ impl<'a, R: Log, C: Clock> SocketDoor<'a, R, C> {
     }
 
     /// The next word, if one came. Where none will come any more, that is `Quit`.
-    fn next_word(&mut self) -> Option<Word> {
-        // In this order: a word that was handed in before the bell was dropped is not missed.
-        let is_last = self.words.is_abandoned();
-        match self.words.pop() {
+    fn next_command(&mut self) -> Option<Command> {
+        // In this order: a word that was handed in before the sender was dropped is not missed.
+        let is_last = self.commands.is_abandoned();
+        match self.commands.pop() {
             Ok(word) => Some(word),
-            Err(_) if is_last => Some(Word::Quit),
+            Err(_) if is_last => Some(Command::Quit),
             Err(_) => None,
         }
     }
@@ -147,50 +147,50 @@ impl<'a, R: Log, C: Clock> SocketDoor<'a, R, C> {
         self.resumes = Some(now.saturating_add(WAIT));
     }
 
-    /// A seat for the next connection. Where there is none, nothing is accepted until a connection ends, which wakes the
+    /// A permit for the next connection. If there is none, nothing is accepted until a connection ends, which wakes the
     /// door. What waits stays with the system.
-    fn seat(&mut self) -> Option<Seat> {
-        let seat = Seat::ask(&self.seats);
-        self.is_full = seat.is_none();
+    fn permit(&mut self) -> Option<FdPermit> {
+        let permit = FdPermit::ask(&self.budget);
+        self.is_full = permit.is_none();
         if self.is_full && self.full.allows(self.clock.now()) {
             warn!(self.rt; "no connection is accepted: as many are open as the limit of open files allows");
         }
-        seat
+        permit
     }
 
-    fn accept(&mut self) -> Option<Knock<SocketLink>> {
+    fn accept(&mut self) -> Option<DoorEvent<SocketLink>> {
         if self.is_paused() {
             return None;
         }
-        let seat = self.seat()?;
+        let permit = self.permit()?;
         match self.ports.accept() {
-            Arrival::Conn(listener, pair, link) => {
+            AcceptResult::Conn(listener, pair, link) => {
                 self.given = self.given.wrapping_add(1);
                 self.owes_wake = true;
-                Some(Knock::Conn(listener, pair, link.with_seat(seat)))
+                Some(DoorEvent::Conn(listener, pair, link.with_permit(permit)))
             }
-            Arrival::Lost => {
+            AcceptResult::Lost => {
                 if self.lost.allows(self.clock.now()) {
                     warn!(self.rt; "a connection was dropped: it ended early, or its ends are not of one family");
                 }
                 None
             }
-            Arrival::Refused(error) => {
+            AcceptResult::Refused(error) => {
                 self.pause(&error);
                 None
             }
-            Arrival::Nothing => None,
+            AcceptResult::Nothing => None,
         }
     }
 
     /// What came, if anything did. Words come first, so that connections cannot keep them waiting.
-    fn knock(&mut self) -> Option<Knock<SocketLink>> {
-        match self.next_word() {
-            Some(Word::Reload(text)) => Some(Knock::Reload(text)),
-            Some(Word::Quit) => {
+    fn next_event(&mut self) -> Option<DoorEvent<SocketLink>> {
+        match self.next_command() {
+            Some(Command::Reload(text)) => Some(DoorEvent::Reload(text)),
+            Some(Command::Quit) => {
                 self.is_closed = true;
                 self.wake_all();
-                Some(Knock::Closed)
+                Some(DoorEvent::Closed)
             }
             None => self.accept(),
         }
@@ -200,14 +200,14 @@ impl<'a, R: Log, C: Clock> SocketDoor<'a, R, C> {
 impl<'a, R: Log, C: Clock> Door for SocketDoor<'a, R, C> {
     type Link = SocketLink;
 
-    fn next(&mut self) -> Knock<SocketLink> {
+    fn next(&mut self) -> DoorEvent<SocketLink> {
         self.wake_last();
         if self.is_closed {
             self.wake_all();
-            return Knock::Closed;
+            return DoorEvent::Closed;
         }
-        if let Some(knock) = self.knock() {
-            return knock;
+        if let Some(next_event) = self.next_event() {
+            return next_event;
         }
         let limit = if self.is_paused() {
             PAUSE
@@ -217,7 +217,7 @@ impl<'a, R: Log, C: Clock> Door for SocketDoor<'a, R, C> {
             WAIT
         };
         self.ports.wait(limit);
-        self.knock().unwrap_or(Knock::Idle)
+        self.next_event().unwrap_or(DoorEvent::Idle)
     }
 
     /// Says what became of a reload, in one line for each.

@@ -1,30 +1,30 @@
-//! The sockets of a crew: listeners, connections to servers, and the words of an operator.
+//! The sockets of a crew: listeners, connections to servers, and the commands of an operator.
 //!
 //! No other crate opens a socket. What is decided about a connection is not decided here.
 #![tactic(auto)]
 
 pub use alarm::Alarm;
 pub use clock::SystemClock;
+pub use commands::{Command, CommandSender};
 pub use dial::SocketDial;
 pub use dials::{DialFault, make_dials};
 pub use door::SocketDoor;
 pub use link::{Socket, SocketLink};
 pub use listeners::{ListenFault, Listeners, listen};
 pub use pace::Pace;
-pub use words::{Bell, Word};
 
 mod addresses;
 mod alarm;
 mod clock;
+mod commands;
 mod dial;
 mod dials;
 mod door;
+mod fd_budget;
 mod link;
 mod listeners;
 mod pace;
 mod ports;
-mod seats;
-mod words;
 
 use mio::Token;
 

@@ -1,7 +1,7 @@
 //! A connection of bytes over a socket.
 ghost use Rattle.std.specs.Prelude.{◌<◌, length};
 
-use crate::seats::Seat;
+use crate::fd_budget::FdPermit;
 use device_core::{Failed, Got, Input, Output, Put, StdDevice};
 use link_core::Link;
 use mio::net::TcpStream;
@@ -37,7 +37,7 @@ impl Write for Socket {
 pub struct SocketLink {
     device: StdDevice<Socket>,
     // Of a client.
-    seat: Option<Seat>,
+    permit: Option<FdPermit>,
 }
 
 impl SocketLink {
@@ -46,16 +46,16 @@ impl SocketLink {
         let _is_set = stream.set_nodelay(true);
         SocketLink {
             device: StdDevice::of(Socket { stream }),
-            seat: None,
+            permit: None,
         }
     }
 
-    /// The link of a client, which keeps its seat for as long as it is there.
-    pub fn with_seat(self, seat: Seat) -> SocketLink {
-        let SocketLink { device, seat: _ } = self;
+    /// The link of a client, which keeps its permit for as long as it is there.
+    pub fn with_permit(self, permit: FdPermit) -> SocketLink {
+        let SocketLink { device, permit: _ } = self;
         SocketLink {
             device,
-            seat: Some(seat),
+            permit: Some(permit),
         }
     }
 
@@ -67,20 +67,20 @@ impl SocketLink {
     }
 
     /// How far a connection is that was begun just now. A failure is reported by the poll, and not yet here.
-    pub fn first_progress(&mut self) -> Progress {
+    pub fn first_progress(&mut self) -> DialProgress {
         match self.device.get_mut().stream.peer_addr() {
-            Ok(_) => Progress::Connected,
-            Err(_) => Progress::UnderWay,
+            Ok(_) => DialProgress::Connected,
+            Err(_) => DialProgress::UnderWay,
         }
     }
 
     /// How far a connection is of which the poll reported something.
-    pub fn progress(&mut self) -> Progress {
+    pub fn progress(&mut self) -> DialProgress {
         let stream = &mut self.device.get_mut().stream;
         // The system tells an error once, and after that a connection that failed reads as one that ended. So this
         // question is the first.
         if !matches!(stream.take_error(), Ok(None)) {
-            return Progress::Failed;
+            return DialProgress::Failed;
         }
         self.first_progress()
     }
@@ -88,7 +88,7 @@ impl SocketLink {
 
 /// How far a connection is that was begun.
 #[derive(Clone, Copy, Debug, PartialEq, Eq)]
-pub enum Progress {
+pub enum DialProgress {
     Connected,
     UnderWay,
     Failed,

@@ -33,7 +33,7 @@ impl From<AllocError> for ListenFault {
 
 /// A socket that listens.
 #[derive(Drop)]
-pub struct Listener {
+pub struct BoundListener {
     pub socket: TcpListener,
     /// The local end of its connections, where they all have the same.
     pub local: Option<Endpoint>,
@@ -44,7 +44,7 @@ pub struct Listener {
 /// Sockets that listen, by their numbers.
 #[derive(Drop)]
 pub struct Listeners {
-    all: Vec<Listener>,
+    all: Vec<BoundListener>,
 }
 
 impl Listeners {
@@ -64,21 +64,21 @@ impl Listeners {
         Some(endpoint_of(&address))
     }
 
-    pub(crate) fn into_vec(self) -> Vec<Listener> {
+    pub(crate) fn into_vec(self) -> Vec<BoundListener> {
         let Listeners { all } = self;
         all
     }
 }
 
 /// Binds one address.
-fn listen_at(rt: &impl Net, at: &Endpoint) -> io::Result<Listener> {
+fn listen_at(rt: &impl Net, at: &Endpoint) -> io::Result<BoundListener> {
     let socket = TcpListener::bind(rt, socket_address(at))?;
     let local = if is_wildcard(at) {
         None
     } else {
         Some(endpoint_of(&socket.local_addr()?))
     };
-    Ok(Listener {
+    Ok(BoundListener {
         socket,
         local,
         may_accept: true,

@@ -2,7 +2,7 @@
 use crate::WAKE;
 use crate::addresses::{endpoint_of, pair_of};
 use crate::link::SocketLink;
-use crate::listeners::{ListenFault, Listener, Listeners};
+use crate::listeners::{BoundListener, ListenFault, Listeners};
 use addr_core::Pair;
 use mio::net::TcpStream;
 use mio::{Events, Interest, Poll, Token, Waker};
@@ -17,7 +17,7 @@ use std::time::Duration;
 const MOST_EVENTS: usize = 64;
 
 /// What a listener gave.
-pub enum Arrival {
+pub enum AcceptResult {
     Conn(u16, Pair, SocketLink),
     /// A connection that ended before it was seen, or whose ends are not known as a pair.
     Lost,
@@ -31,7 +31,7 @@ pub enum Arrival {
 pub struct Ports {
     poll: Poll,
     events: Events,
-    listeners: Vec<Listener>,
+    listeners: Vec<BoundListener>,
     // The listener that is asked first.
     turn: usize,
 }
@@ -78,7 +78,7 @@ impl Ports {
     }
 
     /// Has the next listener in turn that may have one give a connection.
-    pub fn accept(&mut self) -> Arrival {
+    pub fn accept(&mut self) -> AcceptResult {
         let count = self.listeners.len();
         for step in 0..count {
             let place = self.turn.wrapping_add(step) % count;
@@ -92,17 +92,18 @@ impl Ports {
                 }
                 Err(error) => match error.kind() {
                     ErrorKind::WouldBlock => self.listeners[place].may_accept = false,
-                    ErrorKind::Interrupted | ErrorKind::ConnectionAborted => return Arrival::Lost,
-                    _ => return Arrival::Refused(error),
+                    ErrorKind::Interrupted | ErrorKind::ConnectionAborted =>
+                        return AcceptResult::Lost,
+                    _ => return AcceptResult::Refused(error),
                 },
             }
         }
-        Arrival::Nothing
+        AcceptResult::Nothing
     }
 
-    fn arrived(&self, place: usize, stream: TcpStream, peer: &SocketAddr) -> Arrival {
+    fn arrived(&self, place: usize, stream: TcpStream, peer: &SocketAddr) -> AcceptResult {
         let Ok(number) = u16::try_from(place) else {
-            return Arrival::Lost;
+            return AcceptResult::Lost;
         };
         let local = match self
             .listeners
@@ -112,12 +113,12 @@ impl Ports {
             Some(local) => local,
             None => match stream.local_addr() {
                 Ok(local) => endpoint_of(&local),
-                Err(_) => return Arrival::Lost,
+                Err(_) => return AcceptResult::Lost,
             },
         };
         match pair_of(&endpoint_of(peer), &local) {
-            Some(pair) => Arrival::Conn(number, pair, SocketLink::of(stream)),
-            None => Arrival::Lost,
+            Some(pair) => AcceptResult::Conn(number, pair, SocketLink::of(stream)),
+            None => AcceptResult::Lost,
         }
     }
 }

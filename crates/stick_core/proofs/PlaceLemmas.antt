@@ -17,7 +17,7 @@ use Rattle.addr_core.proofs.SameLemmas.{same_addr-is, same_addr-sym}
 use Rattle.indexmap.specs.IndexMap.{set_value_at, insert_entry}
 use Rattle.indexmap.proofs.MapLemmas.{absent_from_lookup, insert_entry-absent, some_index}
 use Rattle.indexmap.specs.Layout.{length-set_value_at}
-use Rattle.stick_core.specs.declared.entries.Entry.{Entry}
+use Rattle.stick_core.specs.declared.entries.StickEntry.{StickEntry}
 use Rattle.stick_core.specs.declared.touch_list.Counts.{Counts}
 use Rattle.stick_core.specs.Entries.{is_of, is_free, others, without_first_free}
 use Rattle.stick_core.specs.Places.{entry_at, entry_of_pair, free_at, nothing, ranked, IsKept}
@@ -31,7 +31,7 @@ use Rattle.stick_core.proofs.RingLemmas.{eqb-self, eqb-is, eqb-apart, eqb-differ
 abbrev pub IsAt : (ℕ → Bool) → ℕ → ℕ → Type 0
 IsAt test n p = (q : ℕ) → q < n → test q ≡ eqb q p
 
-pub others-map : (f : ℕ → Entry) (key : Addr) (n p : ℕ) → IsAt (λ q. is_of key (f q)) n p → (xs : List ℕ) → Below n xs → others key (map f xs) ≡ map f (without p xs)
+pub others-map : (f : ℕ → StickEntry) (key : Addr) (n p : ℕ) → IsAt (λ q. is_of key (f q)) n p → (xs : List ℕ) → Below n xs → others key (map f xs) ≡ map f (without p xs)
 others-map f key n p at [] below = refl
 others-map f key n p at (x ∷ xs) below = by (eqb x p) refl (others-map f key n p at xs below.1)
   where
@@ -39,7 +39,7 @@ others-map f key n p at (x ∷ xs) below = by (eqb x p) refl (others-map f key n
     by true is more = let of : is_of key (f x) ≡ true = at x below.0 ∙ is in rw (of, is) more
     by false is more = let of : is_of key (f x) ≡ false = at x below.0 ∙ is in rw (of, is) (ap (λ l. f x ∷ l) more)
 
-pub find-map : (f : ℕ → Entry) (key : Addr) (n p : ℕ) → IsAt (λ q. is_of key (f q)) n p → (xs : List ℕ) → Below n xs → Has p xs → ((x : ℕ) → eqb x p ≡ true → x ≡ p) → ((x : ℕ) → eqb x p ≡ false → x ≢ p)
+pub find-map : (f : ℕ → StickEntry) (key : Addr) (n p : ℕ) → IsAt (λ q. is_of key (f q)) n p → (xs : List ℕ) → Below n xs → Has p xs → ((x : ℕ) → eqb x p ≡ true → x ≡ p) → ((x : ℕ) → eqb x p ≡ false → x ≢ p)
     → find (is_of key) (map f xs) ≡ Some (f p)
 find-map f key n p at [] below has same apart = absurd has
 find-map f key n p at (x ∷ xs) below has same apart = by (eqb x p) refl has (λ more. find-map f key n p at xs below.1 more same apart)
@@ -49,12 +49,12 @@ find-map f key n p at (x ∷ xs) below has same apart = by (eqb x p) refl has (�
     by false is (inl here) more = absurd (apart x is (sym here))
     by false is (inr there) more = let of : is_of key (f x) ≡ false = at x below.0 ∙ is in rw of (more there)
 
-pub find-none : (f : ℕ → Entry) (key : Addr) (n : ℕ) → ((q : ℕ) → q < n → is_of key (f q) ≡ false) → (xs : List ℕ) → Below n xs → find (is_of key) (map f xs) ≡ None
+pub find-none : (f : ℕ → StickEntry) (key : Addr) (n : ℕ) → ((q : ℕ) → q < n → is_of key (f q) ≡ false) → (xs : List ℕ) → Below n xs → find (is_of key) (map f xs) ≡ None
 find-none f key n at [] below = refl
 find-none f key n at (x ∷ xs) below = let of : is_of key (f x) ≡ false = at x below.0 in rw of (find-none f key n at xs below.1)
 
 -- entries that change only at a place
-pub map-apart : (f g : ℕ → Entry) (p : ℕ) → ((q : ℕ) → q ≢ p → g q ≡ f q) → (xs : List ℕ) → Lacks p xs → map g xs ≡ map f xs
+pub map-apart : (f g : ℕ → StickEntry) (p : ℕ) → ((q : ℕ) → q ≢ p → g q ≡ f q) → (xs : List ℕ) → Lacks p xs → map g xs ≡ map f xs
 map-apart f g p same [] lacks = refl
 map-apart f g p same (x ∷ xs) lacks =
     let here : g x ≡ f x = same x (λ is. lacks.0 (sym is)) in
@@ -104,7 +104,7 @@ filter-push f (x ∷ xs) p = by (f x) refl (filter-push f xs p)
     by true is more = rw is (ap (λ l. x ∷ l) more)
     by false is more = rw is more
 
-pub map-push : (f : ℕ → Entry) (xs : List ℕ) (p : ℕ) → map f (xs ++ p ∷ []) ≡ map f xs ++ f p ∷ []
+pub map-push : (f : ℕ → StickEntry) (xs : List ℕ) (p : ℕ) → map f (xs ++ p ∷ []) ≡ map f xs ++ f p ∷ []
 map-push f [] p = refl
 map-push f (x ∷ xs) p = ap (λ l. f x ∷ l) (map-push f xs p)
 
@@ -188,7 +188,7 @@ tied (V6 a) (V4 b) = refl
 tied (V6 a) (V6 b) = grind (arith, nat_tests)
 
 -- what is not found has no place
-none-has : (f : ℕ → Entry) (key : Addr) (xs : List ℕ) (q : ℕ) → find (is_of key) (map f xs) ≡ None → Has q xs → is_of key (f q) ≡ false
+none-has : (f : ℕ → StickEntry) (key : Addr) (xs : List ℕ) (q : ℕ) → find (is_of key) (map f xs) ≡ None → Has q xs → is_of key (f q) ≡ false
 none-has f key [] q none has = absurd has
 none-has f key (x ∷ xs) q none has = by (is_of key (f x)) refl none has (none-has f key xs q)
   where
@@ -252,11 +252,11 @@ at-set-apart (e ∷ es) zero counts (suc q) apart = refl
 at-set-apart (e ∷ es) (suc p) counts zero apart = refl
 at-set-apart (e ∷ es) (suc p) counts (suc q) apart = at-set-apart es p counts q (λ is. apart (ap suc is))
 
-length-map : (f : ℕ → Entry) (xs : List ℕ) → length (map f xs) ≡ length xs
+length-map : (f : ℕ → StickEntry) (xs : List ℕ) → length (map f xs) ≡ length xs
 length-map f [] = refl
 length-map f (x ∷ xs) = ap suc (length-map f xs)
 
-pub set-entry : (es : List (Addr × Counts)) (p : ℕ) (counts : Counts) (e : Entry) → p < length es → e.key ≡ (entry_at es p).key → counts.cur ≡ e.cur → counts.cnt ≡ e.cnt → entry_at (set_value_at es p counts) p ≡ e
+pub set-entry : (es : List (Addr × Counts)) (p : ℕ) (counts : Counts) (e : StickEntry) → p < length es → e.key ≡ (entry_at es p).key → counts.cur ≡ e.cur → counts.cnt ≡ e.cnt → entry_at (set_value_at es p counts) p ≡ e
 set-entry es p counts e less key cur cnt = ap entry_of_pair (at-set es p counts less) ∙ rw (← key, cur, cnt) refl
 
 pub set-entry-apart : (es : List (Addr × Counts)) (p : ℕ) (counts : Counts) (q : ℕ) → q ≢ p → entry_at (set_value_at es p counts) q ≡ entry_at es q
@@ -310,12 +310,12 @@ ranked-moved es es' p xs apart =
 -- The entry of a key is changed.
 
 -- what the writes then come to
-pub record IsPut (es es' : List (Addr × Counts)) (t t' f f' : Ranking) (key : Addr) (e : Entry) : Type 0 where
+pub record IsPut (es es' : List (Addr × Counts)) (t t' f f' : Ranking) (key : Addr) (e : StickEntry) : Type 0 where
   pub kept : IsKept es' t' f'
   pub entries : ranked es' t'.order ≡ others key (ranked es t.order) ++ e ∷ []
   pub len : length (ranked es' t'.order) ≡ length (ranked es t.order)
 
-pub put : (es es' : List (Addr × Counts)) (t t' f f' : Ranking) (key : Addr) (e : Entry) (counts : Counts) (p : ℕ) → IsKept es t f
+pub put : (es es' : List (Addr × Counts)) (t t' f f' : Ranking) (key : Addr) (e : StickEntry) (counts : Counts) (p : ℕ) → IsKept es t f
     → IsDistinct eq-value.it (keys_of es) → position (eq-value.it key) (keys_of es) ≡ Some p → e.key ≡ key
     → counts.cur ≡ e.cur → counts.cnt ≡ e.cnt → es' ≡ set_value_at es p counts
     → t' ≡ record t { order = without p t.order ++ p ∷ [] }
@@ -355,7 +355,7 @@ new-lacks es t f n order kept is same = rw (is ∙ kept.touched_places, same) (b
 entry-before : (es : List (Addr × Counts)) (x : Addr × Counts) (q : ℕ) → q < length es → entry_at (es ++ x ∷ []) q ≡ entry_at es q
 entry-before es x q less = ap entry_of_pair (get_or_append_left es (x ∷ []) nothing q less)
 
-map-below : (f g : ℕ → Entry) (n : ℕ) → ((q : ℕ) → q < n → g q ≡ f q) → (xs : List ℕ) → Below n xs → map g xs ≡ map f xs
+map-below : (f g : ℕ → StickEntry) (n : ℕ) → ((q : ℕ) → q < n → g q ≡ f q) → (xs : List ℕ) → Below n xs → map g xs ≡ map f xs
 map-below f g n same [] below = refl
 map-below f g n same (x ∷ xs) below =
     let here : g x ≡ f x = same x below.0 in
@@ -371,7 +371,7 @@ entry-last : (es : List (Addr × Counts)) (x : Addr × Counts) → entry_at (es 
 entry-last [] x = refl
 entry-last (e ∷ es) x = entry-last es x
 
-pub record IsAdded (es es' : List (Addr × Counts)) (t t' f' : Ranking) (e : Entry) : Type 0 where
+pub record IsAdded (es es' : List (Addr × Counts)) (t t' f' : Ranking) (e : StickEntry) : Type 0 where
   pub kept : IsKept es' t' f'
   pub entries : ranked es' t'.order ≡ ranked es t.order ++ e ∷ []
 
@@ -533,7 +533,7 @@ place-below p n (x ∷ xs) f has below = by (f x) refl has (λ more. place-below
 pub free-below : (es : List (Addr × Counts)) (t f : Ranking) (p : ℕ) → IsKept es t f → slice_get f.order 0 ≡ Some p → p < length es
 free-below es t f p kept first = place-below p (length es) t.order (free_at es) (rw kept.free_ones at (free-first es t f p kept first)) kept.below
 
-pub record IsReplaced (es es' : List (Addr × Counts)) (t t' f' : Ranking) (e : Entry) : Type 0 where
+pub record IsReplaced (es es' : List (Addr × Counts)) (t t' f' : Ranking) (e : StickEntry) : Type 0 where
   pub kept : IsKept es' t' f'
   pub entries : ranked es' t'.order ≡ without_first_free (ranked es t.order) ++ e ∷ []
 
@@ -590,7 +590,7 @@ take-at [] n p at = absurd (cc)
 take-at (x ∷ xs) zero p at = let found : Some x ≡ Some p = at in let same : x ≡ p = cc in ap (λ y. y ∷ []) same
 take-at (x ∷ xs) (suc n) p at = ap (λ l. x ∷ l) (take-at xs n p at)
 
-plain-push : (es : List Entry) (e : Entry) → plain (es ++ e ∷ []) ≡ plain es ++ plain_entry e ∷ []
+plain-push : (es : List StickEntry) (e : StickEntry) → plain (es ++ e ∷ []) ≡ plain es ++ plain_entry e ∷ []
 plain-push [] e = refl
 plain-push (x ∷ es) e = ap (λ l. plain_entry x ∷ l) (plain-push es e)
 

@@ -4,7 +4,7 @@ use Rattle.std.specs.Prelude.{find, filter, nat_lt, option_map, option_to_list, 
 use Rattle.std.specs.Option.{option_map_or, is_some}
 use Rattle.std.specs.List.{list_any, AllByRecursion}
 use Rattle.addr_core.specs.declared.addr.Addr.{Addr}
-use Rattle.stick_core.specs.declared.entries.Entry.{Entry}
+use Rattle.stick_core.specs.declared.entries.StickEntry.{StickEntry}
 use Rattle.addr_core.specs.Same.{same_addr}
 use Rattle.stick_core.specs.Key.{key_in}
 use Rattle.stick_core.specs.Entries.{is_of, is_free, is_listed, others, once_more, once_less, tracked, released, added, without_first_free, cur_of, cnt_of, HasKeysOnce}
@@ -18,7 +18,7 @@ use Rattle.stick_core.proofs.TrackLemmas.{own_after, others_after}
 
 -- Look-ups.
 
-pub listed_is : (key : Addr) (es : List Entry) → is_listed key es ≡ is_in key (plain es)
+pub listed_is : (key : Addr) (es : List StickEntry) → is_listed key es ≡ is_in key (plain es)
 listed_is key [] = refl
 listed_is key (e ∷ es) = by (is_of key e) refl (listed_is key es)
   where
@@ -26,7 +26,7 @@ listed_is key (e ∷ es) = by (is_of key e) refl (listed_is key es)
     by true is more = rw is refl
     by false is more = rw is more
 
-pub count_is : (key : Addr) (es : List Entry) → cnt_of key es ≡ count_in key (plain es)
+pub count_is : (key : Addr) (es : List StickEntry) → cnt_of key es ≡ count_in key (plain es)
 count_is key [] = refl
 count_is key (e ∷ es) = by (is_of key e) refl (count_is key es)
   where
@@ -50,11 +50,11 @@ trackers_at_is trackers table addr agree = by (key_in table.kind addr)
     by (Some key) = agree key
 
 -- each entry has the trackers of its key
-abbrev pub HaveTrackers : (Addr → ℕ) → List Entry → Type 0
+abbrev pub HaveTrackers : (Addr → ℕ) → List StickEntry → Type 0
 HaveTrackers trackers es = AllByRecursion (λ e. e.cur ≡ trackers e.key) es
 
 -- what is listed after an entry has another key
-other_listed : (k : Addr) (e : Entry) (es : List Entry) → find (is_of e.key) es ≡ None → is_listed k es ≡ true → is_of k e ≡ false
+other_listed : (k : Addr) (e : StickEntry) (es : List StickEntry) → find (is_of e.key) es ≡ None → is_listed k es ≡ true → is_of k e ≡ false
 other_listed k e es none listed = by (is_of k e) refl
   where
     by : (b : Bool) → is_of k e ≡ b → is_of k e ≡ false
@@ -64,7 +64,7 @@ other_listed k e es none listed = by (is_of k e) refl
         let nowhere : is_listed k es ≡ false = ap (λ a. is_some (find (is_of a) es)) (sym same) ∙ ap is_some none in
         absurd (let wrong : true ≡ false = sym listed ∙ nowhere in cc)
 
-pub have_trackers : (trackers : Addr → ℕ) (es : List Entry) → HasKeysOnce es → ((k : Addr) → is_listed k es ≡ true → cur_of k es ≡ trackers k) → HaveTrackers trackers es
+pub have_trackers : (trackers : Addr → ℕ) (es : List StickEntry) → HasKeysOnce es → ((k : Addr) → is_listed k es ≡ true → cur_of k es ≡ trackers k) → HaveTrackers trackers es
 have_trackers trackers [] once agree = tt
 have_trackers trackers (e ∷ es) once agree =
     let own : is_of e.key e ≡ true = same_addr-refl e.key in
@@ -75,13 +75,13 @@ have_trackers trackers (e ∷ es) once agree =
           rw not_it at (agree k (rw not_it listed))),
     )
 
-pub idle_is : (trackers : Addr → ℕ) (es : List Entry) → HaveTrackers trackers es → list_any is_free es ≡ list_any (is_idle trackers) (plain es)
+pub idle_is : (trackers : Addr → ℕ) (es : List StickEntry) → HaveTrackers trackers es → list_any is_free es ≡ list_any (is_idle trackers) (plain es)
 idle_is trackers [] all = refl
 idle_is trackers (e ∷ es) all = rw (idle_is trackers es all.1, all.0) refl
 
 -- Changes.
 
-pub others_is : (key : Addr) (es : List Entry) → plain (others key es) ≡ filter (λ entry. not (has_key key entry)) (plain es)
+pub others_is : (key : Addr) (es : List StickEntry) → plain (others key es) ≡ filter (λ entry. not (has_key key entry)) (plain es)
 others_is key [] = refl
 others_is key (e ∷ es) = by (is_of key e) refl (others_is key es)
   where
@@ -90,15 +90,15 @@ others_is key (e ∷ es) = by (is_of key e) refl (others_is key es)
     by true is more = rw is more
     by false is more = rw is (ap (λ l. plain_entry e ∷ l) more)
 
-pub plain-append : (xs ys : List Entry) → plain (xs ++ ys) ≡ plain xs ++ plain ys
+pub plain-append : (xs ys : List StickEntry) → plain (xs ++ ys) ≡ plain xs ++ plain ys
 plain-append [] ys = refl
 plain-append (x ∷ xs) ys = ap (λ l. plain_entry x ∷ l) (plain-append xs ys)
 
-length-plain : (es : List Entry) → length (plain es) ≡ length es
+length-plain : (es : List StickEntry) → length (plain es) ≡ length es
 length-plain [] = refl
 length-plain (e ∷ es) = omega (arith, length-plain es)
 
-pub gone_is : (trackers : Addr → ℕ) (es : List Entry) → HaveTrackers trackers es → plain (without_first_free es) ≡ without_first (is_idle trackers) (plain es)
+pub gone_is : (trackers : Addr → ℕ) (es : List StickEntry) → HaveTrackers trackers es → plain (without_first_free es) ≡ without_first (is_idle trackers) (plain es)
 gone_is trackers [] all = refl
 gone_is trackers (e ∷ es) all = by (is_free e) refl (gone_is trackers es all.1)
   where
@@ -112,7 +112,7 @@ gone_is trackers (e ∷ es) all = by (is_free e) refl (gone_is trackers es all.1
         ap plain (gone-past is_free e es is) ∙ ap (λ l. plain_entry e ∷ l) more ∙ rw idle refl
 
 -- the entries of a key are the one that is found
-own_none : (key : Addr) (es : List Entry) → find (is_of key) es ≡ None → filter (has_key key) (plain es) ≡ []
+own_none : (key : Addr) (es : List StickEntry) → find (is_of key) es ≡ None → filter (has_key key) (plain es) ≡ []
 own_none key [] none = refl
 own_none key (e ∷ es) none = by (is_of key e) refl none (own_none key es)
   where
@@ -120,7 +120,7 @@ own_none key (e ∷ es) none = by (is_of key e) refl none (own_none key es)
     by true is none more = absurd (let wrong : Some e ≡ None = rw is at none in cc)
     by false is none more = rw is (more (rw is at none))
 
-own_is : (key : Addr) (es : List Entry) → HasKeysOnce es → plain (option_to_list (option_map once_less (find (is_of key) es))) ≡ filter (has_key key) (plain es)
+own_is : (key : Addr) (es : List StickEntry) → HasKeysOnce es → plain (option_to_list (option_map once_less (find (is_of key) es))) ≡ filter (has_key key) (plain es)
 own_is key [] once = refl
 own_is key (e ∷ es) once = by (is_of key e) refl (own_is key es once.1)
   where
@@ -132,17 +132,17 @@ own_is key (e ∷ es) once = by (is_of key e) refl (own_is key es once.1)
     by false is more = rw is more
 
 -- a release, as plain data
-pub released_plain : (key : Addr) (es : List Entry) → HasKeysOnce es → plain (released key es) ≡ plains.touched key (plain es)
+pub released_plain : (key : Addr) (es : List StickEntry) → HasKeysOnce es → plain (released key es) ≡ plains.touched key (plain es)
 released_plain key es once =
     plain-append (others key es) (option_to_list (option_map once_less (find (is_of key) es)))
     ∙ ap (λ l. l ++ plain (option_to_list (option_map once_less (find (is_of key) es)))) (others_is key es)
     ∙ ap (λ l. filter (λ entry. not (has_key key entry)) (plain es) ++ l) (own_is key es once)
 
 -- a key that is listed, tracked once more
-tracked_plain : (key : Addr) (es : List Entry) → is_listed key es ≡ true → plain (tracked key es) ≡ counted key (plain es)
+tracked_plain : (key : Addr) (es : List StickEntry) → is_listed key es ≡ true → plain (tracked key es) ≡ counted key (plain es)
 tracked_plain key es listed = by (find (is_of key) es) refl listed
   where
-    by : (o : Option Entry) → find (is_of key) es ≡ o → is_some o ≡ true → plain (tracked key es) ≡ counted key (plain es)
+    by : (o : Option StickEntry) → find (is_of key) es ≡ o → is_some o ≡ true → plain (tracked key es) ≡ counted key (plain es)
     by None is some = absurd (cc)
     by (Some e) is some =
         let own : e.key ≡ key = same_addr-is e.key key (find-passes (is_of key) es e is) in
@@ -154,7 +154,7 @@ tracked_plain key es listed = by (find (is_of key) es) refl listed
         ∙ ap (λ n. filter (λ entry. not (has_key key entry)) (plain es) ++ record { key = key; cnt = min 0xFFFF_FFFF_FFFF_FFFF (n + 1) } ∷ []) count
 
 -- no entry is of the key
-all_others : (key : Addr) (es : List Entry) → find (is_of key) es ≡ None → others key es ≡ es
+all_others : (key : Addr) (es : List StickEntry) → find (is_of key) es ≡ None → others key es ≡ es
 all_others key [] none = refl
 all_others key (e ∷ es) none = by (is_of key e) refl none (all_others key es)
   where
@@ -163,7 +163,7 @@ all_others key (e ∷ es) none = by (is_of key e) refl none (all_others key es)
     by false is none more = rw is (ap (λ l. e ∷ l) (more (rw is at none)))
 
 -- a key that is not listed, tracked
-added_plain : (key : Addr) (es : List Entry) → find (is_of key) es ≡ None → plain (added key es) ≡ counted key (plain es)
+added_plain : (key : Addr) (es : List StickEntry) → find (is_of key) es ≡ None → plain (added key es) ≡ counted key (plain es)
 added_plain key es none =
     let zero : 0 ≡ count_in key (plain es) = sym (ap (λ o. option_map_or (λ e. e.cnt) o 0) none) ∙ count_is key es in
     let rest : plain es ≡ filter (λ entry. not (has_key key entry)) (plain es) = ap plain (sym (all_others key es none)) ∙ others_is key es in
@@ -176,7 +176,7 @@ not_some None e = refl
 not_some (Some x) e = absurd (cc)
 
 -- a tracking, as plain data
-with_plain : (trackers : Addr → ℕ) (size : ℕ) (es : List Entry) (key : Addr) → HaveTrackers trackers es
+with_plain : (trackers : Addr → ℕ) (size : ℕ) (es : List StickEntry) (key : Addr) → HaveTrackers trackers es
     → plain (entries_with size es key) ≡ with_tracking trackers size key (plain es)
 with_plain trackers size es key all = by (is_listed key es) refl (nat_lt (length es) size) refl
   where
@@ -194,7 +194,7 @@ with_plain trackers size es key all = by (is_listed key es) refl (nat_lt (length
         let none : find (is_of key) (without_first_free es) ≡ None = find-gone (is_of key) is_free es (not_some _ is) in
         rw (is, there, room, room') (added_plain key (without_first_free es) none ∙ ap (counted key) (gone_is trackers es all))
 
-can_is : (trackers : Addr → ℕ) (size : ℕ) (es : List Entry) (key : Addr) → HaveTrackers trackers es → can_list size es key ≡ can_track trackers size (plain es) key
+can_is : (trackers : Addr → ℕ) (size : ℕ) (es : List StickEntry) (key : Addr) → HaveTrackers trackers es → can_list size es key ≡ can_track trackers size (plain es) key
 can_is trackers size es key all =
     let a : is_listed key es ≡ is_in key (plain es) = listed_is key es in
     let b : list_any is_free es ≡ list_any (is_idle trackers) (plain es) = idle_is trackers es all in
@@ -244,7 +244,7 @@ counts_after table addr sound key = by (key_taken table addr) refl
         omega (arith, n)
     by (Some k) is = some k is (same_addr k key) refl
 
-pub counts_released : (tracked : Addr) (es : List Entry) → 0 < cur_of tracked es → (key : Addr) → cur_of key (released tracked es) + trackings_of key (Some tracked) ≡ cur_of key es
+pub counts_released : (tracked : Addr) (es : List StickEntry) → 0 < cur_of tracked es → (key : Addr) → cur_of key (released tracked es) + trackings_of key (Some tracked) ≡ cur_of key es
 counts_released tracked es some key = by (same_addr tracked key) refl
   where
     by : (b : Bool) → same_addr tracked key ≡ b → cur_of key (released tracked es) + trackings_of key (Some tracked) ≡ cur_of key es
@@ -257,7 +257,7 @@ counts_released tracked es some key = by (same_addr tracked key) refl
 
 -- Keys differ.
 
-absent_all : (key : Addr) (es : List Entry) → find (is_of key) es ≡ None → AllByRecursion (λ other. same_addr other.key key ≡ false) (plain es)
+absent_all : (key : Addr) (es : List StickEntry) → find (is_of key) es ≡ None → AllByRecursion (λ other. same_addr other.key key ≡ false) (plain es)
 absent_all key [] none = tt
 absent_all key (e ∷ es) none = by (is_of key e) refl none (absent_all key es)
   where
@@ -266,6 +266,6 @@ absent_all key (e ∷ es) none = by (is_of key e) refl none (absent_all key es)
     by true is none more = absurd (let wrong : Some e ≡ None = rw is at none in cc)
     by false is none more = (is, more (rw is at none))
 
-pub keys_differ : (es : List Entry) → HasKeysOnce es → KeysDiffer (plain es)
+pub keys_differ : (es : List StickEntry) → HasKeysOnce es → KeysDiffer (plain es)
 keys_differ [] once = tt
 keys_differ (e ∷ es) once = (absent_all e.key es once.0, keys_differ es once.1)

@@ -5,7 +5,7 @@ use Rattle.stick_core.specs.Ring.{walk, IsRing}
 
 -- the place between the last and the first
 abbrev pub end : ℕ
-end = 0xFFFF_FFFF_FFFF_FFFF
+end = 0xFFFF_FFFF
 
 abbrev pub nowhere : Link
 nowhere = record { before = 0; after = 0 }

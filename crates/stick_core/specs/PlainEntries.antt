@@ -5,26 +5,26 @@ use Rattle.std.specs.List.{list_any, AllByRecursion}
 use Rattle.std.specs.Option.{option_map_or}
 use Rattle.addr_core.specs.declared.addr.Addr.{Addr}
 use Rattle.proxy_types.specs.declared.table.KeyType.{KeyType}
-use Rattle.stick_core.specs.declared.entries.Entry.{Entry}
-use Rattle.stick_core.specs.declared.entries.TableEntry.{TableEntry}
+use Rattle.stick_core.specs.declared.entries.StickEntry.{StickEntry}
+use Rattle.stick_core.specs.declared.entries.PlainEntry.{PlainEntry}
 use Rattle.addr_core.specs.Same.{same_addr}
 use Rattle.stick_core.specs.Key.{key_in}
 use Rattle.stick_core.specs.Entries.{cur_of}
 
 -- Keys.
 
-abbrev pub has_key : Addr → TableEntry → Bool
+abbrev pub has_key : Addr → PlainEntry → Bool
 has_key key entry = same_addr entry.key key
 
-abbrev pub is_in : Addr → List TableEntry → Bool
+abbrev pub is_in : Addr → List PlainEntry → Bool
 is_in key entries = list_any (has_key key) entries
 
 -- how often a key was tracked, 0 where it has no entry
-abbrev pub count_in : Addr → List TableEntry → ℕ
+abbrev pub count_in : Addr → List PlainEntry → ℕ
 count_in key entries = option_map_or (λ entry. entry.cnt) (find (has_key key) entries) 0
 
 -- and an address: what is no key never was
-abbrev pub count_at : KeyType → List TableEntry → Addr → ℕ
+abbrev pub count_at : KeyType → List PlainEntry → Addr → ℕ
 count_at kind entries addr = option_map_or (λ key. count_in key entries) (key_in kind addr) 0
 
 -- how many track an address
@@ -32,15 +32,15 @@ abbrev pub trackers_at : (Addr → ℕ) → KeyType → Addr → ℕ
 trackers_at trackers kind addr = option_map_or trackers (key_in kind addr) 0
 
 -- nobody tracks the key
-abbrev pub is_idle : (Addr → ℕ) → TableEntry → Bool
+abbrev pub is_idle : (Addr → ℕ) → PlainEntry → Bool
 is_idle trackers entry = trackers entry.key == 0
 
 -- the key could be listed: it is, or the list has room, or an entry that nobody tracks makes room for it
-abbrev pub can_track : (Addr → ℕ) → ℕ → List TableEntry → Addr → Bool
+abbrev pub can_track : (Addr → ℕ) → ℕ → List PlainEntry → Addr → Bool
 can_track trackers size entries key = is_in key entries || nat_lt (length entries) size || list_any (is_idle trackers) entries
 
 -- the key under which a table tracks an address, if it does
-abbrev pub tracked_key : (Addr → ℕ) → KeyType → ℕ → List TableEntry → Addr → Option Addr
+abbrev pub tracked_key : (Addr → ℕ) → KeyType → ℕ → List PlainEntry → Addr → Option Addr
 tracked_key trackers kind size entries addr = option_and_then (λ key. if can_track trackers size entries key then Some key else None) (key_in kind addr)
 
 -- Changes.
@@ -51,39 +51,39 @@ without_first test [] = []
 without_first test (x ∷ xs) = if test x then xs else x ∷ without_first test xs
 
 -- the key at the end, counted once more
-abbrev pub counted : Addr → List TableEntry → List TableEntry
+abbrev pub counted : Addr → List PlainEntry → List PlainEntry
 counted key entries =
     filter (λ entry. not (has_key key entry)) entries ++ record { key = key; cnt = min 0xFFFF_FFFF_FFFF_FFFF (count_in key entries + 1) } ∷ []
 
 -- once a key is tracked: from a full list the first entry that nobody tracks is gone
-abbrev pub with_tracking : (Addr → ℕ) → ℕ → Addr → List TableEntry → List TableEntry
+abbrev pub with_tracking : (Addr → ℕ) → ℕ → Addr → List PlainEntry → List PlainEntry
 with_tracking trackers size key entries =
     if is_in key entries || nat_lt (length entries) size then counted key entries else counted key (without_first (is_idle trackers) entries)
 
 -- or none was
-abbrev pub with_trackings : (Addr → ℕ) → ℕ → Option Addr → List TableEntry → List TableEntry
+abbrev pub with_trackings : (Addr → ℕ) → ℕ → Option Addr → List PlainEntry → List PlainEntry
 with_trackings trackers size None entries = entries
 with_trackings trackers size (Some key) entries = with_tracking trackers size key entries
 
 -- once a tracking of the key ended: it is at the end
-abbrev pub touched : Addr → List TableEntry → List TableEntry
+abbrev pub touched : Addr → List PlainEntry → List PlainEntry
 touched key entries = filter (λ entry. not (has_key key entry)) entries ++ filter (has_key key) entries
 
 -- no two entries have one key
-abbrev pub KeysDiffer : List TableEntry → Type 0
+abbrev pub KeysDiffer : List PlainEntry → Type 0
 KeysDiffer [] = Unit {0}
 KeysDiffer (entry ∷ entries) = AllByRecursion (λ other. same_addr other.key entry.key ≡ false) entries × KeysDiffer entries
 
 -- The entries that a table keeps, as plain data.
 
-abbrev pub plain_entry : Entry → TableEntry
+abbrev pub plain_entry : StickEntry → PlainEntry
 plain_entry entry = record { key = entry.key; cnt = entry.cnt }
 
-abbrev pub plain : List Entry → List TableEntry
+abbrev pub plain : List StickEntry → List PlainEntry
 plain entries = map plain_entry entries
 
 -- so many track each key
-abbrev pub AreTrackers : (Addr → ℕ) → List Entry → Type 0
+abbrev pub AreTrackers : (Addr → ℕ) → List StickEntry → Type 0
 AreTrackers trackers entries = (key : Addr) → cur_of key entries ≡ trackers key
 
 -- by how many the trackings of a key rise

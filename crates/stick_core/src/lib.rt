@@ -2,10 +2,10 @@
 //! (HAProxy manual, `stick-table`, `tcp-request connection track-sc0`).
 #![tactic(auto)]
 
-pub use entries::{Entry, TableEntry};
+pub use entries::{PlainEntry, StickEntry};
 pub use key::key_of;
 pub use proxy_types::{KeyType, Stores};
-pub use table::{Table, Tracked};
+pub use table::{StickTable, TrackToken};
 
 mod entries;
 mod key;

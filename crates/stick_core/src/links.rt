@@ -3,24 +3,28 @@ ghost use Rattle.std.specs.Prelude.{◌≡◌, ◌≢◌, ◌<◌, ◌≤◌, �
 ghost use Rattle.stick_core.specs.Links.{link_at, after_of, before_of, IsPlace, IsLinked, end, ordered};
 ghost use Rattle.stick_core.specs.Ring.{Has, Lacks, without};
 
-/// The places before and after a place.
+/// The places before and after a place. They have 32 bits, since there are two links for each entry of a table.
 #[derive(Clone, Copy, Debug)]
 pub(crate) struct Link {
-    pub(crate) before: usize,
-    pub(crate) after: usize,
+    pub(crate) before: u32,
+    pub(crate) after: u32,
 }
 
 /// The place between the last and the first.
-pub(crate) const END: usize = usize::MAX;
+pub(crate) const END: u32 = u32::MAX;
 
-pub(crate) fn link_at_place(links: &[Link], ends: &Link, place: usize) -> Link
+pub(crate) fn link_at_place(links: &[Link], ends: &Link, place: u32) -> Link
     requires { IsPlace (length links.now) place }
     ensures { result ≡ link_at ends.now links.now place }
 {
-    if place == END { *ends } else { links[place] }
+    if place == END {
+        *ends
+    } else {
+        links[place as usize]
+    }
 }
 
-pub(crate) fn set_after(links: &mut [Link], ends: &mut Link, place: usize, after: usize)
+pub(crate) fn set_after(links: &mut [Link], ends: &mut Link, place: u32, after: u32)
     requires { IsPlace (length links.old) place }
     ensures here { after_of ends.new links.new place ≡ after }
     ensures apart { (q : ℕ) → q ≢ place → after_of ends.new links.new q ≡ after_of ends.old links.old q }
@@ -30,11 +34,11 @@ pub(crate) fn set_after(links: &mut [Link], ends: &mut Link, place: usize, after
     if place == END {
         ends.after = after;
     } else {
-        links[place].after = after;
+        links[place as usize].after = after;
     }
 }
 
-pub(crate) fn set_before(links: &mut [Link], ends: &mut Link, place: usize, before: usize)
+pub(crate) fn set_before(links: &mut [Link], ends: &mut Link, place: u32, before: u32)
     requires { IsPlace (length links.old) place }
     ensures here { before_of ends.new links.new place ≡ before }
     ensures apart { (q : ℕ) → q ≢ place → before_of ends.new links.new q ≡ before_of ends.old links.old q }
@@ -44,12 +48,12 @@ pub(crate) fn set_before(links: &mut [Link], ends: &mut Link, place: usize, befo
     if place == END {
         ends.before = before;
     } else {
-        links[place].before = before;
+        links[place as usize].before = before;
     }
 }
 
 /// Takes a place out of the ring.
-pub(crate) fn unlink(links: &mut [Link], ends: &mut Link, place: usize)
+pub(crate) fn unlink(links: &mut [Link], ends: &mut Link, place: u32)
     requires fits { length links.old ≤ end }
     requires linked { IsLinked ends.old links.old }
     requires has { Has place (ordered ends.old links.old) }
@@ -63,7 +67,7 @@ pub(crate) fn unlink(links: &mut [Link], ends: &mut Link, place: usize)
 }
 
 /// Puts a place at the end of the ring.
-pub(crate) fn link_last(links: &mut [Link], ends: &mut Link, place: usize)
+pub(crate) fn link_last(links: &mut [Link], ends: &mut Link, place: u32)
     requires fits { length links.old ≤ end }
     requires linked { IsLinked ends.old links.old }
     requires place { place < length links.old }

@@ -14,15 +14,15 @@ pub(crate) struct Order {
 }
 
 impl Model for Order {
-    ghost use Rattle.std.specs.Prelude.{◌-◌, vec_len, vec_capacity};
-    ghost use Rattle.stick_core.specs.Links.{IsLinked, ordered};
+    ghost use Rattle.std.specs.Prelude.{◌-◌, ◌≤◌, min, vec_len, vec_capacity};
+    ghost use Rattle.stick_core.specs.Links.{end, IsLinked, ordered};
     ghost use Rattle.stick_core.specs.Ring.{Ranking};
 
     ghost Value = { Ranking };
 
-    ghost view = { λ o. record { order = ordered o.ends o.links.items; places = vec_len o.links; spare = vec_capacity o.links - vec_len o.links } };
+    ghost view = { λ o. record { order = ordered o.ends o.links.items; places = vec_len o.links; spare = min end (vec_capacity o.links) - vec_len o.links } };
 
-    ghost invariant = { λ o. IsLinked o.ends o.links.items };
+    ghost invariant = { λ o. IsLinked o.ends o.links.items × (vec_len o.links ≤ end) };
 }
 
 impl Order {
@@ -47,7 +47,7 @@ impl Order {
         self.links.len()
     }
 
-    /// Makes room for so many more places.
+    /// Makes room for so many more places. There are 2^32 - 1 at the most.
     pub(crate) fn reserve(&mut self, more: usize) -> Result<(), AllocError>
         ensures room { OnOk result (more ≤ self.new.spare) }
         ensures same { self.new ≡ record self.old { spare = self.new.spare } }
@@ -55,6 +55,9 @@ impl Order {
         ensures succeeds { more ≤ self.old.spare → IsOk result }
         ensures err { OnErr result (self.new ≡ self.old) }
     {
+        if more > END as usize - self.links.len() {
+            return Err(AllocError);
+        }
         self.links.reserve(more)
     }
 
@@ -80,7 +83,7 @@ impl Order {
         if self.ends.after == END {
             None
         } else {
-            Some(self.ends.after)
+            Some(self.ends.after as usize)
         }
     }
 
@@ -90,11 +93,11 @@ impl Order {
         ensures { result ≡ next_of place self.now.order }
     {
         let _places = self.links.len();
-        let link = link_at_place(self.links.as_slice(), &self.ends, place);
+        let link = link_at_place(self.links.as_slice(), &self.ends, place as u32);
         if link.after == END {
             None
         } else {
-            Some(link.after)
+            Some(link.after as usize)
         }
     }
 
@@ -103,7 +106,7 @@ impl Order {
         requires { Has place self.old.order }
         ensures { self.new ≡ record self.old { order = without place self.old.order } }
     {
-        unlink(self.links.as_mut_slice(), &mut self.ends, place);
+        unlink(self.links.as_mut_slice(), &mut self.ends, place as u32);
     }
 
     /// Puts a place at the end.
@@ -112,6 +115,6 @@ impl Order {
         requires lacks { Lacks place self.old.order }
         ensures { self.new ≡ record self.old { order = self.old.order ++ place ∷ [] } }
     {
-        link_last(self.links.as_mut_slice(), &mut self.ends, place);
+        link_last(self.links.as_mut_slice(), &mut self.ends, place as u32);
     }
 }

@@ -5,7 +5,7 @@ ghost use Rattle.stick_core.specs.Entries.{cur_of, released};
 ghost use Rattle.stick_core.specs.Listing.{IsSound, can_list, key_taken, entries_after, cur_at, cnt_at};
 ghost use Rattle.stick_core.specs.PlainEntries.{plain, AreTrackers, count_at, trackers_at, KeysDiffer, tracked_key, with_trackings, touched, trackings_of};
 
-use crate::entries::{TableEntry, cnt_in, cur_in};
+use crate::entries::{PlainEntry, cnt_in, cur_in};
 use crate::key::key_of;
 use crate::touch_list::TouchList;
 use addr_core::Addr;
@@ -20,11 +20,11 @@ use std::marker::Model;
 const MANY: usize = 65_536;
 
 /// One tracking of a key. It is spent by `release` on the table that gave it.
-pub struct Tracked {
+pub struct TrackToken {
     key: Addr,
 }
 
-impl Model for Tracked {
+impl Model for TrackToken {
     ghost use Rattle.addr_core.specs.declared.addr.Addr.{Addr};
 
     ghost Value = { Addr };
@@ -32,7 +32,7 @@ impl Model for Tracked {
     ghost view = { λ t. t.key };
 }
 
-impl Tracked {
+impl TrackToken {
     /// The key that is tracked.
     pub fn key(&self) -> Addr
         ensures { result ≡ self.now }
@@ -43,14 +43,14 @@ impl Tracked {
 
 /// A table of tracked sources, whose entries contracts see in the order of their last touch.
 #[derive(Debug, Drop)]
-pub struct Table {
+pub struct StickTable {
     kind: KeyType,
     size: u64,
     stores: Stores,
     touched: TouchList,
 }
 
-impl Model for Table {
+impl Model for StickTable {
     ghost use Rattle.stick_core.specs.Listing.{Listing, IsSound};
 
     ghost Value = { Listing };
@@ -60,15 +60,15 @@ impl Model for Table {
     ghost invariant = { λ t. IsSound t.size t.touched.entries };
 }
 
-impl Table {
+impl StickTable {
     /// An empty table of at most so many entries, which grows by that allocator.
-    pub fn new(alloc: Global, kind: KeyType, size: u64, stores: Stores) -> Table
+    pub fn new(alloc: Global, kind: KeyType, size: u64, stores: Stores) -> StickTable
         ensures kind { result.kind ≡ kind }
         ensures size { result.size ≡ size }
         ensures stores { result.stores ≡ stores }
         ensures entries { result.entries ≡ [] }
     {
-        Table {
+        StickTable {
             kind,
             size,
             stores,
@@ -132,7 +132,7 @@ impl Table {
     }
 
     /// How many track the key of a tracking.
-    pub fn trackers(&self, tracked: &Tracked) -> u64
+    pub fn trackers(&self, tracked: &TrackToken) -> u64
         ensures { result ≡ cur_of tracked.now self.now.entries }
     {
         cur_in(self.touched.entry(&tracked.key))
@@ -173,7 +173,7 @@ impl Table {
     }
 
     /// The keys in the order of their last touch, each with how often it was tracked.
-    pub fn entries(&self, alloc: Global) -> Result<Seq<TableEntry>, AllocError>
+    pub fn entries(&self, alloc: Global) -> Result<Seq<PlainEntry>, AllocError>
         ensures { IfOk result (λ list. list ≡ plain self.now.entries) }
     {
         self.touched.listed(alloc)
@@ -209,7 +209,7 @@ impl Table {
 
     /// Tracks an address, if it is a key that can be listed. A new key in a full table removes the
     /// entry without trackers that was touched longest ago; where each has some, nothing is tracked.
-    pub fn track(&mut self, addr: &Addr) -> Result<Option<Tracked>, AllocError>
+    pub fn track(&mut self, addr: &Addr) -> Result<Option<TrackToken>, AllocError>
         requires { cur_at self.old addr.now < 2 ^ 64 - 1 }
         ensures tracked { IfOk result (λ tracked. tracked ≡ key_taken self.old addr.now) }
         ensures entries { OnOk result (self.new.entries ≡ entries_after self.old addr.now) }
@@ -232,7 +232,7 @@ impl Table {
         self.track_key(addr)
     }
 
-    fn track_key(&mut self, addr: &Addr) -> Result<Option<Tracked>, AllocError>
+    fn track_key(&mut self, addr: &Addr) -> Result<Option<TrackToken>, AllocError>
         requires { cur_at self.old addr.now < 2 ^ 64 - 1 }
         ensures tracked { IfOk result (λ tracked. tracked ≡ key_taken self.old addr.now) }
         ensures entries { OnOk result (self.new.entries ≡ entries_after self.old addr.now) }
@@ -255,11 +255,11 @@ impl Table {
                 }
             }
         }
-        Ok(Some(Tracked { key }))
+        Ok(Some(TrackToken { key }))
     }
 
     /// Ends a tracking, without taking memory.
-    pub fn release(&mut self, tracked: Tracked)
+    pub fn release(&mut self, tracked: TrackToken)
         requires { 0 < cur_of tracked self.old.entries }
         ensures value { self.new ≡ record self.old { entries = released tracked self.old.entries } }
 
@@ -270,12 +270,12 @@ impl Table {
         self.release_key(tracked)
     }
 
-    fn release_key(&mut self, tracked: Tracked)
+    fn release_key(&mut self, tracked: TrackToken)
         requires { 0 < cur_of tracked self.old.entries }
         ensures value { self.new ≡ record self.old { entries = released tracked self.old.entries } }
         ensures sound { IsSound self.old.size self.old.entries }
     {
-        let Tracked { key } = tracked;
+        let TrackToken { key } = tracked;
         if let Some(entry) = self.touched.entry(&key) {
             self.touched.put_last(&key, entry.lowered());
         }

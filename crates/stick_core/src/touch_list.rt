@@ -7,7 +7,7 @@ ghost use Rattle.stick_core.specs.Places.{entry_at};
 ghost use Rattle.stick_core.specs.PlainEntries.{plain};
 ghost use Rattle.stick_core.specs.Ring.{Has, Lacks, Distinct, without};
 
-use crate::entries::{Entry, TableEntry};
+use crate::entries::{PlainEntry, StickEntry};
 use crate::order::Order;
 use addr_core::Addr;
 use indexmap::IndexMap;
@@ -25,7 +25,7 @@ pub(crate) struct Counts {
 /// A key that is tracked for the first time.
 const FIRST: Counts = Counts { cur: 1, cnt: 1 };
 
-fn counts_of(entry: Entry) -> Counts
+fn counts_of(entry: StickEntry) -> Counts
     ensures cur { result.cur ≡ entry.cur }
     ensures cnt { result.cnt ≡ entry.cnt }
 {
@@ -36,12 +36,12 @@ fn counts_of(entry: Entry) -> Counts
 }
 
 /// The entry at a place.
-fn entry_at_place(index: &IndexMap<Addr, Counts>, place: usize) -> Entry
+fn entry_at_place(index: &IndexMap<Addr, Counts>, place: usize) -> StickEntry
     requires { place < index_map_len index.now }
     ensures { result ≡ entry_at index.now.entries place }
 {
     match index.get_index(place) {
-        Some((key, counts)) => Entry {
+        Some((key, counts)) => StickEntry {
             key: *key,
             cur: counts.cur,
             cnt: counts.cnt,
@@ -134,7 +134,7 @@ impl TouchList {
     }
 
     /// The entry of a key.
-    pub(crate) fn entry(&self, key: &Addr) -> Option<Entry>
+    pub(crate) fn entry(&self, key: &Addr) -> Option<StickEntry>
         ensures { result ≡ find (is_of key.now) self.now.entries }
     {
         match self.index.get_index_of(key) {
@@ -163,7 +163,7 @@ impl TouchList {
     }
 
     /// Puts an entry in place of that of its key, as the last one touched.
-    pub(crate) fn put_last(&mut self, key: &Addr, entry: Entry)
+    pub(crate) fn put_last(&mut self, key: &Addr, entry: StickEntry)
         requires there { IsSome (find (is_of key.now) self.old.entries) }
         requires own { entry.key ≡ key.now }
         ensures entries { self.new.entries ≡ others key.now self.old.entries ++ entry ∷ [] }
@@ -218,7 +218,7 @@ impl TouchList {
     }
 
     /// The keys, with how often each was tracked.
-    pub(crate) fn listed(&self, alloc: Global) -> Result<Seq<TableEntry>, AllocError>
+    pub(crate) fn listed(&self, alloc: Global) -> Result<Seq<PlainEntry>, AllocError>
         ensures { IfOk result (λ list. list ≡ plain self.now.entries) }
     {
         let mut list = Vec::with_capacity(alloc, self.index.len())?;

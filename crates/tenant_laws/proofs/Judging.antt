@@ -10,7 +10,7 @@ use Rattle.pp_any.specs.Status as statuses
 use Rattle.pp_any.specs.Status.{Status}
 use Rattle.acl_core.specs.declared.criterion.Criterion.{Criterion}
 use Rattle.rule_engine.specs.Meaning.{present}
-use Rattle.rule_engine.specs.Judging.{judged, judged_after, no_tracks, Slots}
+use Rattle.rule_engine.specs.Judging.{judged, judged_after, no_tracks, TrackSlots}
 use Rattle.rule_engine.specs.declared.judging.Judged.{Judged}
 use Rattle.plan_types.specs.declared.plan.Backend.{Backend}
 use Rattle.plan_types.specs.declared.plan.Frontend.{Frontend}
@@ -67,7 +67,7 @@ module _ (part : Part) (s t : Plain) (v w : Version) (f : Frontend) (id : ConnId
   abbrev right : Candidate
   right = candidate_of t id w f
 
-  judged-same : (source : Addr) (slots : Slots) → Known (λ track. is_own_id part v track.table ≡ true) slots → (rules : List Rule) →
+  judged-same : (source : Addr) (slots : TrackSlots) → Known (λ track. is_own_id part v track.table ≡ true) slots → (rules : List Rule) →
       rules_pass (keeps_table part true v.plan) (keeps_criterion part true v.plan f.name) f.acls rules ≡ true →
       (judged_after (scene_of (view_of left source)) slots rules ≡ judged_after (scene_of (view_of right source)) slots rules)
       × Known (λ track. is_own_id part v track.table ≡ true) (judged_after (scene_of (view_of left source)) slots rules).tracks
@@ -76,7 +76,7 @@ module _ (part : Part) (s t : Plain) (v w : Version) (f : Frontend) (id : ConnId
       refl refl (λ counter. ap is_none (own_track-same part s t v w f id alike source [] tt counter)) (worth-same part s t v w f id alike source) (key-same part s t v w f id alike source)
       (λ made counter number table addr owns is. own-at part v number table owns (key_of-id (view_of left source made) number table addr is)) slots known rules kept
 
-  verdict-same : (source : Addr) (slots : Slots) → Known (λ track. is_own_id part v track.table ≡ true) slots → verdict (view_of left source) f slots ≡ verdict (view_of right source) f slots
+  verdict-same : (source : Addr) (slots : TrackSlots) → Known (λ track. is_own_id part v track.table ≡ true) slots → verdict (view_of left source) f slots ≡ verdict (view_of right source) f slots
   verdict-same source slots known =
       let says = judged-same source slots known f.session_rules keeps.session in
       let one : Judged = judged_after (scene_of (view_of left source)) slots f.session_rules in
@@ -88,10 +88,10 @@ module _ (part : Part) (s t : Plain) (v w : Version) (f : Frontend) (id : ConnId
       unless (Some line) made known = refl
       unless None made known = server-same part s t v w f id alike source made known keeps.choices keeps.default'
 
-  decision-same : (used : ℕ) (pair : PairValue) (slots : Slots) → Known (λ track. is_own_id part v track.table ≡ true) slots → decision left used pair slots ≡ decision right used pair slots
+  decision-same : (used : ℕ) (pair : PairValue) (slots : TrackSlots) → Known (λ track. is_own_id part v track.table ≡ true) slots → decision left used pair slots ≡ decision right used pair slots
   decision-same used pair slots known = ap (λ (d : Decision). reply_with (said_of id used pair d.result) d.made) (verdict-same pair.source.addr slots known)
 
-  entry-same : (accept_proxy : Bool) (real : PairValue) (slots : Slots) (line : Option ℕ) → Known (λ track. is_own_id part v track.table ≡ true) slots →
+  entry-same : (accept_proxy : Bool) (real : PairValue) (slots : TrackSlots) (line : Option ℕ) → Known (λ track. is_own_id part v track.table ≡ true) slots →
       entry_reply left accept_proxy real slots line ≡ entry_reply right accept_proxy real slots line
   entry-same accept_proxy real slots (Some line) known = refl
   entry-same true real slots None known = refl
@@ -133,7 +133,7 @@ module _ (part : Part) (side : Bool) (s : Plain) (v : Version) (f : Frontend) (i
   abbrev seat : Candidate
   seat = candidate_of s id v f
 
-  judged-known : (source : Addr) (slots : Slots) → Known (λ track. P track.table) slots → (rules : List Rule) →
+  judged-known : (source : Addr) (slots : TrackSlots) → Known (λ track. P track.table) slots → (rules : List Rule) →
       rules_pass (keeps_table part side v.plan) (keeps_criterion part side v.plan f.name) f.acls rules ≡ true → Known (λ track. P track.table) (judged_after (scene_of (view_of seat source)) slots rules).tracks
   judged-known source slots known rules kept =
       (judged-kept (scene_of (view_of seat source)) (scene_of (view_of seat source)) (λ track. P track.table) (keeps_table part side v.plan) (keeps_criterion part side v.plan f.name) f.acls
@@ -165,7 +165,7 @@ module _ (part : Part) (side : Bool) (s : Plain) (v : Version) (f : Frontend) (i
           let own : server ≡ given.server = ap (λ (g : NumberedServer). g.server) same in
           (k, backend, server, there, ap (slice_get backend.servers) (sym number) ∙ e, ap (λ (x : Server). x.line) own, kept)
 
-  decision-on : (used : ℕ) (pair : PairValue) (slots : Slots) → Known (λ track. P track.table) slots → IsSaidOn part side v.plan P (decision seat used pair slots)
+  decision-on : (used : ℕ) (pair : PairValue) (slots : TrackSlots) → Known (λ track. P track.table) slots → IsSaidOn part side v.plan P (decision seat used pair slots)
   decision-on used pair slots known =
       let source : Addr = pair.source.addr in
       let says : Judged = judged_after (scene_of (view_of seat source)) slots f.session_rules in
@@ -178,7 +178,7 @@ module _ (part : Part) (side : Bool) (s : Plain) (v : Version) (f : Frontend) (i
       unless (Some line) made = tt
       unless None made = offered-on pair.source.addr made used pair (server_for (view_of seat pair.source.addr made)) refl
 
-  entry-on : (accept_proxy : Bool) (real : PairValue) (slots : Slots) (line : Option ℕ) → Known (λ track. P track.table) slots → IsSaidOn part side v.plan P (entry_reply seat accept_proxy real slots line)
+  entry-on : (accept_proxy : Bool) (real : PairValue) (slots : TrackSlots) (line : Option ℕ) → Known (λ track. P track.table) slots → IsSaidOn part side v.plan P (entry_reply seat accept_proxy real slots line)
   entry-on accept_proxy real slots (Some line) known = record { tracks = known; offered = tt }
   entry-on true real slots None known = record { tracks = known; offered = tt }
   entry-on false real slots None known = decision-on 0 real slots known

@@ -61,7 +61,7 @@ pub fn list()
         part_answers part (opening plan last) steps ≡ part_answers part (opening plan last) (alone part (opening plan last) steps) }
 {}
 
-/// A configuration that keeps two tenants apart, and three that join them: by a table, whoever's it is said to be, by a
+/// A configuration that keeps two tenants apart, and three that join them: by a table, whichever section is named, by a
 /// backend and by a count. In each of these the one is answered otherwise after the other's connections than alone.
 pub fn examples()
     ensures apart { (text_keeps_apart (acorn false) two_tenants ≡ true) × (text_keeps_apart birch two_tenants ≡ true) }

@@ -12,7 +12,7 @@ use Rattle.replay_core.specs.declared.fault.PrintFault.TheVariants as prints
 use Rattle.audit_core.specs.Audit.{fault_text}
 use Rattle.audit_core.specs.Check.{IsFaultOf, IsOutside}
 use Rattle.audit_core.specs.Standing.{standing_counts, start, verdict_in, IsStarted, Standing}
-use Rattle.audit_core.specs.Verdict.{counts_from, fault_at, history_on, verdict, Next}
+use Rattle.audit_core.specs.Verdict.{counts_from, fault_at, history_on, verdict, LinePlace}
 use Rattle.audit_core.specs.declared.fault.CheckFault.{CheckFault}
 use Rattle.audit_core.specs.declared.fault.Checked.{Checked}
 use Rattle.audit_core.specs.declared.fault.CheckKind.{CheckKind}
@@ -28,12 +28,12 @@ use Rattle.whatif_core.proofs.HistoryLemmas.{report_history}
 
 -- the history that a right text records
 abbrev Records : Plan → List ℕ → Type 0
-Records plan text = (g : List Entry) × (history_on (opening plan 0) [] 0 Next.between (parts is_line_feed text) ≡ Ok g)
+Records plan text = (g : List Entry) × (history_on (opening plan 0) [] 0 LinePlace.between (parts is_line_feed text) ≡ Ok g)
 
 records : (plan : Plan) (text : List ℕ) (checked : Checked) → verdict plan text ≡ Ok checked → Records plan text
-records plan text checked right = by (history_on (opening plan 0) [] 0 Next.between (parts is_line_feed text)) refl right
+records plan text checked right = by (history_on (opening plan 0) [] 0 LinePlace.between (parts is_line_feed text)) refl right
   where
-    by : (found : Result (List Entry) CheckFault) → history_on (opening plan 0) [] 0 Next.between (parts is_line_feed text) ≡ found → counts_from (opening plan 0) found ≡ Ok checked → Records plan text
+    by : (found : Result (List Entry) CheckFault) → history_on (opening plan 0) [] 0 LinePlace.between (parts is_line_feed text) ≡ found → counts_from (opening plan 0) found ≡ Ok checked → Records plan text
     by (Err fault) reads is = absurd (cc)
     by (Ok g) reads is = (g, reads)
 
@@ -69,7 +69,7 @@ compared summary config other text sent trial s held changed right started is pr
     }
 
 output_is : (summary : Bool) (config other text : List ℕ) (plan : Plan) (trial : Plain) (g : List Entry) → meaning config ≡ Ok plan → trial_opening plan other ≡ Ok trial
-    → history_on (opening plan 0) [] 0 Next.between (parts is_line_feed text) ≡ Ok g → written_of (history_report summary (opening plan 0) trial g) ≡ whatif_output summary config other text
+    → history_on (opening plan 0) [] 0 LinePlace.between (parts is_line_feed text) ≡ Ok g → written_of (history_report summary (opening plan 0) trial g) ≡ whatif_output summary config other text
 output_is summary config other text plan trial g means opens reads =
     ap (output_of summary plan trial) (sym reads) ∙ ap (output_of_trial summary plan text) (sym opens) ∙ ap (λ m. output_by summary m other text) (sym means)
 
@@ -104,7 +104,7 @@ wrong_text summary config other text trial plan fault opened means wrong =
     let same : opened.plan ≡ plan = same_plan config opened.plan plan opened.means means in
     ap (λ m. output_by summary m other text) opened.means
     ∙ ap (output_of_trial summary opened.plan text) opened.opens
-    ∙ by (history_on (opening opened.plan 0) [] 0 Next.between (parts is_line_feed text)) (ap (λ p. verdict p text) same ∙ wrong)
+    ∙ by (history_on (opening opened.plan 0) [] 0 LinePlace.between (parts is_line_feed text)) (ap (λ p. verdict p text) same ∙ wrong)
   where
     by : (found : Result (List Entry) CheckFault) → counts_from (opening opened.plan 0) found ≡ Err fault → output_of summary opened.plan trial found ≡ fault_text fault
     by (Ok g) is = absurd (cc)

@@ -9,7 +9,7 @@ use Rattle.conn_model.specs.declared.reply.StepFault.{StepFault}
 use Rattle.conn_model.specs.Answer.{answer_in}
 use Rattle.conn_model.specs.History.{id_of, is_reload}
 use Rattle.conn_model.specs.Words.{or_fault}
-use Rattle.event_text.specs.Script.{event_read, head_read, words_of, Head}
+use Rattle.event_text.specs.Script.{event_read, head_read, words_of, EventHead}
 use Rattle.event_text.specs.declared.script.EventRequest.{EventRequest}
 use Rattle.event_text.specs.declared.script.EventRequest.TheVariants as reads
 use Rattle.event_text.specs.declared.script.FirstLine.{FirstLine}
@@ -59,13 +59,13 @@ line_alone s line next none step =
 
 -- ---- a line that hands in an event
 
-head_taken : (s next : Standing) (timed : ℕ × OwnedEvent) (long : Bool) (found : Option Head)
+head_taken : (s next : Standing) (timed : ℕ × OwnedEvent) (long : Bool) (found : Option EventHead)
     → ((if long then Err (fault_at (s.lines + 1) TooLong) else or_fault (fault_at (s.lines + 1) Format) found) >>= λ head. Ok (after_head s head)) ≡ Ok next
     → whole_in found ≡ Some timed → next ≡ after_event s timed
 head_taken s next timed true found step whole = absurd (cc)
 head_taken s next timed false None step whole = absurd (cc)
-head_taken s next timed false (Some (Head.reload moment count)) step whole = absurd (cc)
-head_taken s next timed false (Some (Head.whole given)) step whole =
+head_taken s next timed false (Some (EventHead.reload moment count)) step whole = absurd (cc)
+head_taken s next timed false (Some (EventHead.whole given)) step whole =
     let first : after_event s given ≡ next = cc in let same : given ≡ timed = cc in sym first ∙ ap (after_event s) same
 
 event_taken : (s next : Standing) (line : List ℕ) (timed : ℕ × OwnedEvent) (due : Due) → on_due s due line ≡ Ok next → event_due s due line ≡ Some timed → next ≡ after_event s timed

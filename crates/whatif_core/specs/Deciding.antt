@@ -19,8 +19,8 @@ use Rattle.conn_model.specs.History.{id_of, is_reload}
 use Rattle.conn_rows.specs.Summaries.{names_of}
 use Rattle.event_text.specs.Replies.{cause_text}
 use Rattle.replay_core.specs.Turns.{plain_after}
-use Rattle.whatif_core.specs.declared.decision.Decision.{Decision}
-use Rattle.whatif_core.specs.declared.decision.Decision.TheVariants.{Wait, Offer, Refuse}
+use Rattle.whatif_core.specs.declared.decision.ComparedDecision.{ComparedDecision}
+use Rattle.whatif_core.specs.declared.decision.ComparedDecision.TheVariants.{Wait, Offer, Refuse}
 
 -- ---- decisions
 
@@ -29,12 +29,12 @@ abbrev pub offered_at : Plain → ConnId → Option (List ℕ × List ℕ)
 offered_at p id = option_map names_of (option_and_then (λ row. server_of row.phase) (row_at p.frontends id))
 
 -- an offer of the server of these names and of that line
-abbrev pub offer_of : Option (List ℕ × List ℕ) → ℕ → Decision
+abbrev pub offer_of : Option (List ℕ × List ℕ) → ℕ → ComparedDecision
 offer_of None line = Offer [] [] line
 offer_of (Some names) line = Offer names.0 names.1 line
 
 -- what a reply decides of its connection, which was offered the server of these names
-abbrev pub decision_with : Option (List ℕ × List ℕ) → Said → Option Decision
+abbrev pub decision_with : Option (List ℕ × List ℕ) → Said → Option ComparedDecision
 decision_with names (saids.Wait id used) = Some Wait
 decision_with names (saids.Offer id used line server to judged send) = Some (offer_of names line)
 decision_with names (saids.Refuse id used cause) = Some (Refuse cause)
@@ -43,10 +43,10 @@ decision_with names (saids.Closed id why) = None
 decision_with names (saids.Reloaded version) = None
 
 -- what a reply decides of its connection, in the state after it
-abbrev pub decision_of : Plain → Said → Option Decision
+abbrev pub decision_of : Plain → Said → Option ComparedDecision
 decision_of p said = decision_with (option_and_then (offered_at p) (id_of said)) said
 
-abbrev pub decided_by : Plain → Result Reply StepFault → Option Decision
+abbrev pub decided_by : Plain → Result Reply StepFault → Option ComparedDecision
 decided_by p (Ok reply) = decision_of p reply.said
 decided_by p (Err fault) = None
 
@@ -55,7 +55,7 @@ abbrev pub stepped : Plain → ℕ → OwnedEvent → Plain
 stepped p moment event = plain_after p moment event (answer_in p moment event)
 
 -- what a balancer decides when an event is handed in, if it decides anything
-abbrev pub decided : Plain → ℕ → OwnedEvent → Option Decision
+abbrev pub decided : Plain → ℕ → OwnedEvent → Option ComparedDecision
 decided p moment event = decided_by (stepped p moment event) (answer_in p moment event)
 
 -- ---- two decisions
@@ -74,7 +74,7 @@ same_kind (NoServer a) (NoServer b) = true
 same_kind (NoServer a) other = false
 
 -- both wait, both are offered a server of a backend of one name, or both are refused for the same kind of cause
-abbrev pub alike : Decision → Decision → Bool
+abbrev pub alike : ComparedDecision → ComparedDecision → Bool
 alike Wait Wait = true
 alike Wait other = false
 alike (Offer backend server line) (Offer backend2 server2 line2) = bytes_eq backend backend2
@@ -82,24 +82,24 @@ alike (Offer backend server line) other = false
 alike (Refuse cause) (Refuse cause2) = same_kind cause cause2
 alike (Refuse cause) other = false
 
-abbrev pub unlike : Decision → Decision → Option (Decision × Decision)
+abbrev pub unlike : ComparedDecision → ComparedDecision → Option (ComparedDecision × ComparedDecision)
 unlike was would = if alike was would then None else Some (was, would)
 
 -- two decisions, if they are not alike
-abbrev pub difference : Option Decision → Option Decision → Option (Decision × Decision)
+abbrev pub difference : Option ComparedDecision → Option ComparedDecision → Option (ComparedDecision × ComparedDecision)
 difference None would = None
 difference (Some was) None = None
 difference (Some was) (Some would) = unlike was would
 
 -- two offers of different servers of one backend
-abbrev pub is_other_server : Decision → Decision → Bool
+abbrev pub is_other_server : ComparedDecision → ComparedDecision → Bool
 is_other_server Wait other = false
 is_other_server (Offer backend server line) (Offer backend2 server2 line2) = bytes_eq backend backend2 && not (bytes_eq server server2)
 is_other_server (Offer backend server line) other = false
 is_other_server (Refuse cause) other = false
 
 -- the first refuses what the second does not
-abbrev pub is_let_in : Decision → Decision → Bool
+abbrev pub is_let_in : ComparedDecision → ComparedDecision → Bool
 is_let_in Wait other = false
 is_let_in (Offer backend server line) other = false
 is_let_in (Refuse cause) Wait = true
@@ -107,7 +107,7 @@ is_let_in (Refuse cause) (Offer backend server line) = true
 is_let_in (Refuse cause) (Refuse cause2) = false
 
 -- both are decisions, and the test holds of them
-abbrev pub of_both : (Decision → Decision → Bool) → Option Decision → Option Decision → Bool
+abbrev pub of_both : (ComparedDecision → ComparedDecision → Bool) → Option ComparedDecision → Option ComparedDecision → Bool
 of_both test None would = false
 of_both test (Some was) None = false
 of_both test (Some was) (Some would) = test was would
@@ -133,17 +133,17 @@ played p moment event said = if is_reload event then p else handed p moment even
 -- ---- texts
 
 -- a decision
-abbrev pub decision_text : Decision → List ℕ
+abbrev pub decision_text : ComparedDecision → List ℕ
 decision_text Wait = codes "wait"
 decision_text (Offer backend server line) = codes "offer " ++ backend ++ codes "/" ++ server ++ codes " line " ++ decimal line
 decision_text (Refuse cause) = codes "refuse " ++ cause_text cause
 
 -- the same, with an offer named by its backend alone
-abbrev pub brief_text : Decision → List ℕ
+abbrev pub brief_text : ComparedDecision → List ℕ
 brief_text Wait = codes "wait"
 brief_text (Offer backend server line) = codes "offer " ++ backend
 brief_text (Refuse cause) = codes "refuse " ++ cause_text cause
 
 -- what was decided and what would be, in short
-abbrev pub pair_text : Decision × Decision → List ℕ
+abbrev pub pair_text : ComparedDecision × ComparedDecision → List ℕ
 pair_text pair = codes "was " ++ brief_text pair.0 ++ codes ", would be " ++ brief_text pair.1

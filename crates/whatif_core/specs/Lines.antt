@@ -9,7 +9,7 @@ use Rattle.conn_model.specs.declared.reply.Reply.{Reply}
 use Rattle.conn_model.specs.declared.reply.StepFault.{StepFault}
 use Rattle.conn_model.specs.Answer.{answer_in}
 use Rattle.conn_model.specs.History.{Entry, entry, id_of}
-use Rattle.event_text.specs.Script.{words_of, Head}
+use Rattle.event_text.specs.Script.{words_of, EventHead}
 use Rattle.audit_core.specs.Record.{numbered_head}
 use Rattle.audit_core.specs.Standing.{on_line, Standing}
 use Rattle.audit_core.specs.declared.due.Due.{Due}
@@ -27,10 +27,10 @@ pub record Both : Type 0 where
 -- ---- the entry that begins at a line
 
 -- an event that is whole on its first line
-abbrev pub whole_in : Option Head → Option (ℕ × OwnedEvent)
+abbrev pub whole_in : Option EventHead → Option (ℕ × OwnedEvent)
 whole_in None = None
-whole_in (Some (Head.whole timed)) = Some timed
-whole_in (Some (Head.reload moment count)) = None
+whole_in (Some (EventHead.whole timed)) = Some timed
+whole_in (Some (EventHead.reload moment count)) = None
 
 abbrev pub event_due : Standing → Due → List ℕ → Option (ℕ × OwnedEvent)
 event_due s dues.Event line = whole_in (numbered_head (s.records + 1) (words_of line))

@@ -1,13 +1,11 @@
 -- What is written of the decisions of a record, and what its journal keeps.
 use Rattle.std.specs.Prelude.{◌≡◌, ℕ, Bool, List, [], ◌++◌, Option, Some, None}
 use Rattle.std.specs.BTreeMap.{get}
-use Rattle.std.specs.Ordering.{nat_cmp, ordering_then}
-use Rattle.std.specs.declared.cmp.Ordering.{Ordering}
 use Rattle.text_core.specs.Parts.{parts, is_line_feed}
 use Rattle.addr_core.specs.declared.addr.Endpoint.{Endpoint}
 use Rattle.conn_model.specs.declared.event.ConnId.{ConnId}
-use Rattle.whatif_core.specs.declared.journal.Journal.{Journal}
-use Rattle.whatif_core.specs.declared.journal.Name.{Name}
+use Rattle.audit_core.specs.Printing.{name_cmp, name_of}
+use Rattle.whatif_core.specs.declared.journal.WhatifJournal.{WhatifJournal}
 use Rattle.whatif_core.specs.declared.turn.Turn.{Turn}
 use Rattle.whatif_core.specs.Lines.{report_of_record, report_on_lines, Both}
 use Rattle.whatif_core.specs.Sums.{no_sums, sums_with, Sums}
@@ -21,14 +19,7 @@ pub record Noted : Type 0 where
   pub unsent : List ℕ
   pub sums : Sums
 
--- names are in the order of frontends, and then of serials
-abbrev pub name_cmp : Name → Name → Ordering
-name_cmp a b = ordering_then (nat_cmp a.frontend b.frontend) (nat_cmp a.serial b.serial)
-
-abbrev pub name_of : ConnId → Name
-name_of id = record { frontend = id.frontend; serial = id.serial }
-
-abbrev pub noted_in : Journal → Noted
+abbrev pub noted_in : WhatifJournal → Noted
 noted_in journal = record {
   summary = journal.summary;
   peers = λ id. get name_cmp journal.peers (name_of id);

@@ -15,8 +15,8 @@ use Rattle.conn_model.specs.Words.{is_conn}
 use Rattle.event_text.specs.Script.{id_text}
 use Rattle.audit_core.specs.Line.{event_peer}
 use Rattle.replay_core.specs.Turns.{plain_after}
-use Rattle.whatif_core.specs.declared.decision.Decision.{Decision}
-use Rattle.whatif_core.specs.declared.decision.Decision.TheVariants.{Wait, Offer, Refuse}
+use Rattle.whatif_core.specs.declared.decision.ComparedDecision.{ComparedDecision}
+use Rattle.whatif_core.specs.declared.decision.ComparedDecision.TheVariants.{Wait, Offer, Refuse}
 use Rattle.whatif_core.specs.declared.turn.Turn.{Turn}
 use Rattle.whatif_core.specs.Deciding.{decided, decision_text, difference, played}
 use Rattle.whatif_core.specs.Sums.{no_sums, sums_text, sums_with, Sums}
@@ -45,7 +45,7 @@ real_of None known = known
 real_of (Some peer) known = Some peer
 
 -- that peer, if the connection waits
-abbrev pub waiting : Option Decision → Option Endpoint → Option Endpoint
+abbrev pub waiting : Option ComparedDecision → Option Endpoint → Option Endpoint
 waiting None peer = None
 waiting (Some Wait) peer = peer
 waiting (Some (Offer backend server line)) peer = None
@@ -73,14 +73,14 @@ real_text (Some peer) = codes " real " ++ endpoint_text peer
 abbrev pub where_text : ℕ → ConnId → Option Endpoint → List ℕ
 where_text moment id real = codes "conn " ++ id_text id ++ codes " at " ++ decimal moment ++ real_text real
 
-abbrev pub decisions_text : Decision × Decision → List ℕ
+abbrev pub decisions_text : ComparedDecision × ComparedDecision → List ℕ
 decisions_text pair = codes ": was " ++ decision_text pair.0 ++ codes ", would be " ++ decision_text pair.1 ++ codes "\n"
 
 -- the line of two decisions on a connection that differ
-abbrev pub difference_line : ℕ → ConnId → Option Endpoint → Decision × Decision → List ℕ
+abbrev pub difference_line : ℕ → ConnId → Option Endpoint → ComparedDecision × ComparedDecision → List ℕ
 difference_line moment id real pair = where_text moment id real ++ decisions_text pair
 
-abbrev pub line_by : (ConnId → Option Endpoint) → Turn → Option ConnId → Option (Decision × Decision) → List ℕ
+abbrev pub line_by : (ConnId → Option Endpoint) → Turn → Option ConnId → Option (ComparedDecision × ComparedDecision) → List ℕ
 line_by peers turn None pair = []
 line_by peers turn (Some id) None = []
 line_by peers turn (Some id) (Some pair) = difference_line turn.moment id (real_of turn.peer (peers id)) pair

@@ -3,7 +3,7 @@ use Rattle.std.specs.Prelude.{ℕ, ◌+◌, nat_lt, Bool, List, [], ◌∷◌, �
 use Rattle.std.specs.List.{flat_map}
 use Rattle.std.specs.Str.{bytes_eq}
 use Rattle.text_core.specs.Decimal.{decimal}
-use Rattle.whatif_core.specs.declared.decision.Decision.{Decision}
+use Rattle.whatif_core.specs.declared.decision.ComparedDecision.{ComparedDecision}
 use Rattle.whatif_core.specs.declared.tally.PairCount.{PairCount}
 use Rattle.whatif_core.specs.declared.turn.Turn.{Turn}
 use Rattle.whatif_core.specs.Deciding.{difference, is_let_in, is_other_server, of_both, pair_text}
@@ -42,7 +42,7 @@ abbrev pub pairs_on : List ℕ → List PairCount → List PairCount
 pairs_on text [] = first_of_its_kind text ∷ []
 pairs_on text (pair ∷ pairs) = if has_text text pair then counted_again pair ∷ pairs else pair ∷ pairs_on text pairs
 
-abbrev pub pairs_with : List PairCount → Option (Decision × Decision) → List PairCount
+abbrev pub pairs_with : List PairCount → Option (ComparedDecision × ComparedDecision) → List PairCount
 pairs_with pairs None = pairs
 pairs_with pairs (Some pair) = pairs_on (pair_text pair) pairs
 

@@ -10,7 +10,7 @@ use Rattle.conn_model.specs.History.{opening, Entry, IsLegal}
 use Rattle.audit_core.specs.Audit.{fault_text}
 use Rattle.audit_core.specs.Check.{IsFaultOf}
 use Rattle.audit_core.specs.Record.{IsRecord}
-use Rattle.audit_core.specs.Verdict.{fault_at, history_on, verdict, Next}
+use Rattle.audit_core.specs.Verdict.{fault_at, history_on, verdict, LinePlace}
 use Rattle.audit_core.specs.declared.fault.CheckFault.{CheckFault}
 use Rattle.audit_core.specs.declared.fault.Checked.{Checked}
 use Rattle.audit_core.specs.declared.fault.CheckKind.TheVariants.{Config}
@@ -58,7 +58,7 @@ output_of summary plan trial (Ok h) = written_of (history_report summary (openin
 output_of summary plan trial (Err fault) = fault_text fault
 
 abbrev pub output_of_trial : Bool → Plan → List ℕ → Result Plain StepFault → List ℕ
-output_of_trial summary plan text (Ok trial) = output_of summary plan trial (history_on (opening plan 0) [] 0 Next.between (parts is_line_feed text))
+output_of_trial summary plan text (Ok trial) = output_of summary plan trial (history_on (opening plan 0) [] 0 LinePlace.between (parts is_line_feed text))
 output_of_trial summary plan text (Err fault) = []
 
 abbrev pub output_by : Bool → Result Plan OpenFault → List ℕ → List ℕ → List ℕ
@@ -79,6 +79,6 @@ pub record IsCompared (summary : Bool) (config other text sent : List ℕ) (held
   pub opens : trial_opening plan other ≡ Ok trial
   pub legal : IsLegal (opening plan 0) history
   pub is_record : IsRecord history (parts is_line_feed text)
-  pub reads : history_on (opening plan 0) [] 0 Next.between (parts is_line_feed text) ≡ Ok history
+  pub reads : history_on (opening plan 0) [] 0 LinePlace.between (parts is_line_feed text) ≡ Ok history
   pub wrote : held ≡ Some (sent ++ written_of (history_report summary (opening plan 0) trial history))
   pub counts : changed ≡ (history_report summary (opening plan 0) trial history).sums.changed

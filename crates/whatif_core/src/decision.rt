@@ -12,7 +12,7 @@ use std::alloc::{AllocError, Global};
 
 /// What is decided of a connection, at its accept or once its header is whole.
 #[derive(Debug, Drop)]
-pub enum Decision {
+pub enum ComparedDecision {
     /// It has to wait for its PROXY header, or for the rest of it.
     Wait,
     /// It is offered a server.
@@ -43,16 +43,20 @@ pub fn named(said: &Said) -> Option<ConnId>
 }
 
 /// An offer of the server of these names; they are empty if there are none.
-fn offer(alloc: Global, names: Option<ServerNames<'_>>, line: u32) -> Result<Decision, AllocError>
+fn offer(
+    alloc: Global,
+    names: Option<ServerNames<'_>>,
+    line: u32,
+) -> Result<ComparedDecision, AllocError>
     ensures { IfOk result (λ decision. decision ≡ offer_of (option_map names_in names.entry) line) }
 {
     match names {
-        Some(names) => Ok(Decision::Offer {
+        Some(names) => Ok(ComparedDecision::Offer {
             backend: Seq::duplicate_of(alloc, names.backend)?,
             server: Seq::duplicate_of(alloc, names.server)?,
             line,
         }),
-        None => Ok(Decision::Offer {
+        None => Ok(ComparedDecision::Offer {
             backend: Seq::new(alloc),
             server: Seq::new(alloc),
             line,
@@ -65,16 +69,16 @@ pub fn decision_in(
     alloc: Global,
     said: &Said,
     names: Option<ServerNames<'_>>,
-) -> Result<Option<Decision>, AllocError>
+) -> Result<Option<ComparedDecision>, AllocError>
     ensures { IfOk result (λ decision. decision ≡ decision_with (option_map names_in names.entry) said.now) }
 {
     match said {
-        Said::Wait { .. } => Ok(Some(Decision::Wait)),
+        Said::Wait { .. } => Ok(Some(ComparedDecision::Wait)),
         Said::Offer { line, .. } => {
             let offered = offer(alloc, names, *line)?;
             Ok(Some(offered))
         }
-        Said::Refuse { cause, .. } => Ok(Some(Decision::Refuse(*cause))),
+        Said::Refuse { cause, .. } => Ok(Some(ComparedDecision::Refuse(*cause))),
         Said::Up { .. } | Said::Closed { .. } | Said::Reloaded { .. } => Ok(None),
     }
 }
@@ -93,33 +97,35 @@ fn same_kind(cause: &Cause, other: &Cause) -> bool
 }
 
 /// Whether both wait, both are offered a server of a backend of one name, or both are refused for the same kind of cause.
-pub fn alike(was: &Decision, would: &Decision) -> bool
+pub fn alike(was: &ComparedDecision, would: &ComparedDecision) -> bool
     ensures { result ≡ alike was.now would.now }
 {
     match was {
-        Decision::Wait => matches!(would, Decision::Wait),
-        Decision::Offer { backend, .. } => match would {
-            Decision::Offer { backend: other, .. } => backend.as_slice() == other.as_slice(),
-            Decision::Wait | Decision::Refuse(_) => false,
+        ComparedDecision::Wait => matches!(would, ComparedDecision::Wait),
+        ComparedDecision::Offer { backend, .. } => match would {
+            ComparedDecision::Offer { backend: other, .. } => {
+                backend.as_slice() == other.as_slice()
+            }
+            ComparedDecision::Wait | ComparedDecision::Refuse(_) => false,
         },
-        Decision::Refuse(cause) => match would {
-            Decision::Refuse(other) => same_kind(cause, other),
-            Decision::Wait | Decision::Offer { .. } => false,
+        ComparedDecision::Refuse(cause) => match would {
+            ComparedDecision::Refuse(other) => same_kind(cause, other),
+            ComparedDecision::Wait | ComparedDecision::Offer { .. } => false,
         },
     }
 }
 
 /// Whether these are offers of different servers of one backend.
-pub fn is_other_server(was: &Decision, would: &Decision) -> bool
+pub fn is_other_server(was: &ComparedDecision, would: &ComparedDecision) -> bool
     ensures { result ≡ is_other_server was.now would.now }
 {
     match was {
-        Decision::Offer {
+        ComparedDecision::Offer {
             backend,
             server,
             line: _,
         } => match would {
-            Decision::Offer {
+            ComparedDecision::Offer {
                 backend: other_backend,
                 server: other_server,
                 line: _,
@@ -127,21 +133,21 @@ pub fn is_other_server(was: &Decision, would: &Decision) -> bool
                 backend.as_slice() == other_backend.as_slice()
                     && server.as_slice() != other_server.as_slice()
             }
-            Decision::Wait | Decision::Refuse(_) => false,
+            ComparedDecision::Wait | ComparedDecision::Refuse(_) => false,
         },
-        Decision::Wait | Decision::Refuse(_) => false,
+        ComparedDecision::Wait | ComparedDecision::Refuse(_) => false,
     }
 }
 
 /// Whether the first refuses what the second does not.
-pub fn is_let_in(was: &Decision, would: &Decision) -> bool
+pub fn is_let_in(was: &ComparedDecision, would: &ComparedDecision) -> bool
     ensures { result ≡ is_let_in was.now would.now }
 {
     match was {
-        Decision::Refuse(_) => match would {
-            Decision::Wait | Decision::Offer { .. } => true,
-            Decision::Refuse(_) => false,
+        ComparedDecision::Refuse(_) => match would {
+            ComparedDecision::Wait | ComparedDecision::Offer { .. } => true,
+            ComparedDecision::Refuse(_) => false,
         },
-        Decision::Wait | Decision::Offer { .. } => false,
+        ComparedDecision::Wait | ComparedDecision::Offer { .. } => false,
     }
 }

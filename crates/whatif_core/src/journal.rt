@@ -1,67 +1,50 @@
 //! The journal of a comparison: the peers of the connections that wait, the lines that are not yet written, and the
 //! counts.
 ghost use Rattle.std.specs.Prelude.{◌≡◌, ◌++◌, [], Option, Some, OnOk};
-ghost use Rattle.whatif_core.specs.Noting.{name_of, noted_in, noted_with, nothing_noted};
+ghost use Rattle.whatif_core.specs.Noting.{noted_in, noted_with, nothing_noted};
 ghost use Rattle.whatif_core.specs.Sums.{sums_text, sums_with};
 ghost use Rattle.whatif_core.specs.Reporting.{peers_on, real_of, shown, turn_line, waiting, with_peer};
 
-use crate::decision::Decision;
-use crate::tally::Tally;
+use crate::decision::ComparedDecision;
+use crate::tally::DecisionTally;
 use crate::text::write_difference;
 use crate::turn::Turn;
 use addr_core::Endpoint;
+use audit_core::Name;
 use conn_model::event::ConnId;
 use std::alloc::{AllocError, Global};
 use std::collections::BTreeMap;
 
-/// The name of a connection, in the order of names.
-#[derive(Clone, Copy, PartialEq, Eq, PartialOrd, Ord, Drop)]
-struct Name {
-    frontend: u16,
-    serial: u64,
-}
-
-impl Name {
-    fn of(id: &ConnId) -> Name
-        ensures { result ≡ name_of id.now }
-    {
-        Name {
-            frontend: id.frontend,
-            serial: id.serial,
-        }
-    }
-}
-
 /// That peer, if the connection waits.
-fn waiting(was: &Option<Decision>, peer: Option<Endpoint>) -> Option<Endpoint>
+fn waiting(was: &Option<ComparedDecision>, peer: Option<Endpoint>) -> Option<Endpoint>
     ensures { result ≡ waiting was.now peer }
 {
     match was {
-        Some(Decision::Wait) => peer,
-        Some(Decision::Offer { .. } | Decision::Refuse(_)) | None => None,
+        Some(ComparedDecision::Wait) => peer,
+        Some(ComparedDecision::Offer { .. } | ComparedDecision::Refuse(_)) | None => None,
     }
 }
 
 /// The peers of the connections that wait, the lines that are not yet written, and the counts.
 #[derive(Drop)]
-pub struct Journal {
+pub struct WhatifJournal {
     /// Whether the lines are left out.
     summary: bool,
     peers: BTreeMap<Name, Endpoint>,
     unsent: Vec<u8>,
-    tally: Tally,
+    tally: DecisionTally,
 }
 
-impl Journal {
+impl WhatifJournal {
     /// A journal without lines, if only a summary is wanted.
     pub fn new(alloc: Global, summary: bool) -> Self
         ensures { noted_in result ≡ nothing_noted summary }
     {
-        Journal {
+        WhatifJournal {
             summary,
             peers: BTreeMap::new(alloc),
             unsent: Vec::new(alloc),
-            tally: Tally::new(alloc),
+            tally: DecisionTally::new(alloc),
         }
     }
 

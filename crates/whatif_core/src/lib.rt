@@ -3,7 +3,7 @@
 #![tactic(auto)]
 
 pub use comparison::Comparison;
-pub use decision::Decision;
+pub use decision::ComparedDecision;
 pub use laws::open_in_both;
 pub use run::run_whatif;
 

@@ -17,29 +17,26 @@ ghost use Rattle.whatif_core.specs.Noting.{whole_report, noted_in, noted_with, P
 ghost use Rattle.whatif_core.specs.Sums.{sums_text};
 ghost use Rattle.whatif_core.specs.Reporting.{written_of};
 
-use crate::journal::Journal;
+use crate::journal::WhatifJournal;
 use crate::twin::Twin;
 use audit_core::write_bytes;
 use device_core::{Input, Output};
-use line_reader::{LineFault, LineReader, Next};
-use replay_core::PrintFault;
+use line_reader::{LineReader, Next, ReadFault};
+use replay_core::{MOST_UNSENT, PrintFault};
 use std::alloc::Global;
 
-/// How many bytes of lines are collected before they are written.
-const MOST_UNSENT: usize = 65_536;
-
 /// The fault if no line comes of a record that was right.
-fn reading_again(fault: LineFault) -> PrintFault
+fn reading_again(fault: ReadFault) -> PrintFault
     ensures { result ≡ second_fault fault }
 {
     match fault {
-        LineFault::NoMemory => PrintFault::NoMemory,
-        LineFault::TooLong | LineFault::Read => PrintFault::Read,
+        ReadFault::NoMemory => PrintFault::NoMemory,
+        ReadFault::TooLong | ReadFault::Read => PrintFault::Read,
     }
 }
 
 /// Takes a line, and adds to the journal what both decide of the entry that begins there.
-fn take_line(twin: &mut Twin, journal: &mut Journal, line: &[u8]) -> Result<(), PrintFault>
+fn take_line(twin: &mut Twin, journal: &mut WhatifJournal, line: &[u8]) -> Result<(), PrintFault>
     requires { length line.now ≤ MOST_LINE_BYTES }
     ensures ok { OnOk result (both_on twin.old line.now ≡ Ok twin.new) }
     ensures next { OnOk result ((twin.new.checked.lines ≡ twin.old.checked.lines + 1) × (twin.new.checked.lines ≤ MOST_RECORD_LINES)) }
@@ -57,7 +54,7 @@ fn take_line(twin: &mut Twin, journal: &mut Journal, line: &[u8]) -> Result<(), 
 }
 
 /// Writes the lines of a journal.
-fn send<O: Output>(journal: &mut Journal, writer: &mut O) -> Result<(), PrintFault>
+fn send<O: Output>(journal: &mut WhatifJournal, writer: &mut O) -> Result<(), PrintFault>
     ensures ok { OnOk result ((sent : List ℕ) → O.held writer.old ≡ Some sent → O.held writer.new ≡ Some (sent ++ (noted_in journal.old).unsent)) }
     ensures sends { OnOk result ((sent : List ℕ) → O.held writer.old ≡ Some sent → Sends sent (noted_in journal.old) (O.held writer.new) (noted_in journal.new)) }
     ensures empty { OnOk result (noted_in journal.new ≡ record (noted_in journal.old) { unsent = [] }) }
@@ -77,7 +74,7 @@ fn send<O: Output>(journal: &mut Journal, writer: &mut O) -> Result<(), PrintFau
 }
 
 /// Writes the lines of a journal once they are many.
-fn send_many<O: Output>(journal: &mut Journal, writer: &mut O) -> Result<(), PrintFault>
+fn send_many<O: Output>(journal: &mut WhatifJournal, writer: &mut O) -> Result<(), PrintFault>
     ensures sends { OnOk result ((sent : List ℕ) → O.held writer.old ≡ Some sent → Sends sent (noted_in journal.old) (O.held writer.new) (noted_in journal.new)) }
     ensures others { OnOk result (noted_in journal.new ≡ record (noted_in journal.old) { unsent = (noted_in journal.new).unsent }) }
     ensures failures { OnOk result (O.failures writer.new ≡ O.failures writer.old) }
@@ -96,7 +93,7 @@ fn send_many<O: Output>(journal: &mut Journal, writer: &mut O) -> Result<(), Pri
 /// sent.
 fn print_lines<I: Input, O: Output>(
     twin: &mut Twin,
-    journal: &mut Journal,
+    journal: &mut WhatifJournal,
     lines: &mut LineReader,
     reader: &mut I,
     writer: &mut O,
@@ -132,7 +129,7 @@ fn print_lines<I: Input, O: Output>(
 }
 
 /// Adds the counts, and writes what is left in the journal.
-fn print_sums<O: Output>(journal: &mut Journal, writer: &mut O) -> Result<u64, PrintFault>
+fn print_sums<O: Output>(journal: &mut WhatifJournal, writer: &mut O) -> Result<u64, PrintFault>
     ensures ok { OnOk result ((sent : List ℕ) → O.held writer.old ≡ Some sent → O.held writer.new ≡ Some (sent ++ ((noted_in journal.old).unsent ++ sums_text (noted_in journal.old).sums))) }
     ensures changed { IfOk result (λ changed. changed ≡ (noted_in journal.old).sums.changed) }
     ensures front { OnErr result ((sent : List ℕ) → O.held writer.old ≡ Some sent → IsFront (O.held writer.new) (sent ++ ((noted_in journal.old).unsent ++ sums_text (noted_in journal.old).sums))) }
@@ -166,7 +163,7 @@ pub fn print_all<I: Input, O: Output>(
         IsSpent (I.failures reader.old) (I.failures reader.new) (I.stalls reader.old) (I.stalls reader.new) (I.calls reader.old) (I.calls reader.new) }
     ensures gave_up { result ≡ Err PrintFault.Write → GaveUp (O.failures writer.old) (O.failures writer.new) (O.stalls writer.old) (O.stalls writer.new) }
 {
-    let mut journal = Journal::new(alloc, summary);
+    let mut journal = WhatifJournal::new(alloc, summary);
     let Ok(mut lines) = LineReader::new(alloc) else {
         return Err(PrintFault::NoMemory);
     };

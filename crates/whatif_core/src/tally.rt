@@ -5,7 +5,7 @@ ghost use Rattle.text_core.specs.Decimal.{decimal};
 ghost use Rattle.whatif_core.specs.Deciding.{pair_text};
 ghost use Rattle.whatif_core.specs.Sums.{changed_text, has_text, more, no_sums, one_more, others_text, pair_line, pairs_on, pairs_with, sums_text, sums_with};
 
-use crate::decision::Decision;
+use crate::decision::ComparedDecision;
 use crate::text::write_pair;
 use crate::turn::Turn;
 use list_core::Seq;
@@ -23,7 +23,7 @@ pub struct PairCount {
 
 /// What is counted of the decisions of a record.
 #[derive(Drop)]
-pub struct Tally {
+pub struct DecisionTally {
     alloc: Global,
     /// In the order in which they came up first.
     pairs: Vec<PairCount>,
@@ -33,7 +33,7 @@ pub struct Tally {
     let_in: u64,
 }
 
-impl Model for Tally {
+impl Model for DecisionTally {
     ghost use Rattle.whatif_core.specs.Sums.{Sums};
 
     ghost Value = { Sums };
@@ -86,7 +86,7 @@ fn count_pair(pairs: &mut Vec<PairCount>, text: Vec<u8>) -> Result<(), AllocErro
 fn count_difference(
     alloc: Global,
     pairs: &mut Vec<PairCount>,
-    difference: Option<(&Decision, &Decision)>,
+    difference: Option<(&ComparedDecision, &ComparedDecision)>,
 ) -> Result<(), AllocError>
     ensures { OnOk result (pairs.new.items ≡ pairs_with pairs.old.items (option_map (λ pair. (pair.0.now, pair.1.now)) difference.entry)) }
 {
@@ -139,11 +139,11 @@ fn write_pairs(out: &mut Vec<u8>, pairs: &[PairCount]) -> Result<(), AllocError>
     Ok(())
 }
 
-impl Tally {
+impl DecisionTally {
     pub fn new(alloc: Global) -> Self
         ensures { result ≡ no_sums }
     {
-        Tally {
+        DecisionTally {
             alloc,
             pairs: Vec::new(alloc),
             changed: 0,

@@ -3,7 +3,7 @@ ghost use Rattle.std.specs.Prelude.{◌≡◌, ◌++◌, OnOk};
 ghost use Rattle.whatif_core.specs.Deciding.{brief_text, decision_text, pair_text};
 ghost use Rattle.whatif_core.specs.Reporting.{decisions_text, difference_line, real_text, where_text};
 
-use crate::decision::Decision;
+use crate::decision::ComparedDecision;
 use addr_core::Endpoint;
 use conn_model::event::ConnId;
 use event_text::{write_cause, write_endpoint, write_id};
@@ -11,12 +11,12 @@ use std::alloc::AllocError;
 use text_core::decimal::append_decimal;
 
 /// Appends a decision.
-fn write_decision(out: &mut Vec<u8>, decision: &Decision) -> Result<(), AllocError>
+fn write_decision(out: &mut Vec<u8>, decision: &ComparedDecision) -> Result<(), AllocError>
     ensures { OnOk result (out.new.items ≡ out.old.items ++ decision_text decision.now) }
 {
     match decision {
-        Decision::Wait => out.extend_from_slice(b"wait"),
-        Decision::Offer {
+        ComparedDecision::Wait => out.extend_from_slice(b"wait"),
+        ComparedDecision::Offer {
             backend,
             server,
             line,
@@ -28,7 +28,7 @@ fn write_decision(out: &mut Vec<u8>, decision: &Decision) -> Result<(), AllocErr
             out.extend_from_slice(b" line ")?;
             append_decimal(out, u64::from(*line))
         }
-        Decision::Refuse(cause) => {
+        ComparedDecision::Refuse(cause) => {
             out.extend_from_slice(b"refuse ")?;
             write_cause(out, cause)
         }
@@ -36,16 +36,16 @@ fn write_decision(out: &mut Vec<u8>, decision: &Decision) -> Result<(), AllocErr
 }
 
 /// Appends a decision in short: an offer is named by its backend alone.
-fn write_brief(out: &mut Vec<u8>, decision: &Decision) -> Result<(), AllocError>
+fn write_brief(out: &mut Vec<u8>, decision: &ComparedDecision) -> Result<(), AllocError>
     ensures { OnOk result (out.new.items ≡ out.old.items ++ brief_text decision.now) }
 {
     match decision {
-        Decision::Wait => out.extend_from_slice(b"wait"),
-        Decision::Offer { backend, .. } => {
+        ComparedDecision::Wait => out.extend_from_slice(b"wait"),
+        ComparedDecision::Offer { backend, .. } => {
             out.extend_from_slice(b"offer ")?;
             out.extend_from_slice(backend.as_slice())
         }
-        Decision::Refuse(cause) => {
+        ComparedDecision::Refuse(cause) => {
             out.extend_from_slice(b"refuse ")?;
             write_cause(out, cause)
         }
@@ -53,7 +53,11 @@ fn write_brief(out: &mut Vec<u8>, decision: &Decision) -> Result<(), AllocError>
 }
 
 /// Appends what was decided and what would be, in short.
-pub fn write_pair(out: &mut Vec<u8>, was: &Decision, would: &Decision) -> Result<(), AllocError>
+pub fn write_pair(
+    out: &mut Vec<u8>,
+    was: &ComparedDecision,
+    would: &ComparedDecision,
+) -> Result<(), AllocError>
     ensures { OnOk result (out.new.items ≡ out.old.items ++ pair_text (was.now, would.now)) }
 {
     out.extend_from_slice(b"was ")?;
@@ -91,7 +95,11 @@ fn write_where(
 }
 
 /// Appends both decisions and the end of their line.
-fn write_decisions(out: &mut Vec<u8>, was: &Decision, would: &Decision) -> Result<(), AllocError>
+fn write_decisions(
+    out: &mut Vec<u8>,
+    was: &ComparedDecision,
+    would: &ComparedDecision,
+) -> Result<(), AllocError>
     ensures { OnOk result (out.new.items ≡ out.old.items ++ decisions_text (was.now, would.now)) }
 {
     out.extend_from_slice(b": was ")?;
@@ -108,8 +116,8 @@ pub fn write_difference(
     moment: u64,
     id: &ConnId,
     real: Option<Endpoint>,
-    was: &Decision,
-    would: &Decision,
+    was: &ComparedDecision,
+    would: &ComparedDecision,
 ) -> Result<(), AllocError>
     ensures { OnOk result (out.new.items ≡ out.old.items ++ difference_line moment id.now real (was.now, would.now)) }
 {

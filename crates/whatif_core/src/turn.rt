@@ -2,7 +2,7 @@
 ghost use Rattle.std.specs.Prelude.{◌≡◌, option_map};
 ghost use Rattle.whatif_core.specs.Deciding.{difference, is_let_in, is_other_server, of_both};
 
-use crate::decision::{Decision, alike, is_let_in, is_other_server};
+use crate::decision::{ComparedDecision, alike, is_let_in, is_other_server};
 use addr_core::Endpoint;
 use conn_model::event::ConnId;
 
@@ -16,14 +16,14 @@ pub struct Turn {
     /// The peer, if it is an accept.
     pub peer: Option<Endpoint>,
     /// What was decided.
-    pub was: Option<Decision>,
+    pub was: Option<ComparedDecision>,
     /// What the trial decides.
-    pub would: Option<Decision>,
+    pub would: Option<ComparedDecision>,
 }
 
 impl Turn {
     /// The two decisions, if they are not alike.
-    pub fn difference(&self) -> Option<(&Decision, &Decision)>
+    pub fn difference(&self) -> Option<(&ComparedDecision, &ComparedDecision)>
         ensures { option_map (λ pair. (pair.0.now, pair.1.now)) result ≡ difference self.now.was self.now.would }
     {
         let Some(was) = &self.was else {

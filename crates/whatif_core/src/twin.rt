@@ -11,7 +11,7 @@ ghost use Rattle.audit_core.specs.declared.fault.TheConstants.{MOST_RECORD_LINES
 ghost use Rattle.whatif_core.specs.Deciding.{closed, decided, decision_of, offered_at, stepped};
 ghost use Rattle.whatif_core.specs.Lines.{both_on, handed_after, turn_after, turn_at};
 
-use crate::decision::{Decision, decision_in, named};
+use crate::decision::{ComparedDecision, decision_in, named};
 use crate::turn::Turn;
 use audit_core::{Auditor, CheckFault, again, answer, read_numbered};
 use conn_core::{Core, ServerNames};
@@ -65,7 +65,7 @@ fn hand_in(
     trial: &mut Core,
     moment: u64,
     event: &Event<'_>,
-) -> Result<Option<Decision>, AllocError>
+) -> Result<Option<ComparedDecision>, AllocError>
     ensures decided { IfOk result (λ would. would ≡ decided trial.old moment (owned_event event.now)) }
     ensures stepped { OnOk result (trial.new ≡ stepped trial.old moment (owned_event event.now)) }
 {

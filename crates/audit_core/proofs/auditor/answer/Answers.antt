@@ -2,7 +2,7 @@ use Rattle.std.proofs.Common.{◌≤◌, ◌+◌, subst, sym}
 use Rattle.std.proofs.lemmas.Result.{on_ok_weaker}
 use Rattle.conn_model.specs.Answer.{answer_in}
 use Rattle.conn_model.specs.History.{owned_event}
-use Rattle.audit_core.specs.Record.{open_connections}
+use Rattle.conn_model.specs.Counts.{open_connections}
 use Rattle.audit_core.proofs.OpenLemmas.{open_answered}
 use Rattle.audit_core.proofs.auditor.answer.Goals as goal
 

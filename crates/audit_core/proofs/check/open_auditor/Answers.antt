@@ -1,5 +1,5 @@
 use Rattle.std.proofs.Common.{◌∙◌, ap}
-use Rattle.audit_core.specs.Record.{open_connections}
+use Rattle.conn_model.specs.Counts.{open_connections}
 use Rattle.audit_core.proofs.OpenLemmas.{none_open}
 use Rattle.audit_core.proofs.check.open_auditor.Goals as goal
 

@@ -1,5 +1,5 @@
 use Rattle.std.proofs.Common.{◌≡◌, ◌∙◌, Err, refl, sym, ap, arith}
-use Rattle.line_reader.specs.declared.lines.LineFault.{LineFault}
+use Rattle.line_reader.specs.declared.lines.ReadFault.{ReadFault}
 use Rattle.std.proofs.lemmas.Result.{err_from_is_err_and, on_ok_weaker}
 use Rattle.device_core.proofs.StallLemmas.{unblocked_on}
 use Rattle.replay_core.specs.declared.fault.PrintFault.TheVariants.{Read}
@@ -159,5 +159,5 @@ returns-in-Err-clause-spent g c = λ is text end left right.
     (λ gave_up.
     given_up_spent _ _ _ _ _ _ _ _ c.advance.new.self.reads before.failures before.stalls
     (omega (arith, c.in-Err.ensures.calls, c.in-Err.ensures.no_more, before.calls, before.reads))
-    (c.in-Err.ensures.given_up (ap (λ (f : LineFault). Err f) gave_up)))
+    (c.in-Err.ensures.given_up (ap (λ (f : ReadFault). Err f) gave_up)))
     (sym c.reading_again.ensures ∙ result) right

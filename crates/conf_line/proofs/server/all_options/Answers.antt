@@ -1,6 +1,6 @@
 use Rattle.std.proofs.Common.{◌≤◌, ◌||◌, subst, [], ◌∷◌, ◌++◌, refl, ◌∙◌, ap, sym}
 use Rattle.std.specs.Option.{option_or}
-use Rattle.conf_line.specs.declared.limits.TheConstants.{GREATEST_WEIGHT, MOST_CONNECTIONS}
+use Rattle.proxy_types.specs.declared.limits.TheConstants.{GREATEST_WEIGHT, MOST_CONNECTIONS}
 use Rattle.conf_line.specs.Sound.{IsSoundWeight, IsSoundLimit}
 use Rattle.conf_line.specs.Words.{onto, after}
 use Rattle.conf_line.specs.Servers.{server_options, option_weight, option_limit, is_disabled, is_send_proxy, is_send_proxy_v2, is_excess}

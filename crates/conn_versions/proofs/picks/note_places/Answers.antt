@@ -1,7 +1,7 @@
 use Rattle.std.proofs.Common.{◌≡◌, ◌<◌, true, length, ◌∙◌}
 use Rattle.slot_core.specs.Counts.{named_at}
 use Rattle.slot_core.proofs.CountLemmas.{still_named}
-use Rattle.conn_versions.proofs.Places.{length-set}
+use Rattle.list_core.proofs.Items.{length-set}
 use Rattle.conn_versions.proofs.Identities.{below_all, note_more}
 use Rattle.conn_versions.proofs.picks.note_places.Goals as goal
 

@@ -3,8 +3,8 @@ use Rattle.relay_core.specs.Relay.{flow_of, stream_of}
 use Rattle.link_core.proofs.StreamLemmas.{carried_ended, carried_more, carried_nothing}
 use Rattle.link_core.proofs.stream.pump.Goals as goal
 
-pub returns-then-buffer-lt-PIECE-clause-carries : goal.returns-then-buffer-lt-PIECE-clause-carries
-returns-then-buffer-lt-PIECE-clause-carries g c = carried_nothing (stream_of (g.K.Input.left c.args.input.now) (flow_of c.args.way c.args.relay.now) (g.K.Output.held c.args.output.now))
+pub returns-then-buffer-lt-PIECE_BYTES-clause-carries : goal.returns-then-buffer-lt-PIECE_BYTES-clause-carries
+returns-then-buffer-lt-PIECE_BYTES-clause-carries g c = carried_nothing (stream_of (g.K.Input.left c.args.input.now) (flow_of c.args.way c.args.relay.now) (g.K.Output.held c.args.output.now))
 
 pub loop-round-init : goal.loop-round-init
 loop-round-init g c = record {

@@ -20,8 +20,8 @@ returns-in-Offer-clause-ok g c = record {
       (rw c.in-Offer.is at (accept_uses c.args.core.now c.args.listener c.args.real c.in-Ok.reply c.in-Ok.ensures.plain_reply));
 }
 
-pub want_of_memory-requires : goal.want_of_memory-requires
-want_of_memory-requires g c =
+pub lack_of_memory-requires : goal.lack_of_memory-requires
+lack_of_memory-requires g c =
     let opens = c.requires.opening in
     let listens = c.requires.listens in
     accept_lacks_memory c.args.core.now opens.0 opens.1 listens.0 c.args.listener c.args.real c.in-Err.fault listens.1 c.in-Err.ensures.plain_fault

@@ -25,7 +25,7 @@ pub returns-in-Refuse-clause-decides : goal.returns-in-Refuse-clause-decides
 returns-in-Refuse-clause-decides c = λ first got waits.
     refuses first c.args.id c.args.core.now got c.args.piece.now c.in-Ok.reply waits c.in-Ok.ensures.plain_reply _ _ _ c.in-Refuse.is
 
-pub want_of_memory-requires : goal.want_of_memory-requires
-want_of_memory-requires c =
+pub lack_of_memory-requires : goal.lack_of_memory-requires
+lack_of_memory-requires c =
     let holds = c.requires.waits in
     lacks_memory (Piece c.args.id c.args.piece.now) _ _ c.in-Err.fault (piece_said c.args.core.now c.args.id holds.0 holds.1 c.args.piece.now) c.in-Err.ensures.plain_fault

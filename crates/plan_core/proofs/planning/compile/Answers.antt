@@ -1,7 +1,7 @@
 use Rattle.std.proofs.Common.{◌≡◌, ◌≤◌, [], length, ◌∙◌, ap}
 use native.Mathlib.Omega.{arith}
 use Rattle.plan_types.specs.declared.plan.Plan.{Plan}
-use Rattle.plan_types.specs.Sound.{most_frontends, most_backends, most_tables}
+use Rattle.proxy_types.specs.declared.limits.TheConstants.{MOST_SECTIONS, MOST_TABLES}
 use Rattle.plan_core.specs.Compiled.{plan_faults}
 use Rattle.plan_core.specs.Proxies.{proxies}
 use Rattle.plan_core.proofs.FaultLemmas.{none_stands}
@@ -18,10 +18,10 @@ returns-clause-whole c =
 pub returns-clause-sound : goal.returns-clause-sound
 returns-clause-sound c =
     let plan : Plan = record { frontends = c.in_ok-frontends.frontends; backends = c.in_ok-backends.backends; tables = c.in_ok-tables.tables } in
-    let few_frontends : length c.in_ok-frontends.frontends ≤ most_frontends = rw (c.in_ok-frontends.ensures.number, c.as_slice-all.ensures) c.in_ok-proxies.ensures.frontends in
-    let few_backends : length c.in_ok-backends.backends ≤ most_backends = rw (c.in_ok-backends.ensures.number, c.as_slice-all.ensures) c.in_ok-proxies.ensures.backends in
-    let all_few : length c.as_slice-all.result.now ≤ most_tables = rw c.as_slice-all.ensures c.in_ok-proxies.ensures.both in
-    let few_tables : length c.in_ok-tables.tables ≤ most_tables = omega (arith, all_few, c.in_ok-tables.ensures.few) in
+    let few_frontends : length c.in_ok-frontends.frontends ≤ MOST_SECTIONS = rw (c.in_ok-frontends.ensures.number, c.as_slice-all.ensures) c.in_ok-proxies.ensures.frontends in
+    let few_backends : length c.in_ok-backends.backends ≤ MOST_SECTIONS = rw (c.in_ok-backends.ensures.number, c.as_slice-all.ensures) c.in_ok-proxies.ensures.backends in
+    let all_few : length c.as_slice-all.result.now ≤ MOST_TABLES = rw c.as_slice-all.ensures c.in_ok-proxies.ensures.both in
+    let few_tables : length c.in_ok-tables.tables ≤ MOST_TABLES = omega (arith, all_few, c.in_ok-tables.ensures.few) in
     let of_items : c.as_slice-all.result.now ≡ proxies [] c.args.tree.now = c.as_slice-all.ensures ∙ c.in_ok-proxies.ensures.value ∙ ap (λ items. proxies [] items) c.items.ensures.items in
     let faultless : plan_faults c.args.tree.now ≡ [] =
     none_stands c.as_slice.result.now c.as_slice-2.result.now c.as_slice-all.result.now c.args.tree.now c.in_default.ensures.value of_items

@@ -1,6 +1,6 @@
 use Rattle.std.proofs.Common.{None, ap, subst, sym, inr, [], refl}
 use Rattle.std.proofs.lemmas.Result.{err_from_is_err_and}
-use Rattle.replay_core.specs.Progress.{Progress}
+use Rattle.replay_core.specs.Progress.{ReplayProgress}
 use Rattle.replay_core.specs.Reading.{WritesAll}
 use Rattle.replay_core.proofs.ReachLemmas.{cut_reaches, reaches_start}
 use Rattle.replay_core.proofs.EndLemmas.{done_ok, done_write, ends_write}
@@ -8,7 +8,7 @@ use Rattle.replay_core.proofs.replay.answer_and_send.Goals as goal
 
 pub returns-in-Ok-answer_all-clause-ok : goal.returns-in-Ok-answer_all-clause-ok
 returns-in-Ok-answer_all-clause-ok g c = λ script sent left held.
-    subst (λ n. WritesAll sent c.args.session.now script (g.O.Output.held c.send.new.writer) n None) (sym (ap (λ (s : Progress). s.answered) c.in_ok-send-in-Ok-answer_all.ensures.empty))
+    subst (λ n. WritesAll sent c.args.session.now script (g.O.Output.held c.send.new.writer) n None) (sym (ap (λ (s : ReplayProgress). s.answered) c.in_ok-send-in-Ok-answer_all.ensures.empty))
     (done_ok _ _ _ _ _ _ _ (c.in-Ok-answer_all.ensures.ok script sent left held).1 c.in_ok-send-in-Ok-answer_all.ensures.wrote)
 
 pub returns-clause-early_end : goal.returns-clause-early_end

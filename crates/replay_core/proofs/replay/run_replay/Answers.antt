@@ -2,12 +2,12 @@ use Rattle.std.proofs.Common.{◌≡◌, [], None, ap, subst, ◌∙◌}
 use Rattle.conn_model.specs.declared.plain.Plain.{Plain}
 use Rattle.conn_model.specs.History.{IsWell, opening}
 use Rattle.replay_core.specs.Reading.{Ends, WritesAll}
-use Rattle.replay_core.specs.Progress.{Progress}
+use Rattle.replay_core.specs.Progress.{ReplayProgress}
 use Rattle.replay_core.proofs.OutcomeLemmas.{start}
 use Rattle.replay_core.proofs.PlanLemmas.{ends_by, writes_script}
 use Rattle.replay_core.proofs.replay.run_replay.Goals as goal
 
-begun : Plain → Progress
+begun : Plain → ReplayProgress
 begun p = record { plain = p; reload = None; before = 0; answered = 0; unsent = [] }
 
 pub returns-in-Ok-replayed-clause-ok : goal.returns-in-Ok-replayed-clause-ok

@@ -7,8 +7,9 @@ use Rattle.stick_core.proofs.links.link_last.Goals as goal
 pub set_after-requires : goal.set_after-requires
 set_after-requires c = ring_last (after_of c.args.ends.now c.args.links.now) (before_of c.args.ends.now c.args.links.now) (length c.args.links.now) end (ordered c.args.ends.now c.args.links.now) c.requires.linked
 
-pub returns-clause-linked : goal.returns-clause-linked
-returns-clause-linked c =
+-- the ring once the place is its last
+pushed : (c : goal.After-links-4-1) → IsRing (after_of c.set_before-2.new.ends c.set_before-2.new.links) (before_of c.set_before-2.new.ends c.set_before-2.new.links) (length c.args.links.now) end (ordered c.args.ends.now c.args.links.now ++ c.args.place ∷ [])
+pushed c =
     let small : length c.args.links.now ≤ end = c.requires.fits in
     let apart_last : c.args.place ≢ c.args.ends.now.before = not_its_last (after_of c.args.ends.now c.args.links.now) (before_of c.args.ends.now c.args.links.now) (length c.args.links.now) end c.args.place (ordered c.args.ends.now c.args.links.now) c.requires.linked small c.requires.place c.requires.lacks in
     let apart_end : c.args.place ≢ end = λ is. omega (arith, is, c.requires.place, small) in
@@ -18,21 +19,16 @@ returns-clause-linked c =
     c.set_before.ensures.here c.set_before.ensures.apart c.set_before.ensures.after
     c.set_after-2.ensures.here c.set_after-2.ensures.apart c.set_after-2.ensures.before
     c.set_before-2.ensures.here c.set_before-2.ensures.apart c.set_before-2.ensures.after in
-    let ring : IsRing (after_of c.set_before-2.new.ends c.set_before-2.new.links) (before_of c.set_before-2.new.ends c.set_before-2.new.links) (length c.args.links.now) end (ordered c.args.ends.now c.args.links.now ++ c.args.place ∷ []) = ring-push (after_of c.args.ends.now c.args.links.now) (before_of c.args.ends.now c.args.links.now) (after_of c.set_before-2.new.ends c.set_before-2.new.links) (before_of c.set_before-2.new.ends c.set_before-2.new.links) (length c.args.links.now) end c.args.place (ordered c.args.ends.now c.args.links.now) c.requires.linked small c.requires.place c.requires.lacks l in
-    let len : length c.set_before-2.new.links ≡ length c.args.links.now = c.set_before-2.ensures.len ∙ c.set_after-2.ensures.len ∙ c.set_before.ensures.len ∙ c.set_after.ensures.len in
-    ring_is (after_of c.set_before-2.new.ends c.set_before-2.new.links) (before_of c.set_before-2.new.ends c.set_before-2.new.links) (length c.args.links.now) (length c.set_before-2.new.links) end (ordered c.args.ends.now c.args.links.now ++ c.args.place ∷ []) ring len small
+    ring-push (after_of c.args.ends.now c.args.links.now) (before_of c.args.ends.now c.args.links.now) (after_of c.set_before-2.new.ends c.set_before-2.new.links) (before_of c.set_before-2.new.ends c.set_before-2.new.links) (length c.args.links.now) end c.args.place (ordered c.args.ends.now c.args.links.now) c.requires.linked small c.requires.place c.requires.lacks l
+
+-- as many links as before
+as_long : (c : goal.After-links-4-1) → length c.set_before-2.new.links ≡ length c.args.links.now
+as_long c = c.set_before-2.ensures.len ∙ c.set_after-2.ensures.len ∙ c.set_before.ensures.len ∙ c.set_after.ensures.len
+
+pub returns-clause-linked : goal.returns-clause-linked
+returns-clause-linked c =
+    ring_is (after_of c.set_before-2.new.ends c.set_before-2.new.links) (before_of c.set_before-2.new.ends c.set_before-2.new.links) (length c.args.links.now) (length c.set_before-2.new.links) end (ordered c.args.ends.now c.args.links.now ++ c.args.place ∷ []) (pushed c) (as_long c) c.requires.fits
 
 pub returns-clause-order : goal.returns-clause-order
 returns-clause-order c =
-    let small : length c.args.links.now ≤ end = c.requires.fits in
-    let apart_last : c.args.place ≢ c.args.ends.now.before = not_its_last (after_of c.args.ends.now c.args.links.now) (before_of c.args.ends.now c.args.links.now) (length c.args.links.now) end c.args.place (ordered c.args.ends.now c.args.links.now) c.requires.linked small c.requires.place c.requires.lacks in
-    let apart_end : c.args.place ≢ end = λ is. omega (arith, is, c.requires.place, small) in
-    let l : Linked (after_of c.args.ends.now c.args.links.now) (before_of c.args.ends.now c.args.links.now) (after_of c.set_before-2.new.ends c.set_before-2.new.links) (before_of c.set_before-2.new.ends c.set_before-2.new.links) c.args.place end =
-    linked (after_of c.args.ends.now c.args.links.now) (before_of c.args.ends.now c.args.links.now) (after_of c.set_after.new.ends c.set_after.new.links) (before_of c.set_after.new.ends c.set_after.new.links) (after_of c.set_before.new.ends c.set_before.new.links) (before_of c.set_before.new.ends c.set_before.new.links) (after_of c.set_after-2.new.ends c.set_after-2.new.links) (before_of c.set_after-2.new.ends c.set_after-2.new.links) (after_of c.set_before-2.new.ends c.set_before-2.new.links) (before_of c.set_before-2.new.ends c.set_before-2.new.links) c.args.place end c.args.ends.now.before refl apart_end apart_last
-    c.set_after.ensures.here c.set_after.ensures.apart c.set_after.ensures.before
-    c.set_before.ensures.here c.set_before.ensures.apart c.set_before.ensures.after
-    c.set_after-2.ensures.here c.set_after-2.ensures.apart c.set_after-2.ensures.before
-    c.set_before-2.ensures.here c.set_before-2.ensures.apart c.set_before-2.ensures.after in
-    let ring : IsRing (after_of c.set_before-2.new.ends c.set_before-2.new.links) (before_of c.set_before-2.new.ends c.set_before-2.new.links) (length c.args.links.now) end (ordered c.args.ends.now c.args.links.now ++ c.args.place ∷ []) = ring-push (after_of c.args.ends.now c.args.links.now) (before_of c.args.ends.now c.args.links.now) (after_of c.set_before-2.new.ends c.set_before-2.new.links) (before_of c.set_before-2.new.ends c.set_before-2.new.links) (length c.args.links.now) end c.args.place (ordered c.args.ends.now c.args.links.now) c.requires.linked small c.requires.place c.requires.lacks l in
-    let len : length c.set_before-2.new.links ≡ length c.args.links.now = c.set_before-2.ensures.len ∙ c.set_after-2.ensures.len ∙ c.set_before.ensures.len ∙ c.set_after.ensures.len in
-    walked (after_of c.set_before-2.new.ends c.set_before-2.new.links) (before_of c.set_before-2.new.ends c.set_before-2.new.links) (length c.args.links.now) (length c.set_before-2.new.links) end (ordered c.args.ends.now c.args.links.now ++ c.args.place ∷ []) ring len small
+    walked (after_of c.set_before-2.new.ends c.set_before-2.new.links) (before_of c.set_before-2.new.ends c.set_before-2.new.links) (length c.args.links.now) (length c.set_before-2.new.links) end (ordered c.args.ends.now c.args.links.now ++ c.args.place ∷ []) (pushed c) (as_long c) c.requires.fits

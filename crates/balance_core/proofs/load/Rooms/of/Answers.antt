@@ -1,11 +1,12 @@
 use Rattle.std.proofs.Common.{refl, ◌∙◌, arith}
 use Rattle.std.proofs.lemmas.List.{length-set}
+use Rattle.proxy_types.specs.declared.limits.TheConstants.{MOST_SERVERS}
 use Rattle.balance_core.specs.Loads.{has_room_at}
 use Rattle.balance_core.proofs.RoomLemmas.{none_asked, one_asked, all_asked}
 use Rattle.balance_core.proofs.load.Rooms.of.Goals as goal
 
 pub loop-number-init : goal.loop-number-init
-loop-number-init g c = (refl, λ k. none_asked 64 k (has_room_at (g.L.Load.servers c.args.load.now) k))
+loop-number-init g c = (refl, λ k. none_asked MOST_SERVERS k (has_room_at (g.L.Load.servers c.args.load.now) k))
 
 pub loop-number-preserved : goal.loop-number-preserved
 loop-number-preserved g c = (

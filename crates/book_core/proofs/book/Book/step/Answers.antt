@@ -1,7 +1,7 @@
 use Rattle.std.proofs.Common.{rules, ◌≡◌, ◌≤◌, ◌+◌, ap, arith, ◌∙◌}
 use Rattle.conn_model.specs.History.{entry, owned_event, Entry}
 use Rattle.record_core.specs.Records.{history_of}
-use Rattle.book_core.specs.Open.{open_connections}
+use Rattle.conn_model.specs.Counts.{open_connections}
 use Rattle.book_core.specs.Book.{state_of, with_entry, BookState}
 use Rattle.book_core.proofs.BookLemmas.{book_goes_on, made_by_step, state_few, state_well}
 use Rattle.book_core.proofs.OpenLemmas.{open_after_answer}

@@ -6,8 +6,8 @@ use Rattle.conn_model.specs.declared.reply.Reply.{Reply}
 use Rattle.conn_model.specs.Answer.{accept_answer}
 use Rattle.conn_model.specs.History.{after, entry, tables_by}
 use Rattle.conn_rows.specs.declared.rows.RowsState.{RowsState}
-use Rattle.conn_core.specs.declared.entering.Arrival.{Arrival}
-use Rattle.conn_core.specs.declared.outcome.Decision.{Decision}
+use Rattle.conn_core.specs.declared.entering.SessionStart.{SessionStart}
+use Rattle.conn_core.specs.declared.outcome.TrackedOutcome.{TrackedOutcome}
 use Rattle.conn_model.specs.Changes.{with_item}
 use Rattle.conn_core.specs.Changes.{entered, settled_versions, CanOffer}
 use Rattle.conn_core.specs.Machine.{state_of, IsNext}
@@ -28,8 +28,8 @@ reply c = reply_by c.in_ok-id.field-0.id 0 c.in_ok-id.field-0.decision
 after_is : (c : goal.After-reply) → IsAfter (state c) (entry c.args.moment (Accept c.args.listener c.args.real) (reply c)) (state_of c.max-now.result c.self.inside.listeners c.enter.new.rows)
 unfolding state reply
 after_is c =
-    let arrival : Arrival = record { version = c.in_ok-id.field-0.version; real = c.args.real; accepted = c.max-now.result } in
-    let decision : Decision = c.in_ok-id.field-0.decision in
+    let arrival : SessionStart = record { version = c.in_ok-id.field-0.version; real = c.args.real; accepted = c.max-now.result } in
+    let decision : TrackedOutcome = c.in_ok-id.field-0.decision in
     let own : FrontendRows = c.in_ok-id.ensures.next.0 in
     let next : IsNext (state c) c.in_ok-id.field-0 own = subst (λ s. IsNext s c.in_ok-id.field-0 own) (sym c.self.view_is) c.in_ok-id.ensures.next.1 in
     let is : accept_answer (state c) (max c.self.inside.clock c.args.moment) c.args.listener c.args.real ≡ Ok (reply c) =

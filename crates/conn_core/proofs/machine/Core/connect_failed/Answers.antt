@@ -26,7 +26,7 @@ after_is : (c : goal.After-plain_reply) → IsAfter (state c) (entry c.args.mome
 unfolding state
 after_is c =
     let is : answer_in (state c) c.args.moment (ConnectFailed c.args.id) ≡ Ok (reply_of (Closed c.args.id Failed)) =
-    ap (λ p. server_answer p c.args.id (Closed c.args.id Failed)) c.self.view_is ∙ c.in_ok-awaiting.ensures.ok (Closed c.args.id Failed) in
+    ap (λ p. server_answer p c.args.id (Closed c.args.id Failed)) c.self.view_is ∙ c.in_ok-check_awaits_server.ensures.ok (Closed c.args.id Failed) in
     let got = server_answered (state c) c.args.id (Closed c.args.id Failed) (reply_of (Closed c.args.id Failed)) is in
     rw (c.forget.ensures, c.remove.ensures, c.max-self-inside.ensures)
     (after_last (state c) c.self.invariant c.args.moment (ConnectFailed c.args.id) c.args.id (Closed c.args.id Failed) got.row got.row_is tt refl refl is)

@@ -14,7 +14,7 @@ pub up-requires : goal.up-requires
 up-requires c =
     let q : Plain = state_of c.self.inside.clock c.self.inside.listeners c.self.inside.rows in
     let is : server_answer q c.args.id (Up c.args.id) ≡ Ok (reply_of (Up c.args.id)) =
-    ap (λ p. server_answer p c.args.id (Up c.args.id)) c.self.view_is ∙ c.in_ok-awaiting.ensures.ok (Up c.args.id) in
+    ap (λ p. server_answer p c.args.id (Up c.args.id)) c.self.view_is ∙ c.in_ok-check_awaits_server.ensures.ok (Up c.args.id) in
     subst (λ o. IsSome o) (sym (server_answered q c.args.id (Up c.args.id) (reply_of (Up c.args.id)) is).row_is) refl
 
 state : (c : goal.After-plain_reply) → Plain
@@ -25,7 +25,7 @@ after_is : (c : goal.After-plain_reply) → IsAfter (state c) (entry c.args.mome
 unfolding state
 after_is c =
     let is : answer_in (state c) c.args.moment (Connected c.args.id) ≡ Ok (reply_of (Up c.args.id)) =
-    ap (λ p. server_answer p c.args.id (Up c.args.id)) c.self.view_is ∙ c.in_ok-awaiting.ensures.ok (Up c.args.id) in
+    ap (λ p. server_answer p c.args.id (Up c.args.id)) c.self.view_is ∙ c.in_ok-check_awaits_server.ensures.ok (Up c.args.id) in
     let got = server_answered (state c) c.args.id (Up c.args.id) (reply_of (Up c.args.id)) is in
     rw (c.up.ensures, c.max-self-inside.ensures) (after_up (state c) c.self.invariant c.args.moment c.args.id got.row got.row_is is)
 

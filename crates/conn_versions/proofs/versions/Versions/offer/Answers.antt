@@ -8,7 +8,7 @@ use Rattle.conn_model.specs.Servers.{identity_in}
 use Rattle.conn_versions.specs.declared.versions.VersionPicks.{VersionPicks}
 use Rattle.conn_versions.specs.Versions.{has_number, HasServer}
 use Rattle.conn_versions.specs.Kept.{IsKept}
-use Rattle.conn_versions.proofs.Places.{one_item}
+use Rattle.list_core.proofs.Items.{one_item}
 use Rattle.conn_model.proofs.Lists.{nowhere, position_within}
 use Rattle.conn_versions.proofs.Identities.{identity-changed, identity_within}
 use Rattle.conn_versions.proofs.Judged.{judged-moved}

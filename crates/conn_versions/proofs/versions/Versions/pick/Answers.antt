@@ -4,7 +4,7 @@ use Rattle.std.proofs.lemmas.Option.{slice_get_within}
 use Rattle.conn_model.specs.Answer.{version_at}
 use Rattle.conn_model.specs.Servers.{cursor_at, pick_in}
 use Rattle.conn_versions.specs.Versions.{has_number, open_to}
-use Rattle.conn_versions.proofs.Places.{one_item}
+use Rattle.list_core.proofs.Items.{one_item}
 use Rattle.conn_model.proofs.Lists.{nowhere}
 use Rattle.conn_versions.proofs.Founds.{found_backend, found_version, within_own, FoundBackend, FoundVersion}
 use Rattle.conn_versions.proofs.versions.Versions.pick.Goals as goal

@@ -1,13 +1,13 @@
 use Rattle.std.proofs.Common.{◌≡◌, ◌⊎◌, ℕ, List, [], ◌∷◌, Some, sym, ap, ◌∙◌, inl, inr}
 use Rattle.std.proofs.lemmas.Result.{IfErr-weaker, on_ok_weaker, err_from_is_err_and}
 use Rattle.replay_core.specs.Replay.{final_outcome}
-use Rattle.replay_core.specs.Progress.{Progress, IsLineFault, total, total_of_lines}
+use Rattle.replay_core.specs.Progress.{ReplayProgress, IsLineFault, total, total_of_lines}
 use Rattle.replay_core.specs.declared.fault.ReplayFault.{ReplayFault}
 use Rattle.replay_core.specs.declared.fault.ReplayFault.TheVariants.{NoMemory}
 use Rattle.replay_core.proofs.session.Session.answer_last.Goals as goal
 
 -- a fault of a line that is the last one
-last_fault : (t u : Progress) (line : List ℕ) (fault : ReplayFault)
+last_fault : (t u : ReplayProgress) (line : List ℕ) (fault : ReplayFault)
     → (fault ≡ NoMemory) ⊎ (IsLineFault fault × ((sent : List ℕ) (more : List (List ℕ)) → total sent u (final_outcome (Some fault)) ≡ total_of_lines sent t (line ∷ more)))
     → (fault ≡ NoMemory) ⊎ (IsLineFault fault × ((sent : List ℕ) → total sent u (final_outcome (Some fault)) ≡ total_of_lines sent t (line ∷ [])))
 last_fault t u line fault (inl is) = inl is

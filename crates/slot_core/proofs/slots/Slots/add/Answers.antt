@@ -2,7 +2,7 @@ use Rattle.std.proofs.Common.{◌≡◌, ◌<◌, None, length, ap, sym, ◌∙�
 use Rattle.std.specs.List.{position}
 use Rattle.slot_core.specs.Counts.{is_of, open_at, IdentitiesDiffer}
 use Rattle.slot_core.proofs.CountLemmas.{last-named, named-pushed, now_named, place_identity, still_named}
-use Rattle.slot_core.proofs.Items.{found}
+use Rattle.list_core.proofs.Items.{found}
 use Rattle.slot_core.proofs.AddLemmas.{IsAdded, at_end, in_place}
 use Rattle.std.proofs.lemmas.Option.{slice_get_within}
 use Rattle.slot_core.proofs.slots.Slots.add.Goals as goal

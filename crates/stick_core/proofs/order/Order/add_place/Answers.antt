@@ -1,4 +1,5 @@
-use Rattle.std.proofs.Common.{◌≡◌, List, [], ◌∷◌, ◌++◌, ℕ, ◌≤◌, ◌<◌, eqb, cond, length, length-append, refl, ap, ◌∙◌, arith}
+use Rattle.std.specs.Prelude.{min, vec_capacity, vec_len}
+use Rattle.std.proofs.Common.{◌≡◌, ◌-◌, sym, subst, List, [], ◌∷◌, ◌++◌, ℕ, ◌≤◌, ◌<◌, eqb, cond, length, length-append, refl, ap, ◌∙◌, arith}
 use Rattle.std.proofs.lemmas.List.{get_or_append_left}
 use Rattle.stick_core.specs.Links.{end, nowhere, link_at, after_of, before_of, ordered}
 use Rattle.stick_core.specs.declared.links.Link.{Link}
@@ -19,14 +20,18 @@ pub invariant_of-self : goal.invariant_of-self
 invariant_of-self c =
     let ends = c.self.inside.ends in
     let new = c.push_reserved.new.self.items in
-    let small : length new ≤ end = omega (arith, c.len.ensures, c.len.type_inv, c.push_reserved.new.self.ok) in
-    ring_is (after_of ends new) (before_of ends new) (length new) (length new) end (ordered ends c.self.inside.links.items)
-    (more ends (record { before = end; after = end }) c.self.inside.links.items new c.push_reserved.ensures.items c.self.invariant) refl small
+    let room : 0 < min end (vec_capacity c.self.inside.links) - vec_len c.self.inside.links = subst (λ n. 0 < n) (sym (ap (λ t. t.spare) c.self.view_is)) c.requires in
+    let small : length new ≤ end = omega (arith, room, c.len.ensures, c.len.type_inv, c.push_reserved.new.self.ok) in (
+      ring_is (after_of ends new) (before_of ends new) (length new) (length new) end (ordered ends c.self.inside.links.items)
+          (more ends (record { before = end; after = end }) c.self.inside.links.items new c.push_reserved.ensures.items c.self.invariant.0) refl small,
+      omega (arith, small, c.push_reserved.new.self.ok),
+    )
 
 pub returns-clause-order : goal.returns-clause-order
 returns-clause-order c =
     let ends = c.self.inside.ends in
     let new = c.push_reserved.new.self.items in
-    let small : length new ≤ end = omega (arith, c.len.ensures, c.len.type_inv, c.push_reserved.new.self.ok) in
+    let room : 0 < min end (vec_capacity c.self.inside.links) - vec_len c.self.inside.links = subst (λ n. 0 < n) (sym (ap (λ t. t.spare) c.self.view_is)) c.requires in
+    let small : length new ≤ end = omega (arith, room, c.len.ensures, c.len.type_inv, c.push_reserved.new.self.ok) in
     walked (after_of ends new) (before_of ends new) (length new) (length new) end (ordered ends c.self.inside.links.items)
-    (more ends (record { before = end; after = end }) c.self.inside.links.items new c.push_reserved.ensures.items c.self.invariant) refl small ∙ ap (λ t. t.order) c.self.view_is
+    (more ends (record { before = end; after = end }) c.self.inside.links.items new c.push_reserved.ensures.items c.self.invariant.0) refl small ∙ ap (λ t. t.order) c.self.view_is

@@ -1,14 +1,14 @@
 use Rattle.std.proofs.Common.{◌≡◌, ◌++◌, ◌∷◌, [], Option, None, Some, find, length, refl, sym, ap, subst, ◌∙◌}
 use Rattle.std.specs.Prelude.{IsSome}
 use Rattle.addr_core.specs.contracts.addr.AddrPartialEq.TheImpl.{eq-value}
-use Rattle.stick_core.specs.declared.entries.Entry.{Entry}
+use Rattle.stick_core.specs.declared.entries.StickEntry.{StickEntry}
 use Rattle.stick_core.specs.Entries.{is_of, is_free, others}
 use Rattle.stick_core.specs.Ring.{Ranking, Lacks}
 use Rattle.stick_core.proofs.RingLemmas.{lacks-itself}
 use Rattle.stick_core.proofs.PlaceLemmas.{IsPut, free-has, free-lacks, missing-entry, put, tied}
 use Rattle.stick_core.proofs.touch_list.TouchList.put_last.Goals as goal
 
-never : (o : Option Entry) → o ≡ None → IsSome o → ⊥
+never : (o : Option StickEntry) → o ≡ None → IsSome o → ⊥
 never None is some = absurd (cc)
 never (Some e) is some = absurd (cc)
 

@@ -1,0 +1,45 @@
+//! What the commands over files share: statuses, messages, and files.
+use conn_core::OpenFault;
+use refusal_text::refusal;
+use std::fs;
+use std::rt::Files;
+
+/// All was done.
+pub const DONE: u8 = 0;
+
+/// What was handed in is refused.
+pub const REFUSED: u8 = 1;
+
+/// The words are no command.
+pub const USAGE: u8 = 2;
+
+/// Something cannot be read or written, or memory ran out.
+pub const DEVICE: u8 = 3;
+
+/// Says why a configuration is refused. If memory runs out, the line and the fault's name are said alone.
+pub fn explain_refusal(
+    rt: &(impl AllocGlobal + Eprint),
+    file: &str,
+    text: &str,
+    fault: &OpenFault,
+) {
+    let _written = match refusal(rt.alloc(), file, text, fault) {
+        Ok(message) => eprintln!(rt; "{message}"),
+        Err(_) => eprintln!(rt; "{file}: {fault}"),
+    };
+}
+
+/// Says what cannot be read.
+pub fn unreadable(rt: &impl Eprint, what: &str) -> u8 {
+    let _written = eprintln!(rt; "l4proxy: {what}: cannot be read");
+    DEVICE
+}
+
+/// Opens what can be read. A directory can be opened, and not read.
+pub fn open_script<R: Files>(rt: &R, script: &str) -> Option<R::File> {
+    let kind = fs::metadata(rt, script).ok()?;
+    if kind.is_dir() {
+        return None;
+    }
+    fs::open(rt, script).ok()
+}

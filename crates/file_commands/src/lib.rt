@@ -1,0 +1,16 @@
+//! The commands over files: `check`, `replay`, `pipe`, `audit`, `explain` and `whatif`.
+#![tactic(auto)]
+
+pub use command::run_command;
+pub use files::{DEVICE, DONE, REFUSED, USAGE, explain_refusal, unreadable};
+pub use progress::Terminals;
+
+mod audit;
+mod check;
+mod command;
+mod explain;
+mod files;
+mod pipe;
+mod progress;
+mod replay;
+mod whatif;
