@@ -33,7 +33,7 @@ RESULT = ROOT / 'out' / 'refused.txt'
 COSTS = ROOT / 'out' / 'costs.txt'
 TURNS = 6
 SHOWN = 10
-WHOLE_RUNS = ('tests/texts', 'must-not-compile/run', 'tests/run', 'tests/pipe/run', 'tests/serve', 'tests/memory',
+WHOLE_RUNS = ('tests/texts', 'tests/names', 'must-not-compile/run', 'tests/run', 'tests/pipe/run', 'tests/serve', 'tests/memory',
               'tests/terminal', 'tests/hostile --random 1000')
 
 

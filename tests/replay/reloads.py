@@ -165,7 +165,7 @@ class Drawn:
         header = f'PROXY TCP{6 if ":" in source else 4} {source} {to} 4000 443\r\n'.encode()
         rest = header[len(one.bytes):]
         wrong = b'GET' if self.draw.random() < 0.1 else rest
-        text = self.draw.choice([rest, rest, rest + b'hello', rest[:self.draw.randrange(len(rest))], wrong])
+        text = self.draw.choice([rest, rest, rest + b'hello', rest[:self.draw.randrange(len(rest) or 1)], wrong])
         self.event(self.model.names[one.frontend], 'piece', one.name, text.hex() or '-')
 
     def ask(self):
