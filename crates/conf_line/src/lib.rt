@@ -6,7 +6,7 @@ pub use proxy_types::{KeyType, Method, Stores};
 pub use reading::read_line;
 pub use statement::{
     ActionWords, LineReading, Ruleset, SectionKind, ServerOption, ServerWords, Statement,
-    TableOption, TableWords, TimeoutKind, TrackWords,
+    TableOption, TableWords, TrackWords,
 };
 
 mod acl;
@@ -17,5 +17,4 @@ mod rule;
 mod server;
 mod statement;
 mod table;
-mod times;
 mod words;

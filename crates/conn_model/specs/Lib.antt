@@ -6,4 +6,3 @@ pub mod Rules
 pub mod Answer
 pub mod History
 pub mod Changes
-pub mod Settings

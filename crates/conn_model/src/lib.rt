@@ -10,4 +10,3 @@ pub mod event;
 pub mod laws;
 pub mod plain;
 pub mod reply;
-pub mod settings;

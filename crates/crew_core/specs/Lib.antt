@@ -3,4 +3,3 @@ pub mod Leases
 pub mod Conns
 pub mod Outlets
 pub mod Writers
-pub mod Idle

@@ -43,18 +43,15 @@ fn can_move(relay: &Relay, way: Way, input: &Flags, output: &Flags) -> bool {
     reads || output.writes && relay.holds(way)
 }
 
-/// Lowers what a burst found not to be ready, and notes which of the links moved bytes.
+/// Lowers what a burst found not to be ready.
 fn note(burst: &Burst, input: &mut Flags, output: &mut Flags) {
     match burst.stop {
         BurstStop::Full | BurstStop::NoRoom => {}
         BurstStop::Short => input.note_short_read(),
         BurstStop::Blocked | BurstStop::End => input.reads = false,
     }
-    input.is_active |= burst.read > 0;
-    match burst.drained {
-        Drained::Bytes(_) => output.is_active = true,
-        Drained::Blocked => output.writes = false,
-        Drained::Empty => {}
+    if burst.drained == Drained::Blocked {
+        output.writes = false;
     }
 }
 
