@@ -58,6 +58,14 @@ def need(true, why=None):
         raise Refused(why)
 
 
+def time_of(word):
+    """The ms of digits and a unit."""
+    digits, unit = re.fullmatch(r'([0-9]*)(.*)', word).groups()
+    units = {'us': 1, '': 1000, 'ms': 1000, 's': 10**6, 'm': 60 * 10**6, 'h': 3600 * 10**6, 'd': 86400 * 10**6}
+    need(unit in units)
+    return number(str(-(-number(digits) * units[unit] // 1000)))
+
+
 def number(word, least=0, most=GREATEST):
     need(DIGITS.fullmatch(word) and least <= int(word) <= most)
     return int(word)
@@ -233,7 +241,8 @@ class Reader:
         need(keyword == 'timeout' or any(keyword in words for words in KEYWORDS.values()), f'line {at}: UnknownKeyword')
         need(self.section, f'line {at}: NoSection')
         if keyword == 'timeout':
-            need(rest and rest[0] in ('connect', 'client', 'server'))
+            need(rest and rest[0] in ('connect', 'client', 'server') and len(rest) == 2)
+            time_of(rest[1])
             return
         need(keyword in KEYWORDS[self.section[0]], f'line {at}: Unsupported')
         getattr(self, keyword.replace('-', '_'))(at, self.section[1], *rest)

@@ -41,7 +41,7 @@ def main():
     case('line 3: ExtraWord', [*own, 'mode tcp' + ' x' * 62])
     case('line 3: Text TooManyWords', [*own, 'mode tcp' + ' x' * 63])
     case('line 3: Text TooManyWords', [*own, 'mode "tcp"' + ' x' * 63])
-    case('ok', [*own, 'timeout client' + ' x' * 62 + ' # x x x'])
+    case('ok', [*own, 'option tcplog' + ' x' * 62 + ' # x x x'])
     case('ok', [*own, *('' for _ in range(65533))])
     case('line 65536: Text TooManyLines', [*own, *('' for _ in range(65533)), '"'])
     case('line 65536: Text TooManyWords', [*own, *('' for _ in range(65533)), 'x ' * 65])

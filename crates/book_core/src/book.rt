@@ -185,6 +185,13 @@ impl Book {
         self.core.counts(ask)
     }
 
+    /// How an open connection is served, by the version that judges it.
+    pub fn settings(&self, id: ConnId) -> Option<Settings>
+        ensures { result ≡ settings_in self.now.state id }
+    {
+        self.core.settings(id)
+    }
+
     /// How many records were made.
     pub fn made(&self) -> u64
         ensures { result ≡ self.now.made }

@@ -1,6 +1,7 @@
 pub mod Names
 pub mod Keywords
 pub mod Words
+pub mod Times
 pub mod Acls
 pub mod Rules
 pub mod Servers

@@ -38,6 +38,7 @@ IsSoundStatement statements.Defaults = Unit {0}
 IsSoundStatement (statements.Frontend name) = Unit {0}
 IsSoundStatement (statements.Backend name) = Unit {0}
 IsSoundStatement (statements.MaxConn limit) = IsWithin MOST_CONNECTIONS limit
+IsSoundStatement (statements.Timeout kind ms) = Unit {0}
 IsSoundStatement (statements.DefaultBackend name) = Unit {0}
 IsSoundStatement (statements.Balance method) = Unit {0}
 IsSoundStatement (statements.Bind at proxy) = Unit {0}

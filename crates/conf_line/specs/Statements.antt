@@ -9,12 +9,15 @@ use Rattle.conf_line.specs.declared.statement.SectionKind.{SectionKind}
 use Rattle.conf_line.specs.declared.statement.SectionKind.TheVariants as sections
 use Rattle.conf_line.specs.declared.statement.Statement.{Statement}
 use Rattle.conf_line.specs.declared.statement.Statement.TheVariants as statements
+use Rattle.conf_line.specs.declared.statement.TimeoutKind.{TimeoutKind}
+use Rattle.conf_line.specs.declared.statement.TimeoutKind.TheVariants as timeouts
 use Rattle.conf_line.specs.declared.keyword.Keyword.{Keyword}
 use Rattle.conf_line.specs.declared.keyword.Keyword.TheVariants as k
 use Rattle.conf_line.specs.declared.statement.LineReading.{LineReading}
 use Rattle.proxy_types.specs.declared.limits.TheConstants.{MOST_CONNECTIONS}
 use Rattle.conf_line.specs.Keywords.{keyword_of, check_keyword}
 use Rattle.conf_line.specs.Words.{word_at, end_at, name_at, number_at, bind_at}
+use Rattle.conf_line.specs.Times.{time_at}
 use Rattle.conf_line.specs.Acls.{acl_of}
 use Rattle.conf_line.specs.Rules.{rule_of, choice_of}
 use Rattle.conf_line.specs.Servers.{server_of}
@@ -104,9 +107,6 @@ is_global word = bytes_eq word (codes "global")
 abbrev pub is_option : List ℕ → Bool
 is_option word = bytes_eq word (codes "tcplog") || bytes_eq word (codes "dontlognull")
 
-abbrev pub is_timeout : List ℕ → Bool
-is_timeout word = bytes_eq word (codes "connect") || bytes_eq word (codes "client") || bytes_eq word (codes "server")
-
 -- in global all words after `log` are free
 abbrev pub log_of : SectionKind → List (List ℕ) → Result Statement ConfKind
 log_of sections.Global words = Ok statements.Nothing
@@ -114,6 +114,25 @@ log_of sections.Outside words = without_effect_if is_global words
 log_of sections.Defaults words = without_effect_if is_global words
 log_of sections.Frontend words = without_effect_if is_global words
 log_of sections.Backend words = without_effect_if is_global words
+
+-- Timeouts.
+
+abbrev pub timeout_kind : List ℕ → Result TimeoutKind ConfKind
+timeout_kind word =
+    if bytes_eq word (codes "connect") then Ok timeouts.Connect
+    else if bytes_eq word (codes "client") then Ok timeouts.Client
+    else if bytes_eq word (codes "server") then Ok timeouts.Server
+    else Err Unsupported
+
+-- whose time it is, and the time
+abbrev pub timeout_of : List (List ℕ) → Result Statement ConfKind
+timeout_of words = do
+  word ← word_at words
+  kind ← timeout_kind word.0
+  time ← word_at word.1
+  ms ← time_at time.0
+  _ ← end_at time.1
+  Ok (statements.Timeout kind ms)
 
 -- All lines.
 
@@ -140,7 +159,7 @@ keyword_reading kind known k.StickTable words = table_of words
 keyword_reading kind known k.Server words = server_of words
 keyword_reading kind known k.Log words = plain_reading (log_of kind words)
 keyword_reading kind known k.Option words = plain_reading (without_effect_if is_option words)
-keyword_reading kind known k.Timeout words = plain_reading (without_effect_if is_timeout words)
+keyword_reading kind known k.Timeout words = plain_reading (timeout_of words)
 keyword_reading kind known k.Daemon words = plain_reading (Ok statements.Nothing)
 keyword_reading kind known k.User words = plain_reading (Ok statements.Nothing)
 keyword_reading kind known k.Group words = plain_reading (Ok statements.Nothing)

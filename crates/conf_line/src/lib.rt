@@ -6,7 +6,7 @@ pub use proxy_types::{KeyType, Method, Stores};
 pub use reading::read_line;
 pub use statement::{
     ActionWords, LineReading, Ruleset, SectionKind, ServerOption, ServerWords, Statement,
-    TableOption, TableWords, TrackWords,
+    TableOption, TableWords, TimeoutKind, TrackWords,
 };
 
 mod acl;
@@ -17,4 +17,5 @@ mod rule;
 mod server;
 mod statement;
 mod table;
+mod times;
 mod words;

@@ -2,7 +2,7 @@
 ghost use Rattle.std.specs.Prelude.{◌≡◌, IfOk, Result, Ok};
 ghost use Rattle.list_core.specs.Each.{Gives};
 ghost use Rattle.conf_line.specs.Keywords.{keyword_of, check_keyword};
-ghost use Rattle.conf_line.specs.Statements.{only_name, global_of, defaults_of, frontend_of, backend_of, mode_of, default_backend_of, method_of, balance_of, accepts_proxy, bind_of, max_conn_of, without_effect_if, is_global, is_option, is_timeout, log_of, plain_reading, keyword_reading, line_reading};
+ghost use Rattle.conf_line.specs.Statements.{only_name, global_of, defaults_of, frontend_of, backend_of, mode_of, default_backend_of, method_of, balance_of, accepts_proxy, bind_of, max_conn_of, without_effect_if, is_global, is_option, timeout_kind, timeout_of, log_of, plain_reading, keyword_reading, line_reading};
 ghost use Rattle.conf_line.specs.Sound.{IsSoundStatement, IsSoundReading};
 ghost use Rattle.conf_line.specs.Acls.{acl_of};
 ghost use Rattle.conf_line.specs.Rules.{rule_of, choice_of};
@@ -12,8 +12,9 @@ use crate::fault::ConfKind;
 use crate::keyword::{Keyword, check_keyword, keyword_of};
 use crate::rule::{choice, rule};
 use crate::server::server;
-use crate::statement::{LineReading, SectionKind, Statement};
+use crate::statement::{LineReading, SectionKind, Statement, TimeoutKind};
 use crate::table::table;
+use crate::times::time_at;
 use crate::words::{bind_at, end_at, name_at, number_at, word_at};
 use list_core::Stop;
 use proxy_types::{MOST_CONNECTIONS, Method};
@@ -177,16 +178,31 @@ fn option<'a>(words: &[Word<'a>]) -> Result<Statement<'a>, ConfKind>
     Err(ConfKind::Unsupported)
 }
 
-/// A time without effect.
+fn timeout_kind(word: &Word) -> Result<TimeoutKind, ConfKind>
+    ensures { result ≡ timeout_kind word.now }
+{
+    if word.is(b"connect") {
+        Ok(TimeoutKind::Connect)
+    } else if word.is(b"client") {
+        Ok(TimeoutKind::Client)
+    } else if word.is(b"server") {
+        Ok(TimeoutKind::Server)
+    } else {
+        Err(ConfKind::Unsupported)
+    }
+}
+
+/// Whose time it is, and the time.
 fn timeout<'a>(words: &[Word<'a>]) -> Result<Statement<'a>, ConfKind>
-    ensures value { result ≡ without_effect_if is_timeout words.now }
+    ensures value { result ≡ timeout_of words.now }
     ensures sound { IfOk result IsSoundStatement }
 {
-    let (word, _rest) = word_at(words)?;
-    if word.is(b"connect") || word.is(b"client") || word.is(b"server") {
-        return Ok(Statement::Nothing);
-    }
-    Err(ConfKind::Unsupported)
+    let (word, rest) = word_at(words)?;
+    let kind = timeout_kind(word)?;
+    let (time, rest) = word_at(rest)?;
+    let ms = time_at(time.bytes())?;
+    end_at(rest)?;
+    Ok(Statement::Timeout(kind, ms))
 }
 
 fn log<'a>(kind: SectionKind, words: &[Word<'a>]) -> Result<Statement<'a>, ConfKind>

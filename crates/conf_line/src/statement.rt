@@ -82,6 +82,17 @@ pub struct ServerWords<'a> {
     pub send_proxy_v2: bool,
 }
 
+/// What a `timeout` line bounds (HAProxy manual, `timeout client`, `timeout connect`, `timeout server`).
+#[derive(Clone, Copy, Debug, PartialEq, Eq)]
+pub enum TimeoutKind {
+    /// How long a server may take to accept a connection.
+    Connect,
+    /// How long a client may send nothing and take nothing.
+    Client,
+    /// The same of a server.
+    Server,
+}
+
 /// What a line says.
 #[derive(Drop)]
 pub enum Statement<'a> {
@@ -93,6 +104,8 @@ pub enum Statement<'a> {
     Backend(Word<'a>),
     /// How many connections may be open.
     MaxConn(u64),
+    /// A time in ms, 0 for no bound.
+    Timeout(TimeoutKind, u64),
     DefaultBackend(Word<'a>),
     Balance(Method),
     /// Where connections are accepted, and whether each begins with a PROXY header.

@@ -13,6 +13,7 @@ opens (statements.Frontend name) = true
 opens (statements.Backend name) = true
 opens statements.Nothing = false
 opens (statements.MaxConn limit) = false
+opens (statements.Timeout kind ms) = false
 opens (statements.DefaultBackend name) = false
 opens (statements.Balance method) = false
 opens (statements.Acl name test) = false

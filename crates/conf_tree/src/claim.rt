@@ -38,6 +38,7 @@ pub fn claim_of<'a>(place: &SectionPlace<'a>, statement: &Statement<'a>) -> Opti
         | Statement::Global
         | Statement::Defaults
         | Statement::MaxConn(_)
+        | Statement::Timeout(..)
         | Statement::DefaultBackend(_)
         | Statement::Balance(_)
         | Statement::Acl(_, _)

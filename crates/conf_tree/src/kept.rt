@@ -55,6 +55,7 @@ fn names_after<'a>(
         Statement::Acl(name, _) => names_with(known, name.again()),
         Statement::Nothing
         | Statement::MaxConn(_)
+        | Statement::Timeout(..)
         | Statement::DefaultBackend(_)
         | Statement::Balance(_)
         | Statement::Bind(_, _)

@@ -3,7 +3,7 @@
 
 pub use conf_line::{
     ActionWords, ConfFault, ConfKind, KeyType, Method, Ruleset, SectionKind, ServerWords,
-    Statement, Stores, TableWords, TrackWords,
+    Statement, Stores, TableWords, TimeoutKind, TrackWords,
 };
 pub use limits::{MOST_ACLS, MOST_RULES};
 pub use names::acl_names;

@@ -22,6 +22,7 @@ fn acl_name<'a>(statement: &Statement<'a>) -> Option<Word<'a>>
         | Statement::Frontend(_)
         | Statement::Backend(_)
         | Statement::MaxConn(_)
+        | Statement::Timeout(..)
         | Statement::DefaultBackend(_)
         | Statement::Balance(_)
         | Statement::Bind(_, _)

@@ -81,6 +81,7 @@ fn place_of<'a>(
         },
         Statement::Nothing
         | Statement::MaxConn(_)
+        | Statement::Timeout(..)
         | Statement::DefaultBackend(_)
         | Statement::Balance(_)
         | Statement::Bind(_, _)
@@ -228,6 +229,7 @@ fn is_full(kept: &Kept, place: &SectionPlace, statement: &Statement) -> bool
         | Statement::Global
         | Statement::Defaults
         | Statement::MaxConn(_)
+        | Statement::Timeout(..)
         | Statement::DefaultBackend(_)
         | Statement::Balance(_)
         | Statement::StickTable(_) => false,

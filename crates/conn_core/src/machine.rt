@@ -171,6 +171,13 @@ impl Core {
         self.rows.server(id)
     }
 
+    /// How an open connection is served, by the version that judges it.
+    pub fn settings(&self, id: ConnId) -> Option<Settings>
+        ensures { result ≡ settings_in self.now id }
+    {
+        self.rows.settings(id)
+    }
+
     /// What rules see of the connection of that pair, if it comes to that listener next. None where there is no such
     /// listener.
     pub fn arriving(&self, listener: u16, real: Pair) -> Option<RuleFacts<'_>>

@@ -6,3 +6,4 @@ pub mod Rules
 pub mod Answer
 pub mod History
 pub mod Changes
+pub mod Settings

@@ -18,6 +18,10 @@ pub enum Why {
     Fault,
     Stopped,
     Failed,
+    /// The client was silent for longer than its frontend allows.
+    ClientTimeout,
+    /// The server was silent for longer than its backend allows.
+    ServerTimeout,
 }
 
 /// The most bytes of a piece.

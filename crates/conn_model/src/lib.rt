@@ -10,3 +10,4 @@ pub mod event;
 pub mod laws;
 pub mod plain;
 pub mod reply;
+pub mod settings;

@@ -191,6 +191,16 @@ impl StoredRow {
         }
     }
 
+    /// The backend of the server that it was offered.
+    pub fn backend<'a>(&self, plan: &'a Plan) -> Option<&'a Backend>
+        ensures { option_copied result ≡ option_and_then (λ seat. find (has_line seat.line) plan.now.backends) (seat_of self.now.stage) }
+    {
+        match &self.stage {
+            Stage::Waiting(_) => None,
+            Stage::Offered(held) => backend_in(plan, held.seat.seat().line),
+        }
+    }
+
     /// An equal row, as plain data, by the plans of these versions.
     pub fn plain(&self, alloc: Global, versions: &[Version]) -> Result<Row, AllocError>
         ensures { IfOk result (λ row. row ≡ plain_row versions.now self.now) }
@@ -246,6 +256,31 @@ fn end_none<T>(value: Option<T>)
     match value {
         Some(_value) => unreachable!(),
         None => {}
+    }
+}
+
+/// The frontend of that name.
+pub fn frontend_in<'a>(plan: &'a Plan, name: &[u8]) -> Option<&'a Frontend>
+    ensures { option_copied result ≡ frontend_in plan.now name.now }
+{
+    plan.frontends
+        .as_slice()
+        .iter()
+        .find(|frontend| frontend.name.as_slice() == name)
+}
+
+/// How a connection is served by its frontend and, once it was offered a server, by its backend.
+pub fn settings_of(frontend: &Frontend, backend: Option<&Backend>) -> Settings
+    ensures { result ≡ settings_of frontend.now (option_copied backend.entry) }
+{
+    let (connect, server) = match backend {
+        Some(backend) => (backend.connect_timeout, backend.server_timeout),
+        None => (0, 0),
+    };
+    Settings {
+        client: frontend.client_timeout,
+        connect,
+        server,
     }
 }
 

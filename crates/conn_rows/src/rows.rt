@@ -171,6 +171,17 @@ impl Rows {
         row.server(self.kept.as_slice())
     }
 
+    /// How an open connection is served, by the version that judges it.
+    pub fn settings(&self, id: ConnId) -> Option<Settings>
+        ensures { result ≡ settings_by self.now.frontends self.now.versions id }
+    {
+        let own = item(self.frontends.as_slice(), id.frontend)?;
+        let row = own.row(id.serial)?;
+        let version = version_at(self.kept.as_slice(), row.version)?;
+        let frontend = frontend_in(&version.plan, own.name())?;
+        Some(settings_of(frontend, row.backend(&version.plan)))
+    }
+
     /// How many connections of the frontend of that number are open.
     pub fn open_in(&self, number: u16) -> Option<u64>
         ensures { result ≡ option_map (λ own. length own.rows) (slice_get self.now.frontends number) }

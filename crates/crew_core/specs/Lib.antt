@@ -3,3 +3,4 @@ pub mod Leases
 pub mod Conns
 pub mod Outlets
 pub mod Writers
+pub mod Idle

@@ -3,7 +3,10 @@ ghost use Rattle.std.specs.Prelude.{◌≡◌, ◌++◌, [], Some, None, IsTrue,
 ghost use Rattle.relay_core.specs.Relay.{IsBegun};
 ghost use Rattle.crew_core.specs.Conns.{HasFlows, PassesOn};
 
+use crate::idle::{Side, is_overdue, overdue};
 use addr_core::Endpoint;
+use conn_model::event::Why;
+use conn_model::settings::Settings;
 use link_core::{Flags, Link, Progress, Ready, Spares, pump};
 use relay_core::{Relay, Way};
 use std::alloc::AllocError;
@@ -30,6 +33,20 @@ pub(crate) struct Conn<K: Link> {
     pub(crate) stage: Stage,
     pub(crate) client_flags: Flags,
     server_flags: Flags,
+    /// How long each side may be silent.
+    settings: Settings,
+    /// When the client last sent or took a byte, in ms.
+    client_seen: u64,
+    /// The same of the server. While it is dialled, when that began.
+    server_seen: u64,
+}
+
+/// Why a connection that was silent for too long ends.
+#[derive(Clone, Copy, Debug)]
+pub(crate) enum Silence {
+    /// Its server did not accept it in time.
+    Dial,
+    Side(Why),
 }
 
 /// Whether both directions are over.
@@ -48,6 +65,50 @@ impl<K: Link> Conn<K> {
             stage: Stage::Header,
             client_flags: Flags::of_client(),
             server_flags: Flags::of_server(),
+            settings: Settings {
+                client: 0,
+                connect: 0,
+                server: 0,
+            },
+            client_seen: 0,
+            server_seen: 0,
+        }
+    }
+
+    /// From now on its server is dialled, and these times count.
+    pub(crate) fn begin_dial(&mut self, settings: Settings, now: u64) {
+        self.settings = settings;
+        self.server_seen = now;
+    }
+
+    /// Notes which of the links moved bytes.
+    fn note_activity(&mut self, now: u64) {
+        if self.client_flags.take_activity() {
+            self.client_seen = now;
+        }
+        if self.server_flags.take_activity() {
+            self.server_seen = now;
+        }
+    }
+
+    /// Whether it was silent for too long.
+    pub(crate) fn silence(&self, now: u64) -> Option<Silence> {
+        let client = Side {
+            seen: self.client_seen,
+            limit: self.settings.client,
+        };
+        let server = Side {
+            seen: self.server_seen,
+            limit: self.settings.server,
+        };
+        let dial = Side {
+            seen: self.server_seen,
+            limit: self.settings.connect,
+        };
+        match self.stage {
+            Stage::Header => None,
+            Stage::Server(_) => is_overdue(now, dial).then_some(Silence::Dial),
+            Stage::Bytes => overdue(now, client, server).map(Silence::Side),
         }
     }
 
@@ -81,10 +142,12 @@ impl<K: Link> Conn<K> {
         Ok(())
     }
 
-    /// There is a link to its server.
-    pub(crate) fn connect(&mut self, server: K) {
+    /// There is a link to its server. Both sides count as silent from now on.
+    pub(crate) fn connect(&mut self, server: K, now: u64) {
         self.server = Some(server);
         self.stage = Stage::Bytes;
+        self.client_seen = now;
+        self.server_seen = now;
     }
 
     /// The relay of the connection, or a new one.
@@ -114,14 +177,21 @@ impl<K: Link> Conn<K> {
     }
 
     /// Passes bytes on in both directions, as far as its links are ready. `None` says that both directions are over.
-    pub(crate) fn relay(&mut self, spares: &mut Spares, buffer: &mut [u8]) -> Option<Progress>
+    pub(crate) fn relay(
+        &mut self,
+        spares: &mut Spares,
+        buffer: &mut [u8],
+        now: u64,
+    ) -> Option<Progress>
         ensures { (server : K) → self.old.server ≡ Some server → IsSomeAnd self.new.server (λ new_server.
             PassesOn K.left K.held self.old.client server self.old.relay self.new.client new_server self.new.relay) }
     {
-        match self.take_relay(spares) {
+        let progress = match self.take_relay(spares) {
             Ok(relay) => self.relay_by(spares, relay, buffer),
             Err(_) => Some(Progress::Fault),
-        }
+        };
+        self.note_activity(now);
+        progress
     }
 
     fn relay_by(

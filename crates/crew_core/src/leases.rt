@@ -2,6 +2,7 @@
 ghost use Rattle.std.specs.Prelude.{◌≡◌, ◌+◌, ◌≤◌, IfSome, IsTrue, length, vec_len};
 ghost use Rattle.crew_core.specs.Leases.{IsVacant};
 
+use conn_model::settings::Settings;
 use desk_core::{Lease, LeaseList};
 use std::alloc::{AllocError, Global};
 use std::sync::ledger::Ledger;
@@ -64,6 +65,11 @@ impl<O: Ledger> Leases<O> {
         ensures { IfSome result (λ lease. IsVacant self.new.slots.items key) }
     {
         self.slots.get_mut(key)?.take()
+    }
+
+    /// How the connection of a key is served, once it was offered a server.
+    pub(crate) fn settings(&self, key: usize) -> Option<Settings> {
+        self.slots.get(key)?.as_ref()?.settings()
     }
 
     /// The leases that were not spent.

@@ -11,6 +11,7 @@ mod calls;
 mod conn;
 mod crew;
 mod engine;
+mod idle;
 mod leases;
 mod outlet;
 mod queue;

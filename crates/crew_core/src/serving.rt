@@ -2,7 +2,7 @@
 ghost use Rattle.std.specs.Prelude.{◌≡◌, ◌≤◌, length, take, drop};
 
 use crate::calls::{CallOutcome, WorkerContext};
-use crate::conn::Stage;
+use crate::conn::{Silence, Stage};
 use crate::worker::{SERVED, Worker, WorkerState};
 use addr_core::Endpoint;
 use conn_model::event::Why;
@@ -130,6 +130,7 @@ impl<M: Ledger, O: Ledger, K: Link, L: Dial<Link = K>> Worker<M, O, K, L> {
         rest: (usize, usize),
     ) {
         let (from, until) = rest;
+        let settings = self.calls.leases.settings(key);
         let WorkerState {
             table,
             buffer,
@@ -141,7 +142,12 @@ impl<M: Ledger, O: Ledger, K: Link, L: Dial<Link = K>> Worker<M, O, K, L> {
         };
         let rest = part(buffer.as_slice(), from, until);
         match conn.offer(spares, to, send, rest) {
-            Ok(()) => self.dial_server(rt, context, key, &to),
+            Ok(()) => {
+                if let Some(settings) = settings {
+                    conn.begin_dial(settings, self.now);
+                }
+                self.dial_server(rt, context, key, &to);
+            }
             Err(_) => self.close(rt, context, key, Why::Fault),
         }
     }
@@ -154,21 +160,69 @@ impl<M: Ledger, O: Ledger, K: Link, L: Dial<Link = K>> Worker<M, O, K, L> {
         key: usize,
         to: &Endpoint,
     ) {
-        let (drive, server) = match self.dial.poll(key, to) {
-            Dialled::Later => return,
-            Dialled::Link(server) => (Drive::Connected, Some(server)),
-            Dialled::Failed => (Drive::ConnectFailed, None),
-        };
-        match self.calls.drive(rt, context, key, &drive) {
+        match self.dial.poll(key, to) {
+            Dialled::Later => {}
+            Dialled::Link(server) => self.connect(rt, context, key, server),
+            Dialled::Failed => self.give_up(rt, context, key),
+        }
+    }
+
+    /// There is a link to the server of a connection.
+    fn connect<B: Opening, G: Gate, C: Clock, R: Wait>(
+        &mut self,
+        rt: &R,
+        context: &WorkerContext<'_, M, O, B, G, C>,
+        key: usize,
+        server: K,
+    ) {
+        match self.calls.drive(rt, context, key, &Drive::Connected) {
             CallOutcome::Open(_) => {
-                if let (Some(conn), Some(server)) = (self.state.table.conn(key), server) {
-                    conn.connect(server);
+                if let Some(conn) = self.state.table.conn(key) {
+                    conn.connect(server, self.now);
                     self.state.table.enqueue(key);
                 }
             }
             CallOutcome::Stopped => {}
             CallOutcome::Ended => self.forget(key),
             CallOutcome::Failed(_) => self.close(rt, context, key, Why::Failed),
+        }
+    }
+
+    /// The server of a connection is out of reach.
+    fn give_up<B: Opening, G: Gate, C: Clock, R: Wait>(
+        &mut self,
+        rt: &R,
+        context: &WorkerContext<'_, M, O, B, G, C>,
+        key: usize,
+    ) {
+        match self.calls.drive(rt, context, key, &Drive::ConnectFailed) {
+            CallOutcome::Open(_) | CallOutcome::Stopped => {}
+            CallOutcome::Ended => self.forget(key),
+            CallOutcome::Failed(_) => self.close(rt, context, key, Why::Failed),
+        }
+    }
+
+    /// Ends connections that were silent for too long, of those that are looked at in this turn.
+    pub(crate) fn end_silent<B: Opening, G: Gate, C: Clock, R: Wait>(
+        &mut self,
+        rt: &R,
+        context: &WorkerContext<'_, M, O, B, G, C>,
+    ) {
+        let places = self.calls.leases.len();
+        for _look in 0..self.state.table.looks(self.now, places) {
+            if self.calls.is_stopped {
+                return;
+            }
+            let key = self.state.table.next_place(places);
+            let silence = match self.state.table.conn(key) {
+                Some(conn) => conn.silence(self.now),
+                None => None,
+            };
+            match silence {
+                None => {}
+                Some(Silence::Dial) => self.give_up(rt, context, key),
+                Some(Silence::Side(why)) => self.close(rt, context, key, why),
+            }
         }
     }
 
@@ -179,6 +233,7 @@ impl<M: Ledger, O: Ledger, K: Link, L: Dial<Link = K>> Worker<M, O, K, L> {
         context: &WorkerContext<'_, M, O, B, G, C>,
         key: usize,
     ) {
+        let now = self.now;
         let WorkerState {
             table,
             buffer,
@@ -188,7 +243,7 @@ impl<M: Ledger, O: Ledger, K: Link, L: Dial<Link = K>> Worker<M, O, K, L> {
         let Some(conn) = table.conn(key) else {
             return;
         };
-        match conn.relay(spares, buffer.as_mut_slice()) {
+        match conn.relay(spares, buffer.as_mut_slice(), now) {
             None => self.close(rt, context, key, Why::Done),
             Some(Progress::Fault) => self.close(rt, context, key, Why::Fault),
             Some(Progress::More) => self.state.table.enqueue(key),

@@ -8,6 +8,10 @@ use slab::Slab;
 use std::alloc::{AllocError, Global};
 use std::collections::VecDeque;
 
+/// How many places are looked at for each ms, to find connections that were silent for too long. So all of 10,000 are
+/// looked at within 100 ms, and all of 100,000 within a second, which takes some thousandths of a processor.
+const LOOKS: u64 = 100;
+
 /// A connection by its key.
 #[derive(Drop)]
 pub(crate) enum Entry<K: Link> {
@@ -46,6 +50,10 @@ pub(crate) struct Table<K: Link> {
     /// How many of the queue have ended.
     ended: usize,
     serial: u64,
+    /// The place that is looked at next.
+    hand: usize,
+    /// When places were last looked at, in ms.
+    looked: u64,
 }
 
 impl<K: Link> Table<K> {
@@ -56,6 +64,8 @@ impl<K: Link> Table<K> {
             waits: VecDeque::new(alloc),
             ended: 0,
             serial: 0,
+            hand: 0,
+            looked: 0,
         }
     }
 
@@ -188,6 +198,22 @@ impl<K: Link> Table<K> {
             ) => *serial == wait.serial && matches!(conn.stage, Stage::Header),
             _ => false,
         }
+    }
+
+    /// How many of so many places are to be looked at now: the more, the longer ago places were last looked at.
+    pub(crate) fn looks(&mut self, now: u64, places: usize) -> usize {
+        let passed = now.saturating_sub(self.looked);
+        self.looked = now;
+        usize::try_from(passed.saturating_mul(LOOKS))
+            .unwrap_or(usize::MAX)
+            .min(places)
+    }
+
+    /// The place of so many that is looked at next.
+    pub(crate) fn next_place(&mut self, places: usize) -> usize {
+        let place = if self.hand < places { self.hand } else { 0 };
+        self.hand = place.saturating_add(1);
+        place
     }
 
     /// How long the worker may wait, in ms: not at all where something is to be served, and otherwise until the first wait for a

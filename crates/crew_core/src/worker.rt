@@ -51,6 +51,8 @@ pub(crate) struct Worker<M: Ledger, O: Ledger, K: Link, L: Dial<Link = K>> {
     pub(crate) calls: Calls<M, O>,
     pub(crate) state: WorkerState<K>,
     pub(crate) dial: L,
+    /// The moment of this turn, in ms.
+    pub(crate) now: u64,
 }
 
 impl<M: Ledger, O: Ledger, K: Link, L: Dial<Link = K>> Worker<M, O, K, L> {
@@ -67,6 +69,7 @@ impl<M: Ledger, O: Ledger, K: Link, L: Dial<Link = K>> Worker<M, O, K, L> {
             calls: Calls::new(alloc, number, pass),
             state,
             dial,
+            now: 0,
         }
     }
 
@@ -95,8 +98,10 @@ impl<M: Ledger, O: Ledger, K: Link, L: Dial<Link = K>> Worker<M, O, K, L> {
     ) {
         let limit = self.state.table.limit(context.clock.now(), LONGEST_WAIT);
         self.gather(limit);
+        self.now = context.clock.now();
         self.take_arrivals(rt, context);
         self.expire(rt, context);
+        self.end_silent(rt, context);
         for _key in 0..self.state.table.queued().min(SERVED) {
             if self.calls.is_stopped {
                 return;

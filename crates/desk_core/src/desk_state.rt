@@ -69,7 +69,8 @@ impl<M: Ledger, O: Ledger, B: Opening> DeskState<M, O, B> {
                 leases.add(idle, 1);
                 *live += 1;
                 let unit = idle.split_off(1, 1);
-                Ok((receipt, Some(Lease { id, unit })))
+                let settings = counted.book.settings(id);
+                Ok((receipt, Some(Lease { id, unit, settings })))
             }
             None => Ok((receipt, None)),
         }
@@ -100,6 +101,10 @@ impl<M: Ledger, O: Ledger, B: Opening> DeskState<M, O, B> {
                     idle.merge(unit);
                     DriveResult::Over(receipt)
                 } else {
+                    let mut lease = lease;
+                    if let Said::Offer { .. } = receipt.reply.said {
+                        lease.settings = counted.book.settings(lease.id);
+                    }
                     DriveResult::Goes(receipt, lease)
                 }
             }

@@ -4,12 +4,15 @@ ghost use Rattle.std.specs.Prelude.{◌≡◌};
 use book_core::Receipt;
 use conn_model::event::ConnId;
 use conn_model::reply::StepFault;
+use conn_model::settings::Settings;
 use std::sync::ledger::{Ledger, Share};
 
 /// An open connection of a desk. It must be spent: a call that ends its connection takes it, and so does `settle`.
 pub struct Lease<O: Ledger> {
     pub(crate) id: ConnId,
     pub(crate) unit: Share<O>,
+    /// How the connection is served, as far as that is known: what its last reply left.
+    pub(crate) settings: Option<Settings>,
     pub ghost one_part: { unit.parts ≡ 1 },
     pub ghost one: { unit.amount ≡ 1 },
 }
@@ -45,10 +48,19 @@ impl<O: Ledger> Lease<O> {
         self.id
     }
 
+    /// How the connection is served, once it was offered a server.
+    pub fn settings(&self) -> Option<Settings> {
+        self.settings
+    }
+
     pub(crate) fn into_unit(self) -> Share<O>
         ensures { (result.parts ≡ 1) × (result.amount ≡ 1) }
     {
-        let Lease { id: _, unit } = self;
+        let Lease {
+            id: _,
+            unit,
+            settings: _,
+        } = self;
         unit
     }
 }

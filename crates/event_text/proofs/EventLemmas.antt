@@ -21,7 +21,7 @@ use Rattle.conn_model.specs.declared.event.TheConstants.{PIECE_LIMIT}
 use Rattle.hex.specs.Hex.{encode_lower, encode_with, lower_digits, decode_sized, IsBytes}
 use Rattle.hex.proofs.HexLemmas.{length-encode_with, decode_sized-encode_lower}
 use Rattle.conn_model.specs.declared.event.Why.{Why}
-use Rattle.conn_model.specs.declared.event.Why.TheVariants.{Done, Fault, Stopped, Failed}
+use Rattle.conn_model.specs.declared.event.Why.TheVariants.{Done, Fault, Stopped, Failed, ClientTimeout, ServerTimeout}
 use Rattle.event_text.specs.Script.{bytes_in, bytes_of, bytes_text, ends_of, event_in_lines, event_line, event_lines, event_with, event_words, head_of, head_written, id_of, id_in, id_text, is_mark, is_upper_digit, lines_after, text_lines, why_of, why_text, wanted_of, words_of, IsHandedIn, Wanted, ◌>>=◌}
 use Rattle.event_text.proofs.LackLemmas.{bytes_lack, decimal_lacks, endpoint_lacks, id_lacks, number_lacks, text_of-bytes, why_lacks, word_lacks, IsAside, Lacks}
 use Rattle.event_text.proofs.ReloadLemmas.{bar_lines-read, lines_joined, lines_some}
@@ -85,6 +85,8 @@ why_of-written Done = refl
 why_of-written Fault = refl
 why_of-written Stopped = refl
 why_of-written Failed = refl
+why_of-written ClientTimeout = refl
+why_of-written ServerTimeout = refl
 
 ends_of-written : (real : PairValue) → IsEndpoint real.source → IsEndpoint real.destination → same_family real.source.addr real.destination.addr ≡ true
     → ends_of (endpoint_text real.source) (endpoint_text real.destination) ≡ Some real

@@ -15,7 +15,7 @@ use Rattle.addr_core.specs.Groups.{groups_of}
 use Rattle.addr_core.proofs.GroupLemmas.{groups_text_all}
 use Rattle.conn_model.specs.declared.event.ConnId.{ConnId}
 use Rattle.conn_model.specs.declared.event.Why.{Why}
-use Rattle.conn_model.specs.declared.event.Why.TheVariants.{Done, Fault, Stopped, Failed}
+use Rattle.conn_model.specs.declared.event.Why.TheVariants.{Done, Fault, Stopped, Failed, ClientTimeout, ServerTimeout}
 use Rattle.hex.specs.Hex.{encode_lower, encode_with, lower_digits}
 use Rattle.event_text.specs.Script.{bytes_text, id_text, is_mark, why_text}
 
@@ -112,6 +112,8 @@ why_lacks mark aside Done = word_lacks mark aside (codes "done") refl
 why_lacks mark aside Fault = word_lacks mark aside (codes "fault") refl
 why_lacks mark aside Stopped = word_lacks mark aside (codes "stopped") refl
 why_lacks mark aside Failed = word_lacks mark aside (codes "failed") refl
+why_lacks mark aside ClientTimeout = word_lacks mark aside (codes "client-timeout") refl
+why_lacks mark aside ServerTimeout = word_lacks mark aside (codes "server-timeout") refl
 
 -- a digit of a table of high bytes, or zero past its end
 digit_lacks : (mark : ℕ) → IsAside mark → (digits : List ℕ) → list_all (λ b. nat_le 45 b) digits ≡ true → (n : ℕ) → is_mark mark (slice_index digits n) ≡ false

@@ -16,7 +16,7 @@ use Rattle.conn_model.specs.declared.event.TheConstants.{PIECE_LIMIT}
 use Rattle.conn_model.specs.declared.event.OwnedEvent.{OwnedEvent}
 use Rattle.conn_model.specs.declared.event.OwnedEvent.TheVariants.{Accept, Piece, Connected, ConnectFailed, Close, Expire, Reload}
 use Rattle.conn_model.specs.declared.event.Why.{Why}
-use Rattle.conn_model.specs.declared.event.Why.TheVariants.{Done, Fault, Stopped, Failed}
+use Rattle.conn_model.specs.declared.event.Why.TheVariants.{Done, Fault, Stopped, Failed, ClientTimeout, ServerTimeout}
 use Rattle.event_text.specs.declared.script.FirstLine.{FirstLine}
 use Rattle.event_text.specs.declared.script.FirstLine.TheVariants as firsts
 use Rattle.event_text.specs.declared.script.EventRequest.{EventRequest}
@@ -35,6 +35,8 @@ why_text Done = codes "done"
 why_text Fault = codes "fault"
 why_text Stopped = codes "stopped"
 why_text Failed = codes "failed"
+why_text ClientTimeout = codes "client-timeout"
+why_text ServerTimeout = codes "server-timeout"
 
 -- bytes in hexadecimal, two digits each
 abbrev pub bytes_text : List ℕ → List ℕ
@@ -116,6 +118,8 @@ why_of word =
     else if bytes_eq word (codes "fault") then Some Fault
     else if bytes_eq word (codes "stopped") then Some Stopped
     else if bytes_eq word (codes "failed") then Some Failed
+    else if bytes_eq word (codes "client-timeout") then Some ClientTimeout
+    else if bytes_eq word (codes "server-timeout") then Some ServerTimeout
     else None
 
 -- the pair of the endpoints that two words stand for, if they are of one family

@@ -85,6 +85,8 @@ pub fn write_why(out: &mut Vec<u8>, why: &Why) -> Result<(), AllocError>
         Why::Fault => write_text(out, b"fault"),
         Why::Stopped => write_text(out, b"stopped"),
         Why::Failed => write_text(out, b"failed"),
+        Why::ClientTimeout => write_text(out, b"client-timeout"),
+        Why::ServerTimeout => write_text(out, b"server-timeout"),
     }
 }
 

@@ -109,6 +109,12 @@ fn read_why(word: &[u8]) -> Option<Why>
     if is(word, b"failed") {
         return Some(Why::Failed);
     }
+    if is(word, b"client-timeout") {
+        return Some(Why::ClientTimeout);
+    }
+    if is(word, b"server-timeout") {
+        return Some(Why::ServerTimeout);
+    }
     None
 }
 

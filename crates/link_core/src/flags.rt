@@ -11,6 +11,8 @@ pub struct Flags {
     pub is_closed: bool,
     /// The link failed. That is known also while it is not read.
     pub is_reset: bool,
+    /// Bytes came from the link or went to it since `take_activity`.
+    pub is_active: bool,
 }
 
 impl Flags {
@@ -21,6 +23,7 @@ impl Flags {
             writes: true,
             is_closed: false,
             is_reset: false,
+            is_active: false,
         }
     }
 
@@ -31,7 +34,15 @@ impl Flags {
             writes: true,
             is_closed: false,
             is_reset: false,
+            is_active: false,
         }
+    }
+
+    /// Whether bytes came or went since it was asked last.
+    pub fn take_activity(&mut self) -> bool {
+        let was_active = self.is_active;
+        self.is_active = false;
+        was_active
     }
 
     pub fn raise(&mut self, ready: &Ready) {

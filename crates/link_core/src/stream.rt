@@ -43,15 +43,18 @@ fn can_move(relay: &Relay, way: Way, input: &Flags, output: &Flags) -> bool {
     reads || output.writes && relay.holds(way)
 }
 
-/// Lowers what a burst found not to be ready.
+/// Lowers what a burst found not to be ready, and notes which of the links moved bytes.
 fn note(burst: &Burst, input: &mut Flags, output: &mut Flags) {
     match burst.stop {
         BurstStop::Full | BurstStop::NoRoom => {}
         BurstStop::Short => input.note_short_read(),
         BurstStop::Blocked | BurstStop::End => input.reads = false,
     }
-    if burst.drained == Drained::Blocked {
-        output.writes = false;
+    input.is_active |= burst.read > 0;
+    match burst.drained {
+        Drained::Bytes(_) => output.is_active = true,
+        Drained::Blocked => output.writes = false,
+        Drained::Empty => {}
     }
 }
 

@@ -2,6 +2,7 @@
 use Rattle.std.specs.Prelude.{ℕ, List, [], map, option_and_then, Option, Some, None, Result, Ok, Err}
 use Rattle.conf_tree.specs.declared.tree.ConfigLine.{ConfigLine}
 use Rattle.conf_line.specs.declared.statement.Ruleset.TheVariants.{Connection, Session}
+use Rattle.conf_line.specs.declared.statement.TimeoutKind.TheVariants as timeouts
 use Rattle.plan_core.specs.declared.fault.PlanFault.{PlanFault}
 use Rattle.plan_core.specs.declared.fields.Named.{Named}
 use Rattle.plan_types.specs.declared.plan.Backend.{Backend}
@@ -10,7 +11,7 @@ use Rattle.plan_types.specs.declared.plan.Plan.{Plan}
 use Rattle.plan_types.specs.declared.plan.Table.{Table}
 use Rattle.plan_core.specs.declared.proxies.Proxy.{Proxy}
 use Rattle.plan_core.specs.Proxies.{proxies, frontends, backends}
-use Rattle.plan_core.specs.Fields.{line_bind, line_default, line_server, line_rule, line_choice, acls_in, all_of, setting_in, limit_in, method_in, tables_in, backend_number}
+use Rattle.plan_core.specs.Fields.{line_bind, line_default, line_server, line_rule, line_choice, acls_in, all_of, setting_in, limit_in, method_in, timeout_in, tables_in, backend_number}
 use Rattle.plan_core.specs.Faults.{faults_of, least}
 
 -- a backend with its servers
@@ -19,6 +20,8 @@ backend_of proxy = record {
   name = proxy.head.name;
   line = proxy.head.line;
   method = method_in proxy;
+  connect_timeout = timeout_in timeouts.Connect proxy;
+  server_timeout = timeout_in timeouts.Server proxy;
   servers = all_of line_server proxy.own;
 }
 
@@ -37,6 +40,7 @@ frontend_of tables all proxy = record {
   binds = all_of line_bind proxy.own;
   limit = (limit_in proxy).limit;
   limit_line = (limit_in proxy).line;
+  client_timeout = timeout_in timeouts.Client proxy;
   connection_rules = all_of (line_rule Connection tables proxy.head.name) proxy.own;
   session_rules = all_of (line_rule Session tables proxy.head.name) proxy.own;
   acls = acls_in proxy.own;

@@ -18,6 +18,8 @@ use Rattle.conf_line.specs.declared.statement.Ruleset.TheVariants.{Connection, S
 use Rattle.conf_line.specs.declared.statement.Statement.{Statement}
 use Rattle.conf_line.specs.declared.statement.Statement.TheVariants as statements
 use Rattle.conf_line.specs.declared.statement.TableWords.{TableWords}
+use Rattle.conf_line.specs.declared.statement.TimeoutKind.{TimeoutKind}
+use Rattle.conf_line.specs.declared.statement.TimeoutKind.TheVariants as timeouts
 use Rattle.plan_types.specs.declared.plan.Action.{Action}
 use Rattle.plan_types.specs.declared.plan.Action.TheVariants as actions
 use Rattle.plan_types.specs.declared.plan.Backend.{Backend}
@@ -50,6 +52,12 @@ line_default line other = None
 abbrev pub line_method : ℕ → Statement → Option Method
 line_method line (statements.Balance method) = Some method
 line_method line other = None
+
+abbrev pub line_timeout : TimeoutKind → ℕ → Statement → Option ℕ
+line_timeout timeouts.Connect line (statements.Timeout timeouts.Connect ms) = Some ms
+line_timeout timeouts.Client line (statements.Timeout timeouts.Client ms) = Some ms
+line_timeout timeouts.Server line (statements.Timeout timeouts.Server ms) = Some ms
+line_timeout kind line other = None
 
 abbrev pub line_table : ℕ → Statement → Option TableWords
 line_table line (statements.StickTable table) = Some table
@@ -90,6 +98,10 @@ limit_in proxy = unwrap_or (setting_in line_limit proxy) (record { limit = DEFAU
 -- round robin where nothing is given
 abbrev pub method_in : Proxy → Method
 method_in proxy = unwrap_or (setting_in line_method proxy) RoundRobin
+
+-- 0 where nothing is given, which is no bound
+abbrev pub timeout_in : TimeoutKind → Proxy → ℕ
+timeout_in kind proxy = unwrap_or (setting_in (line_timeout kind) proxy) 0
 
 -- Tables.
 

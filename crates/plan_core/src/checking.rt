@@ -158,6 +158,7 @@ fn line_fault(
         | Statement::Frontend(_)
         | Statement::Backend(_)
         | Statement::MaxConn(_)
+        | Statement::Timeout(..)
         | Statement::DefaultBackend(_)
         | Statement::Balance(_)
         | Statement::Bind(_, _)

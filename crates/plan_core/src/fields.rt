@@ -1,9 +1,9 @@
 //! What the lines of a frontend or backend say of each matter.
 ghost use Rattle.std.specs.Prelude.{◌≡◌, IfOk};
-ghost use Rattle.plan_core.specs.Fields.{line_bind, line_limit, line_default, line_method, line_table, line_server, all_of, last_of, setting_in, limit_in, method_in};
+ghost use Rattle.plan_core.specs.Fields.{line_bind, line_limit, line_default, line_method, line_timeout, line_table, line_server, all_of, last_of, setting_in, limit_in, method_in, timeout_in};
 
 use crate::proxies::Proxy;
-use conf_tree::{ConfigLine, Statement, TableWords};
+use conf_tree::{ConfigLine, Statement, TableWords, TimeoutKind};
 use list_core::Seq;
 use plan_types::{Bind, Server};
 use proxy_types::Method;
@@ -68,6 +68,20 @@ fn line_method(item: &ConfigLine) -> Option<Method>
 {
     match &item.statement {
         Statement::Balance(method) => Some(*method),
+        _ => None,
+    }
+}
+
+fn line_timeout(kind: TimeoutKind, item: &ConfigLine) -> Option<u64>
+    ensures { result ≡ line_timeout kind item.now.line item.now.statement }
+{
+    match &item.statement {
+        Statement::Timeout(of, ms) => match (of, kind) {
+            (TimeoutKind::Connect, TimeoutKind::Connect)
+            | (TimeoutKind::Client, TimeoutKind::Client)
+            | (TimeoutKind::Server, TimeoutKind::Server) => Some(*ms),
+            _ => None,
+        },
         _ => None,
     }
 }
@@ -140,6 +154,16 @@ fn last_method(items: &[ConfigLine]) -> Option<Method>
     last
 }
 
+fn last_timeout(kind: TimeoutKind, items: &[ConfigLine]) -> Option<u64>
+    ensures { result ≡ last_of (line_timeout kind) items.now }
+{
+    let mut last = None;
+    for item in items {
+        last = line_timeout(kind, item).or(last);
+    }
+    last
+}
+
 /// The `stick-table` line of a section.
 pub fn last_table(items: &[ConfigLine]) -> Option<TableWords>
     ensures { result ≡ last_of line_table items.now }
@@ -179,6 +203,15 @@ pub fn method_in(proxy: &Proxy) -> Method
         Some(method) => method,
         None => Method::RoundRobin,
     }
+}
+
+/// A time of a frontend or a backend, in ms, 0 for no bound.
+pub fn timeout_in(kind: TimeoutKind, proxy: &Proxy) -> u64
+    ensures { result ≡ timeout_in kind proxy.now }
+{
+    last_timeout(kind, proxy.own.items())
+        .or(last_timeout(kind, proxy.base.items()))
+        .unwrap_or(0)
 }
 
 pub fn binds_in(alloc: Global, items: &[ConfigLine]) -> Result<Seq<Bind>, AllocError>

@@ -10,10 +10,10 @@ ghost use Rattle.plan_core.specs.Proxies.{frontends, backends};
 use crate::acls::{acls_in, choices_in};
 use crate::checking::{backend_number, fault_of};
 use crate::fault::PlanFault;
-use crate::fields::{Named, binds_in, default_in, limit_in, method_in, servers_in};
+use crate::fields::{Named, binds_in, default_in, limit_in, method_in, servers_in, timeout_in};
 use crate::proxies::{Proxy, is_backend, is_frontend, proxies_in};
 use crate::tables::{rules_in, tables_in};
-use conf_tree::{Ruleset, Tree};
+use conf_tree::{Ruleset, TimeoutKind, Tree};
 use list_core::Seq;
 use plan_types::{Backend, Frontend, Plan, Table};
 use std::alloc::{AllocError, Global};
@@ -26,6 +26,8 @@ fn backend_of(alloc: Global, proxy: &Proxy) -> Result<Backend, AllocError>
         name: Seq::duplicate_of(alloc, proxy.head.name.bytes())?,
         line: proxy.head.line,
         method: method_in(proxy),
+        connect_timeout: timeout_in(TimeoutKind::Connect, proxy),
+        server_timeout: timeout_in(TimeoutKind::Server, proxy),
         servers: servers_in(alloc, proxy.own.items())?,
     })
 }
@@ -74,6 +76,7 @@ fn frontend_of(
         binds: binds_in(alloc, own)?,
         limit: limit.limit,
         limit_line: limit.line,
+        client_timeout: timeout_in(TimeoutKind::Client, proxy),
         connection_rules: rules_in(alloc, Ruleset::Connection, tables, name, own)?,
         session_rules: rules_in(alloc, Ruleset::Session, tables, name, own)?,
         acls: acls_in(alloc, own)?,

@@ -33,6 +33,7 @@ impl Duplicate for Frontend {
             binds: self.binds.duplicate(alloc)?,
             limit: self.limit,
             limit_line: self.limit_line,
+            client_timeout: self.client_timeout,
             connection_rules: self.connection_rules.duplicate(alloc)?,
             session_rules: self.session_rules.duplicate(alloc)?,
             acls: self.acls.duplicate(alloc)?,
@@ -48,6 +49,8 @@ impl Duplicate for Backend {
             name: self.name.duplicate(alloc)?,
             line: self.line,
             method: self.method,
+            connect_timeout: self.connect_timeout,
+            server_timeout: self.server_timeout,
             servers: self.servers.duplicate(alloc)?,
         })
     }

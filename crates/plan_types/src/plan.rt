@@ -50,6 +50,8 @@ pub struct Frontend {
     pub limit: u64,
     /// The line that says so.
     pub limit_line: u32,
+    /// How long a client may be silent, in ms, 0 for any time (HAProxy manual, `timeout client`).
+    pub client_timeout: u64,
     pub connection_rules: Seq<Rule>,
     pub session_rules: Seq<Rule>,
     /// The names that `acl` lines declare, in the order of their first declarations, each with the tests
@@ -99,6 +101,10 @@ pub struct Backend {
     pub name: Seq<u8>,
     pub line: u32,
     pub method: Method,
+    /// How long a server may take to accept a connection, in ms, 0 for any time (HAProxy manual, `timeout connect`).
+    pub connect_timeout: u64,
+    /// How long a server may be silent, in ms, 0 for any time (HAProxy manual, `timeout server`).
+    pub server_timeout: u64,
     pub servers: Seq<Server>,
 }
 

@@ -1,0 +1,12 @@
+//! How an open connection is served.
+
+/// How long a connection may be silent, in ms, 0 for any time, by the version that judges it.
+#[derive(Clone, Copy, Debug, PartialEq, Eq)]
+pub struct Settings {
+    /// Its client, by the frontend.
+    pub client: u64,
+    /// Its server, until it accepts the connection, by the backend.
+    pub connect: u64,
+    /// Its server after that, by the backend.
+    pub server: u64,
+}
