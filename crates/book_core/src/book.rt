@@ -2,6 +2,7 @@
 ghost use Rattle.std.specs.Prelude.{◌≡◌, ◌↔◌, ◌<◌, ◌≤◌, ◌+◌, ◌^◌, [], ◌∷◌, ◌++◌, length, IfOk, IfErr, OnErr, OnOk, Err, Ok};
 ghost use Rattle.conn_model.specs.Counts.{counts_in, open_connections};
 ghost use Rattle.conn_model.specs.History.{answer, counts, entry, owned_event};
+ghost use Rattle.conn_model.specs.Settings.{settings_in};
 ghost use Rattle.record_core.specs.Records.{history_of};
 ghost use Rattle.book_core.specs.Open.{connections_ended, connections_opened};
 ghost use Rattle.rtrb.specs.Ring.{known_free, known_items, received, sent, ConsumerLooked, IsPair, ProducerLooked, SameProducer};
@@ -9,9 +10,10 @@ ghost use Rattle.book_core.specs.Book.{after_cut, book_answer, new_book, segment
 
 use conn_core::Core;
 use conn_model::ask::{Ask, Counts};
-use conn_model::event::Event;
+use conn_model::event::{ConnId, Event};
 use conn_model::plain::Plain;
 use conn_model::reply::{Reply, StepFault};
+use conn_model::settings::Settings;
 use list_core::Seq;
 use record_core::{Record, Segment, copy_event, copy_reply};
 use rtrb::{Consumer, Producer};
@@ -187,7 +189,7 @@ impl Book {
 
     /// How an open connection is served, by the version that judges it.
     pub fn settings(&self, id: ConnId) -> Option<Settings>
-        ensures { result ≡ settings_in self.now.state id }
+        ensures { result ≡ settings_in self.now.state.frontends self.now.state.versions id }
     {
         self.core.settings(id)
     }

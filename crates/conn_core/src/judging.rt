@@ -1,11 +1,10 @@
 //! How a connection is judged.
 ghost use Rattle.std.specs.Prelude.{◌≡◌, ◌||◌, ℕ, Some, find};
 ghost use Rattle.std.specs.Option.{option_copied};
-ghost use Rattle.std.specs.Str.{bytes_eq};
 ghost use Rattle.acl_core.specs.Truth.{applies};
 ghost use Rattle.rule_engine.specs.Meaning.{present};
 ghost use Rattle.conn_model.specs.Rules.{backend_for, rejection, view_of, worth};
-ghost use Rattle.conn_model.specs.Answer.{admission, candidate_of, frontend_in, server_for, server_unless, version_at};
+ghost use Rattle.conn_model.specs.Answer.{admission, candidate_of, server_for, server_unless, version_at};
 ghost use Rattle.conn_model.specs.declared.plain.Plain.{Plain};
 ghost use Rattle.conn_model.specs.declared.event.ConnId.{ConnId};
 ghost use Rattle.conn_core.specs.Judging.{decided, facts_view, result_of, server_at, AreAllowed};
@@ -17,7 +16,7 @@ use acl_core::When;
 use addr_core::Pair;
 use conn_model::reply::Cause;
 use conn_versions::item;
-use plan_types::{Backend, Choice, Frontend, Plan, Server};
+use plan_types::{Backend, Choice, Frontend, Server};
 use rule_engine::{Judged, NO_TRACKS, Tracks, TracksSoFar, judge, judge_after};
 
 /// A server for a connection, or why it gets none.
@@ -26,22 +25,6 @@ pub enum ServerVerdict<'a> {
     /// The server, with its number in its backend.
     Assigned(u16, &'a Server),
     Refused(Cause),
-}
-
-/// The frontend of that name.
-pub fn frontend_named<'a>(plan: &'a Plan, name: &[u8]) -> Option<&'a Frontend>
-    ensures { option_copied result ≡ frontend_in plan.now name.now }
-{
-    plan.frontends
-        .as_slice()
-        .iter()
-        .find(|frontend| has_name(frontend, name))
-}
-
-fn has_name(frontend: &Frontend, name: &[u8]) -> bool
-    ensures { result ≡ bytes_eq frontend.now.name name.now }
-{
-    frontend.name.as_slice() == name
 }
 
 /// Whether the condition is true once the step made those tracks.

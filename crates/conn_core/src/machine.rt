@@ -16,6 +16,7 @@ ghost use Rattle.conn_model.specs.declared.event.OwnedEvent.TheVariants as owned
 ghost use Rattle.conn_model.specs.declared.plain.FrontendRows.{FrontendRows};
 ghost use Rattle.conn_model.specs.declared.plain.Plain.{Plain};
 ghost use Rattle.config_core.specs.Meaning.{meaning};
+ghost use Rattle.conn_model.specs.Settings.{settings_in};
 ghost use Rattle.conn_model.specs.Tables.{open_tracks};
 ghost use Rattle.conn_core.specs.Changes.{forgotten, CanOffer};
 ghost use Rattle.conn_core.specs.Outcome.{reply_by};
@@ -25,7 +26,7 @@ ghost use Rattle.conn_core.specs.Seeing.{SeesNext, SeesWaiting};
 
 use crate::entering::{SessionStart, enter};
 use crate::facts::RuleFacts;
-use crate::judging::{admission, frontend_named};
+use crate::judging::admission;
 use crate::opening::listeners;
 use crate::outcome::{TrackedOutcome, plain_reply, reply};
 use crate::receiving::{can_judge, facts_of, receive};
@@ -36,7 +37,8 @@ use conn_model::ask::{Ask, Counts};
 use conn_model::event::{ConnId, Event, HEADER_WAIT, Why};
 use conn_model::plain::{Listener, Plain};
 use conn_model::reply::{Cause, Reply, Said, StepFault};
-use conn_rows::{RowSummary, Rows, ServerNames};
+use conn_model::settings::Settings;
+use conn_rows::{RowSummary, Rows, ServerNames, frontend_named};
 use conn_versions::item;
 use list_core::{Duplicate, Seq};
 use plan_core::same_binds;
@@ -173,7 +175,7 @@ impl Core {
 
     /// How an open connection is served, by the version that judges it.
     pub fn settings(&self, id: ConnId) -> Option<Settings>
-        ensures { result ≡ settings_in self.now id }
+        ensures { result ≡ settings_in self.now.frontends self.now.versions id }
     {
         self.rows.settings(id)
     }

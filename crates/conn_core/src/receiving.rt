@@ -23,13 +23,12 @@ ghost use Rattle.conn_core.specs.declared.tracking.TheConstants.{STEP_TRACKS};
 
 use crate::facts::RuleFacts;
 use crate::judging;
-use crate::judging::frontend_named;
 use crate::outcome::{Outcome, TrackedOutcome, plain_reply, reply};
 use crate::tracking::track_all;
 use addr_core::Pair;
 use conn_model::event::ConnId;
 use conn_model::reply::{Cause, Reply, Said};
-use conn_rows::{HeaderStatus, RowSummary, Rows};
+use conn_rows::{HeaderStatus, RowSummary, Rows, frontend_named};
 use pp_v1::Meaning;
 use rule_engine::{NO_TRACKS, Tracks};
 

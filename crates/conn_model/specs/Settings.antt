@@ -1,6 +1,6 @@
 -- How an open connection is served: in ms, 0 for no bound.
 use Rattle.std.specs.Prelude.{ℕ, List, find, slice_get, Option, Some, None}
-use Rattle.std.specs.Option.{option_and_then}
+use Rattle.std.specs.Option.{option_and_then, option_map}
 use Rattle.plan_types.specs.declared.plan.Backend.{Backend}
 use Rattle.plan_types.specs.declared.plan.Frontend.{Frontend}
 use Rattle.plan_types.specs.declared.plan.Plan.{Plan}
@@ -11,30 +11,34 @@ use Rattle.conn_model.specs.declared.plain.Version.{Version}
 use Rattle.conn_model.specs.declared.plain.Phase.{Phase}
 use Rattle.conn_model.specs.declared.plain.Phase.TheVariants.{Waiting, Offered, Up}
 use Rattle.conn_model.specs.declared.plain.Plain.{Plain}
+use Rattle.conn_model.specs.declared.plain.Row.{Row}
 use Rattle.conn_model.specs.declared.settings.Settings.{Settings}
-use Rattle.conn_model.specs.Answer.{frontend_in, row_at, version_at}
+use Rattle.conn_model.specs.Answer.{frontend_in, row_in, version_at}
 
 -- the line of the server that a connection was offered
-abbrev pub line_of_phase : Phase → Option ℕ
-line_of_phase (Waiting rest) = None
-line_of_phase (Offered assignment) = Some assignment.line
-line_of_phase (Up assignment) = Some assignment.line
+abbrev pub server_line : Phase → Option ℕ
+server_line (Waiting rest) = None
+server_line (Offered assignment) = Some assignment.line
+server_line (Up assignment) = Some assignment.line
 
--- its backend
-abbrev pub backend_of_phase : Plan → Phase → Option Backend
-backend_of_phase plan phase = option_and_then (λ line. find (has_line line) plan.backends) (line_of_phase phase)
+-- the backend that has the server of that line
+abbrev pub backend_with : Plan → Option ℕ → Option Backend
+backend_with plan line = option_and_then (λ line. find (has_line line) plan.backends) line
 
 -- those of the frontend, and those of the backend once a server was offered
 abbrev pub settings_of : Frontend → Option Backend → Settings
 settings_of frontend None = record { client = frontend.client_timeout; connect = 0; server = 0 }
 settings_of frontend (Some backend) = record { client = frontend.client_timeout; connect = backend.connect_timeout; server = backend.server_timeout }
 
--- those of an open connection, by the version that judges it
-abbrev pub settings_by : List FrontendRows → List Version → ConnId → Option Settings
-settings_by frontends versions id =
-    option_and_then (λ row. option_and_then (λ own. option_and_then (λ version. option_and_then (λ frontend.
-    Some (settings_of frontend (backend_of_phase version.plan row.phase)))
-    (frontend_in version.plan own.name)) (version_at versions row.version)) (slice_get frontends id.frontend)) (row_at frontends id)
+-- those of a connection to the frontend of that name, which was offered the server of that line, by a plan
+abbrev pub settings_by : List ℕ → Option ℕ → Plan → Option Settings
+settings_by name line plan = option_map (λ frontend. settings_of frontend (backend_with plan line)) (frontend_in plan name)
 
-abbrev pub settings_in : Plain → ConnId → Option Settings
-settings_in p id = settings_by p.frontends p.versions id
+-- the same by the version of that number
+abbrev pub settings_at : List Version → ℕ → List ℕ → Option ℕ → Option Settings
+settings_at versions number name line = option_and_then (λ version. settings_by name line version.plan) (version_at versions number)
+
+-- those of an open connection, by the version that judges it
+abbrev pub settings_in : List FrontendRows → List Version → ConnId → Option Settings
+settings_in frontends versions id =
+    option_and_then (λ own. option_and_then (λ row. settings_at versions row.version own.name (server_line row.phase)) (row_in id.serial (Some own))) (slice_get frontends id.frontend)

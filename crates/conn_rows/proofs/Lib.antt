@@ -10,3 +10,4 @@ pub mod Counted
 pub mod Kept
 pub mod TablesListed
 pub mod Reloaded
+pub mod SettingsLemmas

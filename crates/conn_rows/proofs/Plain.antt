@@ -56,7 +56,7 @@ none-map f change xs n none =
 
 -- ---- the rows of one frontend
 
-find-plain : (versions : List Version) (serial : ℕ) (rows : List StoredRow) → find (λ row. row.serial == serial) (map (plain_row versions) rows) ≡ option_map (plain_row versions) (find (has_serial serial) rows)
+pub find-plain : (versions : List Version) (serial : ℕ) (rows : List StoredRow) → find (λ row. row.serial == serial) (map (plain_row versions) rows) ≡ option_map (plain_row versions) (find (has_serial serial) rows)
 find-plain versions serial [] = refl
 find-plain versions serial (row ∷ rows) = by (row.serial == serial) refl (find-plain versions serial rows)
   where

@@ -110,6 +110,11 @@ abbrev pub slot_of : Stage → Option SlotIx
 slot_of (Waiting rest) = None
 slot_of (Offered held) = Some held.slot
 
+-- the line of the server that it was offered
+abbrev pub line_of : Stage → Option ℕ
+line_of (Waiting rest) = None
+line_of (Offered held) = Some held.seat.line
+
 -- the row of a serial in a frontend, if there are both
 abbrev pub stored_in : ℕ → Option StoredFrontend → Option StoredRow
 stored_in serial None = None

@@ -4,6 +4,7 @@
 pub use frontend::HeaderStatus;
 pub use row::{RowSummary, ServerChoice, ServerNames};
 pub use rows::{FrontendSummary, Rows, RowsState};
+pub use settings::frontend_named;
 
 mod counts;
 mod frontend;
@@ -14,4 +15,5 @@ mod reload;
 mod row;
 mod row_list;
 mod rows;
+mod settings;
 mod slots;

@@ -6,12 +6,15 @@ ghost use Rattle.conn_tables.specs.Tracks.{no_trackings};
 ghost use Rattle.conn_model.specs.Answer.{version_at};
 ghost use Rattle.conn_model.specs.History.{identity_at, nobody};
 ghost use Rattle.conn_model.specs.Counts.{server_of};
+ghost use Rattle.conn_model.specs.Settings.{settings_at};
 ghost use Rattle.conn_rows.specs.Summaries.{names_in, names_of, stored_summary};
-ghost use Rattle.conn_rows.specs.Stored.{assignment_in, awaits, phase_of, phase_with, plan_at, plain_row, slot_of, stored_arrival, waits};
+ghost use Rattle.conn_rows.specs.Stored.{assignment_in, awaits, line_of, phase_of, phase_with, plan_at, plain_row, slot_of, stored_arrival, waits};
 
 use crate::packed::{PackedChoice, PackedPair};
+use crate::settings::settings_by;
 use addr_core::{Endpoint, Pair};
 use conn_model::plain::{Assignment, Phase, Row, Version};
+use conn_model::settings::Settings;
 use conn_tables::Trackings;
 use conn_versions::{Slot, item};
 use list_core::{Duplicate, Seq};
@@ -87,6 +90,16 @@ impl Stage {
         match self {
             Stage::Waiting(_) => false,
             Stage::Offered(held) => !held.is_up,
+        }
+    }
+
+    /// The line of the server that it was offered.
+    fn line(&self) -> Option<u32>
+        ensures { result ≡ line_of self.now }
+    {
+        match self {
+            Stage::Waiting(_) => None,
+            Stage::Offered(held) => Some(held.seat.seat().line),
         }
     }
 
@@ -191,14 +204,12 @@ impl StoredRow {
         }
     }
 
-    /// The backend of the server that it was offered.
-    pub fn backend<'a>(&self, plan: &'a Plan) -> Option<&'a Backend>
-        ensures { option_copied result ≡ option_and_then (λ seat. find (has_line seat.line) plan.now.backends) (seat_of self.now.stage) }
+    /// How it is served as a connection to the frontend of that name, by the plan of its version.
+    pub fn settings(&self, name: &[u8], versions: &[Version]) -> Option<Settings>
+        ensures { result ≡ settings_at versions.now self.now.version name.now (line_of self.now.stage) }
     {
-        match &self.stage {
-            Stage::Waiting(_) => None,
-            Stage::Offered(held) => backend_in(plan, held.seat.seat().line),
-        }
+        let version = version_at(versions, self.version)?;
+        settings_by(name, self.stage.line(), &version.plan)
     }
 
     /// An equal row, as plain data, by the plans of these versions.
@@ -259,31 +270,6 @@ fn end_none<T>(value: Option<T>)
     }
 }
 
-/// The frontend of that name.
-pub fn frontend_in<'a>(plan: &'a Plan, name: &[u8]) -> Option<&'a Frontend>
-    ensures { option_copied result ≡ frontend_in plan.now name.now }
-{
-    plan.frontends
-        .as_slice()
-        .iter()
-        .find(|frontend| frontend.name.as_slice() == name)
-}
-
-/// How a connection is served by its frontend and, once it was offered a server, by its backend.
-pub fn settings_of(frontend: &Frontend, backend: Option<&Backend>) -> Settings
-    ensures { result ≡ settings_of frontend.now (option_copied backend.entry) }
-{
-    let (connect, server) = match backend {
-        Some(backend) => (backend.connect_timeout, backend.server_timeout),
-        None => (0, 0),
-    };
-    Settings {
-        client: frontend.client_timeout,
-        connect,
-        server,
-    }
-}
-
 /// The version of that number.
 pub fn version_at(versions: &[Version], number: u64) -> Option<&Version>
     ensures { option_copied result ≡ version_at versions.now number }
@@ -307,7 +293,8 @@ pub fn backend_of(plan: Option<&Plan>, line: u32) -> Option<&Backend>
     backend_in(plan, line)
 }
 
-fn backend_in(plan: &Plan, line: u32) -> Option<&Backend>
+/// The same of that plan.
+pub fn backend_in(plan: &Plan, line: u32) -> Option<&Backend>
     ensures { option_copied result ≡ find (has_line line) plan.now.backends }
 {
     plan.backends

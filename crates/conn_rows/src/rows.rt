@@ -20,6 +20,7 @@ ghost use Rattle.conn_versions.specs.Versions.{AreSound, HasServer, VersionsValu
 ghost use Rattle.conn_rows.specs.Stored.{plain_frontend, stored_in};
 ghost use Rattle.conn_model.specs.Changes.{rest_at, row_fed, row_tracking, row_up, with_arrival, with_conn, with_item, with_refusal, without_conn};
 ghost use Rattle.conn_rows.specs.Changes.{row_offered, status_of, used_by};
+ghost use Rattle.conn_model.specs.Settings.{settings_in};
 ghost use Rattle.conn_model.specs.Counts.{offered_to, open_named, served_by, server_of};
 ghost use Rattle.conn_model.specs.Tables.{entry_counts, is_listed_by, open_tracks, table_at, trackers, with_track, without_tracks};
 ghost use Rattle.conn_rows.specs.Needed.{versions_needed, AreTracksHeld, AreVersionsKept, IsNextNumber};
@@ -41,6 +42,7 @@ use addr_core::{Addr, Pair};
 use conn_model::ask::Counts;
 use conn_model::event::ConnId;
 use conn_model::plain::{FrontendRows, TableState, Version};
+use conn_model::settings::Settings;
 use conn_tables::Tables;
 use conn_versions::{Versions, item};
 use list_core::{Seq, newest};
@@ -173,13 +175,11 @@ impl Rows {
 
     /// How an open connection is served, by the version that judges it.
     pub fn settings(&self, id: ConnId) -> Option<Settings>
-        ensures { result ≡ settings_by self.now.frontends self.now.versions id }
+        ensures { result ≡ settings_in self.now.frontends self.now.versions id }
     {
         let own = item(self.frontends.as_slice(), id.frontend)?;
         let row = own.row(id.serial)?;
-        let version = version_at(self.kept.as_slice(), row.version)?;
-        let frontend = frontend_in(&version.plan, own.name())?;
-        Some(settings_of(frontend, row.backend(&version.plan)))
+        row.settings(own.name(), self.kept.as_slice())
     }
 
     /// How many connections of the frontend of that number are open.

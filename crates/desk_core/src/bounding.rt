@@ -43,7 +43,11 @@ fn take_back<O: Ledger>(leases: &mut Vec<Lease<O>>, ids: &mut Vec<ConnId>, units
 {
     while let Some(id) = ids.pop() {
         let unit = units.split_off(1, 1);
-        leases.push_reserved(Lease { id, unit });
+        leases.push_reserved(Lease {
+            id,
+            unit,
+            settings: None,
+        });
     }
 }
 
