@@ -1,4 +1,4 @@
--- How an open connection is served: in ms, 0 for no bound.
+-- How an open connection is served: times in ms, 0 for no bound, and how often its server is dialled again.
 use Rattle.std.specs.Prelude.{ℕ, List, find, slice_get, Option, Some, None}
 use Rattle.std.specs.Option.{option_and_then, option_map}
 use Rattle.plan_types.specs.declared.plan.Backend.{Backend}
@@ -27,8 +27,8 @@ backend_with plan line = option_and_then (λ line. find (has_line line) plan.bac
 
 -- those of the frontend, and those of the backend once a server was offered
 abbrev pub settings_of : Frontend → Option Backend → Settings
-settings_of frontend None = record { client = frontend.client_timeout; connect = 0; server = 0 }
-settings_of frontend (Some backend) = record { client = frontend.client_timeout; connect = backend.connect_timeout; server = backend.server_timeout }
+settings_of frontend None = record { client = frontend.client_timeout; connect = 0; server = 0; retries = 0 }
+settings_of frontend (Some backend) = record { client = frontend.client_timeout; connect = backend.connect_timeout; server = backend.server_timeout; retries = 0 }
 
 -- those of a connection to the frontend of that name, which was offered the server of that line, by a plan
 abbrev pub settings_by : List ℕ → Option ℕ → Plan → Option Settings

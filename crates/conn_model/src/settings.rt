@@ -1,6 +1,7 @@
 //! How an open connection is served.
 
-/// How long a connection may be silent, in ms, 0 for any time, by the version that judges it.
+/// How long a connection may be silent, in ms, 0 for any time, and how often its server is dialled again, by the version
+/// that judges it.
 #[derive(Clone, Copy, Debug, PartialEq, Eq)]
 pub struct Settings {
     /// Its client, by the frontend.
@@ -9,4 +10,6 @@ pub struct Settings {
     pub connect: u64,
     /// Its server after that, by the backend.
     pub server: u64,
+    /// How often its server is dialled again.
+    pub retries: u64,
 }

@@ -36,14 +36,20 @@ fn backend_with(plan: &Plan, line: Option<u32>) -> Option<&Backend>
 fn settings_of(frontend: &Frontend, backend: Option<&Backend>) -> Settings
     ensures { result ≡ settings_of frontend.now (option_copied backend.entry) }
 {
-    let (connect, server) = match backend {
-        Some(backend) => (backend.connect_timeout, backend.server_timeout),
-        None => (0, 0),
-    };
-    Settings {
-        client: frontend.client_timeout,
-        connect,
-        server,
+    let client = frontend.client_timeout;
+    match backend {
+        Some(backend) => Settings {
+            client,
+            connect: backend.connect_timeout,
+            server: backend.server_timeout,
+            retries: 0,
+        },
+        None => Settings {
+            client,
+            connect: 0,
+            server: 0,
+            retries: 0,
+        },
     }
 }
 

@@ -1,4 +1,4 @@
--- When a side of a connection has been silent for too long.
+-- When a side of a connection has been silent for too long, and the pause before a server is dialled again.
 use Rattle.std.specs.Prelude.{ℕ, ◌+◌, ◌==◌, ◌&&◌, ◌||◌, not, nat_le, min, Bool, Option, Some, None, if◌then◌else◌}
 use Rattle.conn_model.specs.declared.event.Why.{Why}
 use Rattle.conn_model.specs.declared.event.Why.TheVariants.{ClientTimeout, ServerTimeout}
@@ -18,3 +18,7 @@ overdue now client server =
     if is_overdue now client && (not (is_overdue now server) || nat_le (due_of client) (due_of server)) then Some ClientTimeout
     else if is_overdue now server then Some ServerTimeout
     else None
+
+-- as long as the server had to accept the connection, and a second at most
+abbrev pub retry_pause : ℕ → ℕ
+retry_pause connect = if connect == 0 then 1000 else min connect 1000

@@ -3,7 +3,7 @@ ghost use Rattle.std.specs.Prelude.{◌≡◌, ◌++◌, [], Some, None, IsTrue,
 ghost use Rattle.relay_core.specs.Relay.{IsBegun};
 ghost use Rattle.crew_core.specs.Conns.{HasFlows, PassesOn};
 
-use crate::idle::{Side, is_overdue, overdue};
+use crate::idle::{Side, is_overdue, overdue, retry_pause};
 use addr_core::Endpoint;
 use conn_model::event::Why;
 use conn_model::settings::Settings;
@@ -18,6 +18,8 @@ pub(crate) enum Stage {
     Header,
     /// For a link to its server.
     Server(Endpoint),
+    /// For the pause to end before its server is dialled again.
+    Retry(Endpoint),
     /// For bytes in either direction.
     Bytes,
 }
@@ -33,20 +35,27 @@ pub(crate) struct Conn<K: Link> {
     pub(crate) stage: Stage,
     pub(crate) client_flags: Flags,
     server_flags: Flags,
-    /// How long each side may be silent.
+    /// Whether the client sent bytes after its header before there was a link to its server.
+    has_sent: bool,
+    /// How it is served.
     settings: Settings,
+    /// How often its server was dialled again.
+    retries: u64,
     /// When the client last sent or took a byte, in ms.
     client_seen: u64,
-    /// The same of the server. While it is dialled, when that began.
+    /// The same of the server. While it is dialled, when that began, and in a pause, when the pause began.
     server_seen: u64,
 }
 
-/// Why a connection that was silent for too long ends.
+/// What is due of a connection.
 #[derive(Clone, Copy, Debug)]
-pub(crate) enum Silence {
+pub(crate) enum Due {
     /// Its server did not accept it in time.
-    Dial,
-    Side(Why),
+    DialTimeout,
+    /// Its server is dialled again.
+    Retry(Endpoint),
+    /// A side was silent for too long.
+    End(Why),
 }
 
 /// Whether both directions are over.
@@ -65,19 +74,41 @@ impl<K: Link> Conn<K> {
             stage: Stage::Header,
             client_flags: Flags::of_client(),
             server_flags: Flags::of_server(),
+            has_sent: false,
             settings: Settings {
                 client: 0,
                 connect: 0,
                 server: 0,
+                retries: 0,
             },
+            retries: 0,
             client_seen: 0,
             server_seen: 0,
         }
     }
 
-    /// From now on its server is dialled, and these times count.
+    /// From now on its server is dialled, and it is served so.
     pub(crate) fn begin_dial(&mut self, settings: Settings, now: u64) {
         self.settings = settings;
+        self.server_seen = now;
+    }
+
+    /// Begins the pause before its server is dialled again; whether it may be.
+    pub(crate) fn begin_pause(&mut self, now: u64) -> bool {
+        match self.stage {
+            Stage::Server(to) if self.retries < self.settings.retries => {
+                self.retries += 1;
+                self.server_seen = now;
+                self.stage = Stage::Retry(to);
+                true
+            }
+            _ => false,
+        }
+    }
+
+    /// The pause is over, and its server is dialled again.
+    pub(crate) fn end_pause(&mut self, to: Endpoint, now: u64) {
+        self.stage = Stage::Server(to);
         self.server_seen = now;
     }
 
@@ -91,25 +122,41 @@ impl<K: Link> Conn<K> {
         }
     }
 
-    /// Whether it was silent for too long.
-    pub(crate) fn silence(&self, now: u64) -> Option<Silence> {
-        let client = Side {
-            seen: self.client_seen,
-            limit: self.settings.client,
-        };
-        let server = Side {
-            seen: self.server_seen,
-            limit: self.settings.server,
-        };
-        let dial = Side {
-            seen: self.server_seen,
-            limit: self.settings.connect,
-        };
+    /// What is due, if anything is.
+    pub(crate) fn due(&self, now: u64) -> Option<Due> {
+        let server = self.settings.server;
         match self.stage {
             Stage::Header => None,
-            Stage::Server(_) => is_overdue(now, dial).then_some(Silence::Dial),
-            Stage::Bytes => overdue(now, client, server).map(Silence::Side),
+            Stage::Server(_) => {
+                is_overdue(now, self.server_side(self.settings.connect)).then_some(Due::DialTimeout)
+            }
+            Stage::Retry(to) => {
+                let pause = retry_pause(self.settings.connect);
+                is_overdue(now, self.server_side(pause)).then_some(Due::Retry(to))
+            }
+            Stage::Bytes => overdue(now, self.client_side(), self.server_side(server)).map(
+                Due::End,
+            ),
         }
+    }
+
+    fn client_side(&self) -> Side {
+        Side {
+            seen: self.client_seen,
+            limit: self.settings.client,
+        }
+    }
+
+    fn server_side(&self, limit: u64) -> Side {
+        Side {
+            seen: self.server_seen,
+            limit,
+        }
+    }
+
+    /// Whether the client has left before there was a link to its server, and nothing that it sent is to be passed on.
+    pub(crate) fn has_left(&mut self) -> bool {
+        self.client_flags.is_closed && !self.has_sent && self.client.has_left()
     }
 
     pub(crate) fn raise(&mut self, ready: &Ready) {
@@ -138,6 +185,7 @@ impl<K: Link> Conn<K> {
         ensures stage { OnOk result (self.new.stage ≡ Stage.Server to) }
     {
         self.relay = Some(spares.take(send, rest)?);
+        self.has_sent = !rest.is_empty();
         self.stage = Stage::Server(to);
         Ok(())
     }

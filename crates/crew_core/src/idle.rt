@@ -1,6 +1,7 @@
-//! When a side of a connection has been silent for too long (HAProxy manual, `timeout client`, `timeout server`).
+//! When a side of a connection has been silent for too long (HAProxy manual, `timeout client`, `timeout server`), and the
+//! pause before a server is dialled again (`retries`).
 ghost use Rattle.std.specs.Prelude.{◌≡◌};
-ghost use Rattle.crew_core.specs.Idle.{due_of, is_overdue, overdue};
+ghost use Rattle.crew_core.specs.Idle.{due_of, is_overdue, overdue, retry_pause};
 
 use conn_model::event::Why;
 
@@ -34,5 +35,19 @@ pub(crate) fn overdue(now: u64, client: Side, server: Side) -> Option<Why>
         Some(Why::ServerTimeout)
     } else {
         None
+    }
+}
+
+/// The longest pause before a server is dialled again, in ms.
+const LONGEST_PAUSE: u64 = 1_000;
+
+/// The pause before a server is dialled again that has so long to accept a connection, in ms.
+pub(crate) fn retry_pause(connect: u64) -> u64
+    ensures { result ≡ retry_pause connect }
+{
+    if connect == 0 {
+        LONGEST_PAUSE
+    } else {
+        connect.min(LONGEST_PAUSE)
     }
 }

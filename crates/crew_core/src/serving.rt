@@ -2,7 +2,7 @@
 ghost use Rattle.std.specs.Prelude.{◌≡◌, ◌≤◌, length, take, drop};
 
 use crate::calls::{CallOutcome, WorkerContext};
-use crate::conn::{Silence, Stage};
+use crate::conn::{Due, Stage};
 use crate::worker::{SERVED, Worker, WorkerState};
 use addr_core::Endpoint;
 use conn_model::event::Why;
@@ -59,13 +59,11 @@ impl<M: Ledger, O: Ledger, K: Link, L: Dial<Link = K>> Worker<M, O, K, L> {
         };
         match conn.stage {
             Stage::Header => self.receive(rt, context, key),
-            Stage::Server(_) if conn.client_flags.is_reset => self.close(
-                rt,
-                context,
-                key,
-                Why::Fault,
-            ),
+            Stage::Server(_) | Stage::Retry(_) if conn.client_flags.is_reset => {
+                self.close(rt, context, key, Why::Fault);
+            }
             Stage::Server(to) => self.dial_server(rt, context, key, &to),
+            Stage::Retry(_) => self.end_if_left(rt, context, key),
             Stage::Bytes => self.relay(rt, context, key),
         }
     }
@@ -161,9 +159,9 @@ impl<M: Ledger, O: Ledger, K: Link, L: Dial<Link = K>> Worker<M, O, K, L> {
         to: &Endpoint,
     ) {
         match self.dial.poll(key, to) {
-            Dialled::Later => {}
+            Dialled::Later => self.end_if_left(rt, context, key),
             Dialled::Link(server) => self.connect(rt, context, key, server),
-            Dialled::Failed => self.give_up(rt, context, key),
+            Dialled::Failed => self.try_again(rt, context, key),
         }
     }
 
@@ -188,13 +186,37 @@ impl<M: Ledger, O: Ledger, K: Link, L: Dial<Link = K>> Worker<M, O, K, L> {
         }
     }
 
-    /// The server of a connection is out of reach.
-    fn give_up<B: Opening, G: Gate, C: Clock, R: Wait>(
+    /// Ends a connection whose client has left while its server does not answer.
+    fn end_if_left<B: Opening, G: Gate, C: Clock, R: Wait>(
         &mut self,
         rt: &R,
         context: &WorkerContext<'_, M, O, B, G, C>,
         key: usize,
     ) {
+        let has_left = match self.state.table.conn(key) {
+            Some(conn) => conn.has_left(),
+            None => false,
+        };
+        if has_left {
+            self.close(rt, context, key, Why::Fault);
+        }
+    }
+
+    /// The server of a connection did not accept it. It is dialled again later, unless that was the last time.
+    fn try_again<B: Opening, G: Gate, C: Clock, R: Wait>(
+        &mut self,
+        rt: &R,
+        context: &WorkerContext<'_, M, O, B, G, C>,
+        key: usize,
+    ) {
+        let has_pause = match self.state.table.conn(key) {
+            Some(conn) => conn.begin_pause(self.now),
+            None => false,
+        };
+        if has_pause {
+            self.dial.forget(key);
+            return;
+        }
         match self.calls.drive(rt, context, key, &Drive::ConnectFailed) {
             CallOutcome::Open(_) | CallOutcome::Stopped => {}
             CallOutcome::Ended => self.forget(key),
@@ -202,8 +224,22 @@ impl<M: Ledger, O: Ledger, K: Link, L: Dial<Link = K>> Worker<M, O, K, L> {
         }
     }
 
-    /// Ends connections that were silent for too long, of those that are looked at in this turn.
-    pub(crate) fn end_silent<B: Opening, G: Gate, C: Clock, R: Wait>(
+    /// The pause of a connection is over.
+    fn dial_again<B: Opening, G: Gate, C: Clock, R: Wait>(
+        &mut self,
+        rt: &R,
+        context: &WorkerContext<'_, M, O, B, G, C>,
+        key: usize,
+        to: &Endpoint,
+    ) {
+        if let Some(conn) = self.state.table.conn(key) {
+            conn.end_pause(*to, self.now);
+        }
+        self.dial_server(rt, context, key, to);
+    }
+
+    /// Does what is due of the connections that are looked at in this turn.
+    pub(crate) fn do_due<B: Opening, G: Gate, C: Clock, R: Wait>(
         &mut self,
         rt: &R,
         context: &WorkerContext<'_, M, O, B, G, C>,
@@ -214,14 +250,15 @@ impl<M: Ledger, O: Ledger, K: Link, L: Dial<Link = K>> Worker<M, O, K, L> {
                 return;
             }
             let key = self.state.table.next_place(places);
-            let silence = match self.state.table.conn(key) {
-                Some(conn) => conn.silence(self.now),
+            let due = match self.state.table.conn(key) {
+                Some(conn) => conn.due(self.now),
                 None => None,
             };
-            match silence {
+            match due {
                 None => {}
-                Some(Silence::Dial) => self.give_up(rt, context, key),
-                Some(Silence::Side(why)) => self.close(rt, context, key, why),
+                Some(Due::DialTimeout) => self.try_again(rt, context, key),
+                Some(Due::Retry(to)) => self.dial_again(rt, context, key, &to),
+                Some(Due::End(why)) => self.close(rt, context, key, why),
             }
         }
     }

@@ -8,8 +8,8 @@ use slab::Slab;
 use std::alloc::{AllocError, Global};
 use std::collections::VecDeque;
 
-/// How many places are looked at for each ms, to find connections that were silent for too long. So all of 10,000 are
-/// looked at within 100 ms, and all of 100,000 within a second, which takes some thousandths of a processor.
+/// How many places are looked at for each ms, to find connections of which something is due. So all of 10,000 are looked
+/// at within 100 ms, and all of 100,000 within a second, which takes some thousandths of a processor.
 const LOOKS: u64 = 100;
 
 /// A connection by its key.

@@ -101,7 +101,7 @@ impl<M: Ledger, O: Ledger, K: Link, L: Dial<Link = K>> Worker<M, O, K, L> {
         self.now = context.clock.now();
         self.take_arrivals(rt, context);
         self.expire(rt, context);
-        self.end_silent(rt, context);
+        self.do_due(rt, context);
         for _key in 0..self.state.table.queued().min(SERVED) {
             if self.calls.is_stopped {
                 return;

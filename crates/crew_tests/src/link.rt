@@ -175,6 +175,11 @@ impl Link for FakeLink {
     fn shut(&mut self) -> bool {
         true
     }
+
+    fn has_left(&mut self) -> bool {
+        let is_read = self.given >= self.script.gives.bytes().len();
+        is_read && !self.script.fails && self.stage.has_come(self.script.ends_after)
+    }
 }
 
 impl Drop for FakeLink {

@@ -12,6 +12,11 @@ pub trait Link: Input + Output + Drop {
     /// Ends the writing, so that the other side reads to its end; whether that went well. The crew calls it once.
     fn shut(&mut self) -> bool
         ensures { Self.held self.new ≡ Self.held self.old };
+
+    /// Whether the other side has ended and nothing that it sent is left to be read.
+    fn has_left(&mut self) -> bool
+        ensures left { Self.left self.new ≡ Self.left self.old }
+        ensures held { Self.held self.new ≡ Self.held self.old };
 }
 
 /// What came to the door.

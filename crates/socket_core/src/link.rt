@@ -133,4 +133,9 @@ impl Link for SocketLink {
         let stream = &mut self.device.get_mut().stream;
         stream.shutdown(Shutdown::Write).is_ok()
     }
+
+    fn has_left(&mut self) -> bool {
+        let stream = &mut self.device.get_mut().stream;
+        matches!(stream.peek(&mut [0; 1]), Ok(0))
+    }
 }

@@ -21,7 +21,7 @@ returns-in_err-row c =
     let own_there : slice_get c.self.inside.frontends.items c.args.id.frontend ≡ Some own =
     ap (λ xs. slice_get xs c.args.id.frontend) (sym c.as_slice.ensures.value) ∙ sym c.item.ensures ∙ ap option_copied c.in_ok-own.was in
     let none : find (has_serial c.args.id.serial) own.rows ≡ None = sym c.row.ensures ∙ ap option_copied c.in_err-row.was in
-    c.from_residual.ensures
+    c.from_residual-in_err-row.ensures
     ∙ sym (ap (λ s. settings_in s.frontends s.versions c.args.id) (sym c.self.view_is)
     ∙ settings_is c.self.inside.kept.versions c.self.inside.frontends.items c.args.id
     ∙ ap (option_and_then (own_settings c.self.inside.kept.versions c.args.id.serial)) own_there
