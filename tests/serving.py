@@ -151,14 +151,14 @@ def exchange(port, text, source=HOST, host=HOST):
 
 
 class Server(threading.Thread):
-    """A server on a port of the kernel's choice; each connection goes to `serve`, in a thread."""
+    """A server on that port, or one of the kernel's choice; each connection goes to `serve`, in a thread."""
 
-    def __init__(self, serve, host=HOST, limit=LIMIT):
+    def __init__(self, serve, host=HOST, limit=LIMIT, port=0):
         super().__init__(daemon=True)
         self.serve, self.limit, self.count, self.lock = serve, limit, 0, threading.Lock()
         self.listener = socket.socket(socket.AF_INET6 if ':' in host else socket.AF_INET)
         self.listener.setsockopt(socket.SOL_SOCKET, socket.SO_REUSEADDR, 1)
-        self.listener.bind((host, 0))
+        self.listener.bind((host, port))
         self.listener.listen(4096)
         self.port = self.listener.getsockname()[1]
         self.at = written((host, self.port))

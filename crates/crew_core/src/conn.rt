@@ -109,6 +109,7 @@ impl<K: Link> Conn<K> {
     /// The pause is over, and its server is dialled again.
     pub(crate) fn end_pause(&mut self, to: Endpoint, now: u64) {
         self.stage = Stage::Server(to);
+        self.server_flags = Flags::of_server();
         self.server_seen = now;
     }
 
