@@ -10,4 +10,5 @@ pub mod Counted
 pub mod Kept
 pub mod TablesListed
 pub mod Reloaded
+pub mod PlaceLemmas
 pub mod SettingsLemmas

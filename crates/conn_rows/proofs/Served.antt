@@ -1,6 +1,6 @@
 -- Open connections of servers, as the rows change.
 use Rattle.std.proofs.Common.{◌≡◌, ℕ, ◌*◌, ◌+◌, Bool, true, false, List, [], ◌∷◌, ◌++◌, length, map, set, Option, Some, None, refl, sym, ap, subst, ◌∙◌, arith}
-use Rattle.std.specs.Prelude.{filter, find, ◌^◌, ◌<◌, ◌≤◌, slice_get, slice_set, option_map, ◌==◌, if◌then◌else◌, IfSome, IsSome, option_and_then}
+use Rattle.std.specs.Prelude.{filter, find, ◌<◌, ◌≤◌, slice_get, slice_set, option_map, ◌==◌, if◌then◌else◌, IfSome, IsSome, option_and_then}
 use Rattle.std.specs.List.{AllByRecursion}
 use Rattle.std.proofs.lemmas.Bool.Decides.{nat_tests}
 use Rattle.std.specs.Option.{option_map_or}

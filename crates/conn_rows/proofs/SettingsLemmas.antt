@@ -1,15 +1,13 @@
 -- How a stored connection is served is how the plain one is.
-use Rattle.std.proofs.Common.{◌≡◌, ℕ, Bool, true, false, List, map, Option, Some, None, refl, sym, ap, ◌∙◌}
-use Rattle.std.specs.Prelude.{slice_get, find, ◌==◌, option_map, option_and_then}
+use Rattle.std.proofs.Common.{◌≡◌, ℕ, Bool, true, false, List, map, Option, Some, None, refl, ap, ◌∙◌}
+use Rattle.std.specs.Prelude.{slice_get, find, option_map, option_and_then}
 use Rattle.conn_model.specs.declared.event.ConnId.{ConnId}
 use Rattle.conn_model.specs.declared.plain.FrontendRows.{FrontendRows}
-use Rattle.conn_model.specs.declared.plain.Row.{Row}
 use Rattle.conn_model.specs.declared.plain.Version.{Version}
 use Rattle.conn_model.specs.declared.settings.Settings.{Settings}
 use Rattle.conn_model.specs.Answer.{row_in}
 use Rattle.conn_model.specs.Settings.{server_line, settings_at, settings_in}
 use Rattle.plan_types.specs.declared.plan.Plan.{Plan}
-use Rattle.conn_rows.specs.declared.row.ServerHold.{ServerHold}
 use Rattle.conn_rows.specs.declared.row.Stage.{Stage}
 use Rattle.conn_rows.specs.declared.row.Stage.TheVariants.{Waiting, Offered}
 use Rattle.conn_rows.specs.declared.row.StoredRow.{StoredRow}

@@ -1,5 +1,5 @@
 -- Each table that is kept is listed by a version that is kept.
-use Rattle.std.proofs.Common.{◌≡◌, ℕ, ◌≤◌, Bool, true, false, List, [], ◌∷◌, ◌++◌, length, map, Option, Some, None, Result, Ok, Err, refl, sym, ap, subst, ◌∙◌, arith}
+use Rattle.std.proofs.Common.{◌≡◌, ℕ, Bool, true, false, List, [], ◌∷◌, ◌++◌, map, Option, Some, None, Result, Ok, Err, refl, sym, ap, subst, ◌∙◌}
 use Rattle.std.specs.Prelude.{filter, is_none, OnOk, OnErr, ◌==◌, ◌||◌, if◌then◌else◌}
 use Rattle.std.specs.List.{list_any, AllByRecursion, enumerate_from}
 use Rattle.std.specs.Option.{option_map_or}
@@ -19,7 +19,6 @@ use Rattle.conn_model.proofs.OneTable.{same_id-refl, table_with-entries}
 use Rattle.conn_model.proofs.TableSteps.{lists, new_tables_well}
 use Rattle.conn_tables.specs.Tables.{StoredTables, plain_table}
 use Rattle.conn_rows.specs.Value.{AreTablesListed}
-use Rattle.conn_rows.proofs.Counted.{fewer}
 
 -- when a plan is opened
 pub listed-opened : (plan : Plan) (versions : List Version) (tables : List TableState) → versions ≡ new_version 1 plan ∷ [] → tables ≡ map (new_table 1) (enumerate_from 0 plan.tables) → AreTablesListed versions tables

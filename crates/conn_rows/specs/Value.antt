@@ -1,5 +1,5 @@
 -- What contracts see of the rows, and what is always true of them.
-use Rattle.std.specs.Prelude.{ℕ, true, List, length, map, Option, Some, None, IsSome, ◌≡◌, ◌≤◌, ◌<◌, ◌^◌}
+use Rattle.std.specs.Prelude.{ℕ, true, List, length, map, Option, Some, None, IsSome, ◌≡◌, ◌≤◌}
 use Rattle.std.specs.List.{AllByRecursion}
 use Rattle.std.specs.Option.{option_map_or}
 use Rattle.keyed_list.specs.Entries.{IsFew}

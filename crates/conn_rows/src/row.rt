@@ -3,6 +3,7 @@ ghost use Rattle.std.specs.Prelude.{◌≡◌, [], IfOk, None, find, option_and_
 ghost use Rattle.std.specs.Option.{option_copied, option_map_or};
 ghost use Rattle.plan_types.specs.Lines.{has_line};
 ghost use Rattle.conn_tables.specs.Tracks.{no_trackings};
+ghost use Rattle.conn_versions.specs.Versions.{AreSound};
 ghost use Rattle.conn_model.specs.Answer.{version_at};
 ghost use Rattle.conn_model.specs.History.{identity_at, nobody};
 ghost use Rattle.conn_model.specs.Counts.{server_of};
@@ -11,7 +12,7 @@ ghost use Rattle.conn_rows.specs.Summaries.{names_in, names_of, stored_summary};
 ghost use Rattle.conn_rows.specs.Stored.{assignment_in, awaits, line_of, phase_of, phase_with, plan_at, plain_row, slot_of, stored_arrival, waits};
 
 use crate::packed::{PackedChoice, PackedPair};
-use crate::settings::settings_by;
+use crate::settings::{ServerPlace, settings_by};
 use addr_core::{Endpoint, Pair};
 use conn_model::plain::{Assignment, Phase, Row, Version};
 use conn_model::settings::Settings;
@@ -93,13 +94,19 @@ impl Stage {
         }
     }
 
-    /// The line of the server that it was offered.
-    fn line(&self) -> Option<u32>
-        ensures { result ≡ line_of self.now }
+    /// The server that it was offered.
+    fn place(&self) -> Option<ServerPlace>
+        ensures { option_map (λ place. place.line) result ≡ line_of self.now }
     {
         match self {
             Stage::Waiting(_) => None,
-            Stage::Offered(held) => Some(held.seat.seat().line),
+            Stage::Offered(held) => {
+                let ServerChoice { server, line, .. } = held.seat.seat();
+                Some(ServerPlace {
+                    line,
+                    number: server,
+                })
+            }
         }
     }
 
@@ -206,10 +213,11 @@ impl StoredRow {
 
     /// How it is served as a connection to the frontend of that name, by the plan of its version.
     pub fn settings(&self, name: &[u8], versions: &[Version]) -> Option<Settings>
+        requires { AreSound versions.now }
         ensures { result ≡ settings_at versions.now self.now.version name.now (line_of self.now.stage) }
     {
         let version = version_at(versions, self.version)?;
-        settings_by(name, self.stage.line(), &version.plan)
+        settings_by(name, self.stage.place(), &version.plan)
     }
 
     /// An equal row, as plain data, by the plans of these versions.

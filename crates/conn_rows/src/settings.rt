@@ -1,12 +1,14 @@
 //! How a connection is served.
-ghost use Rattle.std.specs.Prelude.{◌≡◌};
+ghost use Rattle.std.specs.Prelude.{◌≡◌, ℕ, Some, true, slice_get, option_map, IfSome, IsTrue};
 ghost use Rattle.std.specs.Option.{option_copied};
 ghost use Rattle.std.specs.Str.{bytes_eq};
+ghost use Rattle.plan_types.specs.Lines.{has_line, LinesDiffer};
 ghost use Rattle.conn_model.specs.Answer.{frontend_in};
 ghost use Rattle.conn_model.specs.Settings.{backend_with, settings_by, settings_of};
 
 use crate::row::backend_in;
 use conn_model::settings::Settings;
+use conn_versions::item;
 use plan_types::{Backend, Frontend, Plan};
 
 /// The frontend of that name.
@@ -25,11 +27,43 @@ fn has_name(frontend: &Frontend, name: &[u8]) -> bool
     frontend.name.as_slice() == name
 }
 
-/// The backend that has the server of that line.
-fn backend_with(plan: &Plan, line: Option<u32>) -> Option<&Backend>
-    ensures { option_copied result ≡ backend_with plan.now line }
+/// A server of a plan.
+#[derive(Clone, Copy, Debug, PartialEq, Eq)]
+pub struct ServerPlace {
+    pub line: u32,
+    /// Its number in its backend, from 0.
+    pub number: u16,
+}
+
+/// The last backend that begins before that line.
+fn backend_before(plan: &Plan, line: u32) -> Option<&Backend>
+    ensures { IfSome result (λ backend. (i : ℕ) × (slice_get plan.now.backends i ≡ Some backend.now)) }
 {
-    backend_in(plan, line?)
+    let backends = plan.backends.as_slice();
+    let next = backends.partition_point(|backend| backend.line < line);
+    backends.get(next.checked_sub(1)?)
+}
+
+/// Whether the backend has that server.
+fn has_place(backend: &Backend, place: ServerPlace) -> bool
+    ensures { IsTrue result → has_line place.line backend.now ≡ true }
+{
+    match item(backend.servers.as_slice(), place.number) {
+        Some(server) => server.line == place.line,
+        None => false,
+    }
+}
+
+/// The backend that has a server. It is found without a look at other servers, where the plan has it at its place.
+fn backend_with(plan: &Plan, place: Option<ServerPlace>) -> Option<&Backend>
+    requires { LinesDiffer plan.now }
+    ensures { option_copied result ≡ backend_with plan.now (option_map (λ place. place.line) place) }
+{
+    let place = place?;
+    match backend_before(plan, place.line) {
+        Some(backend) if has_place(backend, place) => Some(backend),
+        _ => backend_in(plan, place.line),
+    }
 }
 
 /// Times of the frontend, and of the backend once the connection was offered a server.
@@ -53,10 +87,11 @@ fn settings_of(frontend: &Frontend, backend: Option<&Backend>) -> Settings
     }
 }
 
-/// How a connection to the frontend of that name is served by a plan. The line is that of the server it was offered.
-pub fn settings_by(name: &[u8], line: Option<u32>, plan: &Plan) -> Option<Settings>
-    ensures { result ≡ settings_by name.now line plan.now }
+/// How a connection to the frontend of that name is served by a plan, which was offered that server.
+pub fn settings_by(name: &[u8], place: Option<ServerPlace>, plan: &Plan) -> Option<Settings>
+    requires { LinesDiffer plan.now }
+    ensures { result ≡ settings_by name.now (option_map (λ place. place.line) place) plan.now }
 {
     let frontend = frontend_named(plan, name)?;
-    Some(settings_of(frontend, backend_with(plan, line)))
+    Some(settings_of(frontend, backend_with(plan, place)))
 }

@@ -1,4 +1,4 @@
-use Rattle.std.proofs.Common.{◌≡◌, ◌∙◌, List, length, map, refl, sym, subst}
+use Rattle.std.proofs.Common.{◌≡◌, ◌∙◌, List, map, refl, sym, subst}
 use Rattle.std.specs.Option.{option_map_or}
 use Rattle.addr_core.specs.declared.addr.Addr.{Addr}
 use Rattle.plan_types.specs.declared.track.TableId.{TableId}
