@@ -374,7 +374,8 @@ def line_of(config, words):
 
 
 class Proxy:
-    """A proxy that was started and is ready. `ended` sends `quit`, and gives the record that was checked."""
+    """A proxy that was started and is ready. `ended` sends `quit`, and gives the record that was checked. What it says is in
+    `said`, except for the warnings of its configuration, which are in `warned`: most cases have no timeouts."""
 
     def __init__(self, case, config, *words, descriptors=None, out=None, before=None, waits=True, env=None):
         self.case, self.config = case, config
@@ -393,7 +394,7 @@ class Proxy:
                                           bufsize=0, stdout=record if out is None else out, stderr=subprocess.PIPE,
                                           preexec_fn=prepare, env={**os.environ, **(env or {})})
         case.proxies.append(self)
-        self.said, self.begun = [], time.monotonic()
+        self.said, self.warned, self.begun = [], [], time.monotonic()
         self.listener = threading.Thread(target=self.listen, daemon=True)
         self.listener.start()
         if waits:
@@ -407,7 +408,8 @@ class Proxy:
 
     def listen(self):
         for line in self.child.stderr:
-            self.said.append(line.decode(errors='replace').rstrip('\n'))
+            lines = self.warned if b': warning: ' in line else self.said
+            lines.append(line.decode(errors='replace').rstrip('\n'))
 
     def wait_ready(self):
         last = time.monotonic() + PATIENCE

@@ -4,6 +4,7 @@
 pub use command::run_command;
 pub use files::{DEVICE, DONE, REFUSED, USAGE, explain_refusal, unreadable};
 pub use progress::Terminals;
+pub use warnings::warn_of_plan;
 
 mod audit;
 mod check;
@@ -13,4 +14,5 @@ mod files;
 mod pipe;
 mod progress;
 mod replay;
+mod warnings;
 mod whatif;

@@ -12,7 +12,7 @@ use conn_model::reply::{Reply, StepFault};
 use crew_core::{Backlog, Clock, CrewFault, Dial, Door, DoorEvent, Served, open_book, serve};
 use desk_core::SettleFault;
 use device_core::ToWrite;
-use file_commands::{DEVICE, DONE, REFUSED, explain_refusal, unreadable};
+use file_commands::{DEVICE, DONE, REFUSED, explain_refusal, unreadable, warn_of_plan};
 use log::Log;
 use record_core::Segment;
 use rtrb::Consumer;
@@ -46,6 +46,13 @@ pub fn fail<F: fmt::Display>(rt: &impl Eprint, fault: &F) -> u8 {
     DEVICE
 }
 
+/// Warns of what the configuration of a book lacks.
+fn warn_of_book(rt: &impl Eprint, file: &str, book: &Book) {
+    if let Some(version) = book.base().versions.as_slice().last() {
+        warn_of_plan(rt, file, &version.plan);
+    }
+}
+
 /// A book over the configuration of the file, and the reading end of its ring.
 fn read_book<R: Files + AllocGlobal + Eprint>(
     rt: &R,
@@ -60,7 +67,10 @@ fn read_book<R: Files + AllocGlobal + Eprint>(
         return Err(unreadable(rt, file));
     };
     match open_book(rt.alloc(), text.as_str()) {
-        Ok(opened) => Ok(opened),
+        Ok((book, segments)) => {
+            warn_of_book(rt, file, &book);
+            Ok((book, segments))
+        }
         Err(fault) => {
             explain_refusal(rt, file, text.as_str(), &fault);
             match fault {
