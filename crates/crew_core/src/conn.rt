@@ -114,7 +114,7 @@ impl<K: Link> Conn<K> {
     }
 
     /// Notes which of the links moved bytes.
-    fn note_activity(&mut self, now: u64) {
+    pub(crate) fn note_activity(&mut self, now: u64) {
         if self.client_flags.take_activity() {
             self.client_seen = now;
         }
@@ -226,21 +226,14 @@ impl<K: Link> Conn<K> {
     }
 
     /// Passes bytes on in both directions, as far as its links are ready. `None` says that both directions are over.
-    pub(crate) fn relay(
-        &mut self,
-        spares: &mut Spares,
-        buffer: &mut [u8],
-        now: u64,
-    ) -> Option<Progress>
+    pub(crate) fn relay(&mut self, spares: &mut Spares, buffer: &mut [u8]) -> Option<Progress>
         ensures { (server : K) → self.old.server ≡ Some server → IsSomeAnd self.new.server (λ new_server.
             PassesOn K.left K.held self.old.client server self.old.relay self.new.client new_server self.new.relay) }
     {
-        let progress = match self.take_relay(spares) {
+        match self.take_relay(spares) {
             Ok(relay) => self.relay_by(spares, relay, buffer),
             Err(_) => Some(Progress::Fault),
-        };
-        self.note_activity(now);
-        progress
+        }
     }
 
     fn relay_by(

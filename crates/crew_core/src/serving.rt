@@ -215,7 +215,7 @@ impl<M: Ledger, O: Ledger, K: Link, L: Dial<Link = K>> Worker<M, O, K, L> {
         };
         if has_pause {
             self.dial.forget(key);
-            return;
+            return self.end_if_left(rt, context, key);
         }
         match self.calls.drive(rt, context, key, &Drive::ConnectFailed) {
             CallOutcome::Open(_) | CallOutcome::Stopped => {}
@@ -280,7 +280,9 @@ impl<M: Ledger, O: Ledger, K: Link, L: Dial<Link = K>> Worker<M, O, K, L> {
         let Some(conn) = table.conn(key) else {
             return;
         };
-        match conn.relay(spares, buffer.as_mut_slice(), now) {
+        let progress = conn.relay(spares, buffer.as_mut_slice());
+        conn.note_activity(now);
+        match progress {
             None => self.close(rt, context, key, Why::Done),
             Some(Progress::Fault) => self.close(rt, context, key, Why::Fault),
             Some(Progress::More) => self.state.table.enqueue(key),
