@@ -18,6 +18,7 @@ LIMIT = 1 << 20
 DEFAULT_LIMIT = 2000
 HEADER_WAIT = 3000
 GREATEST = (1 << 64) - 1
+MOST_RETRIES = 100
 KEYWORDS = {'frontend': ('bind', 'maxconn', 'acl', 'tcp-request', 'use_backend', 'default_backend', 'stick-table'),
             'backend': ('balance', 'server', 'stick-table')}
 SCALES = {'': 1, 'k': 1 << 10, 'm': 1 << 20}
@@ -238,11 +239,15 @@ class Reader:
             self.section = keyword, (Frontend if keyword == 'frontend' else Backend)(rest[0], at)
             own.append(self.section[1])
             return
-        need(keyword == 'timeout' or any(keyword in words for words in KEYWORDS.values()), f'line {at}: UnknownKeyword')
+        need(keyword in ('timeout', 'retries') or any(keyword in words for words in KEYWORDS.values()), f'line {at}: UnknownKeyword')
         need(self.section, f'line {at}: NoSection')
         if keyword == 'timeout':
             need(rest and rest[0] in ('connect', 'client', 'server') and len(rest) == 2)
             time_of(rest[1])
+            return
+        if keyword == 'retries':
+            need(len(rest) == 1)
+            number(rest[0], 0, MOST_RETRIES)
             return
         need(keyword in KEYWORDS[self.section[0]], f'line {at}: Unsupported')
         getattr(self, keyword.replace('-', '_'))(at, self.section[1], *rest)

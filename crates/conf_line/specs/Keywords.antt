@@ -28,6 +28,7 @@ keyword_of word =
     else if bytes_eq word (codes "log") then k.Log
     else if bytes_eq word (codes "option") then k.Option
     else if bytes_eq word (codes "timeout") then k.Timeout
+    else if bytes_eq word (codes "retries") then k.Retries
     else if bytes_eq word (codes "daemon") then k.Daemon
     else if bytes_eq word (codes "user") then k.User
     else if bytes_eq word (codes "group") then k.Group
@@ -56,6 +57,7 @@ in_defaults k.Balance = true
 in_defaults k.Log = true
 in_defaults k.Option = true
 in_defaults k.Timeout = true
+in_defaults k.Retries = true
 in_defaults other = false
 
 -- the keywords of a frontend
@@ -71,6 +73,7 @@ in_frontend k.StickTable = true
 in_frontend k.Log = true
 in_frontend k.Option = true
 in_frontend k.Timeout = true
+in_frontend k.Retries = true
 in_frontend other = false
 
 -- the keywords of a backend
@@ -82,6 +85,7 @@ in_backend k.Server = true
 in_backend k.Log = true
 in_backend k.Option = true
 in_backend k.Timeout = true
+in_backend k.Retries = true
 in_backend other = false
 
 abbrev pub check_support : Bool → Result (Unit {0}) ConfKind

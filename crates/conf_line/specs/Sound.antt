@@ -5,6 +5,7 @@ use Rattle.conf_line.specs.declared.statement.ActionWords.{ActionWords}
 use Rattle.conf_line.specs.declared.statement.ActionWords.TheVariants as actions
 use Rattle.conf_line.specs.declared.statement.LineReading.{LineReading}
 use Rattle.conf_line.specs.declared.statement.ServerWords.{ServerWords}
+use Rattle.conf_line.specs.declared.statement.TheConstants.{MOST_RETRIES}
 use Rattle.conf_line.specs.declared.statement.Statement.{Statement}
 use Rattle.conf_line.specs.declared.statement.Statement.TheVariants as statements
 
@@ -39,6 +40,7 @@ IsSoundStatement (statements.Frontend name) = Unit {0}
 IsSoundStatement (statements.Backend name) = Unit {0}
 IsSoundStatement (statements.MaxConn limit) = IsWithin MOST_CONNECTIONS limit
 IsSoundStatement (statements.Timeout kind ms) = Unit {0}
+IsSoundStatement (statements.Retries count) = count ≤ MOST_RETRIES
 IsSoundStatement (statements.DefaultBackend name) = Unit {0}
 IsSoundStatement (statements.Balance method) = Unit {0}
 IsSoundStatement (statements.Bind at proxy) = Unit {0}

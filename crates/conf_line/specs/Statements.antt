@@ -9,6 +9,7 @@ use Rattle.conf_line.specs.declared.statement.SectionKind.{SectionKind}
 use Rattle.conf_line.specs.declared.statement.SectionKind.TheVariants as sections
 use Rattle.conf_line.specs.declared.statement.Statement.{Statement}
 use Rattle.conf_line.specs.declared.statement.Statement.TheVariants as statements
+use Rattle.conf_line.specs.declared.statement.TheConstants.{MOST_RETRIES}
 use Rattle.conf_line.specs.declared.statement.TimeoutKind.{TimeoutKind}
 use Rattle.conf_line.specs.declared.statement.TimeoutKind.TheVariants as timeouts
 use Rattle.conf_line.specs.declared.keyword.Keyword.{Keyword}
@@ -94,6 +95,14 @@ max_conn_of words = do
     _ ← end_at word.1
     Ok (record { statement = statements.MaxConn limit; repeats = false; exceeds = nat_lt MOST_CONNECTIONS limit })
 
+-- how often a server may be dialled again
+abbrev pub retries_of : List (List ℕ) → Result LineReading ConfKind
+retries_of words = do
+  word ← word_at words
+  count ← number_at word.0
+  _ ← end_at word.1
+  Ok (record { statement = statements.Retries count; repeats = false; exceeds = nat_lt MOST_RETRIES count })
+
 -- Lines that are read and have no effect; the words after those offered are not read.
 
 abbrev pub without_effect_if : (List ℕ → Bool) → List (List ℕ) → Result Statement ConfKind
@@ -160,6 +169,7 @@ keyword_reading kind known k.Server words = server_of words
 keyword_reading kind known k.Log words = plain_reading (log_of kind words)
 keyword_reading kind known k.Option words = plain_reading (without_effect_if is_option words)
 keyword_reading kind known k.Timeout words = plain_reading (timeout_of words)
+keyword_reading kind known k.Retries words = retries_of words
 keyword_reading kind known k.Daemon words = plain_reading (Ok statements.Nothing)
 keyword_reading kind known k.User words = plain_reading (Ok statements.Nothing)
 keyword_reading kind known k.Group words = plain_reading (Ok statements.Nothing)

@@ -27,6 +27,7 @@ pub enum Keyword {
     Log,
     Option,
     Timeout,
+    Retries,
     Daemon,
     User,
     Group,
@@ -37,7 +38,7 @@ pub enum Keyword {
 }
 
 /// The keywords by their words.
-static KEYWORDS: [(&[u8], Keyword); 24] = [
+static KEYWORDS: [(&[u8], Keyword); 25] = [
     (b"global", Keyword::Global),
     (b"defaults", Keyword::Defaults),
     (b"frontend", Keyword::Frontend),
@@ -56,6 +57,7 @@ static KEYWORDS: [(&[u8], Keyword); 24] = [
     (b"log", Keyword::Log),
     (b"option", Keyword::Option),
     (b"timeout", Keyword::Timeout),
+    (b"retries", Keyword::Retries),
     (b"daemon", Keyword::Daemon),
     (b"user", Keyword::User),
     (b"group", Keyword::Group),
@@ -102,7 +104,8 @@ pub fn check_keyword(kind: SectionKind, keyword: Keyword) -> Result<(), ConfKind
                 | Keyword::Balance
                 | Keyword::Log
                 | Keyword::Option
-                | Keyword::Timeout => Ok(()),
+                | Keyword::Timeout
+                | Keyword::Retries => Ok(()),
                 _ => Err(ConfKind::Unsupported),
             },
             SectionKind::Frontend => match keyword {
@@ -116,7 +119,8 @@ pub fn check_keyword(kind: SectionKind, keyword: Keyword) -> Result<(), ConfKind
                 | Keyword::StickTable
                 | Keyword::Log
                 | Keyword::Option
-                | Keyword::Timeout => Ok(()),
+                | Keyword::Timeout
+                | Keyword::Retries => Ok(()),
                 _ => Err(ConfKind::Unsupported),
             },
             SectionKind::Backend => match keyword {
@@ -126,7 +130,8 @@ pub fn check_keyword(kind: SectionKind, keyword: Keyword) -> Result<(), ConfKind
                 | Keyword::Server
                 | Keyword::Log
                 | Keyword::Option
-                | Keyword::Timeout => Ok(()),
+                | Keyword::Timeout
+                | Keyword::Retries => Ok(()),
                 _ => Err(ConfKind::Unsupported),
             },
         },

@@ -2,7 +2,7 @@
 ghost use Rattle.std.specs.Prelude.{◌≡◌, IfOk, Result, Ok};
 ghost use Rattle.list_core.specs.Each.{Gives};
 ghost use Rattle.conf_line.specs.Keywords.{keyword_of, check_keyword};
-ghost use Rattle.conf_line.specs.Statements.{only_name, global_of, defaults_of, frontend_of, backend_of, mode_of, default_backend_of, method_of, balance_of, accepts_proxy, bind_of, max_conn_of, without_effect_if, is_global, is_option, timeout_kind, timeout_of, log_of, plain_reading, keyword_reading, line_reading};
+ghost use Rattle.conf_line.specs.Statements.{only_name, global_of, defaults_of, frontend_of, backend_of, mode_of, default_backend_of, method_of, balance_of, accepts_proxy, bind_of, max_conn_of, retries_of, without_effect_if, is_global, is_option, timeout_kind, timeout_of, log_of, plain_reading, keyword_reading, line_reading};
 ghost use Rattle.conf_line.specs.Sound.{IsSoundStatement, IsSoundReading};
 ghost use Rattle.conf_line.specs.Acls.{acl_of};
 ghost use Rattle.conf_line.specs.Rules.{rule_of, choice_of};
@@ -12,7 +12,7 @@ use crate::fault::ConfKind;
 use crate::keyword::{Keyword, check_keyword, keyword_of};
 use crate::rule::{choice, rule};
 use crate::server::server;
-use crate::statement::{LineReading, SectionKind, Statement, TimeoutKind};
+use crate::statement::{LineReading, MOST_RETRIES, SectionKind, Statement, TimeoutKind};
 use crate::table::table;
 use crate::times::time_at;
 use crate::words::{bind_at, end_at, name_at, number_at, word_at};
@@ -151,6 +151,21 @@ fn max_conn<'a>(words: &[Word<'a>]) -> Result<LineReading<'a>, ConfKind>
         statement: Statement::MaxConn(limit),
         repeats: false,
         exceeds: limit > MOST_CONNECTIONS,
+    })
+}
+
+/// How often a server may be dialled again.
+fn retries<'a>(words: &[Word<'a>]) -> Result<LineReading<'a>, ConfKind>
+    ensures value { result ≡ retries_of words.now }
+    ensures sound { IfOk result IsSoundReading }
+{
+    let (word, rest) = word_at(words)?;
+    let count = number_at(word.bytes())?;
+    end_at(rest)?;
+    Ok(LineReading {
+        statement: Statement::Retries(count),
+        repeats: false,
+        exceeds: count > MOST_RETRIES,
     })
 }
 
@@ -295,6 +310,7 @@ fn keyword_reading<'a>(
         Keyword::Log => plain_reading(log(kind, words)),
         Keyword::Option => plain_reading(option(words)),
         Keyword::Timeout => plain_reading(timeout(words)),
+        Keyword::Retries => without_memory(retries(words)),
         Keyword::Daemon
         | Keyword::User
         | Keyword::Group

@@ -93,6 +93,9 @@ pub enum TimeoutKind {
     Server,
 }
 
+/// Of the number of a `retries` line.
+pub const MOST_RETRIES: u64 = 100;
+
 /// What a line says.
 #[derive(Drop)]
 pub enum Statement<'a> {
@@ -106,6 +109,8 @@ pub enum Statement<'a> {
     MaxConn(u64),
     /// A time in ms, 0 for no bound.
     Timeout(TimeoutKind, u64),
+    /// How often a server that is out of reach may be dialled again (HAProxy manual, `retries`).
+    Retries(u64),
     DefaultBackend(Word<'a>),
     Balance(Method),
     /// Where connections are accepted, and whether each begins with a PROXY header.

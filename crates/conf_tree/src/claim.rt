@@ -39,6 +39,7 @@ pub fn claim_of<'a>(place: &SectionPlace<'a>, statement: &Statement<'a>) -> Opti
         | Statement::Defaults
         | Statement::MaxConn(_)
         | Statement::Timeout(..)
+        | Statement::Retries(_)
         | Statement::DefaultBackend(_)
         | Statement::Balance(_)
         | Statement::Acl(_, _)

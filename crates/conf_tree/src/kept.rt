@@ -56,6 +56,7 @@ fn names_after<'a>(
         Statement::Nothing
         | Statement::MaxConn(_)
         | Statement::Timeout(..)
+        | Statement::Retries(_)
         | Statement::DefaultBackend(_)
         | Statement::Balance(_)
         | Statement::Bind(_, _)

@@ -23,6 +23,7 @@ fn acl_name<'a>(statement: &Statement<'a>) -> Option<Word<'a>>
         | Statement::Backend(_)
         | Statement::MaxConn(_)
         | Statement::Timeout(..)
+        | Statement::Retries(_)
         | Statement::DefaultBackend(_)
         | Statement::Balance(_)
         | Statement::Bind(_, _)

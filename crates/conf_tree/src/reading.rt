@@ -82,6 +82,7 @@ fn place_of<'a>(
         Statement::Nothing
         | Statement::MaxConn(_)
         | Statement::Timeout(..)
+        | Statement::Retries(_)
         | Statement::DefaultBackend(_)
         | Statement::Balance(_)
         | Statement::Bind(_, _)
@@ -230,6 +231,7 @@ fn is_full(kept: &Kept, place: &SectionPlace, statement: &Statement) -> bool
         | Statement::Defaults
         | Statement::MaxConn(_)
         | Statement::Timeout(..)
+        | Statement::Retries(_)
         | Statement::DefaultBackend(_)
         | Statement::Balance(_)
         | Statement::StickTable(_) => false,

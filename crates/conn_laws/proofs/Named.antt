@@ -60,6 +60,7 @@ some_choice backends line (statements.Frontend name) = tt
 some_choice backends line (statements.Backend name) = tt
 some_choice backends line (statements.MaxConn limit) = tt
 some_choice backends line (statements.Timeout kind ms) = tt
+some_choice backends line (statements.Retries count) = tt
 some_choice backends line (statements.DefaultBackend name) = tt
 some_choice backends line (statements.Balance method) = tt
 some_choice backends line (statements.Bind endpoint flag) = tt

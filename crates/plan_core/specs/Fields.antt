@@ -59,6 +59,10 @@ line_timeout timeouts.Client line (statements.Timeout timeouts.Client ms) = Some
 line_timeout timeouts.Server line (statements.Timeout timeouts.Server ms) = Some ms
 line_timeout kind line other = None
 
+abbrev pub line_retries : ℕ → Statement → Option ℕ
+line_retries line (statements.Retries count) = Some count
+line_retries line other = None
+
 abbrev pub line_table : ℕ → Statement → Option TableWords
 line_table line (statements.StickTable table) = Some table
 line_table line other = None
@@ -102,6 +106,10 @@ method_in proxy = unwrap_or (setting_in line_method proxy) RoundRobin
 -- 0 where nothing is given, which is no bound
 abbrev pub timeout_in : TimeoutKind → Proxy → ℕ
 timeout_in kind proxy = unwrap_or (setting_in (line_timeout kind) proxy) 0
+
+-- none where nothing is given
+abbrev pub retries_in : Proxy → ℕ
+retries_in proxy = unwrap_or (setting_in line_retries proxy) 0
 
 -- Tables.
 

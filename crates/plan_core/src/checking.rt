@@ -159,6 +159,7 @@ fn line_fault(
         | Statement::Backend(_)
         | Statement::MaxConn(_)
         | Statement::Timeout(..)
+        | Statement::Retries(_)
         | Statement::DefaultBackend(_)
         | Statement::Balance(_)
         | Statement::Bind(_, _)

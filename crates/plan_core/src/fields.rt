@@ -1,6 +1,6 @@
 //! What the lines of a frontend or backend say of each matter.
 ghost use Rattle.std.specs.Prelude.{◌≡◌, IfOk};
-ghost use Rattle.plan_core.specs.Fields.{line_bind, line_limit, line_default, line_method, line_timeout, line_table, line_server, all_of, last_of, setting_in, limit_in, method_in, timeout_in};
+ghost use Rattle.plan_core.specs.Fields.{line_bind, line_limit, line_default, line_method, line_timeout, line_retries, line_table, line_server, all_of, last_of, setting_in, limit_in, method_in, timeout_in, retries_in};
 
 use crate::proxies::Proxy;
 use conf_tree::{ConfigLine, Statement, TableWords, TimeoutKind};
@@ -86,6 +86,15 @@ fn line_timeout(kind: TimeoutKind, item: &ConfigLine) -> Option<u64>
     }
 }
 
+fn line_retries(item: &ConfigLine) -> Option<u64>
+    ensures { result ≡ line_retries item.now.line item.now.statement }
+{
+    match &item.statement {
+        Statement::Retries(count) => Some(*count),
+        _ => None,
+    }
+}
+
 fn line_table(item: &ConfigLine) -> Option<TableWords>
     ensures { result ≡ line_table item.now.line item.now.statement }
 {
@@ -164,6 +173,16 @@ fn last_timeout(kind: TimeoutKind, items: &[ConfigLine]) -> Option<u64>
     last
 }
 
+fn last_retries(items: &[ConfigLine]) -> Option<u64>
+    ensures { result ≡ last_of line_retries items.now }
+{
+    let mut last = None;
+    for item in items {
+        last = line_retries(item).or(last);
+    }
+    last
+}
+
 /// The `stick-table` line of a section.
 pub fn last_table(items: &[ConfigLine]) -> Option<TableWords>
     ensures { result ≡ last_of line_table items.now }
@@ -211,6 +230,15 @@ pub fn timeout_in(kind: TimeoutKind, proxy: &Proxy) -> u64
 {
     last_timeout(kind, proxy.own.items())
         .or(last_timeout(kind, proxy.base.items()))
+        .unwrap_or(0)
+}
+
+/// How often a server of a backend may be dialled again.
+pub fn retries_in(proxy: &Proxy) -> u64
+    ensures { result ≡ retries_in proxy.now }
+{
+    last_retries(proxy.own.items())
+        .or(last_retries(proxy.base.items()))
         .unwrap_or(0)
 }
 

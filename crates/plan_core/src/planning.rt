@@ -10,7 +10,9 @@ ghost use Rattle.plan_core.specs.Proxies.{frontends, backends};
 use crate::acls::{acls_in, choices_in};
 use crate::checking::{backend_number, fault_of};
 use crate::fault::PlanFault;
-use crate::fields::{Named, binds_in, default_in, limit_in, method_in, servers_in, timeout_in};
+use crate::fields::{
+    Named, binds_in, default_in, limit_in, method_in, retries_in, servers_in, timeout_in,
+};
 use crate::proxies::{Proxy, is_backend, is_frontend, proxies_in};
 use crate::tables::{rules_in, tables_in};
 use conf_tree::{Ruleset, TimeoutKind, Tree};
@@ -28,6 +30,7 @@ fn backend_of(alloc: Global, proxy: &Proxy) -> Result<Backend, AllocError>
         method: method_in(proxy),
         connect_timeout: timeout_in(TimeoutKind::Connect, proxy),
         server_timeout: timeout_in(TimeoutKind::Server, proxy),
+        retries: retries_in(proxy),
         servers: servers_in(alloc, proxy.own.items())?,
     })
 }

@@ -51,6 +51,7 @@ impl Duplicate for Backend {
             method: self.method,
             connect_timeout: self.connect_timeout,
             server_timeout: self.server_timeout,
+            retries: self.retries,
             servers: self.servers.duplicate(alloc)?,
         })
     }

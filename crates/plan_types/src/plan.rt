@@ -105,6 +105,8 @@ pub struct Backend {
     pub connect_timeout: u64,
     /// How long a server may be silent, in ms, 0 for any time (HAProxy manual, `timeout server`).
     pub server_timeout: u64,
+    /// How often a server that is out of reach may be dialled again (HAProxy manual, `retries`).
+    pub retries: u64,
     pub servers: Seq<Server>,
 }
 
