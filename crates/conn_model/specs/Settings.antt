@@ -28,7 +28,7 @@ backend_with plan line = option_and_then (λ line. find (has_line line) plan.bac
 -- those of the frontend, and those of the backend once a server was offered
 abbrev pub settings_of : Frontend → Option Backend → Settings
 settings_of frontend None = record { client = frontend.client_timeout; connect = 0; server = 0; retries = 0 }
-settings_of frontend (Some backend) = record { client = frontend.client_timeout; connect = backend.connect_timeout; server = backend.server_timeout; retries = 0 }
+settings_of frontend (Some backend) = record { client = frontend.client_timeout; connect = backend.connect_timeout; server = backend.server_timeout; retries = backend.retries }
 
 -- those of a connection to the frontend of that name, which was offered the server of that line, by a plan
 abbrev pub settings_by : List ℕ → Option ℕ → Plan → Option Settings

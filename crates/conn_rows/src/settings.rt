@@ -76,7 +76,7 @@ fn settings_of(frontend: &Frontend, backend: Option<&Backend>) -> Settings
             client,
             connect: backend.connect_timeout,
             server: backend.server_timeout,
-            retries: 0,
+            retries: backend.retries,
         },
         None => Settings {
             client,
