@@ -250,7 +250,7 @@ impl<M: Ledger, O: Ledger, K: Link, L: Dial<Link = K>> Worker<M, O, K, L> {
                 return;
             }
             let key = self.state.table.next_place(places);
-            let due = match self.state.table.conn(key) {
+            let due = match self.state.table.conn_at_rest(key) {
                 Some(conn) => conn.due(self.now),
                 None => None,
             };
