@@ -51,7 +51,7 @@ pub(crate) struct Conn<K: Link> {
 #[derive(Clone, Copy, Debug)]
 pub(crate) enum Due {
     /// Its server did not accept it in time.
-    DialTimeout,
+    DialTimeout(Endpoint),
     /// Its server is dialled again.
     Retry(Endpoint),
     /// A side was silent for too long.
@@ -113,6 +113,12 @@ impl<K: Link> Conn<K> {
         self.server_seen = now;
     }
 
+    /// Both links are read at the next turn, whether they were reported or not.
+    pub(crate) fn expect_bytes(&mut self) {
+        self.client_flags.reads = true;
+        self.server_flags.reads = true;
+    }
+
     /// Notes which of the links moved bytes.
     pub(crate) fn note_activity(&mut self, now: u64) {
         if self.client_flags.take_activity() {
@@ -128,8 +134,9 @@ impl<K: Link> Conn<K> {
         let server = self.settings.server;
         match self.stage {
             Stage::Header => None,
-            Stage::Server(_) => {
-                is_overdue(now, self.server_side(self.settings.connect)).then_some(Due::DialTimeout)
+            Stage::Server(to) => {
+                let connect = self.settings.connect;
+                is_overdue(now, self.server_side(connect)).then_some(Due::DialTimeout(to))
             }
             Stage::Retry(to) => {
                 let pause = retry_pause(self.settings.connect);

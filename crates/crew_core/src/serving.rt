@@ -238,6 +238,11 @@ impl<M: Ledger, O: Ledger, K: Link, L: Dial<Link = K>> Worker<M, O, K, L> {
         self.dial_server(rt, context, key, to);
     }
 
+    /// What is due of a connection.
+    fn due(&mut self, key: usize) -> Option<Due> {
+        self.state.table.conn(key)?.due(self.now)
+    }
+
     /// Does what is due of the connections that are looked at in this turn.
     pub(crate) fn do_due<B: Opening, G: Gate, C: Clock, R: Wait>(
         &mut self,
@@ -250,16 +255,43 @@ impl<M: Ledger, O: Ledger, K: Link, L: Dial<Link = K>> Worker<M, O, K, L> {
                 return;
             }
             let key = self.state.table.next_place(places);
-            let due = match self.state.table.conn_at_rest(key) {
-                Some(conn) => conn.due(self.now),
-                None => None,
-            };
-            match due {
+            match self.due(key) {
                 None => {}
-                Some(Due::DialTimeout) => self.try_again(rt, context, key),
+                Some(Due::DialTimeout(to)) => self.end_dial(rt, context, key, &to),
                 Some(Due::Retry(to)) => self.dial_again(rt, context, key, &to),
-                Some(Due::End(why)) => self.close(rt, context, key, why),
+                Some(Due::End(_)) => self.end_silent(rt, context, key),
             }
+        }
+    }
+
+    /// Gives up a dial that took too long. All threads may have been stopped since the dial was last asked, so it is asked once
+    /// more.
+    fn end_dial<B: Opening, G: Gate, C: Clock, R: Wait>(
+        &mut self,
+        rt: &R,
+        context: &WorkerContext<'_, M, O, B, G, C>,
+        key: usize,
+        to: &Endpoint,
+    ) {
+        self.dial_server(rt, context, key, to);
+        if let Some(Due::DialTimeout(_)) = self.due(key) {
+            self.try_again(rt, context, key);
+        }
+    }
+
+    /// Ends a connection that was silent for too long. For the same reason its links are read once more.
+    fn end_silent<B: Opening, G: Gate, C: Clock, R: Wait>(
+        &mut self,
+        rt: &R,
+        context: &WorkerContext<'_, M, O, B, G, C>,
+        key: usize,
+    ) {
+        if let Some(conn) = self.state.table.conn(key) {
+            conn.expect_bytes();
+        }
+        self.relay(rt, context, key);
+        if let Some(Due::End(why)) = self.due(key) {
+            self.close(rt, context, key, why);
         }
     }
 

@@ -102,16 +102,6 @@ impl<K: Link> Table<K> {
         }
     }
 
-    /// The connection of a key that is not in the queue. One in the queue is served first: it may have moved bytes in
-    /// time.
-    pub(crate) fn conn_at_rest(&self, key: usize) -> Option<&Conn<K>> {
-        let place = self.places.get(key)?;
-        match &place.entry {
-            Entry::Open(conn) if !place.is_queued => Some(conn),
-            _ => None,
-        }
-    }
-
     /// Why the connection of a key ended, if that is not recorded yet.
     pub(crate) fn ended(&self, key: usize) -> Option<Why> {
         match &self.places.get(key)?.entry {
