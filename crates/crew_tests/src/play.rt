@@ -44,6 +44,8 @@ fn word_of(said: &Said) -> Word {
             Why::Fault => ("fault", id.serial),
             Why::Stopped => ("stopped", id.serial),
             Why::Failed => ("failed", id.serial),
+            Why::ClientTimeout => ("client-timeout", id.serial),
+            Why::ServerTimeout => ("server-timeout", id.serial),
         },
         Said::Reloaded { version } => ("reloaded", version),
     }
