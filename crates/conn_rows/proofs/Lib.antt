@@ -12,3 +12,4 @@ pub mod TablesListed
 pub mod Reloaded
 pub mod PlaceLemmas
 pub mod SettingsLemmas
+pub mod GaugeLemmas

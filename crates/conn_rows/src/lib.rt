@@ -8,6 +8,7 @@ pub use settings::frontend_named;
 
 mod counts;
 mod frontend;
+mod gauges;
 pub mod laws;
 mod opening;
 mod packed;

@@ -3,6 +3,7 @@ ghost use Rattle.std.specs.Prelude.{◌≡◌, ◌≤◌};
 
 use crate::leases::Leases;
 use crate::recorder::Alert;
+use crate::status::Tallies;
 use addr_core::Pair;
 use book_core::Receipt;
 use conn_model::event::Why;
@@ -21,6 +22,7 @@ pub(crate) struct WorkerContext<'a, M: Ledger, O: Ledger, B: Opening, G, C> {
     pub(crate) gate: &'a G,
     pub(crate) clock: &'a C,
     pub(crate) alert: &'a Alert,
+    pub(crate) tallies: &'a Tallies,
     /// How many turns a worker and the acceptor make at the most.
     pub(crate) turns: u64,
 }
@@ -135,6 +137,7 @@ impl<M: Ledger, O: Ledger> Calls<M, O> {
         {
             Ok((receipt, lease)) => {
                 context.note(rt, receipt.number);
+                context.count_accept(rt, self.worker, &receipt.reply.said);
                 match lease {
                     Some(lease) => {
                         self.leases.put(key, lease);
@@ -177,11 +180,13 @@ impl<M: Ledger, O: Ledger> Calls<M, O> {
         match context.desk.drive(rt, &mut self.pass, moment, lease, drive) {
             DriveResult::Goes(receipt, lease) => {
                 context.note(rt, receipt.number);
+                context.count_reply(rt, self.worker, &receipt.reply.said);
                 self.leases.put(key, lease);
                 CallOutcome::Open(said(receipt))
             }
             DriveResult::Over(receipt) => {
                 context.note(rt, receipt.number);
+                context.count_reply(rt, self.worker, &receipt.reply.said);
                 if matches!(said(receipt), Said::Closed { .. }) {
                     self.closed += 1;
                 }
@@ -225,6 +230,7 @@ impl<M: Ledger, O: Ledger> Calls<M, O> {
         match context.desk.close(rt, &mut self.pass, moment, lease, why) {
             Ok(receipt) => {
                 context.note(rt, receipt.number);
+                context.count_reply(rt, self.worker, &receipt.reply.said);
                 self.closed += 1;
                 CallOutcome::Ended
             }

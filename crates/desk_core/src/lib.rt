@@ -2,6 +2,7 @@
 #![tactic(auto)]
 
 pub use desk::{CALL_PARTS, ClosedDesk, Desk, SharedDesk};
+pub use gauged::DeskGauges;
 pub use lease::{Drive, DriveResult, Lease};
 pub use lease_list::LeaseList;
 pub use naming::{AnyOpening, Opening};
@@ -13,6 +14,7 @@ mod bounding;
 mod counted;
 mod desk;
 mod desk_state;
+mod gauged;
 pub mod laws;
 mod lease;
 mod lease_list;

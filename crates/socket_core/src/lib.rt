@@ -1,4 +1,5 @@
-//! The sockets of a crew: listeners, connections to servers, and the commands of an operator.
+//! The sockets of a crew: listeners, connections to servers, the commands of an operator, and the listener that is asked for
+//! its state.
 //!
 //! No other crate opens a socket. What is decided about a connection is not decided here.
 #![tactic(auto)]
@@ -12,6 +13,8 @@ pub use door::SocketDoor;
 pub use link::{Socket, SocketLink};
 pub use listeners::{ListenFault, Listeners, listen};
 pub use pace::Pace;
+pub use stats::StatsListener;
+pub use status_line::StatusAsker;
 
 mod addresses;
 mod alarm;
@@ -25,6 +28,8 @@ mod link;
 mod listeners;
 mod pace;
 mod ports;
+mod stats;
+mod status_line;
 
 use mio::Token;
 
