@@ -1,7 +1,6 @@
 //! A core with its records.
-ghost use Rattle.std.specs.Prelude.{◌≡◌, ◌↔◌, ◌<◌, ◌≤◌, ◌+◌, ◌^◌, [], ◌∷◌, ◌++◌, length, IfOk, IfErr, OnErr, OnOk, Err, Ok, Some};
+ghost use Rattle.std.specs.Prelude.{◌≡◌, ◌↔◌, ◌<◌, ◌≤◌, ◌+◌, ◌^◌, [], ◌∷◌, ◌++◌, length, IfOk, IfErr, OnErr, OnOk, Err, Ok};
 ghost use Rattle.conn_model.specs.Counts.{counts_in, open_connections};
-ghost use Rattle.conn_model.specs.Gauges.{gauges_of};
 ghost use Rattle.conn_model.specs.History.{answer, counts, entry, owned_event};
 ghost use Rattle.conn_model.specs.Settings.{settings_in};
 ghost use Rattle.record_core.specs.Records.{history_of};
@@ -12,14 +11,13 @@ ghost use Rattle.book_core.specs.Book.{after_cut, book_answer, new_book, segment
 use conn_core::Core;
 use conn_model::ask::{Ask, Counts};
 use conn_model::event::{ConnId, Event};
-use conn_model::gauges::Gauges;
 use conn_model::plain::Plain;
 use conn_model::reply::{Reply, StepFault};
 use conn_model::settings::Settings;
 use list_core::Seq;
 use record_core::{Record, Segment, copy_event, copy_reply};
 use rtrb::{Consumer, Producer};
-use std::alloc::{AllocError, AllocFailed, Global};
+use std::alloc::{AllocFailed, Global};
 use std::marker::Model;
 use std::mem;
 
@@ -187,13 +185,6 @@ impl Book {
         ensures plain { result ≡ counts_in self.now.state ask.now }
     {
         self.core.counts(ask)
-    }
-
-    /// What an operator sees of what is open and kept.
-    pub fn gauges(&self, alloc: Global) -> Result<Gauges, AllocError>
-        ensures { IfOk result (λ gauges. Some gauges ≡ gauges_of self.now.state) }
-    {
-        self.core.gauges(alloc)
     }
 
     /// How an open connection is served, by the version that judges it.

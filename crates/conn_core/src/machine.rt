@@ -16,7 +16,6 @@ ghost use Rattle.conn_model.specs.declared.event.OwnedEvent.TheVariants as owned
 ghost use Rattle.conn_model.specs.declared.plain.FrontendRows.{FrontendRows};
 ghost use Rattle.conn_model.specs.declared.plain.Plain.{Plain};
 ghost use Rattle.config_core.specs.Meaning.{meaning};
-ghost use Rattle.conn_model.specs.Gauges.{gauges_of};
 ghost use Rattle.conn_model.specs.Settings.{settings_in};
 ghost use Rattle.conn_model.specs.Tables.{open_tracks};
 ghost use Rattle.conn_core.specs.Changes.{forgotten, CanOffer};
@@ -36,7 +35,6 @@ use addr_core::Pair;
 use config_core::{OpenFault, read_plan};
 use conn_model::ask::{Ask, Counts};
 use conn_model::event::{ConnId, Event, HEADER_WAIT, Why};
-use conn_model::gauges::Gauges;
 use conn_model::plain::{Listener, Plain};
 use conn_model::reply::{Cause, Reply, Said, StepFault};
 use conn_model::settings::Settings;
@@ -166,13 +164,6 @@ impl Core {
                 self.rows.counts(*id, &addr)
             }
         }
-    }
-
-    /// What an operator sees of what is open and kept, in the terms of `counts`.
-    pub fn gauges(&self, alloc: Global) -> Result<Gauges, AllocError>
-        ensures { IfOk result (λ gauges. Some gauges ≡ gauges_of self.now) }
-    {
-        self.rows.gauges(alloc)
     }
 
     /// The names of the server that an open connection was offered, as the version that judged it has them.

@@ -7,4 +7,3 @@ pub mod Answer
 pub mod History
 pub mod Changes
 pub mod Settings
-pub mod Gauges

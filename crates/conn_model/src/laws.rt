@@ -1,5 +1,5 @@
 //! Laws of the definitions, which every body meets that does by them.
-ghost use Rattle.std.specs.Prelude.{◌≡◌, ◌≢◌, ◌≤◌, ℕ, true, List, [], map, slice_get, Option, option_and_then, option_map, Some, Ok, IsSome, length, ◌++◌, ◌∷◌, ◌+◌};
+ghost use Rattle.std.specs.Prelude.{◌≡◌, ◌≢◌, ◌≤◌, ℕ, true, List, [], map, slice_get, Option, Some, Ok, IsSome, length, ◌++◌, ◌∷◌, ◌+◌};
 ghost use Rattle.std.specs.List.{list_any, AllByRecursion};
 ghost use Rattle.pp_any.specs.declared.rest.Rest.{Rest};
 ghost use Rattle.pp_any.specs.Header.{shifted};
@@ -23,8 +23,7 @@ ghost use Rattle.balance_core.specs.Picks.{used_now};
 ghost use Rattle.addr_core.specs.declared.addr.Addr.{Addr};
 ghost use Rattle.conn_model.specs.Words.{newest};
 ghost use Rattle.conn_model.specs.Answer.{reply_of, row_at, version_at};
-ghost use Rattle.conn_model.specs.Counts.{count_of, counts_in, served_by};
-ghost use Rattle.conn_model.specs.Gauges.{gauges_of};
+ghost use Rattle.conn_model.specs.Counts.{served_by};
 ghost use Rattle.conn_model.specs.Servers.{cursor_after, cursor_at, cursors_after, identity_in, pick_in, weight_of, MayOffer};
 ghost use Rattle.conn_model.specs.History.{after, answer, counts, entry, identity_of, is_needed, joined, newest_number, opening, served_less, served_more, tables_of, version_for, IsLegal, IsWell, Entry};
 ghost use Rattle.conn_model.specs.Tables.{is_listed, is_listed_by, same_id, table_at, IncarnationsDiffer};
@@ -44,8 +43,6 @@ ghost use Rattle.plan_types.specs.declared.track.TableId.{TableId};
 ghost use Rattle.plan_types.specs.declared.plan.Plan as plans;
 ghost use Rattle.conn_model.specs.declared.event.OwnedEvent.{OwnedEvent};
 ghost use Rattle.conn_model.specs.declared.ask.Ask.{Ask};
-ghost use Rattle.conn_model.specs.declared.ask.Ask.TheVariants as asks;
-ghost use Rattle.conn_model.specs.declared.gauges.Gauges.{Gauges};
 
 /// What is answered and counted after a history in two parts (`g` after `h`) is what is answered and
 /// counted after the second part, from the state that the first one leaves.
@@ -149,16 +146,6 @@ pub fn servers_are_counted()
     ensures { (plan : plans.Plan) (last : ℕ) (h : List Entry) (e : Entry) → IsLegal (opening plan last) (e ∷ h) → (server : ServerIdentity) →
         served_by (after (opening plan last) (e ∷ h)).frontends server + served_less (after (opening plan last) h) e.reply.said server ≡
         served_by (after (opening plan last) h).frontends server + served_more (after (opening plan last) h) e.reply.said server }
-{}
-
-/// What an operator sees of a frontend, a backend and a server is what is counted when it is asked for by its number.
-pub fn gauges_are_counts()
-    ensures frontends { (p : Plain) (seen : Gauges) → gauges_of p ≡ Some seen → (number : ℕ) →
-        counts_in p (asks.Frontend number) ≡ option_map (λ gauge. count_of gauge.connections) (slice_get seen.frontends number) }
-    ensures backends { (p : Plain) (seen : Gauges) → gauges_of p ≡ Some seen → (number : ℕ) →
-        counts_in p (asks.Backend number) ≡ option_map (λ gauge. count_of gauge.connections) (slice_get seen.backends number) }
-    ensures servers { (p : Plain) (seen : Gauges) → gauges_of p ≡ Some seen → (number n : ℕ) →
-        counts_in p (asks.Server number n) ≡ option_and_then (λ backend. option_map (λ server. count_of server.connections) (slice_get backend.servers n)) (slice_get seen.backends number) }
 {}
 
 /// A reload is answered where its text means a plan that binds what the version in force binds; it then gets the next

@@ -7,7 +7,6 @@
 pub mod ask;
 mod copies;
 pub mod event;
-pub mod gauges;
 pub mod laws;
 pub mod plain;
 pub mod reply;

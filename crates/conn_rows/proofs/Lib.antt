@@ -12,4 +12,3 @@ pub mod TablesListed
 pub mod Reloaded
 pub mod PlaceLemmas
 pub mod SettingsLemmas
-pub mod GaugeLemmas

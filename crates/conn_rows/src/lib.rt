@@ -8,7 +8,6 @@ pub use settings::frontend_named;
 
 mod counts;
 mod frontend;
-mod gauges;
 pub mod laws;
 mod opening;
 mod packed;

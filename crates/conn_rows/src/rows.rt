@@ -20,7 +20,6 @@ ghost use Rattle.conn_versions.specs.Versions.{AreSound, HasServer, VersionsValu
 ghost use Rattle.conn_rows.specs.Stored.{plain_frontend, stored_in};
 ghost use Rattle.conn_model.specs.Changes.{rest_at, row_fed, row_tracking, row_up, with_arrival, with_conn, with_item, with_refusal, without_conn};
 ghost use Rattle.conn_rows.specs.Changes.{row_offered, status_of, used_by};
-ghost use Rattle.conn_model.specs.Gauges.{gauges_in};
 ghost use Rattle.conn_model.specs.Settings.{settings_in};
 ghost use Rattle.conn_model.specs.Counts.{offered_to, open_named, served_by, server_of};
 ghost use Rattle.conn_model.specs.Tables.{entry_counts, is_listed_by, open_tracks, table_at, trackers, with_track, without_tracks};
@@ -35,7 +34,6 @@ ghost use Rattle.conn_rows.specs.Value.{rows_of, rows_total, state_of, AllRows, 
 
 use crate::counts;
 use crate::frontend::{FrontendState, HeaderStatus, end_all, end_all_empty};
-use crate::gauges::{frontend_gauges, table_gauges};
 use crate::opening::frontends;
 use crate::reload::install_version;
 use crate::row::{Holdings, RowSummary, ServerChoice, ServerNames, StoredRow, version_at};
@@ -43,7 +41,6 @@ use crate::slots::give_back;
 use addr_core::{Addr, Pair};
 use conn_model::ask::Counts;
 use conn_model::event::ConnId;
-use conn_model::gauges::Gauges;
 use conn_model::plain::{FrontendRows, TableState, Version};
 use conn_model::settings::Settings;
 use conn_tables::Tables;
@@ -183,22 +180,6 @@ impl Rows {
         let own = item(self.frontends.as_slice(), id.frontend)?;
         let row = own.row(id.serial)?;
         row.settings(own.name(), self.kept.as_slice())
-    }
-
-    /// What an operator sees of what is open and kept.
-    pub fn gauges(&self, alloc: Global) -> Result<Gauges, AllocError>
-        ensures { IfOk result (λ gauges. Some gauges ≡ gauges_in self.now.frontends self.now.versions self.now.tables) }
-    {
-        let Some(version) = self.newest() else {
-            return Err(AllocError);
-        };
-        Ok(Gauges {
-            version: version.number,
-            versions: self.kept.as_slice().len() as u64,
-            frontends: frontend_gauges(alloc, &version.plan, self.frontends.as_slice())?,
-            backends: self.kept.gauges(alloc, version.number)?,
-            tables: table_gauges(alloc, version, &self.tables)?,
-        })
     }
 
     /// How many connections of the frontend of that number are open.

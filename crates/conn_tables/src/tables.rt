@@ -9,7 +9,6 @@ ghost use Rattle.stick_core.specs.PlainEntries.{AreTrackers, plain, trackings_of
 ghost use Rattle.plan_types.specs.declared.track.TableId.{TableId};
 ghost use Rattle.plan_types.specs.declared.track.Track.{Track};
 ghost use Rattle.plan_types.specs.declared.plan.Table as plans;
-ghost use Rattle.conn_model.specs.Gauges.{entries_in};
 ghost use Rattle.conn_model.specs.Tables.{entry_counts, is_listed_by, new_table, new_tables, table_at, trackers, with_track, without_tracks};
 ghost use Rattle.conn_tables.specs.Tables.{AreCounted, AreGrown, AreNextIds, IsGrown, IsStored, begun_table, cur_in, is_begun, is_id_listed, is_listed_in, is_table, key_at, plain_table, table_key};
 ghost use Rattle.conn_tables.specs.Tracks.{counter_on, plain_tracks, track_on, tracks_on};
@@ -212,16 +211,6 @@ impl Tables {
     {
         let stored = find_table(self.tables.as_slice(), id)?;
         Some(stored.counts(addr))
-    }
-
-    /// How many entries the table of that incarnation has, 0 where there is none.
-    pub fn entries(&self, id: TableId) -> u64
-        ensures { result ≡ entries_in (map plain_table self.now.tables) id }
-    {
-        match find_table(self.tables.as_slice(), id) {
-            Some(stored) => stored.entries.count(),
-            None => 0,
-        }
     }
 
     /// The table of that incarnation, as its line has it.

@@ -5,4 +5,3 @@ pub mod Founds
 pub mod Written
 pub mod Changes
 pub mod Judged
-pub mod GaugeLemmas

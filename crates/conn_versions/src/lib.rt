@@ -6,7 +6,6 @@ pub use loads::item;
 pub use slot_core::Slot;
 pub use versions::{Versions, has_line};
 
-mod gauges;
 mod loads;
 mod opening;
 mod picks;

@@ -9,8 +9,7 @@ ghost use Rattle.plan_types.specs.Sound.{IsSoundBackend, IsSoundPlan};
 ghost use Rattle.plan_types.specs.declared.plan.Backend as backends;
 ghost use Rattle.conn_model.specs.declared.plain.Version as versions;
 ghost use Rattle.conn_model.specs.Answer.{version_at};
-ghost use Rattle.conn_model.specs.Gauges.{backend_gauge};
-ghost use Rattle.conn_model.specs.Words.{newest, Rise};
+ghost use Rattle.conn_model.specs.Words.{newest};
 ghost use Rattle.conn_model.specs.History.{new_version, next_version, with_offer, with_version};
 ghost use Rattle.conn_model.specs.Tables.{written_tables};
 ghost use Rattle.conn_model.specs.Servers.{cursor_at, identity_in, pick_in, with_cursor};
@@ -20,11 +19,9 @@ ghost use Rattle.conn_versions.specs.Slots.{KeepsPlaces};
 ghost use Rattle.conn_versions.specs.declared.versions.VersionPicks.{VersionPicks};
 ghost use Rattle.conn_versions.specs.Versions.{has_number, open_to, AreSound, HasServer};
 
-use crate::gauges::backend_gauges;
 use crate::opening::{cursors, table_ids};
 use crate::picks::{BackendPicks, note_places, pick, picks_of, slot_of, use_server};
 use addr_core::Addr;
-use conn_model::gauges::BackendGauge;
 use conn_model::plain::Version;
 use list_core::{Seq, newest};
 use plan_types::{Backend, Plan, Server};
@@ -172,7 +169,6 @@ impl Versions {
     /// By number, the newest last.
     pub fn as_slice(&self) -> &[Version]
         ensures versions { result.now ≡ self.now.versions }
-        ensures rise { Rise (λ version. version.number) self.now.versions }
         ensures sound { AreSound self.now.versions }
         ensures apart { IdentitiesDiffer self.now.counts }
     {
@@ -216,22 +212,6 @@ impl Versions {
         ensures { result ≡ open_in name.now self.now.counts }
     {
         self.slots.offered(name)
-    }
-
-    /// What an operator sees of the backends of the version of that number.
-    pub fn gauges(&self, alloc: Global, version: u64) -> Result<Seq<BackendGauge>, AllocError>
-        ensures { (kept : versions.Version) → version_at self.now.versions version ≡ Some kept → IfOk result (λ gauges. gauges ≡
-            map (backend_gauge (open_to self.now.counts) (λ name. open_in name self.now.counts)) kept.plan.backends) }
-    {
-        let Some(place) = place_of(self.versions.as_slice(), version) else {
-            return Err(AllocError);
-        };
-        backend_gauges(
-            alloc,
-            self.versions[place].plan.backends.as_slice(),
-            self.picks[place].backends.as_slice(),
-            &self.slots,
-        )
     }
 
     /// Counts one more open connection of the server of a line, which has that number in its backend, and moves what was

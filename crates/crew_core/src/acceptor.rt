@@ -8,7 +8,6 @@ use conn_model::reply::{Reply, StepFault};
 use desk_core::{Opening, Pass};
 use link_core::{Clock, Door, DoorEvent, Gate, Link};
 use rtrb::{Producer, PushError};
-use status_core::Reloads;
 use std::sync::Wait;
 use std::sync::ledger::Ledger;
 
@@ -62,7 +61,6 @@ impl<'a, M: Ledger, K: Link, D: Door<Link = K>> Acceptor<'a, M, K, D> {
         let mut lanes = lanes;
         let mut accepted = 0u64;
         let mut held = None;
-        let mut reloads = Reloads::NONE;
         if !have_begun(context, lanes.len() as u64) {
             return Came {
                 began: false,
@@ -97,10 +95,8 @@ impl<'a, M: Ledger, K: Link, D: Door<Link = K>> Acceptor<'a, M, K, D> {
                     if let Ok(receipt) = &answer {
                         context.note(rt, receipt.number);
                     }
-                    reloads.note(answer.is_ok());
                     door.report(&reply_to(answer));
                 }
-                DoorEvent::Status => door.report_status(context.status(rt, reloads)),
                 DoorEvent::Idle => context.clock.rest(),
                 DoorEvent::Closed => break,
             }

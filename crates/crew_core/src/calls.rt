@@ -3,7 +3,6 @@ ghost use Rattle.std.specs.Prelude.{◌≡◌, ◌≤◌};
 
 use crate::leases::Leases;
 use crate::recorder::Alert;
-use crate::status::Tallies;
 use addr_core::Pair;
 use book_core::Receipt;
 use conn_model::event::Why;
@@ -22,7 +21,6 @@ pub(crate) struct WorkerContext<'a, M: Ledger, O: Ledger, B: Opening, G, C> {
     pub(crate) gate: &'a G,
     pub(crate) clock: &'a C,
     pub(crate) alert: &'a Alert,
-    pub(crate) tallies: &'a Tallies,
     /// How many turns a worker and the acceptor make at the most.
     pub(crate) turns: u64,
 }
@@ -137,7 +135,6 @@ impl<M: Ledger, O: Ledger> Calls<M, O> {
         {
             Ok((receipt, lease)) => {
                 context.note(rt, receipt.number);
-                context.count_accept(rt, self.worker, &receipt.reply.said);
                 match lease {
                     Some(lease) => {
                         self.leases.put(key, lease);
@@ -180,13 +177,11 @@ impl<M: Ledger, O: Ledger> Calls<M, O> {
         match context.desk.drive(rt, &mut self.pass, moment, lease, drive) {
             DriveResult::Goes(receipt, lease) => {
                 context.note(rt, receipt.number);
-                context.count_reply(rt, self.worker, &receipt.reply.said);
                 self.leases.put(key, lease);
                 CallOutcome::Open(said(receipt))
             }
             DriveResult::Over(receipt) => {
                 context.note(rt, receipt.number);
-                context.count_reply(rt, self.worker, &receipt.reply.said);
                 if matches!(said(receipt), Said::Closed { .. }) {
                     self.closed += 1;
                 }
@@ -230,7 +225,6 @@ impl<M: Ledger, O: Ledger> Calls<M, O> {
         match context.desk.close(rt, &mut self.pass, moment, lease, why) {
             Ok(receipt) => {
                 context.note(rt, receipt.number);
-                context.count_reply(rt, self.worker, &receipt.reply.said);
                 self.closed += 1;
                 CallOutcome::Ended
             }

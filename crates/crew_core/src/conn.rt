@@ -9,7 +9,6 @@ use conn_model::event::Why;
 use conn_model::settings::Settings;
 use link_core::{Flags, Link, Progress, Ready, Spares, pump};
 use relay_core::{Relay, Way};
-use status_core::Sent;
 use std::alloc::AllocError;
 
 /// What a connection waits for.
@@ -127,14 +126,6 @@ impl<K: Link> Conn<K> {
         }
         if self.server_flags.take_activity() {
             self.server_seen = now;
-        }
-    }
-
-    /// How many bytes were written to its links since it was asked last.
-    pub(crate) fn take_sent(&mut self) -> Sent {
-        Sent {
-            to_servers: self.server_flags.take_sent(),
-            to_clients: self.client_flags.take_sent(),
         }
     }
 

@@ -16,14 +16,12 @@ use crate::acceptor::{Acceptor, Came, LANE};
 use crate::calls::WorkerContext;
 use crate::outlet::{Outlet, Sink, empty};
 use crate::recorder::Alert;
-use crate::status::Tallies;
 use crate::table::Table;
 use crate::worker::{NewConn, REPORTS, Worker, WorkerState};
 use book_core::Book;
 use desk_core::{ClosedDesk, Desk, Lease, LeaseList, Opening, Pass};
 use link_core::{Clock, Dial, Door, FLOW, Gate, Link, Spares};
 use rtrb::{Producer, RingBuffer};
-use status_core::Sent;
 use std::alloc::{AllocError, Global};
 use std::sync::Wait;
 use std::sync::ledger::{Blank, Ledger};
@@ -84,7 +82,6 @@ pub struct Crew<M: Ledger, O: Ledger, B: Opening, L, S: Sink> {
 struct Rooms<M: Ledger, O: Ledger, K: Link, L: Dial<Link = K>> {
     states: Vec<WorkerState<K>>,
     lanes: Vec<Producer<NewConn<K>>>,
-    tallies: Tallies,
     passes: Vec<Pass<M>>,
     dials: Vec<L>,
     lists: Vec<LeaseList<O>>,
@@ -103,7 +100,6 @@ fn make_state<K: Link>(
         buffer: Vec::from_elem(alloc, 0u8, FLOW)?,
         spares: Spares::new(alloc)?,
         ready: Vec::with_capacity(alloc, REPORTS)?,
-        sent: Sent::NONE,
     };
     Ok((state, lane))
 }
@@ -126,11 +122,10 @@ fn make_lists<O: Ledger>(
     }
 }
 
-/// Makes all rooms for so many workers, which count by so many frontends.
+/// Makes all rooms for so many workers.
 fn make_rooms<M: Ledger, O: Ledger, K: Link, L: Dial<Link = K> + Drop>(
     alloc: Global,
     workers: usize,
-    frontends: usize,
 ) -> Result<Rooms<M, O, K, L>, AllocError>
     requires { workers ≤ MOST_WORKERS }
     ensures states { IfOk result (λ r. vec_len r.states ≡ workers) }
@@ -147,7 +142,6 @@ fn make_rooms<M: Ledger, O: Ledger, K: Link, L: Dial<Link = K> + Drop>(
         states.push(state)?;
         lanes.push(lane)?;
     }
-    let tallies = Tallies::new(alloc, workers, frontends)?;
     let passes = Vec::with_capacity(alloc, workers + 1)?;
     let dials = Vec::with_capacity(alloc, workers)?;
     let (lists, left) = make_lists(alloc, workers)?;
@@ -155,7 +149,6 @@ fn make_rooms<M: Ledger, O: Ledger, K: Link, L: Dial<Link = K> + Drop>(
         Ok(workers) => Ok(Rooms {
             states,
             lanes,
-            tallies,
             passes,
             dials,
             lists,
@@ -234,9 +227,7 @@ fn work_beside<
     let Team { workers, acceptor } = team;
     let (_all, came) = thread::join(
         rt,
-        ||
-            requires { IsSend M.row × IsSend O.row × IsSend B.row × IsSend K.row × IsSend L.row }
-        { attend_each(rt, context, workers) },
+        || attend_each(rt, context, workers),
         move || acceptor.accept_all(rt, context),
     );
     context.alert.end();
@@ -333,12 +324,6 @@ fn make_workers<M: Ledger, O: Ledger, B: Opening, K: Link, L: Dial<Link = K> + D
     }
 }
 
-/// How many connections came that a worker did not take. They end.
-fn left_waiting<K: Link>(state: WorkerState<K>) -> u64 {
-    let WorkerState { mut arrivals, .. } = state;
-    arrivals.slots() as u64
-}
-
 /// Takes the workers apart, and says how many replies were `Closed` and how many connections no worker took.
 fn take_apart<M: Ledger, O: Ledger, K: Link, L: Dial<Link = K>>(
     workers: Vec<Worker<M, O, K, L>>,
@@ -363,9 +348,10 @@ fn take_apart<M: Ledger, O: Ledger, K: Link, L: Dial<Link = K>>(
             dial,
             now: _,
         } = worker;
+        let WorkerState { mut arrivals, .. } = state;
         let (pass, leases, replies) = calls.into_parts();
         closed = closed.saturating_add(replies);
-        waiting = waiting.saturating_add(left_waiting(state));
+        waiting = waiting.saturating_add(arrivals.slots() as u64);
         passes.push_reserved(pass);
         lists.push_reserved(leases);
         dials.push_reserved(dial);
@@ -467,18 +453,16 @@ pub fn run_crew<
     ensures dials { IfErr result (λ fault. fault.1.dials ≡ dials) }
     ensures outlet { IfErr result (λ fault. fault.1.outlet ≡ outlet) }
 {
-    let frontends = book.base().frontends.len();
     let mut desk = Desk::<M, O, B>::new(alloc, book, made, leases);
     if let Err(fault) = can_spawn(rt, alloc, dials.len() + 1) {
         return Err((fault, idle(alloc, desk, dials, outlet)));
     }
-    let Ok(rooms) = make_rooms::<M, O, K, L>(alloc, dials.len(), frontends) else {
+    let Ok(rooms) = make_rooms::<M, O, K, L>(alloc, dials.len()) else {
         return Err((CrewFault::NoMemory, idle(alloc, desk, dials, outlet)));
     };
     let Rooms {
         states,
         lanes,
-        tallies,
         mut passes,
         dials: mut dials_back,
         mut lists,
@@ -494,7 +478,6 @@ pub fn run_crew<
         gate,
         clock,
         alert: &alert,
-        tallies: &tallies,
         turns: setup.turns,
     };
     let acceptor = Acceptor {

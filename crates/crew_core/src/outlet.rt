@@ -4,7 +4,6 @@ ghost use Rattle.rtrb.specs.Ring.{known_items, received, sent, IsPair};
 ghost use Rattle.book_core.specs.Book.{with_ring};
 ghost use Rattle.crew_core.specs.Outlets.{HasHandedOn};
 
-use crate::outflow::Outflow;
 use desk_core::{ClosedDesk, Opening};
 use record_core::Segment;
 use rtrb::Consumer;
@@ -39,29 +38,26 @@ pub struct Outlet<S: Sink> {
 }
 
 /// The next segment of the ring, if there is one, goes to the sink. How many the sink refused, with those before.
-fn hand_next<S: Sink>(outlet: &mut Outlet<S>, refused: u64, flow: &Outflow) -> Option<u64>
+fn hand_next<S: Sink>(outlet: &mut Outlet<S>, refused: u64) -> Option<u64>
     ensures some { IfSome result (λ total. HasHandedOn S.takes S.refuses refused outlet.old total outlet.new) }
     ensures none { IfNone result (HasHandedOn S.takes S.refuses refused outlet.old refused outlet.new) }
 {
     let Ok(segment) = outlet.segments.pop() else {
         return None;
     };
-    let records = segment.records.len() as u64;
-    let answer = outlet.sink.take(segment);
-    flow.note_handled(if answer.is_ok() { records } else { 0 });
-    match answer {
+    match outlet.sink.take(segment) {
         Ok(()) => Some(refused),
         Err(_) => Some(refused.saturating_add(1)),
     }
 }
 
 /// The segments of the ring go to the sink, `RING` at the most. How many of them it refused, with those before.
-pub(crate) fn drain<S: Sink>(outlet: &mut Outlet<S>, refused: u64, flow: &Outflow) -> u64
+pub(crate) fn drain<S: Sink>(outlet: &mut Outlet<S>, refused: u64) -> u64
     ensures { HasHandedOn S.takes S.refuses refused outlet.old result outlet.new }
 {
     let mut total = refused;
     for _segment in 0..RING {
-        match hand_next(outlet, total, flow) {
+        match hand_next(outlet, total) {
             Some(count) => total = count,
             None => break,
         }

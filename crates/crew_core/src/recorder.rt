@@ -3,7 +3,6 @@ ghost use Rattle.std.specs.Prelude.{◌≡◌};
 ghost use Rattle.crew_core.specs.Outlets.{HasHandedOn};
 
 use crate::calls::WorkerContext;
-use crate::outflow::Outflow;
 use crate::outlet::{Outlet, Sink, drain};
 use book_core::CutFault;
 use desk_core::Opening;
@@ -31,7 +30,6 @@ pub(crate) struct Alert {
     waiting: AtomicU64,
     /// How many workers began their work.
     began: AtomicU64,
-    pub(crate) outflow: Outflow,
 }
 
 impl Alert {
@@ -42,7 +40,6 @@ impl Alert {
             refused: AtomicU64::new(0),
             waiting: AtomicU64::new(0),
             began: AtomicU64::new(0),
-            outflow: Outflow::new(),
         }
     }
 
@@ -60,11 +57,6 @@ impl Alert {
     pub(crate) fn end(&self) {
         self.is_over.store(true, Ordering::SeqCst);
         self.parker.unpark();
-    }
-
-    /// How many segments the sink refused so far.
-    pub(crate) fn refused(&self) -> u64 {
-        self.refused.load(Ordering::SeqCst)
     }
 
     /// What keeps the record from going out, if anything does.
@@ -94,7 +86,6 @@ impl<'a, M: Ledger, O: Ledger, B: Opening, G: Gate, C: Clock> WorkerContext<'a, 
     fn cut<R: Wait>(&self, rt: &R, more: u64) {
         match self.desk.cut(rt) {
             Ok(()) => {
-                self.alert.outflow.note_cut();
                 self.alert.waiting.store(0, Ordering::SeqCst);
                 self.alert.parker.unpark();
             }
@@ -127,7 +118,7 @@ impl<'a, M: Ledger, O: Ledger, B: Opening, G: Gate, C: Clock> WorkerContext<'a, 
         let mut refused = 0u64;
         let mut latest = self.clock.now();
         for _round in rt.forever() {
-            refused = drain(&mut outlet, refused, &self.alert.outflow);
+            refused = drain(&mut outlet, refused);
             self.alert.refused.store(refused, Ordering::SeqCst);
             if self.alert.is_over.load(Ordering::SeqCst) {
                 return (outlet, refused);

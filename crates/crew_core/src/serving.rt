@@ -209,7 +209,6 @@ impl<M: Ledger, O: Ledger, K: Link, L: Dial<Link = K>> Worker<M, O, K, L> {
         context: &WorkerContext<'_, M, O, B, G, C>,
         key: usize,
     ) {
-        context.count_failed_dial(rt, self.calls.worker);
         let has_pause = match self.state.table.conn(key) {
             Some(conn) => conn.begin_pause(self.now),
             None => false,
@@ -233,7 +232,6 @@ impl<M: Ledger, O: Ledger, K: Link, L: Dial<Link = K>> Worker<M, O, K, L> {
         key: usize,
         to: &Endpoint,
     ) {
-        context.count_retry(rt, self.calls.worker);
         if let Some(conn) = self.state.table.conn(key) {
             conn.end_pause(*to, self.now);
         }
@@ -309,7 +307,6 @@ impl<M: Ledger, O: Ledger, K: Link, L: Dial<Link = K>> Worker<M, O, K, L> {
             table,
             buffer,
             spares,
-            sent,
             ..
         } = &mut self.state;
         let Some(conn) = table.conn(key) else {
@@ -317,7 +314,6 @@ impl<M: Ledger, O: Ledger, K: Link, L: Dial<Link = K>> Worker<M, O, K, L> {
         };
         let progress = conn.relay(spares, buffer.as_mut_slice());
         conn.note_activity(now);
-        sent.add(conn.take_sent());
         match progress {
             None => self.close(rt, context, key, Why::Done),
             Some(Progress::Fault) => self.close(rt, context, key, Why::Fault),

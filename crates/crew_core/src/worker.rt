@@ -11,7 +11,6 @@ use conn_model::reply::Said;
 use desk_core::{Opening, Pass};
 use link_core::{Clock, Dial, Gate, Link, Ready, Spares};
 use rtrb::Consumer;
-use status_core::Sent;
 use std::alloc::Global;
 use std::sync::Wait;
 use std::sync::ledger::Ledger;
@@ -45,8 +44,6 @@ pub(crate) struct WorkerState<K: Link> {
     pub(crate) buffer: Vec<u8>,
     pub(crate) spares: Spares,
     pub(crate) ready: Vec<Ready>,
-    /// How many bytes were written, as far as they are not counted yet.
-    pub(crate) sent: Sent,
 }
 
 /// A worker.
@@ -99,7 +96,6 @@ impl<M: Ledger, O: Ledger, K: Link, L: Dial<Link = K>> Worker<M, O, K, L> {
         rt: &R,
         context: &WorkerContext<'_, M, O, B, G, C>,
     ) {
-        self.count_sent(rt, context);
         let limit = self.state.table.limit(context.clock.now(), LONGEST_WAIT);
         self.gather(limit);
         self.now = context.clock.now();
@@ -113,19 +109,6 @@ impl<M: Ledger, O: Ledger, K: Link, L: Dial<Link = K>> Worker<M, O, K, L> {
             if let Some(key) = self.state.table.dequeue() {
                 self.serve(rt, context, key);
             }
-        }
-    }
-
-    /// Counts the bytes that were written in the last turn.
-    fn count_sent<B: Opening, G: Gate, C: Clock, R: Wait>(
-        &mut self,
-        rt: &R,
-        context: &WorkerContext<'_, M, O, B, G, C>,
-    ) {
-        let sent = self.state.sent;
-        if !sent.is_none() {
-            self.state.sent = Sent::NONE;
-            context.count_sent(rt, self.calls.worker, sent);
         }
     }
 

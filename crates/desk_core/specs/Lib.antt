@@ -1,7 +1,6 @@
 pub mod Books
 pub mod Calls
 pub mod Driving
-pub mod Gauged
 pub mod Leased
 pub mod Receipts
 pub mod Settling

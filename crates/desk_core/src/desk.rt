@@ -8,12 +8,10 @@ ghost use Rattle.conn_model.specs.Counts.{open_connections};
 ghost use Rattle.rtrb.specs.Ring.{known_free, known_items, received, sent, ConsumerLooked, IsPair, ProducerLooked, SameProducer};
 ghost use Rattle.desk_core.specs.declared.desk.TheConstants.{CALL_PARTS};
 ghost use Rattle.desk_core.specs.Books.{IsOf, MomentsRise};
-ghost use Rattle.desk_core.specs.Gauged.{IsGauged};
 ghost use Rattle.desk_core.specs.Calls.{open_id, IsAnswered, IsCounted, IsCut, IsNotCut, IsRefused, IsReloaded};
 
 use crate::counted::CountedBook;
 use crate::desk_state::DeskState;
-use crate::gauged::DeskGauges;
 use crate::lease::{Drive, DriveResult, Lease};
 use crate::naming::{AnyOpening, Opening};
 use crate::pass::Pass;
@@ -24,7 +22,7 @@ use conn_model::event::Why;
 use conn_model::reply::StepFault;
 use record_core::Segment;
 use rtrb::Consumer;
-use std::alloc::{AllocError, Global};
+use std::alloc::Global;
 use std::marker::PhantomData;
 use std::sync::ledger::{Blank, Ledger, Share};
 use std::sync::{Mutex, Wait, ledger};
@@ -123,13 +121,6 @@ impl<M: Ledger, O: Ledger, B: Opening> SharedDesk<M, O, B> {
         ensures { IsCounted B.opening ask.now result }
     {
         self.desk_state.lock(rt).counts(ask)
-    }
-
-    /// What an operator sees of the desk, all of one moment.
-    pub fn gauges<R: Wait>(&self, rt: &R, alloc: Global) -> Result<DeskGauges, AllocError>
-        ensures { IfOk result (IsGauged B.opening) }
-    {
-        self.desk_state.lock(rt).gauges(alloc)
     }
 }
 

@@ -5,11 +5,9 @@ ghost use Rattle.conn_model.specs.History.{owned_event};
 ghost use Rattle.conn_model.specs.declared.event.OwnedEvent.TheVariants as owned;
 ghost use Rattle.conn_model.specs.declared.reply.Said.TheVariants.{Closed};
 ghost use Rattle.conn_model.specs.Counts.{open_connections};
-ghost use Rattle.desk_core.specs.Gauged.{IsGauged};
 ghost use Rattle.desk_core.specs.Calls.{open_id, IsAnswered, IsCounted, IsCut, IsNotCut, IsRefused, IsReloaded};
 
 use crate::counted::CountedBook;
-use crate::gauged::DeskGauges;
 use crate::lease::{Drive, DriveResult, Lease};
 use crate::naming::Opening;
 use crate::pass::Pass;
@@ -18,7 +16,6 @@ use book_core::{CutFault, Receipt};
 use conn_model::ask::{Ask, Counts};
 use conn_model::event::{ConnId, Event, Why};
 use conn_model::reply::{Said, StepFault};
-use std::alloc::{AllocError, Global};
 use std::sync::ledger;
 use std::sync::ledger::{Ledger, Share};
 
@@ -189,18 +186,5 @@ impl<M: Ledger, O: Ledger, B: Opening> DeskState<M, O, B> {
     {
         self.counted.attest();
         self.counted.book.counts(ask)
-    }
-
-    pub(crate) fn gauges(&self, alloc: Global) -> Result<DeskGauges, AllocError>
-        ensures { IfOk result (IsGauged B.opening) }
-    {
-        self.counted.attest();
-        let book = &self.counted.book;
-        let gauges = book.gauges(alloc)?;
-        Ok(DeskGauges {
-            gauges,
-            made: book.made(),
-            in_memory: book.journal().len() as u64,
-        })
     }
 }

@@ -2,7 +2,6 @@
 #![tactic(auto)]
 
 pub use desk::{CALL_PARTS, ClosedDesk, Desk, SharedDesk};
-pub use gauged::DeskGauges;
 pub use lease::{Drive, DriveResult, Lease};
 pub use lease_list::LeaseList;
 pub use naming::{AnyOpening, Opening};
@@ -14,7 +13,6 @@ mod bounding;
 mod counted;
 mod desk;
 mod desk_state;
-mod gauged;
 pub mod laws;
 mod lease;
 mod lease_list;

@@ -1,10 +1,8 @@
 //! What standard input says while `l4proxy serve` runs.
-use crate::stats;
-use crate::stats::StatusFault;
 use arrayvec::ArrayVec;
 use crew_core::Clock;
 use log::{Log, warn};
-use socket_core::{Command, CommandSender, Pace, StatusAsker, SystemClock};
+use socket_core::{Command, CommandSender, Pace, SystemClock};
 use std::io::Read;
 use std::rt::Files;
 use std::time::Duration;
@@ -26,29 +24,13 @@ struct Ear<'a, R: rt::Clock> {
     rt: &'a R,
     file: &'a str,
     commands: CommandSender,
-    asker: StatusAsker,
-    /// When the program was started, in ms since 1970.
-    started: u64,
     clock: SystemClock<'a, R>,
     unknown: Pace,
     unreadable: Pace,
     full: Pace,
-    unasked: Pace,
 }
 
-impl<'a, R: Files + AllocGlobal + rt::Clock + Log + Eprint> Ear<'a, R> {
-    /// Writes the state on standard error.
-    fn say_status(&mut self) {
-        let why = match stats::say(self.rt, &mut self.asker, self.started) {
-            Ok(()) => return,
-            Err(StatusFault::Unknown) => "it did not come",
-            Err(StatusFault::NoMemory) => "no memory",
-        };
-        if self.unasked.allows(self.clock.now()) {
-            warn!(self.rt; "no status is written: {why}");
-        }
-    }
-
+impl<'a, R: Files + AllocGlobal + rt::Clock + Log> Ear<'a, R> {
     /// Hands the text of the file to the door. If the file cannot be read, nothing changes.
     fn reload(&mut self) {
         let Ok(text) = fs::read_to_string(self.rt, self.file) else {
@@ -79,11 +61,10 @@ impl<'a, R: Files + AllocGlobal + rt::Clock + Log + Eprint> Ear<'a, R> {
     fn hear(&mut self, line: &[u8]) -> bool {
         match line.strip_suffix(b"\r").unwrap_or(line) {
             b"reload" => self.reload(),
-            b"status" => self.say_status(),
             b"quit" => return false,
             _ => {
                 if self.unknown.allows(self.clock.now()) {
-                    warn!(self.rt; "a line of standard input is skipped: it is none of `reload`, `status` and `quit`");
+                    warn!(self.rt; "a line of standard input is skipped: it is neither `reload` nor `quit`");
                 }
             }
         }
@@ -120,13 +101,11 @@ impl<'a, R: Files + AllocGlobal + rt::Clock + Log + Eprint> Ear<'a, R> {
 }
 
 /// Hands the words of standard input to the door: `reload` reads the file again, `quit` and the end of the input close
-/// the door; `status` writes the state on standard error. Other lines are skipped, whatever their length.
-pub fn read_words<'a, R: Files + AllocGlobal + io::Input + rt::Clock + Log + Eprint>(
+/// the door. Other lines are skipped, whatever their length.
+pub fn read_words<'a, R: Files + AllocGlobal + io::Input + rt::Clock + Log>(
     rt: &'a R,
     file: &'a str,
     commands: CommandSender,
-    asker: StatusAsker,
-    started: u64,
 ) {
     // Without the time the sender is dropped here, which closes the door.
     let Ok(clock) = SystemClock::start(rt) else {
@@ -136,13 +115,10 @@ pub fn read_words<'a, R: Files + AllocGlobal + io::Input + rt::Clock + Log + Epr
         rt,
         file,
         commands,
-        asker,
-        started,
         clock,
         unknown: Pace::new(),
         unreadable: Pace::new(),
         full: Pace::new(),
-        unasked: Pace::new(),
     };
     ear.listen(&mut rt.reader());
     let _is_in = ear.commands.send(Command::Quit);

@@ -17,10 +17,9 @@ use log::Log;
 use record_core::Segment;
 use rtrb::Consumer;
 use socket_core::{
-    CommandSender, DialFault, Listeners, SocketDial, SocketDoor, SocketLink, StatusAsker,
-    SystemClock, listen, make_dials,
+    CommandSender, DialFault, Listeners, SocketDial, SocketDoor, SocketLink, SystemClock, listen,
+    make_dials,
 };
-use status_core::ProxyStatus;
 use std::alloc::{AllocError, Global};
 use std::net::Net;
 use std::rt::Files;
@@ -31,9 +30,6 @@ use std::{fmt, fs, io, rt};
 /// How many descriptors are left for all that is no connection, listener or poll.
 const OTHER_FILES: u64 = 12;
 
-/// How many `--stats` takes: its listener, and the one client that it answers at a time.
-const STATS_FILES: u64 = 2;
-
 /// What is ready before the first connection is taken.
 pub struct ServeSetup<'a, R: Net + Log + rt::Clock> {
     pub book: Book,
@@ -41,8 +37,6 @@ pub struct ServeSetup<'a, R: Net + Log + rt::Clock> {
     pub segments: Consumer<Segment>,
     pub door: SocketDoor<'a, R, SystemClock<'a, R>>,
     pub commands: CommandSender,
-    /// What asks for the state: the first for the reader of standard input, the second for the listener of `--stats`.
-    pub askers: (StatusAsker, StatusAsker),
     pub dials: Vec<SocketDial<'a, R>>,
 }
 
@@ -123,17 +117,10 @@ fn open_files<R: Files + AllocGlobal>(rt: &R) -> Option<u64> {
 
 /// How many connections may be open at one time: each takes two descriptors, beside those of the listeners, of the
 /// workers' and the door's polls with their wakers, and some for all else.
-fn most_connections<R: Files + AllocGlobal>(
-    rt: &R,
-    listeners: usize,
-    workers: u16,
-    has_stats: bool,
-) -> u64 {
+fn most_connections<R: Files + AllocGlobal>(rt: &R, listeners: usize, workers: u16) -> u64 {
     let polls = u64::from(workers).saturating_add(1).saturating_mul(2);
-    let stats = if has_stats { STATS_FILES } else { 0 };
     let others = polls
         .saturating_add(listeners as u64)
-        .saturating_add(stats)
         .saturating_add(OTHER_FILES);
     match open_files(rt) {
         Some(limit) => (limit.saturating_sub(others) / 2).max(1),
@@ -146,7 +133,7 @@ fn open_sockets<'a, R: Files + Net + Log + rt::Clock + AllocGlobal + Eprint>(
     rt: &'a R,
     clock: &'a SystemClock<'a, R>,
     book: &Book,
-    words: &ServeWords,
+    workers: u16,
 ) -> Result<
     (
         SocketDoor<'a, R, SystemClock<'a, R>>,
@@ -155,7 +142,7 @@ fn open_sockets<'a, R: Files + Net + Log + rt::Clock + AllocGlobal + Eprint>(
     ),
     u8,
 >
-    ensures { IfOk result (λ all. vec_len all.2 ≡ words.now.workers) }
+    ensures { IfOk result (λ all. vec_len all.2 ≡ workers) }
 {
     let alloc = rt.alloc();
     let addresses = match addresses(alloc, book) {
@@ -167,25 +154,15 @@ fn open_sockets<'a, R: Files + Net + Log + rt::Clock + AllocGlobal + Eprint>(
         Err(fault) => return Err(fail(rt, &fault)),
     };
     say_listeners(rt, book, &listeners);
-    let most = most_connections(rt, listeners.len(), words.workers, words.stats.is_some());
+    let most = most_connections(rt, listeners.len(), workers);
     let (mut door, commands) = match SocketDoor::new(rt, alloc, clock, listeners, most) {
         Ok(opened) => opened,
         Err(fault) => return Err(fail(rt, &fault)),
     };
-    match make_dials(rt, alloc, &mut door, words.workers) {
+    match make_dials(rt, alloc, &mut door, workers) {
         Ok(dials) => Ok((door, commands, dials)),
         Err(fault) => Err(fail(rt, &fault)),
     }
-}
-
-/// What asks for the state, twice.
-fn make_askers<'a, R: Net + Log + rt::Clock>(
-    alloc: Global,
-    door: &mut SocketDoor<'a, R, SystemClock<'a, R>>,
-) -> Result<(StatusAsker, StatusAsker), AllocError> {
-    let first = door.add_asker(alloc)?;
-    let second = door.add_asker(alloc)?;
-    Ok((first, second))
 }
 
 /// Opens the configuration and its listeners, or else says what is wrong and gives the status.
@@ -201,21 +178,14 @@ pub fn open<'a, R: Files + Net + Log + rt::Clock + AllocGlobal + Eprint>(
     ensures dials { IfOk result (λ setup. vec_len setup.dials ≡ words.now.workers) }
 {
     let (book, segments) = read_book(rt, words.file.as_str())?;
-    match open_sockets(rt, clock, &book, words) {
-        Ok((mut door, commands, dials)) => match make_askers(rt.alloc(), &mut door) {
-            Ok(askers) => Ok(ServeSetup {
-                book,
-                segments,
-                door,
-                commands,
-                askers,
-                dials,
-            }),
-            Err(_) => {
-                book.end();
-                Err(fail(rt, &DialFault::NoMemory))
-            }
-        },
+    match open_sockets(rt, clock, &book, words.workers) {
+        Ok((door, commands, dials)) => Ok(ServeSetup {
+            book,
+            segments,
+            door,
+            commands,
+            dials,
+        }),
         Err(status) => {
             book.end();
             Err(status)
@@ -280,10 +250,6 @@ impl<'a, R: Eprint, D: Door<Link = SocketLink>> Door for ReadyDoor<'a, R, D> {
 
     fn report(&mut self, answer: &Result<Reply, StepFault>) {
         self.door.report(answer);
-    }
-
-    fn report_status(&mut self, status: Result<ProxyStatus, AllocError>) {
-        self.door.report_status(status);
     }
 
     fn warn(&mut self, backlog: &Backlog) {

@@ -13,8 +13,6 @@ pub struct Flags {
     pub is_reset: bool,
     /// Bytes came from the link or went to it since `take_activity`.
     pub is_active: bool,
-    /// How many bytes were written to the link since `take_sent`.
-    pub sent: u64,
 }
 
 impl Flags {
@@ -26,7 +24,6 @@ impl Flags {
             is_closed: false,
             is_reset: false,
             is_active: false,
-            sent: 0,
         }
     }
 
@@ -38,7 +35,6 @@ impl Flags {
             is_closed: false,
             is_reset: false,
             is_active: false,
-            sent: 0,
         }
     }
 
@@ -47,13 +43,6 @@ impl Flags {
         let was_active = self.is_active;
         self.is_active = false;
         was_active
-    }
-
-    /// How many bytes were written to the link since it was asked last.
-    pub fn take_sent(&mut self) -> u64 {
-        let sent = self.sent;
-        self.sent = 0;
-        sent
     }
 
     pub fn raise(&mut self, ready: &Ready) {

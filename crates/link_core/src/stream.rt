@@ -43,7 +43,7 @@ fn can_move(relay: &Relay, way: Way, input: &Flags, output: &Flags) -> bool {
     reads || output.writes && relay.holds(way)
 }
 
-/// Lowers what a burst found not to be ready, and notes which of the links moved bytes, and how many were written.
+/// Lowers what a burst found not to be ready, and notes which of the links moved bytes.
 fn note(burst: &Burst, input: &mut Flags, output: &mut Flags) {
     match burst.stop {
         BurstStop::Full | BurstStop::NoRoom => {}
@@ -52,10 +52,7 @@ fn note(burst: &Burst, input: &mut Flags, output: &mut Flags) {
     }
     input.is_active |= burst.read > 0;
     match burst.drained {
-        Drained::Bytes(count) => {
-            output.is_active = true;
-            output.sent = output.sent.saturating_add(count as u64);
-        }
+        Drained::Bytes(_) => output.is_active = true,
         Drained::Blocked => output.writes = false,
         Drained::Empty => {}
     }

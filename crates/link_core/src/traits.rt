@@ -5,8 +5,6 @@ ghost use Rattle.std.specs.Prelude.{◌≡◌};
 use addr_core::{Endpoint, Pair};
 use conn_model::reply::{Reply, StepFault};
 use device_core::{Input, Output};
-use status_core::ProxyStatus;
-use std::alloc::AllocError;
 
 /// A connection of bytes that does not wait: where nothing can be read or written at this moment, a call is blocked.
 /// Dropping it ends it.
@@ -28,8 +26,6 @@ pub enum DoorEvent<K> {
     Conn(u16, Pair, K),
     /// A new configuration is to come into force: its text.
     Reload(String),
-    /// Somebody asks for the state of the crew, which `report_status` is given.
-    Status,
     /// Nothing came. The door may have waited before it said so.
     Idle,
     /// Nothing will come any more.
@@ -54,11 +50,6 @@ pub trait Door {
 
     /// What became of the reload that was last handed out.
     fn report(&mut self, answer: &Result<Reply, StepFault>);
-
-    /// The state that was last asked for, unless there was no memory for it.
-    fn report_status(&mut self, status: Result<ProxyStatus, AllocError>) {
-        let _status = status;
-    }
 
     /// The record does not go out as it should. This is called again and again while it is so.
     fn warn(&mut self, backlog: &Backlog);

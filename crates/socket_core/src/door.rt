@@ -6,13 +6,11 @@ use crate::link::SocketLink;
 use crate::listeners::{ListenFault, Listeners};
 use crate::pace::Pace;
 use crate::ports::{AcceptResult, Ports};
-use crate::status_line::{StatusAnswer, StatusAsker, StatusEnd, status_line};
 use conn_model::reply::{Reply, Said, StepFault};
 use link_core::{Backlog, Clock, Door, DoorEvent};
 use log::{Log, info, warn};
 use mio::Waker;
 use rtrb::{Consumer, RingBuffer};
-use status_core::ProxyStatus;
 use std::alloc::{AllocError, Global};
 use std::io;
 use std::net::Net;
@@ -32,10 +30,6 @@ pub struct SocketDoor<'a, R: Log, C: Clock> {
     clock: &'a C,
     ports: Ports,
     commands: Consumer<Command>,
-    /// Where the state is asked for.
-    askers: Vec<StatusEnd>,
-    /// The place of the asker whose question was handed out last, and the number of that question.
-    asked: Option<(usize, u64)>,
     // Kept for as long as the ports: a wake is lost if its waker is dropped first.
     waker: Arc<Waker, Global>,
     /// What wakes the workers.
@@ -79,8 +73,6 @@ impl<'a, R: Log + Net, C: Clock> SocketDoor<'a, R, C> {
             clock,
             ports,
             commands,
-            askers: Vec::new(alloc),
-            asked: None,
             waker,
             workers: Vec::new(alloc),
             given: 0,
@@ -104,13 +96,6 @@ impl<'a, R: Log, C: Clock> SocketDoor<'a, R, C> {
     /// Has the door wake the next worker where a connection is for it. The workers are added in their order.
     pub fn add_worker(&mut self, alarm: Arc<Alarm, Global>) -> Result<(), AllocError> {
         Ok(self.workers.push(alarm)?)
-    }
-
-    /// What asks for the state of the crew from another thread.
-    pub fn add_asker(&mut self, alloc: Global) -> Result<StatusAsker, AllocError> {
-        let (asker, end) = status_line(alloc, Arc::try_clone(&self.waker)?)?;
-        self.askers.push(end)?;
-        Ok(asker)
     }
 
     /// Wakes the worker of the connection that was handed out last. Connection n goes to worker n modulo workers, and
@@ -140,17 +125,6 @@ impl<'a, R: Log, C: Clock> SocketDoor<'a, R, C> {
             Err(_) if is_last => Some(Command::Quit),
             Err(_) => None,
         }
-    }
-
-    /// Takes the next question for the state, if there is one; whether there was.
-    fn next_question(&mut self) -> bool {
-        for place in 0..self.askers.len() {
-            if let Ok(number) = self.askers[place].questions.pop() {
-                self.asked = Some((place, number));
-                return true;
-            }
-        }
-        false
     }
 
     fn is_paused(&mut self) -> bool {
@@ -209,7 +183,7 @@ impl<'a, R: Log, C: Clock> SocketDoor<'a, R, C> {
         }
     }
 
-    /// What came, if anything did. Words come first, and then questions, so that connections cannot keep them waiting.
+    /// What came, if anything did. Words come first, so that connections cannot keep them waiting.
     fn next_event(&mut self) -> Option<DoorEvent<SocketLink>> {
         match self.next_command() {
             Some(Command::Reload(text)) => Some(DoorEvent::Reload(text)),
@@ -218,7 +192,6 @@ impl<'a, R: Log, C: Clock> SocketDoor<'a, R, C> {
                 self.wake_all();
                 Some(DoorEvent::Closed)
             }
-            None if self.next_question() => Some(DoorEvent::Status),
             None => self.accept(),
         }
     }
@@ -260,17 +233,6 @@ impl<'a, R: Log, C: Clock> Door for SocketDoor<'a, R, C> {
                 warn!(self.rt; "the reload is refused: it binds other addresses than are in force")
             }
             Err(fault) => warn!(self.rt; "the reload is refused: {fault:?}"),
-        }
-    }
-
-    /// Hands the state to who asked for it last.
-    fn report_status(&mut self, status: Result<ProxyStatus, AllocError>) {
-        let Some((place, number)) = self.asked else {
-            return;
-        };
-        self.asked = None;
-        if let Some(end) = self.askers.get_mut(place) {
-            let _full = end.answers.push(StatusAnswer { number, status });
         }
     }
 

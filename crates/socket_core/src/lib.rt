@@ -1,5 +1,4 @@
-//! The sockets of a crew: listeners, connections to servers, the commands of an operator, and the listener that is asked for
-//! its state.
+//! The sockets of a crew: listeners, connections to servers, and the commands of an operator.
 //!
 //! No other crate opens a socket. What is decided about a connection is not decided here.
 #![tactic(auto)]
@@ -13,8 +12,6 @@ pub use door::SocketDoor;
 pub use link::{Socket, SocketLink};
 pub use listeners::{ListenFault, Listeners, listen};
 pub use pace::Pace;
-pub use stats::StatsListener;
-pub use status_line::StatusAsker;
 
 mod addresses;
 mod alarm;
@@ -28,8 +25,6 @@ mod link;
 mod listeners;
 mod pace;
 mod ports;
-mod stats;
-mod status_line;
 
 use mio::Token;
 

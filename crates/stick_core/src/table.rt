@@ -97,13 +97,6 @@ impl StickTable {
         self.stores
     }
 
-    /// How many entries there are.
-    pub fn count(&self) -> u64
-        ensures { result ≡ length self.now.entries }
-    {
-        self.touched.len() as u64
-    }
-
     /// How many counters of open connections track the address. What is no key is tracked by none.
     pub fn cur(&self, addr: &Addr) -> u64
         ensures value { result ≡ cur_at self.now addr.now }
