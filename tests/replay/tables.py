@@ -55,38 +55,32 @@ def endpoint(source, port):
 
 
 class Table:
-    def __init__(self, kind, size, stores, expire=0):
-        self.kind, self.size, self.stores, self.expire = kind, size, stores, expire
+    def __init__(self, kind, size, stores):
+        self.kind, self.size, self.stores = kind, size, stores
         self.counts = {}  # of each key, the one that was touched longest ago first
-
-    def alive(self, moment):
-        """The entries that are not gone by then."""
-        return {key: counts for key, counts in self.counts.items()
-                if counts['cur'] or not self.expire or counts['touch'] + self.expire > moment}
 
     def key(self, source):
         if self.kind == 'ip':
             return None if ':' in source else source
         return source if ':' in source else mapped(source)
 
-    def count(self, source, kind, moment=0):
-        return self.alive(moment).get(self.key(source), {'cur': 0, 'cnt': 0})[kind]
+    def count(self, source, kind):
+        return self.counts.get(self.key(source), {'cur': 0, 'cnt': 0})[kind]
 
-    def track(self, key, moment=0):
+    def track(self, key):
         """Whether the key is tracked once more."""
-        self.counts = self.alive(moment)
         if key not in self.counts and len(self.counts) == self.size:
             free = [other for other, counts in self.counts.items() if counts['cur'] == 0]
             if not free:
                 return False
             del self.counts[free[0]]
         counts = self.counts.pop(key, {'cur': 0, 'cnt': 0})
-        self.counts[key] = {'cur': counts['cur'] + 1, 'cnt': counts['cnt'] + 1, 'touch': moment}
+        self.counts[key] = {'cur': counts['cur'] + 1, 'cnt': counts['cnt'] + 1}
         return True
 
-    def end(self, key, moment=0):
+    def end(self, key):
         counts = self.counts.pop(key)
-        self.counts[key] = {**counts, 'cur': counts['cur'] - 1, 'touch': moment}
+        self.counts[key] = {**counts, 'cur': counts['cur'] - 1}
 
 
 class Connection:

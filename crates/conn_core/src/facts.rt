@@ -15,8 +15,6 @@ use rule_engine::{Scene, Tracks};
 #[derive(Drop)]
 pub struct RuleFacts<'a> {
     pub rows: &'a Rows,
-    /// The moment of the step, in ms.
-    pub moment: u64,
     /// The version that judges it.
     pub version: &'a Version,
     /// Its frontend, as it is judged.

@@ -49,15 +49,9 @@ pub fn can_judge(rows: &Rows, id: ConnId, version: u64) -> bool
     }
 }
 
-/// What rules see at a moment of an open connection of that version, which is judged by that pair.
-pub fn facts_of(
-    rows: &Rows,
-    id: ConnId,
-    version: u64,
-    judged: Pair,
-    moment: u64,
-) -> Option<RuleFacts<'_>>
-    ensures some { IfSome result (λ facts. SeesOpen rows.now id version judged moment facts) }
+/// What rules see of an open connection of that version, which is judged by that pair.
+pub fn facts_of(rows: &Rows, id: ConnId, version: u64, judged: Pair) -> Option<RuleFacts<'_>>
+    ensures some { IfSome result (λ facts. SeesOpen rows.now id version judged facts) }
     ensures none { IfNone result (Judge rows.now.frontends rows.now.versions id version → ⊥) }
 {
     let Some(own) = rows.frontend(id.frontend) else {
@@ -71,7 +65,6 @@ pub fn facts_of(
     };
     Some(RuleFacts {
         rows,
-        moment,
         version,
         frontend,
         name: own.name,
@@ -90,7 +83,7 @@ fn decision(rows: &Rows, id: ConnId, version: u64, judged: Pair) -> Option<Track
     ensures offers { IfSome result (λ d. AreSound rows.now.versions → CanOffer rows.now.versions version d.outcome) }
     ensures none { IfNone result (Judge rows.now.frontends rows.now.versions id version → ⊥) }
 {
-    let Some(facts) = facts_of(rows, id, version, judged, rows.clock()) else {
+    let Some(facts) = facts_of(rows, id, version, judged) else {
         return None;
     };
     Some(judging::decide(judged, &facts, NO_TRACKS))
@@ -125,11 +118,10 @@ fn decide(rows: &mut Rows, id: ConnId, version: u64, judged: Pair, used: u64) ->
     requires room { STEP_TRACKS ≤ rows.old.spare }
     ensures reply { (judge : Judge rows.old.frontends rows.old.versions id version) (state : Plain) → IsSeen id state rows.old →
         result ≡ decision (candidate_of state id judge.version judge.frontend) used judged no_tracks }
-    ensures clock { rows.new.clock ≡ rows.old.clock }
     ensures new { (event : OwnedEvent) → state_of rows.new ≡ record (state_of rows.old) {
       frontends = spoken rows.old.versions event id result rows.old.frontends;
       versions = with_said version result.said rows.old.versions;
-      tables = tables_by rows.old.clock rows.old.frontends rows.old.tables result;
+      tables = tables_by rows.old.frontends rows.old.tables result;
     } }
 {
     let Some(decision) = decision(rows, id, version, judged) else {
@@ -147,7 +139,7 @@ fn settle(rows: &mut Rows, id: ConnId, version: u64, outcome: &Outcome)
     ensures { rows.new ≡ record rows.old {
       frontends = settled rows.old.versions id outcome.now rows.old.frontends;
       versions = settled_versions version outcome.now rows.old.versions;
-      tables = settled_tables rows.old.clock id outcome.now rows.old.frontends rows.old.tables;
+      tables = settled_tables id outcome.now rows.old.frontends rows.old.tables;
     } }
 {
     match outcome {
@@ -165,11 +157,10 @@ pub fn receive(rows: &mut Rows, id: ConnId, row: &RowSummary, piece: &[u8]) -> R
     requires sound { AreSound rows.old.versions }
     requires room { STEP_TRACKS ≤ rows.old.spare }
     ensures reply { (p : Plain) → IsStateOf p rows.old → piece_answer p id piece.now ≡ Ok result }
-    ensures clock { rows.new.clock ≡ rows.old.clock }
     ensures new { state_of rows.new ≡ record (state_of rows.old) {
       frontends = spoken rows.old.versions (Piece id piece.now) id result rows.old.frontends;
       versions = with_said row.now.version result.said rows.old.versions;
-      tables = tables_by rows.old.clock rows.old.frontends rows.old.tables result;
+      tables = tables_by rows.old.frontends rows.old.tables result;
     } }
 {
     match rows.feed(id, piece) {

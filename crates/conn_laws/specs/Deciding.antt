@@ -39,7 +39,7 @@ use Rattle.conn_model.specs.declared.plain.Version.{Version}
 use Rattle.conn_model.specs.Words.{newest, row_at}
 use Rattle.conn_model.specs.Servers.{cursor_at, identity_in, loads_of, pick_in}
 use Rattle.conn_model.specs.Rules.{backend_for, scene_of, view_of, worth, Candidate, RuleView}
-use Rattle.conn_model.specs.Answer.{at_moment, candidate_at, candidate_of, demands_header, entry_rules, frontend_in, judged_pair, numbered_server, reply_with, rest_in, said_of, version_at, NumberedServer}
+use Rattle.conn_model.specs.Answer.{candidate_at, candidate_of, demands_header, entry_rules, frontend_in, judged_pair, numbered_server, reply_with, rest_in, said_of, version_at, NumberedServer}
 
 -- What judges a connection.
 
@@ -54,9 +54,9 @@ pub record Arrival (p : Plain) (listener : ℕ) : Type 0 where
   pub in_force : newest p.versions ≡ Some version
   pub found : frontend_in version.plan own.name ≡ Some frontend
 
--- it is one of the open connections when it is judged, at that moment
+-- it is one of the open connections when it is judged
 abbrev pub newcomer : (p : Plain) (moment : ℕ) (real : PairValue) (listener : ℕ) → Arrival p listener → Candidate
-newcomer p moment real listener arrival = candidate_at (at_moment moment p) (max p.clock moment) arrival.at.frontend real arrival.own arrival.version arrival.frontend
+newcomer p moment real listener arrival = candidate_at p (max p.clock moment) arrival.at.frontend real arrival.own arrival.version arrival.frontend
 
 -- a connection that waits for its header: the version of its accept judges it
 pub record Waiter (p : Plain) (id : ConnId) : Type 0 where
@@ -71,9 +71,8 @@ pub record Waiter (p : Plain) (id : ConnId) : Type 0 where
   pub of_accept : version_at p.versions row.version ≡ Some version
   pub found : frontend_in version.plan own.name ≡ Some frontend
 
--- as it is judged at a moment
-abbrev pub waiting : (p : Plain) (moment : ℕ) (id : ConnId) → Waiter p id → Candidate
-waiting p moment id waiter = candidate_of (at_moment moment p) id waiter.version waiter.frontend
+abbrev pub waiting : (p : Plain) (id : ConnId) → Waiter p id → Candidate
+waiting p id waiter = candidate_of p id waiter.version waiter.frontend
 
 -- The rules.
 
@@ -135,12 +134,12 @@ pub record IsLetWait (p : Plain) (moment : ℕ) (real : PairValue) (listener : �
 
 -- At a piece, where so many of the bytes came before: they are a header, and maybe more bytes follow it. What is sent
 -- first states the judged pair, which is the one that the header declares.
-pub record IsOfferedAtPiece (p : Plain) (moment : ℕ) (id : ConnId) (waiter : Waiter p id) (bytes : List ℕ) (before : ℕ) (said : Said) : Type 0 where
+pub record IsOfferedAtPiece (p : Plain) (id : ConnId) (waiter : Waiter p id) (bytes : List ℕ) (before : ℕ) (said : Said) : Type 0 where
   pub meaning : Meaning
   pub used : ℕ
   pub given : NumberedServer
   pub header : status bytes ≡ Whole (used + before) meaning
-  pub is_given : IsGiven (waiting p moment id waiter) (judged_pair waiter.row.real meaning) no_tracks given
+  pub is_given : IsGiven (waiting p id waiter) (judged_pair waiter.row.real meaning) no_tracks given
   pub said_is : said ≡ said_of id used (judged_pair waiter.row.real meaning) (Ok given)
 
 abbrev pub is_wait : Said → Bool
@@ -272,15 +271,15 @@ IsRefusedAtAccept candidate accept_proxy real others cause =
 
 -- at a piece, where so many bytes came before: with it, the bytes have that fault; or they are a header, and it gets no
 -- server
-abbrev pub IsRefusedAtPiece : (p : Plain) (moment : ℕ) (id : ConnId) → Waiter p id → List ℕ → ℕ → Cause → Type 0
-IsRefusedAtPiece p moment id waiter bytes count (Header fault) = status bytes ≡ Fault fault count
-IsRefusedAtPiece p moment id waiter bytes count (Line line) =
-    (meaning : Meaning) × (status bytes ≡ Whole count meaning) × IsWithheld (waiting p moment id waiter) (judged_pair waiter.row.real meaning) no_tracks (Line line)
-IsRefusedAtPiece p moment id waiter bytes count Expired = ⊥
-IsRefusedAtPiece p moment id waiter bytes count (NoBackend line) =
-    (meaning : Meaning) × (status bytes ≡ Whole count meaning) × IsWithheld (waiting p moment id waiter) (judged_pair waiter.row.real meaning) no_tracks (NoBackend line)
-IsRefusedAtPiece p moment id waiter bytes count (NoServer line) =
-    (meaning : Meaning) × (status bytes ≡ Whole count meaning) × IsWithheld (waiting p moment id waiter) (judged_pair waiter.row.real meaning) no_tracks (NoServer line)
+abbrev pub IsRefusedAtPiece : (p : Plain) (id : ConnId) → Waiter p id → List ℕ → ℕ → Cause → Type 0
+IsRefusedAtPiece p id waiter bytes count (Header fault) = status bytes ≡ Fault fault count
+IsRefusedAtPiece p id waiter bytes count (Line line) =
+    (meaning : Meaning) × (status bytes ≡ Whole count meaning) × IsWithheld (waiting p id waiter) (judged_pair waiter.row.real meaning) no_tracks (Line line)
+IsRefusedAtPiece p id waiter bytes count Expired = ⊥
+IsRefusedAtPiece p id waiter bytes count (NoBackend line) =
+    (meaning : Meaning) × (status bytes ≡ Whole count meaning) × IsWithheld (waiting p id waiter) (judged_pair waiter.row.real meaning) no_tracks (NoBackend line)
+IsRefusedAtPiece p id waiter bytes count (NoServer line) =
+    (meaning : Meaning) × (status bytes ≡ Whole count meaning) × IsWithheld (waiting p id waiter) (judged_pair waiter.row.real meaning) no_tracks (NoServer line)
 
 -- no whole header came in time
 pub record IsLate (p : Plain) (moment : ℕ) (id : ConnId) (cause : Cause) : Type 0 where
@@ -296,7 +295,7 @@ pub record IsLate (p : Plain) (moment : ℕ) (id : ConnId) (cause : Cause) : Typ
 abbrev pub IsCause : Plain → (ConnId → List ℕ) → ℕ → OwnedEvent → ℕ → Cause → Type 0
 IsCause p before moment (Accept listener real) used cause =
     (used ≡ 0) × ((arrival : Arrival p listener) × IsRefusedAtAccept (newcomer p moment real listener arrival) arrival.at.accept_proxy real (length arrival.own.rows) cause)
-IsCause p before moment (Piece id bytes) used cause = (waiter : Waiter p id) × IsRefusedAtPiece p moment id waiter (before id ++ bytes) (used + length (before id)) cause
+IsCause p before moment (Piece id bytes) used cause = (waiter : Waiter p id) × IsRefusedAtPiece p id waiter (before id ++ bytes) (used + length (before id)) cause
 IsCause p before moment (Connected id) used cause = ⊥
 IsCause p before moment (ConnectFailed id) used cause = ⊥
 IsCause p before moment (Close id why) used cause = ⊥

@@ -46,7 +46,7 @@ pub fn offered_exactly_when()
     ensures at_piece { (plan : Plan) (last : ℕ) (h : List Entry) → IsLegal (opening plan last) h →
         (moment : ℕ) (id : ConnId) (piece : List ℕ) (said : Said) → is_offer said ≡ true →
         Says (answer (opening plan last) h moment (Piece id piece)) said
-        ↔ ((waiter : Waiter (after (opening plan last) h) id) × IsOfferedAtPiece (after (opening plan last) h) moment id waiter (joined id h ++ piece) (length (joined id h)) said) }
+        ↔ ((waiter : Waiter (after (opening plan last) h) id) × IsOfferedAtPiece (after (opening plan last) h) id waiter (joined id h ++ piece) (length (joined id h)) said) }
     ensures nothing_else { (p : Plain) (h : List Entry) (moment : ℕ) (event : OwnedEvent) (reply : Reply) → answer p h moment event ≡ Ok reply → is_offer reply.said ≡ true → may_offer event ≡ true }
 {}
 

@@ -14,7 +14,6 @@ pub mod VersionSteps
 pub mod Entries
 pub mod OneTable
 pub mod Listed
-pub mod Moments
 pub mod Sources
 pub mod TableSteps
 pub mod TrackSteps

@@ -14,7 +14,7 @@ use Rattle.conn_model.specs.declared.plain.Plain.{Plain}
 use Rattle.conn_model.specs.declared.reply.Reply.{Reply}
 use Rattle.conn_model.specs.declared.reply.Said.{Said}
 use Rattle.conn_model.specs.declared.reply.Said.TheVariants as saids
-use Rattle.conn_model.specs.Answer.{answer_in, at_moment, judged_pair}
+use Rattle.conn_model.specs.Answer.{answer_in, judged_pair}
 use Rattle.conn_model.specs.Rules.{rejection, scene_of, worth}
 use Rattle.conn_model.specs.History.{after, entry}
 use Rattle.conn_core.specs.declared.facts.RuleFacts.{RuleFacts}
@@ -74,20 +74,20 @@ pub record AreTriedAt (accept_proxy : Bool) (facts : RuleFacts) (trials : Option
   pub judged : is_judged_at accept_proxy facts ≡ true → AreTriedBy facts (entry_says facts).tracks trials
   pub nothing : is_judged_at accept_proxy facts ≡ false → trials ≡ None
 
--- all that its accept tries, at moment 0
+-- all that its accept tries
 pub record IsTriedNext (p : Plain) (listener : ℕ) (real : PairValue) (accept_proxy : Bool) (rules : List Tried) (rest : Option Trials) : Type 0 where
   pub facts : RuleFacts
-  pub sees : SeesNext (at_moment 0 p) listener real facts
+  pub sees : SeesNext p listener real facts
   pub entry : rules ≡ entry_tried facts
   pub trials : AreTriedAt accept_proxy facts rest
 
 -- After its header.
 
--- what is tried once a connection that waits has that header, at moment 0
+-- what is tried once a connection that waits has that header
 abbrev pub AreTriedLater : Plain → ConnId → PairValue → Status → Option Trials → Type 0
 AreTriedLater p id real Wait trials = trials ≡ None
 AreTriedLater p id real (Fault fault count) trials = trials ≡ None
-AreTriedLater p id real (Whole count meaning) trials = (facts : RuleFacts) × SeesWaiting (at_moment 0 p) id (judged_pair real meaning) facts × AreTriedBy facts no_tracks trials
+AreTriedLater p id real (Whole count meaning) trials = (facts : RuleFacts) × SeesWaiting p id (judged_pair real meaning) facts × AreTriedBy facts no_tracks trials
 
 -- what a header says that comes in one piece
 abbrev pub header_status : List ℕ → Status

@@ -226,7 +226,7 @@ impl Shower<'_, '_> {
     ) -> Result<(Vec<Tried>, Option<Trials>), Unexplained>
         ensures { IfOk result (λ it. IsTriedNext core.now number real at.now.accept_proxy it.0.items it.1) }
     {
-        let Some(facts) = core.arriving(number, real, 0) else {
+        let Some(facts) = core.arriving(number, real) else {
             return Err(Unexplained::NoFrontend);
         };
         let entry = try_entry(self.alloc, &facts)?;
@@ -251,7 +251,7 @@ impl Shower<'_, '_> {
             Fed::Bad(_, _) => Ok(None),
             Fed::Whole(meaning, used) => {
                 let judged = judged_pair(real, meaning);
-                let Some(facts) = core.waiting(id, judged, 0) else {
+                let Some(facts) = core.waiting(id, judged) else {
                     return Err(Unexplained::NoFrontend);
                 };
                 let trials = try_session(self.alloc, &facts, NO_TRACKS)?;

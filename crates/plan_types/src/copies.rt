@@ -80,7 +80,6 @@ impl Duplicate for Table {
             kind: self.kind,
             size: self.size,
             stores: self.stores,
-            expire: self.expire,
         })
     }
 }

@@ -15,14 +15,10 @@ pub record Touches : Type 0 where
   pub spare : ℕ
 
 abbrev pub entry_of_pair : Addr × Counts → StickEntry
-entry_of_pair pair = record { key = pair.0; cur = pair.1.cur; cnt = pair.1.cnt; last_touch = pair.1.last_touch }
+entry_of_pair pair = record { key = pair.0; cur = pair.1.cur; cnt = pair.1.cnt }
 
 abbrev pub nothing : Addr × Counts
-nothing = (V4 0, record { cur = 0; cnt = 0; last_touch = 0 })
-
--- of a key that is tracked for the first time
-abbrev pub first_counts : ℕ → Counts
-first_counts moment = record { cur = 1; cnt = 1; last_touch = moment }
+nothing = (V4 0, record { cur = 0; cnt = 0 })
 
 -- the entry at a place
 abbrev pub entry_at : List (Addr × Counts) → ℕ → StickEntry

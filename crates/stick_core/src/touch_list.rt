@@ -2,8 +2,8 @@
 ghost use Rattle.std.specs.Prelude.{◌≡◌, ◌+◌, ◌<◌, ◌≤◌, ◌++◌, ◌∷◌, [], true, false, cond, find, length, IfOk, OnOk, OnErr, IsOk, IsSome, None};
 ghost use Rattle.std.specs.List.{list_any};
 ghost use Rattle.indexmap.specs.IndexMap.{index_map_len, with_value_at};
-ghost use Rattle.stick_core.specs.Entries.{is_of, is_free, others, added, without_first_free, living};
-ghost use Rattle.stick_core.specs.Places.{entry_at, first_counts};
+ghost use Rattle.stick_core.specs.Entries.{is_of, is_free, others, added, without_first_free};
+ghost use Rattle.stick_core.specs.Places.{entry_at};
 ghost use Rattle.stick_core.specs.PlainEntries.{plain};
 ghost use Rattle.stick_core.specs.Ring.{Has, Lacks, Distinct, without};
 
@@ -20,29 +20,18 @@ use std::marker::Model;
 pub(crate) struct Counts {
     pub(crate) cur: u64,
     pub(crate) cnt: u64,
-    pub(crate) last_touch: u64,
 }
+
+/// A key that is tracked for the first time.
+const FIRST: Counts = Counts { cur: 1, cnt: 1 };
 
 fn counts_of(entry: StickEntry) -> Counts
     ensures cur { result.cur ≡ entry.cur }
     ensures cnt { result.cnt ≡ entry.cnt }
-    ensures last_touch { result.last_touch ≡ entry.last_touch }
 {
     Counts {
         cur: entry.cur,
         cnt: entry.cnt,
-        last_touch: entry.last_touch,
-    }
-}
-
-/// Of a key that is tracked for the first time.
-fn first_counts(moment: u64) -> Counts
-    ensures { result ≡ first_counts moment }
-{
-    Counts {
-        cur: 1,
-        cnt: 1,
-        last_touch: moment,
     }
 }
 
@@ -56,7 +45,6 @@ fn entry_at_place(index: &IndexMap<Addr, Counts>, place: usize) -> StickEntry
             key: *key,
             cur: counts.cur,
             cnt: counts.cnt,
-            last_touch: counts.last_touch,
         },
         None => unreachable!(),
     }
@@ -103,22 +91,6 @@ fn join(order: &mut Order, place: usize, belongs: bool)
     if belongs {
         order.push_back(place);
     }
-}
-
-/// Adds an entry, unless it is gone.
-fn push_living(
-    list: &mut Vec<PlainEntry>,
-    entry: &StickEntry,
-    expire: u64,
-    moment: u64,
-) -> Result<(), AllocError>
-    ensures { OnOk result (list.new.items ≡ list.old.items ++ plain (living expire moment (entry.now ∷ []))) }
-{
-    if entry.is_gone(expire, moment) {
-        return Ok(());
-    }
-    list.push(entry.plain())?;
-    Ok(())
 }
 
 /// Entries found by their keys, in the order of their last touch. A call takes a time that does not grow with
@@ -171,14 +143,11 @@ impl TouchList {
         }
     }
 
-    /// Of the entries without trackers, the one that was touched longest ago.
-    pub(crate) fn first_free(&self) -> Option<StickEntry>
-        ensures { result ≡ find is_free self.now.entries }
+    /// Whether some entry has no trackers.
+    pub(crate) fn has_free(&self) -> bool
+        ensures { result ≡ list_any is_free self.now.entries }
     {
-        match self.free.first() {
-            Some(place) => Some(entry_at_place(&self.index, place)),
-            None => None,
-        }
+        self.free.first().is_some()
     }
 
     /// Makes room for so many more entries. It may have made some also where it lacks memory for all.
@@ -212,15 +181,15 @@ impl TouchList {
     }
 
     /// Adds a key that is tracked for the first time, as the last one touched.
-    pub(crate) fn add(&mut self, key: Addr, moment: u64) -> Result<(), AllocError>
+    pub(crate) fn add(&mut self, key: Addr) -> Result<(), AllocError>
         requires { find (is_of key) self.old.entries ≡ None }
-        ensures entries { OnOk result (self.new.entries ≡ added moment key self.old.entries) }
+        ensures entries { OnOk result (self.new.entries ≡ added key self.old.entries) }
         ensures spare { self.old.spare ≤ self.new.spare + 1 }
         ensures reserved { 0 < self.old.spare → IsOk result }
         ensures err { OnErr result ((self.new.entries ≡ self.old.entries) × (self.old.spare ≤ self.new.spare)) }
     {
         self.reserve(1)?;
-        self.index.insert(key, first_counts(moment))?;
+        self.index.insert(key, FIRST)?;
         let place = self.touched.add_place();
         self.touched.push_back(place);
         self.free.add_place();
@@ -229,10 +198,10 @@ impl TouchList {
 
     /// Puts a key that is tracked for the first time, as the last one touched, in place of the entry that was
     /// touched longest ago of those without trackers. Without such an entry it changes nothing.
-    pub(crate) fn replace_first_free(&mut self, key: Addr, moment: u64) -> Result<bool, AllocError>
+    pub(crate) fn replace_first_free(&mut self, key: Addr) -> Result<bool, AllocError>
         requires { find (is_of key) self.old.entries ≡ None }
         ensures answer { IfOk result (λ is. is ≡ list_any is_free self.old.entries) }
-        ensures entries { IfOk result (λ is. is ≡ true → self.new.entries ≡ added moment key (without_first_free self.old.entries)) }
+        ensures entries { IfOk result (λ is. is ≡ true → self.new.entries ≡ added key (without_first_free self.old.entries)) }
         ensures same { IfOk result (λ is. is ≡ false → self.new.entries ≡ self.old.entries) }
         ensures spare { self.old.spare ≤ self.new.spare + 1 }
         ensures reserved { 0 < self.old.spare → IsOk result }
@@ -241,28 +210,22 @@ impl TouchList {
         let Some(place) = self.free.first() else {
             return Ok(false);
         };
-        self.index.insert(key, first_counts(moment))?;
+        self.index.insert(key, FIRST)?;
         self.index.swap_remove_index(place);
         self.free.remove(place);
         move_last(&mut self.touched, place);
         Ok(true)
     }
 
-    /// The entries that are not gone.
-    pub(crate) fn listed(
-        &self,
-        alloc: Global,
-        expire: u64,
-        moment: u64,
-    ) -> Result<Seq<PlainEntry>, AllocError>
-        ensures { IfOk result (λ list. list ≡ plain (living expire moment self.now.entries)) }
+    /// The keys, with how often each was tracked.
+    pub(crate) fn listed(&self, alloc: Global) -> Result<Seq<PlainEntry>, AllocError>
+        ensures { IfOk result (λ list. list ≡ plain self.now.entries) }
     {
         let mut list = Vec::with_capacity(alloc, self.index.len())?;
         let mut next = self.touched.first();
         for _ in 0..self.index.len() {
             if let Some(place) = next {
-                let entry = entry_at_place(&self.index, place);
-                push_living(&mut list, &entry, expire, moment)?;
+                list.push(entry_at_place(&self.index, place).plain())?;
                 next = self.touched.next(place);
             }
         }

@@ -1,4 +1,4 @@
-use Rattle.std.proofs.Common.{false, length, ap, sym, refl, ◌∙◌}
+use Rattle.std.proofs.Common.{◌≡◌, false, length, ap, sym, refl, ◌∙◌}
 use Rattle.std.specs.Option.{option_map_or}
 use Rattle.conn_model.specs.Answer.{frontend_in}
 use Rattle.conn_core.specs.declared.facts.RuleFacts.{RuleFacts}
@@ -12,7 +12,6 @@ returns-clause-some c =
     let source = ap (λ e. e.addr) c.source.ensures.value in
     let facts : RuleFacts = record {
       rows = c.args.rows;
-      moment = c.args.moment;
       version = c.in-Some-version.version;
       frontend = c.in-Some-frontend_named.frontend;
       name = c.in-Some.own.name;
@@ -31,7 +30,6 @@ returns-clause-some c =
         found = sym (c.in-Some-frontend_named.ensures ∙ ap (λ n. frontend_in c.in-Some-version.version.now.plan n) sums.name);
       };
       rows_are = refl;
-      moment_is = refl;
       version_is = refl;
       frontend_is = refl;
       tracks = c.tracks_of.ensures;

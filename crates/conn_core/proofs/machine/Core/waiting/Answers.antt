@@ -1,9 +1,9 @@
-use Rattle.std.proofs.Common.{◌≡◌, Option, None, Some, Ok, ap, sym, subst, refl}
+use Rattle.std.proofs.Common.{◌≡◌, Option, None, Some, Ok, ap, sym, subst, refl, ◌∙◌}
 use Rattle.std.specs.Prelude.{IfSome}
 use Rattle.pp_any.specs.declared.rest.Rest.{Rest}
 use Rattle.conn_model.specs.declared.plain.Plain.{Plain}
 use Rattle.conn_model.specs.declared.plain.Row.{Row}
-use Rattle.conn_model.specs.Answer.{at_moment, version_at, waiting_row}
+use Rattle.conn_model.specs.Answer.{version_at, waiting_row}
 use Rattle.conn_core.specs.declared.facts.RuleFacts.{RuleFacts}
 use Rattle.conn_core.specs.Machine.{state_of}
 use Rattle.conn_core.specs.Seeing.{SeesOpen, SeesWaiting}
@@ -14,10 +14,10 @@ if_some P Q None f known = tt
 if_some P Q (Some x) f known = f x known
 
 pub returns : goal.returns
-returns c = if_some (SeesOpen c.self.inside.rows c.args.id c.in-Ok.row.version c.args.judged c.args.moment) (SeesWaiting (at_moment c.args.moment c.args.self.now) c.args.id c.args.judged) c.facts_of.result by c.facts_of.ensures.some
+returns c = if_some (SeesOpen c.self.inside.rows c.args.id c.in-Ok.row.version c.args.judged) (SeesWaiting c.args.self.now c.args.id c.args.judged) c.facts_of.result by c.facts_of.ensures.some
   where
     q : Plain
-    q = state_of c.self.inside.listeners c.self.inside.rows
+    q = state_of c.self.inside.clock c.self.inside.listeners c.self.inside.rows
 
     found : Row × Rest
     found = c.in-Ok.ensures.ok.0
@@ -28,8 +28,8 @@ returns c = if_some (SeesOpen c.self.inside.rows c.args.id c.in-Ok.row.version c
     version : c.in-Ok.row.version ≡ found.0.version
     version = ap (λ s. s.version) c.in-Ok.ensures.ok.2
 
-    by : (facts : RuleFacts) → SeesOpen c.self.inside.rows c.args.id c.in-Ok.row.version c.args.judged c.args.moment facts → SeesWaiting (at_moment c.args.moment c.args.self.now) c.args.id c.args.judged facts
-    by facts sees = subst (λ p. SeesWaiting (at_moment c.args.moment p) c.args.id c.args.judged facts) c.self.view_is (record {
+    by : (facts : RuleFacts) → SeesOpen c.self.inside.rows c.args.id c.in-Ok.row.version c.args.judged facts → SeesWaiting c.args.self.now c.args.id c.args.judged facts
+    by facts sees = subst (λ p. SeesWaiting p c.args.id c.args.judged facts) c.self.view_is (record {
       found = found;
       waits = waits;
       judge = record {
@@ -42,5 +42,5 @@ returns c = if_some (SeesOpen c.self.inside.rows c.args.id c.in-Ok.row.version c
       };
       version_is = sees.version_is;
       frontend_is = sees.frontend_is;
-      view = sees.view (at_moment c.args.moment q) (record { own = refl; named = λ name. refl; offered = λ name. refl; served = λ server. refl; tracks = refl; tracked = refl; tables = refl });
+      view = sees.view q (record { own = refl; named = λ name. refl; offered = λ name. refl; served = λ server. refl; tracks = refl; tracked = refl; tables = refl });
     })

@@ -38,7 +38,7 @@ join-requires-clause-lacks c =
 all : (c : goal.After-join) → IsPut c.self.inside.index.entries c.set_counts.new.index.entries c.self.inside.touched c.move_last.new.order c.self.inside.free c.join.new.order c.args.key.now c.args.entry
 all c =
     put c.self.inside.index.entries c.set_counts.new.index.entries c.self.inside.touched c.move_last.new.order c.self.inside.free c.join.new.order c.args.key.now c.args.entry
-    c.counts_of.result c.in-Some.place c.self.invariant c.in-Some.ensures.unique (sym c.in-Some.ensures.index) c.requires.own c.counts_of.ensures.cur c.counts_of.ensures.cnt c.counts_of.ensures.last_touch
+    c.counts_of.result c.in-Some.place c.self.invariant c.in-Some.ensures.unique (sym c.in-Some.ensures.index) c.requires.own c.counts_of.ensures.cur c.counts_of.ensures.cnt
     (ap (λ m. m.entries) c.set_counts.ensures) c.move_last.ensures (c.join.ensures ∙ rw c.leave.ensures refl)
 
 pub invariant_of-self : goal.invariant_of-self
