@@ -160,7 +160,6 @@ pub record HasEntered (old now : RowsValue) (id : ConnId) (arrival : SessionStar
   pub frontends : now.frontends ≡ with_item id.frontend (with_newcomer arrival []) old.frontends
   pub versions : now.versions ≡ old.versions
   pub tables : now.tables ≡ old.tables
-  pub down : now.down ≡ old.down
   pub spare : 3 ≤ now.spare
 
 pub has_entered : (old ready now : RowsValue) (id : ConnId) (arrival : SessionStart) → 3 ≤ ready.spare → ready ≡ record old { spare = ready.spare } →
@@ -169,7 +168,6 @@ has_entered old ready now id arrival room same ok = record {
   frontends = ap (λ (r : RowsValue). r.frontends) ok ∙ ap (λ (r : RowsValue). with_item id.frontend (with_newcomer arrival []) r.frontends) same;
   versions = ap (λ (r : RowsValue). r.versions) ok ∙ ap (λ (r : RowsValue). r.versions) same;
   tables = ap (λ (r : RowsValue). r.tables) ok ∙ ap (λ (r : RowsValue). r.tables) same;
-  down = ap (λ (r : RowsValue). r.down) ok ∙ ap (λ (r : RowsValue). r.down) same;
   spare = subst (λ n. 3 ≤ n) (sym (ap (λ (r : RowsValue). r.spare) ok)) room;
 }
 
@@ -193,17 +191,16 @@ possible_once old now id own arrival slots coming is can =
 
 -- and then it tracks those
 pub tracking_once : (old now after : RowsValue) (id : ConnId) (own : FrontendRows) (arrival : SessionStart) (tracks : List Track) → IsComing old.frontends id own → HasEntered old now id arrival →
-    after.frontends ≡ with_conn id (row_with tracks) now.frontends → after.versions ≡ now.versions → after.tables ≡ with_tracks (open_tracks now.frontends) tracks now.tables → after.down ≡ now.down →
+    after.frontends ≡ with_conn id (row_with tracks) now.frontends → after.versions ≡ now.versions → after.tables ≡ with_tracks (open_tracks now.frontends) tracks now.tables →
     state_of after ≡ record (state_of old) { frontends = with_item id.frontend (with_newcomer arrival tracks) old.frontends; tables = with_tracks (open_tracks old.frontends) tracks old.tables }
-tracking_once old now after id own arrival tracks coming is fronts versions tables down =
+tracking_once old now after id own arrival tracks coming is fronts versions tables =
     let opens : open_tracks now.frontends ≡ open_tracks old.frontends = ap open_tracks is.frontends ∙ arrival_tracks old.frontends id own arrival coming in
     let f : after.frontends ≡ with_item id.frontend (with_newcomer arrival tracks) old.frontends =
     fronts ∙ ap (with_conn id (row_with tracks)) is.frontends ∙ arrival_tracking old.frontends id own arrival tracks coming in
     let v : after.versions ≡ old.versions = versions ∙ is.versions in
     let t : after.tables ≡ with_tracks (open_tracks old.frontends) tracks old.tables =
     tables ∙ ap (λ ts. with_tracks ts tracks now.tables) opens ∙ ap (with_tracks (open_tracks old.frontends) tracks) is.tables in
-    let d : after.down ≡ old.down = down ∙ is.down in
-    cc (f, v, t, d)
+    cc (f, v, t)
 
 -- Decisions.
 
@@ -273,8 +270,7 @@ offered_once old now after id own arrival decision offer coming is came offered 
     ap (λ (r : RowsValue). r.versions) offered ∙ ap (map (with_offer arrival.version offer.seat.line offer.seat.server)) versions ∙ ap (λ o. settled_versions arrival.version o old.versions) (sym is) in
     let t : after.tables ≡ tables_by old.frontends old.tables (reply_by id 0 decision) =
     ap (λ (r : RowsValue). r.tables) offered ∙ ap (λ (s : RowsState). s.tables) came ∙ tables_offer old.frontends old.tables id decision offer is in
-    let d : after.down ≡ old.down = ap (λ (r : RowsValue). r.down) offered ∙ ap (λ (s : RowsState). s.down) came in
-    cc (f, v, t, d)
+    cc (f, v, t)
 
 -- a refused connection that tracks nothing
 pub skipped_once : (old after : RowsValue) (id : ConnId) (own : FrontendRows) (arrival : SessionStart) (decision : TrackedOutcome) (cause : Cause) → IsComing old.frontends id own → decision.outcome ≡ outcomes.Refuse cause →
@@ -287,8 +283,7 @@ skipped_once old after id own arrival decision cause coming is none skipped =
     let t : after.tables ≡ tables_by old.frontends old.tables (reply_by id 0 decision) =
     ap (λ (r : RowsValue). r.tables) skipped ∙ ap (λ ts. without_tracks (by_counter ts) (with_tracks (open_tracks old.frontends) ts old.tables)) (sym none)
     ∙ tables_refused old.frontends old.tables id own decision cause coming is in
-    let d : after.down ≡ old.down = ap (λ (r : RowsValue). r.down) skipped in
-    cc (f, v, t, d)
+    cc (f, v, t)
 
 -- a refused connection that tracks some
 pub removed_once : (old now after : RowsValue) (id : ConnId) (own : FrontendRows) (arrival : SessionStart) (decision : TrackedOutcome) (cause : Cause) → IsComing old.frontends id own → decision.outcome ≡ outcomes.Refuse cause →
@@ -305,5 +300,4 @@ removed_once old now after id own arrival decision cause coming is came removed 
     let t : after.tables ≡ tables_by old.frontends old.tables (reply_by id 0 decision) =
     ap (λ (r : RowsValue). r.tables) removed ∙ ap (λ ts. without_tracks ts now.tables) made ∙ ap (λ (s : RowsState). without_tracks (by_counter tracks) s.tables) came
     ∙ tables_refused old.frontends old.tables id own decision cause coming is in
-    let d : after.down ≡ old.down = ap (λ (r : RowsValue). r.down) removed ∙ ap (λ (s : RowsState). s.down) came in
-    cc (f, v, t, d)
+    cc (f, v, t)

@@ -6,4 +6,3 @@ pub mod Changes
 pub mod Counts
 pub mod Machine
 pub use Rattle.config_core.specs.Meaning
-pub mod Checked

@@ -1,5 +1,5 @@
 //! The decision core.
-ghost use Rattle.std.specs.Prelude.{None, ◌≡◌, ◌≢◌, ◌⊎◌, ◌+◌, ◌-◌, ◌^◌, ◌<◌, ◌≤◌, true, List, [], ◌∷◌, option_and_then, option_map, Option, Some, IfSome, IfNone, IfOk, IfErr, OnOk, OnErr, nat_le, Ok, Err};
+ghost use Rattle.std.specs.Prelude.{◌≡◌, ◌≢◌, ◌⊎◌, ◌+◌, ◌-◌, ◌^◌, ◌<◌, ◌≤◌, true, List, [], ◌∷◌, option_and_then, option_map, Option, Some, IfSome, IfNone, IfOk, IfErr, OnOk, OnErr, nat_le, Ok, Err};
 ghost use Rattle.std.specs.Option.{option_copied};
 ghost use Rattle.plan_types.specs.Sound.{IsSoundPlan};
 ghost use Rattle.pp_any.specs.declared.rest.Rest.{Rest};
@@ -7,8 +7,7 @@ ghost use Rattle.conn_model.specs.declared.event.TheConstants.{HEADER_WAIT};
 ghost use Rattle.conn_model.specs.declared.plain.Row.{Row};
 ghost use Rattle.conn_model.specs.declared.reply.Said.{Said};
 ghost use Rattle.conn_model.specs.declared.reply.Said.TheVariants.{Reloaded};
-ghost use Rattle.conn_model.specs.Servers.{identity_in};
-ghost use Rattle.conn_model.specs.Answer.{answer_in, accept_answer, checked_server, piece_answer, reload_answer, reply_of, row_at, server_answer, waiting_row};
+ghost use Rattle.conn_model.specs.Answer.{answer_in, accept_answer, piece_answer, reload_answer, reply_of, row_at, server_answer, waiting_row};
 ghost use Rattle.conn_rows.specs.Needed.{versions_needed, AreTracksHeld};
 ghost use Rattle.conn_rows.specs.Summaries.{names_in, names_of, summary_of};
 ghost use Rattle.conn_model.specs.Counts.{counts_in, newest_backend, server_of};
@@ -22,7 +21,6 @@ ghost use Rattle.conn_model.specs.Tables.{open_tracks};
 ghost use Rattle.conn_core.specs.Changes.{forgotten, CanOffer};
 ghost use Rattle.conn_core.specs.Outcome.{reply_by};
 ghost use Rattle.conn_core.specs.Tracking.{ArePossible};
-ghost use Rattle.conn_core.specs.Checked.{checked_in};
 ghost use Rattle.conn_core.specs.Machine.{AreSound, IsOpened, IsNext, IsNextVersion};
 ghost use Rattle.conn_core.specs.Seeing.{SeesNext, SeesWaiting};
 
@@ -36,7 +34,7 @@ use crate::tracking::STEP_TRACKS;
 use addr_core::Pair;
 use config_core::{OpenFault, read_plan};
 use conn_model::ask::{Ask, Counts};
-use conn_model::event::{ConnId, Event, HEADER_WAIT, Health, Why};
+use conn_model::event::{ConnId, Event, HEADER_WAIT, Why};
 use conn_model::plain::{Listener, Plain};
 use conn_model::reply::{Cause, Reply, Said, StepFault};
 use conn_model::settings::Settings;
@@ -44,8 +42,7 @@ use conn_rows::{RowSummary, Rows, ServerNames, frontend_named};
 use conn_versions::item;
 use list_core::{Duplicate, Seq};
 use plan_core::same_binds;
-use plan_types::{Backend, Plan, Server};
-use proxy_types::ServerIdentity;
+use plan_types::{Backend, Plan};
 use rule_engine::NO_TRACKS;
 use std::alloc::{AllocError, Global};
 use std::marker::Model;
@@ -238,7 +235,6 @@ impl Core {
             frontends: rows.frontends,
             versions: rows.versions,
             tables: rows.tables,
-            down: rows.down,
         })
     }
 
@@ -286,7 +282,6 @@ impl Core {
             Event::Close(id, why) => self.close(moment, id, why),
             Event::Expire(id) => self.expire(moment, id),
             Event::Reload(text) => self.reload(moment, text),
-            Event::Mark(number, place, health) => self.mark(moment, number, place, health),
         }
     }
 
@@ -492,49 +487,6 @@ impl Core {
         Ok(plain_reply(Said::Reloaded { version }))
     }
 
-    /// A server of the newest version that is checked is down from now on, or is not.
-    fn mark(
-        &mut self,
-        moment: u64,
-        number: u16,
-        place: u16,
-        health: Health,
-    ) -> Result<Reply, StepFault>
-        ensures reply { IfOk result (λ r. answer_in self.old moment (owned.Mark number place health) ≡ Ok r) }
-        ensures new { IfOk result (λ r. self.new ≡ after self.old (entry moment (owned.Mark number place health) r ∷ [])) }
-        ensures fault { IfErr result (λ f. IsFault (owned.Mark number place health) (answer_in self.old moment (owned.Mark number place health)) f) }
-        ensures err { OnErr result (self.new ≡ self.old) }
-    {
-        let Some(found) = self.checked(number, place) else {
-            return Err(StepFault::NotChecked);
-        };
-        let line = found.server.line;
-        let Ok(identity) = identity_of(self.alloc, found.backend, found.server) else {
-            return Err(StepFault::NoMemory);
-        };
-        let Ok(()) = self.rows.mark(health, identity) else {
-            return Err(StepFault::NoMemory);
-        };
-        self.clock = self.clock.max(moment);
-        Ok(plain_reply(Said::Marked { line, health }))
-    }
-
-    /// The server of that number in the backend of that number, in the newest version, if it is checked.
-    fn checked(&self, number: u16, place: u16) -> Option<CheckedServer<'_>>
-        ensures { option_map checked_in result ≡ checked_server self.now.versions number place }
-    {
-        let Some(backend) = self.backend(number) else {
-            return None;
-        };
-        let Some(server) = item(backend.servers.as_slice(), place) else {
-            return None;
-        };
-        let Some(_check) = server.check else {
-            return None;
-        };
-        Some(CheckedServer { backend, server })
-    }
-
     /// The number that a plan gets if it follows the newest version.
     fn next_version(&self, plan: &Plan) -> Result<u64, StepFault>
         ensures ok { IfOk result (λ n. reload_answer self.now (Ok plan.now) ≡ Ok (reply_of (Reloaded n))) }
@@ -552,21 +504,6 @@ impl Core {
             None => Err(StepFault::Exhausted),
         }
     }
-}
-
-/// The name of a server, by which it is known through all versions.
-fn identity_of(
-    alloc: Global,
-    backend: &Backend,
-    server: &Server,
-) -> Result<ServerIdentity, AllocError>
-    ensures { IfOk result (λ identity. identity ≡ identity_in backend.now server.now) }
-{
-    Ok(ServerIdentity {
-        backend: backend.name.duplicate(alloc)?,
-        name: server.name.duplicate(alloc)?,
-        to: server.to,
-    })
 }
 
 /// The plan of a configuration that is to come into force.
@@ -616,13 +553,6 @@ fn is_due(accepted: u64, now: u64) -> bool
         Some(waited) => waited >= HEADER_WAIT,
         None => false,
     }
-}
-
-/// A server that is checked, with its backend.
-#[derive(Drop)]
-pub struct CheckedServer<'a> {
-    backend: &'a Backend,
-    server: &'a Server,
 }
 
 /// What becomes of a connection at its accept.

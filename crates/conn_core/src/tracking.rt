@@ -88,7 +88,6 @@ pub fn track_all(rows: &mut Rows, id: ConnId, tracks: &Tracks)
     ensures frontends { rows.new.frontends ≡ with_conn id (row_with (present tracks.now)) rows.old.frontends }
     ensures versions { rows.new.versions ≡ rows.old.versions }
     ensures tables { rows.new.tables ≡ with_tracks (open_tracks rows.old.frontends) (present tracks.now) rows.old.tables }
-    ensures down { rows.new.down ≡ rows.old.down }
 {
     for slot in tracks {
         if let Some(track) = slot {

@@ -34,15 +34,13 @@ pub record RowsValue : Type 0 where
   pub tables : List TableState
   -- for how many more trackings each table has memory
   pub spare : ℕ
-  -- the servers that were reported down
-  pub down : List ServerIdentity
 
 abbrev pub state_of : RowsValue → RowsState
-state_of value = record { frontends = value.frontends; versions = value.versions; tables = value.tables; down = value.down }
+state_of value = record { frontends = value.frontends; versions = value.versions; tables = value.tables }
 
 -- what the rows keep of a plain state, before they have memory for trackings
 abbrev pub rows_of : Plain → RowsValue
-rows_of p = record { frontends = p.frontends; versions = p.versions; tables = p.tables; spare = 0; down = p.down }
+rows_of p = record { frontends = p.frontends; versions = p.versions; tables = p.tables; spare = 0 }
 
 -- the sum over the rows of all frontends
 abbrev pub rows_total : (StoredRow → ℕ) → List StoredFrontend → ℕ

@@ -7,7 +7,6 @@ pub use rows::{FrontendSummary, Rows, RowsState};
 pub use settings::frontend_named;
 
 mod counts;
-mod down;
 mod frontend;
 pub mod laws;
 mod opening;

@@ -14,14 +14,12 @@ ghost use Rattle.conn_rows.specs.Stored.{assignment_in, awaits, line_of, phase_o
 use crate::packed::{PackedChoice, PackedPair};
 use crate::settings::{ServerPlace, settings_by};
 use addr_core::{Endpoint, Pair};
-use arrayvec::ArrayVec;
-use conn_model::copy_of_lines;
 use conn_model::plain::{Assignment, Phase, Row, Version};
 use conn_model::settings::Settings;
 use conn_tables::Trackings;
 use conn_versions::{Slot, item};
 use list_core::{Duplicate, Seq};
-use plan_types::{Backend, MOST_MOVES, Plan, Server};
+use plan_types::{Backend, Plan, Server};
 use pp_any::Parser;
 use proxy_types::ServerIdentity;
 use std::alloc::{AllocError, Global};
@@ -43,8 +41,6 @@ pub struct ServerHold {
     pub seat: PackedChoice,
     /// The connection is one of those that are open to the server.
     pub slot: Slot,
-    /// The lines of the servers of its backend that were out of reach for it before, the oldest first.
-    pub failed: ArrayVec<u32, MOST_MOVES>,
     /// Whether the server took it.
     pub is_up: bool,
 }
@@ -121,7 +117,7 @@ impl Stage {
         match self {
             Stage::Waiting(parser) => Ok(Phase::Waiting(parser.rest())),
             Stage::Offered(held) => Ok(phase(
-                assignment(alloc, plan, &held.seat.seat(), held.failed.as_slice())?,
+                assignment(alloc, plan, &held.seat.seat())?,
                 held.is_up,
             )),
         }
@@ -148,7 +144,6 @@ impl ServerHold {
         let ServerHold {
             seat: _seat,
             slot,
-            failed: _failed,
             is_up: _,
         } = self;
         slot
@@ -340,21 +335,19 @@ fn assignment(
     alloc: Global,
     plan: Option<&Plan>,
     seat: &ServerChoice,
-    failed: &[u32],
 ) -> Result<Assignment, AllocError>
-    ensures { IfOk result (λ assignment. assignment ≡ assignment_in (option_copied plan.entry) seat.now failed.now) }
+    ensures { IfOk result (λ assignment. assignment ≡ assignment_in (option_copied plan.entry) seat.now) }
 {
     Ok(Assignment {
         server: identity(alloc, backend_of(plan, seat.line), seat)?,
         line: seat.line,
         judged: seat.judged,
-        failed: copy_of_lines(alloc, failed)?,
     })
 }
 
 /// The names of a server by a plan, which are empty where the plan has no such server.
 fn names<'a>(plan: Option<&'a Plan>, seat: &ServerChoice) -> ServerNames<'a>
-    ensures { names_in result ≡ names_of (assignment_in (option_copied plan.entry) seat.now []).server }
+    ensures { names_in result ≡ names_of (assignment_in (option_copied plan.entry) seat.now).server }
 {
     match backend_of(plan, seat.line) {
         Some(backend) => {

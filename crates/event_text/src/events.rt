@@ -3,7 +3,7 @@ ghost use Rattle.std.specs.Prelude.{◌≡◌, ◌+◌, ◌<◌, ◌^◌, ◌/�
 ghost use Rattle.hex.specs.Hex.{encode_lower, lower_digits};
 ghost use Rattle.event_text.specs.Script.{bar_lines, bytes_text, ended_lines, event_in_lines, event_line, event_lines, event_text, id_text, text_lines, IsHandedIn};
 
-use crate::replies::{write_field, write_health, write_id, write_place, write_text, write_why};
+use crate::replies::{write_field, write_id, write_place, write_text, write_why};
 use conn_model::event::{ConnId, OwnedEvent};
 use std::alloc::AllocError;
 use text_core::cut_at;
@@ -86,12 +86,6 @@ fn write_words(out: &mut Vec<u8>, moment: u64, event: &OwnedEvent) -> Result<(),
         }
         OwnedEvent::Expire(id) => write_verb(out, b" expire ", id),
         OwnedEvent::Reload(text) => write_field(out, b" reload ", count_lines(text.as_slice())),
-        OwnedEvent::Mark(backend, server, health) => {
-            write_field(out, b" server ", u64::from(*backend))?;
-            write_field(out, b" ", u64::from(*server))?;
-            write_text(out, b" ")?;
-            write_health(out, *health)
-        }
     }
 }
 

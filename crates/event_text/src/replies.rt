@@ -7,13 +7,13 @@ ghost use Rattle.addr_core.specs.declared.addr.Addr.TheVariants.{V4};
 ghost use Rattle.addr_core.specs.Text.{endpoint_text, host_text, text_of};
 ghost use Rattle.pp_v1.specs.declared.TheConstants.{LINE_LIMIT};
 ghost use Rattle.config_core.specs.Names.{open_text};
-ghost use Rattle.event_text.specs.Script.{bytes_text, health_text, id_text, why_text};
+ghost use Rattle.event_text.specs.Script.{bytes_text, id_text, why_text};
 ghost use Rattle.event_text.specs.Replies.{cause_text, count_line, fault_line, fault_name, header_fault_text, reply_line, reply_text, said_text, track_text};
 
 use addr_core::{Addr, Endpoint, Pair};
 use config_core::OpenFault;
 use conn_model::ask::{Ask, Counts};
-use conn_model::event::{ConnId, Health, Why};
+use conn_model::event::{ConnId, Why};
 use conn_model::reply::{Cause, Reply, Said, StepFault};
 use plan_types::Track;
 use pp_any::HeaderFault;
@@ -87,15 +87,6 @@ pub fn write_why(out: &mut Vec<u8>, why: &Why) -> Result<(), AllocError>
         Why::Failed => write_text(out, b"failed"),
         Why::ClientTimeout => write_text(out, b"client-timeout"),
         Why::ServerTimeout => write_text(out, b"server-timeout"),
-    }
-}
-
-pub fn write_health(out: &mut Vec<u8>, health: Health) -> Result<(), AllocError>
-    ensures { OnOk result (out.new.items ≡ out.old.items ++ health_text health) }
-{
-    match health {
-        Health::Down => write_text(out, b"down"),
-        Health::Up => write_text(out, b"up"),
     }
 }
 
@@ -227,11 +218,6 @@ fn write_said(out: &mut Vec<u8>, said: &Said) -> Result<(), AllocError>
             write_why(out, why)
         }
         Said::Reloaded { version } => write_field(out, b"reloaded ", *version),
-        Said::Marked { line, health } => {
-            write_field(out, b"marked line ", u64::from(*line))?;
-            write_text(out, b" ")?;
-            write_health(out, *health)
-        }
     }
 }
 
@@ -309,7 +295,6 @@ fn write_name(alloc: Global, out: &mut Vec<u8>, fault: &StepFault) -> Result<(),
         StepFault::NotWaiting => write_text(out, b"NotWaiting"),
         StepFault::NotOffered => write_text(out, b"NotOffered"),
         StepFault::NotDue => write_text(out, b"NotDue"),
-        StepFault::NotChecked => write_text(out, b"NotChecked"),
         StepFault::BadConfig(refusal) => write_refusal(alloc, out, refusal),
         StepFault::BindChanged => write_text(out, b"BindChanged"),
         StepFault::Exhausted => write_text(out, b"Exhausted"),

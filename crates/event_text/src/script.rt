@@ -5,11 +5,11 @@ ghost use Rattle.std.specs.Str.{bytes_eq};
 ghost use Rattle.conn_model.specs.declared.event.OwnedEvent.{OwnedEvent};
 ghost use Rattle.conn_model.specs.declared.event.TheConstants.{PIECE_LIMIT};
 ghost use Rattle.conn_model.specs.History.{owned_event};
-ghost use Rattle.event_text.specs.Script.{accept_of, ask_of, backend_asked, bare_event_of, bytes_in, bytes_of, close_of, ends_of, entry_asked, event_line, event_by_verb, event_on, event_read, frontend_asked, head_by_verb, head_of, head_read, head_written, health_of, id_of, is_upper_digit, mark_of, piece_of, reload_of, server_asked, wanted, wanted_of, why_of, words_of, HasLines, EventHead, IsCounted, IsHandedIn, Wanted};
+ghost use Rattle.event_text.specs.Script.{accept_of, ask_of, backend_asked, bare_event_of, bytes_in, bytes_of, close_of, ends_of, entry_asked, event_line, event_by_verb, event_on, event_read, frontend_asked, head_by_verb, head_of, head_read, head_written, id_of, is_upper_digit, piece_of, reload_of, server_asked, wanted, wanted_of, why_of, words_of, HasLines, EventHead, IsCounted, IsHandedIn, Wanted};
 
 use addr_core::{Pair, read_addr, read_endpoint};
 use conn_model::ask::Ask;
-use conn_model::event::{ConnId, Event, Health, Why};
+use conn_model::event::{ConnId, Event, Why};
 use text_core::cut_at;
 use text_core::decimal::read_decimal;
 
@@ -23,7 +23,6 @@ pub enum EventRequest {
     ConnectFailed(ConnId),
     Close(ConnId, Why),
     Expire(ConnId),
-    Mark(u16, u16, Health),
 }
 
 impl EventRequest {
@@ -38,7 +37,6 @@ impl EventRequest {
             EventRequest::ConnectFailed(id) => Event::ConnectFailed(id),
             EventRequest::Close(id, why) => Event::Close(id, why),
             EventRequest::Expire(id) => Event::Expire(id),
-            EventRequest::Mark(backend, server, health) => Event::Mark(backend, server, health),
         }
     }
 }
@@ -120,18 +118,6 @@ fn read_why(word: &[u8]) -> Option<Why>
     None
 }
 
-fn read_health(word: &[u8]) -> Option<Health>
-    ensures { result ≡ health_of word.now }
-{
-    if is(word, b"down") {
-        return Some(Health::Down);
-    }
-    if is(word, b"up") {
-        return Some(Health::Up);
-    }
-    None
-}
-
 fn read_ends(peer: &[u8], local: &[u8]) -> Option<Pair>
     ensures { result ≡ ends_of peer.now local.now }
 {
@@ -163,21 +149,6 @@ fn read_close(rest: &[u8]) -> Option<EventRequest>
     let id = read_id(name)?;
     let why = read_why(note)?;
     Some(EventRequest::Close(id, why))
-}
-
-/// A report of a server.
-fn read_mark(rest: &[u8]) -> Option<EventRequest>
-    ensures { (buffer : List ℕ) → option_map (event_read buffer) result ≡ mark_of (words_of rest.now) }
-{
-    let (backend, rest) = cut_word(rest)?;
-    let (server, note) = cut_word(rest)?;
-    if let Some((_last, _more)) = cut_word(note) {
-        return None;
-    }
-    let backend = read_decimal(backend, 65535)?;
-    let server = read_decimal(server, 65535)?;
-    let health = read_health(note)?;
-    Some(EventRequest::Mark(backend as u16, server as u16, health))
 }
 
 /// The event of a verb that takes the name of a connection and no more.
@@ -270,9 +241,6 @@ fn read_event_words(verb: &[u8], rest: &[u8], buffer: &mut [u8]) -> Option<Event
     }
     if is(verb, b"close") {
         return read_close(rest);
-    }
-    if is(verb, b"server") {
-        return read_mark(rest);
     }
     read_bare_event(verb, rest)
 }

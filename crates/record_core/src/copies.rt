@@ -23,7 +23,6 @@ pub fn copy_event(alloc: Global, event: &Event) -> Result<OwnedEvent, AllocError
         Event::Close(id, why) => Ok(OwnedEvent::Close(id, why)),
         Event::Expire(id) => Ok(OwnedEvent::Expire(id)),
         Event::Reload(text) => Ok(OwnedEvent::Reload(Seq::duplicate_of(alloc, text.as_bytes())?)),
-        Event::Mark(backend, server, health) => Ok(OwnedEvent::Mark(backend, server, health)),
     }
 }
 
@@ -63,7 +62,6 @@ fn copy_said(said: &Said) -> Said
         Said::Up { id } => Said::Up { id },
         Said::Closed { id, why } => Said::Closed { id, why },
         Said::Reloaded { version } => Said::Reloaded { version },
-        Said::Marked { line, health } => Said::Marked { line, health },
     }
 }
 

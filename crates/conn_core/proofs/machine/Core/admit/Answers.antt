@@ -48,7 +48,6 @@ returns-clause-reply c =
     let sees = view_at_accept q c.args.now number c.args.real own version frontend facts there (well_at q c.self.invariant.well number own there).given (record {
       rows = refl;
       tables = refl;
-      down = refl;
       version_is = refl;
       frontend_is = refl;
       name = sums.name;

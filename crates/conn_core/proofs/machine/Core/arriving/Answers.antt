@@ -26,7 +26,6 @@ returns c =
     (record {
       rows = ap (λ (p : Plain). p.frontends) c.self.view_is;
       tables = ap (λ (p : Plain). p.tables) c.self.view_is;
-      down = ap (λ (p : Plain). p.down) c.self.view_is;
       version_is = refl;
       frontend_is = refl;
       name = sums.name;

@@ -32,7 +32,6 @@ forget_after-requires c = λ last.
       frontends = spoken before.versions (Piece c.args.id c.args.piece.now) c.args.id c.receive-reply.result before.frontends;
       versions = with_said c.in_ok-row.row.version c.receive-reply.result.said before.versions;
       tables = tables_by before.frontends before.tables c.receive-reply.result;
-      down = before.down;
     } in
     let leaves : state_of_rows c.receive-reply.new.rows ≡ left c.self.inside.rows = c.receive-reply.ensures.new ∙ ap left c.reserve.ensures.same in
     subst (λ (s : RowsState). AreTracksHeld s.frontends (versions_needed s.frontends s.versions)) (sym leaves)
@@ -50,7 +49,7 @@ after_is c =
     let found = c.in_ok-row.ensures.ok.0 in
     let waits : waiting_row rows.frontends c.args.id ≡ Ok found = ap (λ p. waiting_row p.frontends c.args.id) c.self.view_is ∙ c.in_ok-row.ensures.ok.1 in
     let is : answer_in (state c) c.args.moment (Piece c.args.id c.args.piece.now) ≡ Ok c.receive-reply.result =
-    c.receive-reply.ensures.reply (state c) (record { frontends = ap (λ r. r.frontends) (sym room); versions = ap (λ r. r.versions) (sym room); tables = ap (λ r. r.tables) (sym room); down = ap (λ r. r.down) (sym room) }) in
+    c.receive-reply.ensures.reply (state c) (record { frontends = ap (λ r. r.frontends) (sym room); versions = ap (λ r. r.versions) (sym room); tables = ap (λ r. r.tables) (sym room) }) in
     let speaks = (answered (state c) c.args.moment (Piece c.args.id c.args.piece.now) c.receive-reply.result is).speaks in
     let left : ℕ → RowsValue → Plain = λ version before. record {
       clock = c.max-self-inside.result;
@@ -58,11 +57,10 @@ after_is c =
       frontends = spoken before.versions (Piece c.args.id c.args.piece.now) c.args.id c.receive-reply.result before.frontends;
       versions = with_said version c.receive-reply.result.said before.versions;
       tables = tables_by before.frontends before.tables c.receive-reply.result;
-      down = before.down;
     } in
     let last : Bool = is_last c.receive-reply.result.said in
     let leaves : state_of c.max-self-inside.result c.self.inside.listeners c.receive-reply.new.rows ≡ left found.0.version rows =
-    ap (λ (s : RowsState). record { clock = c.max-self-inside.result; listeners = c.self.inside.listeners; frontends = s.frontends; versions = s.versions; tables = s.tables; down = s.down }) c.receive-reply.ensures.new
+    ap (λ (s : RowsState). record { clock = c.max-self-inside.result; listeners = c.self.inside.listeners; frontends = s.frontends; versions = s.versions; tables = s.tables }) c.receive-reply.ensures.new
     ∙ ap (left c.in_ok-row.row.version) room ∙ ap (λ (s : RowSummary). left s.version rows) c.in_ok-row.ensures.ok.2 in
     subst (IsAfter (state c) (entry c.args.moment (Piece c.args.id c.args.piece.now) c.receive-reply.result))
     (ap (λ n. pruned_if last (record (left found.0.version rows) { clock = n })) (sym c.max-self-inside.ensures) ∙ ap (pruned_if last) (sym leaves)

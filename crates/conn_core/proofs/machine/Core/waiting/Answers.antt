@@ -42,5 +42,5 @@ returns c = if_some (SeesOpen c.self.inside.rows c.args.id c.in-Ok.row.version c
       };
       version_is = sees.version_is;
       frontend_is = sees.frontend_is;
-      view = sees.view q (record { own = refl; named = λ name. refl; offered = λ name. refl; served = λ server. refl; tracks = refl; tracked = refl; tables = refl; down = refl });
+      view = sees.view q (record { own = refl; named = λ name. refl; offered = λ name. refl; served = λ server. refl; tracks = refl; tracked = refl; tables = refl });
     })
