@@ -1,5 +1,5 @@
 -- The servers of a backend, and their numbers.
-use Rattle.std.specs.Prelude.{ℕ, Bool, false, List, [], ◌∷◌, ◌++◌, slice_get, Option, Some, None, ◌+◌, ◌-◌, min, ◌&&◌, nat_lt}
+use Rattle.std.specs.Prelude.{ℕ, Bool, false, List, [], ◌∷◌, ◌++◌, slice_get, Option, Some, None, ◌+◌, ◌-◌, min, ◌&&◌, ◌==◌, if◌then◌else◌, nat_lt}
 use Rattle.std.specs.List.{range_with_len}
 use Rattle.std.specs.Option.{option_map_or}
 use Rattle.balance_core.specs.declared.load.ServerLoad.{ServerLoad}
@@ -26,6 +26,10 @@ total_weight (server ∷ servers) = server.weight + total_weight servers
 abbrev pub first_after : Option ℕ → ℕ → ℕ
 first_after None count = 0
 first_after (Some last) count = min (last + 1) count
+
+-- the one that comes next, going round
+abbrev pub next_after : Option ℕ → ℕ → ℕ
+next_after last count = if first_after last count == count then 0 else first_after last count
 
 -- the numbers below count in the order in which they come after last, going round
 abbrev pub going_round : Option ℕ → ℕ → List ℕ

@@ -1,12 +1,12 @@
 //! Round robin.
 ghost use Rattle.std.specs.Prelude.{◌≡◌, ◌-◌, ◌≤◌, length, find, option_map, option_and_then, slice_get, Some, IfSome};
 ghost use Rattle.std.specs.List.{range_with_len};
-ghost use Rattle.balance_core.specs.Loads.{first_after, has_room_at, room_in};
+ghost use Rattle.balance_core.specs.Loads.{first_after, has_room_at, next_after, room_in};
 ghost use Rattle.balance_core.specs.Rounds.{weights_of, next_turn};
 ghost use Rattle.balance_core.specs.Cycles.{IsRound, turn_at, placed_at, passes_at, next_place};
 
 use crate::cycle::Cycle;
-use crate::load::{Load, Rooms};
+use crate::load::{Load, Rooms, has_room};
 use proxy_types::Place;
 
 /// A place of the cycle, counted from 0, and its server.
@@ -28,8 +28,27 @@ pub fn pick_round<L: Load>(cycle: &Cycle, last: Option<usize>, load: &L) -> Opti
 fn place_after<L: Load>(cycle: &Cycle, last: Option<usize>, load: &L) -> Option<Placed>
     ensures { result ≡ next_place (has_room_at (L.servers load.now)) cycle.now last }
 {
+    let places = cycle.places();
+    let next = next_after(last, places.len());
+    if let Some(turn) = places.get(next) {
+        let server = turn.server;
+        if has_room(load, server) {
+            return Some(Placed {
+                place: next,
+                server,
+            });
+        }
+    }
     let rooms = Rooms::of(load);
-    place_with_room(cycle.places(), last, &rooms)
+    place_with_room(places, last, &rooms)
+}
+
+/// The place that comes next, going round.
+fn next_after(last: Option<usize>, count: usize) -> usize
+    ensures { result ≡ next_after last count }
+{
+    let begin = begin_after(last, count);
+    if begin == count { 0 } else { begin }
 }
 
 fn place_with_room(places: &[Place], last: Option<usize>, rooms: &Rooms) -> Option<Placed>
