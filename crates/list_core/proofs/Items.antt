@@ -4,7 +4,7 @@ use Rattle.std.specs.Prelude.{nat_lt, slice_get, slice_set, ◌≢◌}
 use Rattle.std.specs.List.{position, position_or_len, AllByRecursion}
 use Rattle.std.proofs.lemmas.Bool.Decides.{nat_tests}
 use Rattle.std.proofs.lemmas.List.Quantifiers.{position-Some}
-use Rattle.std.proofs.lemmas.Option.{get_or_from_slice_get}
+use Rattle.std.proofs.lemmas.Option.{get_or_from_slice_get, slice_get_within}
 
 pub within : {X : Type 0} (xs : List X) (n : ℕ) → n < length xs → (x : X) × (slice_get xs n ≡ Some x)
 within [] n less = absurd (omega (arith, less))
@@ -97,3 +97,35 @@ found {X} p (y ∷ ys) n is =
     let at = position-Some p (y ∷ ys) n y is in
     let item = within (y ∷ ys) n at.0 in
     (item.0, item.1, ap p (sym (get_or_from_slice_get (y ∷ ys) n item.0 y item.1)) ∙ at.1)
+
+-- The first of a list that passes.
+
+first_or_len : {X : Type 0} (p : X → Bool) (xs : List X) (n : ℕ) (x : X) → slice_get xs n ≡ Some x → p x ≡ true → ((m : ℕ) (y : X) → m < n → slice_get xs m ≡ Some y → p y ≡ false)
+    → position_or_len p xs ≡ n
+first_or_len p [] n x there is before = absurd (cc)
+first_or_len {X} p (y ∷ xs) zero x there is before =
+    let first : p y ≡ true = ap p (one_item (slice_get (y ∷ xs) 0) y x refl there) ∙ is in
+    rw first refl
+first_or_len {X} p (y ∷ xs) (suc n) x there is before =
+    let first : p y ≡ false = before 0 y (omega arith) refl in
+    let later : position_or_len p xs ≡ n = first_or_len p xs n x there is (λ m z lt at. before (suc m) z (omega (arith, lt)) at) in
+    rw first (omega (arith, later))
+
+pub position_first : {X : Type 0} (p : X → Bool) (xs : List X) (n : ℕ) (x : X) → slice_get xs n ≡ Some x → p x ≡ true → ((m : ℕ) (y : X) → m < n → slice_get xs m ≡ Some y → p y ≡ false)
+    → position p xs ≡ Some n
+position_first p xs n x there is before =
+    let low : n < length xs = slice_get_within xs n x there in
+    let lt : nat_lt n (length xs) ≡ true = grind (arith, nat_tests, low) in
+    rw (first_or_len p xs n x there is before, lt) refl
+
+none_or_len : {X : Type 0} (p : X → Bool) (xs : List X) → ((m : ℕ) (y : X) → slice_get xs m ≡ Some y → p y ≡ false) → position_or_len p xs ≡ length xs
+none_or_len p [] none = refl
+none_or_len p (y ∷ xs) none =
+    let first : p y ≡ false = none 0 y refl in
+    let later : position_or_len p xs ≡ length xs = none_or_len p xs (λ m z at. none (suc m) z at) in
+    rw first (omega (arith, later))
+
+pub position_none : {X : Type 0} (p : X → Bool) (xs : List X) → ((m : ℕ) (y : X) → slice_get xs m ≡ Some y → p y ≡ false) → position p xs ≡ None
+position_none p xs none =
+    let past : nat_lt (length xs) (length xs) ≡ false = grind (arith, nat_tests) in
+    rw (none_or_len p xs none, past) refl

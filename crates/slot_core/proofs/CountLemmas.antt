@@ -12,7 +12,7 @@ use Rattle.proxy_types.specs.declared.server.ServerIdentity.{ServerIdentity}
 use Rattle.slot_core.specs.declared.slots.Count.{Count}
 use Rattle.slot_core.specs.declared.slots.SlotIx.{SlotIx}
 use Rattle.slot_core.specs.Counts.{is_of, place_of, closed, open_at, open_in, open_in_all, identity_at, named_at, changed, with_open, slots_at, IdentitiesDiffer}
-use Rattle.list_core.proofs.Items.{absent, found, get-other, get-set, one_item}
+use Rattle.list_core.proofs.Items.{absent, all-at, found, get-other, get-set, one_item, position_first}
 use Rattle.addr_core.specs.declared.addr.Addr.{Addr}
 use Rattle.addr_core.specs.declared.addr.Endpoint.{Endpoint}
 use Rattle.addr_core.specs.Same.{same_addr, same_endpoint}
@@ -275,3 +275,23 @@ named-within (suc m) (b ∷ named) is = let less : m < length named = named-with
 pub identity-last : (new : Count) (cs : List Count) → identity_at (length cs) (cs ++ new ∷ []) ≡ Some new.identity
 identity-last new [] = refl
 identity-last new (c ∷ cs) = identity-last new cs
+
+-- a count of a server is the only one
+pub position_only : (identity : ServerIdentity) (counts : List Count) (n : ℕ) (count : Count) → IdentitiesDiffer counts → slice_get counts n ≡ Some count → is_of identity count ≡ true
+    → place_of identity counts ≡ Some n
+position_only identity counts n count differ there is = position_first (is_of identity) counts n count there is (earlier counts n differ there)
+  where
+    same : count.identity ≡ identity
+    same = server_is count.identity identity is
+
+    earlier : (cs : List Count) (k : ℕ) → IdentitiesDiffer cs → slice_get cs k ≡ Some count → (m : ℕ) (y : Count) → m < k → slice_get cs m ≡ Some y → is_of identity y ≡ false
+    earlier [] k differ at m y lt here = absurd (cc)
+    earlier (c ∷ cs) zero differ at m y lt here = absurd (omega (arith, lt))
+    earlier (c ∷ cs) (suc k) differ at zero y lt here =
+        let own : c ≡ y = one (slice_get (c ∷ cs) 0) c y refl here in
+        let apart : same_server c.identity count.identity ≡ false = all-at (λ other. same_server c.identity other.identity ≡ false) cs k count differ.0 at in
+        rw (← own, ← same) apart
+      where
+        one : (o : Option Count) (x z : Count) → o ≡ Some x → o ≡ Some z → x ≡ z
+        one = one_item
+    earlier (c ∷ cs) (suc k) differ at (suc m) y lt here = earlier cs k differ.1 at m y (omega (arith, lt)) here

@@ -1,3 +1,4 @@
-pub mod CountLemmas
-pub mod TotalLemmas
 pub mod AddLemmas
+pub mod CountLemmas
+pub mod FindLemmas
+pub mod TotalLemmas

@@ -128,7 +128,7 @@ impl Slots {
         ensures err { OnErr result (self.new ≡ self.old) }
         ensures err_named { OnErr result (named.new ≡ named.old) }
     {
-        if let Some(place) = find(self.counts.as_slice(), identity) {
+        if let Some(place) = self.find(identity, named.next_noted()) {
             named.note(SlotIx { place });
             return Ok(SlotIx { place });
         }
@@ -142,6 +142,29 @@ impl Slots {
         self.push(identity)?;
         named.named.push_reserved(true);
         Ok(SlotIx { place })
+    }
+
+    /// Where an identity is counted. It is looked for at that place first.
+    fn find(&self, identity: &ServerIdentity, guess: usize) -> Option<usize>
+        ensures { result ≡ place_of identity.now self.now }
+    {
+        match self.counts.get(guess) {
+            Some(count) if count.identity.is_same(identity) => Some(guess),
+            _ => self.search(identity),
+        }
+    }
+
+    /// The same by a look at the servers of its backend.
+    fn search(&self, identity: &ServerIdentity) -> Option<usize>
+        ensures { result ≡ place_of identity.now self.now }
+    {
+        let total = find_total(self.totals.as_slice(), identity.backend.as_slice())?;
+        for place in 0..self.counts.len() {
+            if self.backends[place] == total && self.counts[place].identity.is_same(identity) {
+                return Some(place);
+            }
+        }
+        None
     }
 
     /// Gives a place to whose server no connection is open to a new identity.
@@ -262,12 +285,4 @@ fn find_named<'a>(
     ensures { option_copied result ≡ find (is_of (record { backend = backend.now; name = name.now; to = to.now })) counts.now }
 {
     counts.iter().find(|count| is_of(count, backend, name, to))
-}
-
-fn find(counts: &[Count], identity: &ServerIdentity) -> Option<usize>
-    ensures { result ≡ position (is_of identity.now) counts.now }
-{
-    counts
-        .iter()
-        .position(|count| count.identity.is_same(identity))
 }

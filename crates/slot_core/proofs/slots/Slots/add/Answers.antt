@@ -12,12 +12,12 @@ use Rattle.slot_core.proofs.slots.Slots.add.Goals as goal
 pub returns-in-Some-clause-there : goal.returns-in-Some-clause-there
 returns-in-Some-clause-there c =
     place_identity c.args.identity.now c.args.self.now c.in-Some.place
-    (ap (position (is_of c.args.identity.now)) (sym (c.as_slice.ensures.value ∙ c.self.view_is)) ∙ sym c.find.ensures ∙ c.in-Some.is)
+    (sym c.find.ensures ∙ c.in-Some.is)
 
 pub returns-in-Some-clause-named : goal.returns-in-Some-clause-named
 returns-in-Some-clause-named c =
     let item = found (is_of c.args.identity.now) c.args.self.now c.in-Some.place
-    (ap (position (is_of c.args.identity.now)) (sym (c.as_slice.ensures.value ∙ c.self.view_is)) ∙ sym c.find.ensures ∙ c.in-Some.is) in
+    (sym c.find.ensures ∙ c.in-Some.is) in
     let less : c.in-Some.place < length c.args.self.now = slice_get_within c.args.self.now c.in-Some.place item.0 item.1 in
     let many = c.requires in
     rw c.note.ensures (now_named c.in-Some.place c.args.named.now (omega (arith, less, many)))
@@ -28,13 +28,13 @@ returns-in-Some-clause-still_named c = rw c.note.ensures (λ place is. still_nam
 -- It is given one that is free.
 
 free_place : (c : goal.After-note-in-Some-free) → c.in-Some-free.place < length c.args.self.now
-free_place c = rw (← c.self.view_is, ← c.as_slice-2.ensures.value) c.in-Some-free.ensures.found
+free_place c = rw (← c.self.view_is, ← c.as_slice.ensures.value) c.in-Some-free.ensures.found
 
 replaced : (c : goal.After-note-in-Some-free) → IsAdded c.args.identity.now c.in-Some-free.place c.args.self.now c.args.named.now c.replace.new.self
 replaced c =
-    let same = c.as_slice-2.ensures.value ∙ c.self.view_is in
+    let same = c.as_slice.ensures.value ∙ c.self.view_is in
     let new : position (is_of c.args.identity.now) c.args.self.now ≡ None =
-    ap (position (is_of c.args.identity.now)) (sym (c.as_slice.ensures.value ∙ c.self.view_is)) ∙ sym c.find.ensures ∙ c.in_default.is in
+    sym c.find.ensures ∙ c.in_default.is in
     rw c.in_ok-replace.ensures.ok
     (in_place c.args.identity.now c.in-Some-free.place c.args.self.now c.args.named.now (free_place c) c.in-Some-free.ensures.unnamed (ap (open_at c.in-Some-free.place) (sym same) ∙ c.in-Some-free.ensures.closed)
     new (subst IdentitiesDiffer c.self.view_is c.self.invariant.apart))
@@ -74,7 +74,7 @@ last c = c.len-place.ensures ∙ c.self.inside.counts.ok.0 ∙ ap length c.self.
 pushed : (c : goal.After-push_reserved) → IsAdded c.args.identity.now c.len-place.result c.args.self.now c.args.named.now c.push.new.self
 pushed c =
     let new : position (is_of c.args.identity.now) c.args.self.now ≡ None =
-    ap (position (is_of c.args.identity.now)) (sym (c.as_slice.ensures.value ∙ c.self.view_is)) ∙ sym c.find.ensures ∙ c.in_default.is in
+    sym c.find.ensures ∙ c.in_default.is in
     rw (c.in_ok-push.ensures.ok, last c) (at_end c.args.identity.now c.args.self.now c.args.named.now c.requires new (subst IdentitiesDiffer c.self.view_is c.self.invariant.apart))
 
 pub returns-clause-there : goal.returns-clause-there
