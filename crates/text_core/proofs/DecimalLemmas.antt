@@ -1,10 +1,11 @@
 -- Decimal numbers as text.
 use Rattle.std.proofs.Common.{◌≡◌, ℕ, zero, suc, ◌+◌, ◌-◌, ◌*◌, ◌/◌, ◌%◌, ◌^◌, ◌<◌, ◌≤◌, Bool, true, false, List, [], ◌∷◌, ◌++◌, length, take, drop, get_or, Some, None, refl, ◌∙◌, sym, ap, arith, append_assoc, append-nil, length-append}
-use Rattle.std.specs.Prelude.{not, ◌&&◌, nat_lt, nat_le}
+use Rattle.std.specs.Prelude.{not, ◌&&◌, if◌then◌else◌, nat_lt, nat_le}
 use Rattle.std.specs.List.{fold, list_all}
 use Rattle.std.specs.Char.{is_ascii_digit}
 use Rattle.std.proofs.lemmas.Bool.Decides.{nat_tests}
 use Rattle.std.proofs.lemmas.List.{take-append-drop}
+use Rattle.std.proofs.lemmas.List.Folds.{list_all_at}
 use Rattle.std.proofs.lemmas.List.Sums.{fold-append, fold_more}
 use Rattle.text_core.specs.Decimal.{digits_in, decimal, value_of, has_leading_zero, is_decimal, up_to, decimal_of}
 
@@ -236,6 +237,18 @@ past_at_digit text i n most so_far lt past = by (nat_le (n * 10 + (get_or text i
         let large : most < value_of text = omega (arith, so_far, more, front, here) in
         let whole : nat_le (value_of text) most ≡ false = grind (arith, nat_tests) in
         rw whole refl
+
+-- no digit, or past the greatest number at some digit: there is no number
+pub stops_at_byte : (text : List ℕ) (i n most : ℕ) → n ≡ value_of (take i text) → i < length text
+    → (if is_ascii_digit (get_or text i 0) then up_to most (n * 10 + (get_or text i 0 - 48)) else None) ≡ None
+    → (if list_all is_ascii_digit text then up_to most (value_of text) else None) ≡ None
+stops_at_byte text i n most so_far lt stops = by (is_ascii_digit (get_or text i 0)) (list_all is_ascii_digit text) refl refl
+  where
+    by : (digit all : Bool) → is_ascii_digit (get_or text i 0) ≡ digit → list_all is_ascii_digit text ≡ all
+        → (if list_all is_ascii_digit text then up_to most (value_of text) else None) ≡ None
+    by digit false is none = rw none refl
+    by true true is all = rw all (past_at_digit text i n most so_far lt (rw is at stops))
+    by false true is all = let other = list_all_at is_ascii_digit text i 0 lt is in absurd cc
 
 -- one digit more
 pub length-decimal_step : (n : ℕ) → 10 ≤ n → length (decimal n) ≡ length (decimal (n / 10)) + 1

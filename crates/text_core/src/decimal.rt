@@ -1,8 +1,8 @@
 //! Decimal numbers as text.
-ghost use Rattle.std.specs.Prelude.{◌≡◌, ◌+◌, ◌-◌, ◌*◌, ◌/◌, ◌%◌, ◌<◌, ◌≤◌, ◌↔◌, ◌++◌, ◌∷◌, [], ℕ, length, Some, IfSome, OnOk};
+ghost use Rattle.std.specs.Prelude.{◌≡◌, ◌+◌, ◌-◌, ◌*◌, ◌/◌, ◌%◌, ◌<◌, ◌≤◌, ◌↔◌, ◌++◌, ◌∷◌, [], ℕ, if◌then◌else◌, length, None, Some, IfSome, OnOk};
 ghost use Rattle.std.specs.List.{list_all};
 ghost use Rattle.std.specs.Char.{is_ascii_digit};
-ghost use Rattle.text_core.specs.Decimal.{decimal, decimal_of, has_leading_zero, is_decimal, number_of, up_to, value_of};
+ghost use Rattle.text_core.specs.Decimal.{decimal, decimal_of, has_leading_zero, number_of, up_to, value_of};
 
 use arrayvec::ArrayString;
 use std::alloc::AllocError;
@@ -48,30 +48,46 @@ pub fn number_up_to(digits: &[u8], most: u64) -> Option<u64>
     Some(number)
 }
 
+/// The number with one more digit. There is none where the byte is no digit, and above `most`.
+fn with_digit_of(number: u64, byte: u8, most: u64) -> Option<u64>
+    ensures { result ≡ (if is_ascii_digit byte then up_to most (number * 10 + (byte - 48)) else None) }
+{
+    if !byte.is_ascii_digit() {
+        return None;
+    }
+    with_digit(number, byte, most)
+}
+
+/// The number of a text of digits, leading zeros or not, in one pass. There is none where the text has another
+/// character, and above `most`.
+fn digits_up_to(text: &[u8], most: u64) -> Option<u64>
+    ensures { result ≡ (if list_all is_ascii_digit text.now then up_to most (value_of text.now) else None) }
+{
+    let mut number = 0;
+    for byte in text {
+        number = with_digit_of(number, *byte, most)?;
+    }
+    Some(number)
+}
+
 /// The number of a text of decimal digits, leading zeros or not. There is none where the text is empty
 /// or has another character, and above `most`.
 pub fn read_number(text: &[u8], most: u64) -> Option<u64>
     ensures { result ≡ number_of text.now most }
 {
-    if text.is_empty() || !are_digits(text) {
+    if text.is_empty() {
         return None;
     }
-    number_up_to(text, most)
-}
-
-fn is_decimal(text: &[u8]) -> bool
-    ensures { result ≡ is_decimal text.now }
-{
-    !text.is_empty() && are_digits(text) && !has_leading_zero(text)
+    digits_up_to(text, most)
 }
 
 fn number_of(text: &[u8], most: u64) -> Option<u64>
     ensures { result ≡ decimal_of text.now most }
 {
-    if !is_decimal(text) {
+    if text.is_empty() || has_leading_zero(text) {
         return None;
     }
-    number_up_to(text, most)
+    digits_up_to(text, most)
 }
 
 /// The number of a text of decimal digits. There is none where the text is empty or has another
