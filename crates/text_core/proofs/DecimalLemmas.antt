@@ -269,3 +269,21 @@ decimal_pairs n low =
     decimal_step n (omega arith) ∙ ap (λ xs. xs ++ (48 + n % 10) ∷ []) (decimal_step (n / 10) (omega arith))
     ∙ append_assoc (decimal (n / 10 / 10)) ((48 + n / 10 % 10) ∷ []) ((48 + n % 10) ∷ [])
     ∙ rw (rest, tens, ones) refl
+
+-- two digits more
+pub length-decimal_pairs : (n : ℕ) → 100 ≤ n → length (decimal n) ≡ length (decimal (n / 100)) + 2
+length-decimal_pairs n low =
+    ap length (decimal_pairs n low) ∙ length-append (decimal (n / 100)) ((48 + n % 100 / 10) ∷ (48 + n % 100 % 10) ∷ [])
+
+-- the last two of the digits that are missing, in front of those that are there
+pub written_on : (n : ℕ) (there there_new all : List ℕ) → 100 ≤ n → there_new ≡ (48 + n % 100 / 10) ∷ (48 + n % 100 % 10) ∷ there → decimal n ++ there ≡ all
+    → decimal (n / 100) ++ there_new ≡ all
+written_on n there there_new all low new is =
+    let pair = (48 + n % 100 / 10) ∷ (48 + n % 100 % 10) ∷ [] in
+    ap (λ xs. decimal (n / 100) ++ xs) new ∙ sym (append_assoc (decimal (n / 100)) pair there)
+    ∙ ap (λ xs. xs ++ there) (sym (decimal_pairs n low)) ∙ is
+
+-- the last two digits after the others, which are after a text
+pub pair_after : (text : List ℕ) (n : ℕ) → 100 ≤ n → (text ++ decimal (n / 100)) ++ (48 + n % 100 / 10) ∷ (48 + n % 100 % 10) ∷ [] ≡ text ++ decimal n
+pair_after text n low =
+    append_assoc text (decimal (n / 100)) ((48 + n % 100 / 10) ∷ (48 + n % 100 % 10) ∷ []) ∙ ap (λ xs. text ++ xs) (sym (decimal_pairs n low))

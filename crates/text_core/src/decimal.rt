@@ -1,10 +1,10 @@
 //! Decimal numbers as text.
-ghost use Rattle.std.specs.Prelude.{◌≡◌, ◌+◌, ◌-◌, ◌*◌, ◌/◌, ◌%◌, ◌<◌, ◌≤◌, ◌↔◌, ◌++◌, ◌∷◌, [], ℕ, if◌then◌else◌, length, None, Some, IfSome, OnOk};
+ghost use Rattle.std.specs.Prelude.{◌≡◌, ◌+◌, ◌-◌, ◌*◌, ◌/◌, ◌%◌, ◌<◌, ◌≤◌, ◌↔◌, ◌++◌, ◌∷◌, [], ℕ, drop, if◌then◌else◌, length, None, Some, IfSome, OnOk};
 ghost use Rattle.std.specs.List.{list_all};
 ghost use Rattle.std.specs.Char.{is_ascii_digit};
 ghost use Rattle.text_core.specs.Decimal.{decimal, decimal_of, has_leading_zero, number_of, up_to, value_of};
 
-use arrayvec::ArrayString;
+use arrayvec::{ArrayString, ArrayVec};
 use std::alloc::AllocError;
 
 /// As many digits as `u64::MAX` has.
@@ -151,6 +151,91 @@ fn append_pair(out: &mut Vec<u8>, pair: u8) -> Result<(), AllocError>
     out.extend_from_slice(&[b'0' + pair / 10, b'0' + pair % 10])
 }
 
+/// Appends the two last digits of a number. There must be room.
+fn push_pair<const CAP: usize>(text: &mut ArrayVec<u8, CAP>, pair: u8)
+    requires pair { pair < 100 }
+    requires room { length text.old.items + 2 ≤ CAP }
+    ensures { text.new.items ≡ text.old.items ++ (48 + pair / 10) ∷ (48 + pair % 10) ∷ [] }
+{
+    text.push(b'0' + pair / 10);
+    text.push(b'0' + pair % 10);
+}
+
+/// Appends the one or two first digits of a number. There must be room.
+fn push_first<const CAP: usize>(text: &mut ArrayVec<u8, CAP>, first: u8)
+    requires first { first < 100 }
+    requires room { length text.old.items + 2 ≤ CAP }
+    ensures text { text.new.items ≡ text.old.items ++ decimal first }
+    ensures fits { length text.new.items ≤ length text.old.items + 2 }
+{
+    if first < 10 {
+        text.push(b'0' + first);
+        return;
+    }
+    push_pair(text, first);
+}
+
+/// Appends a number of at most five digits in decimal. There must be room for five.
+pub fn push_short<const CAP: usize>(text: &mut ArrayVec<u8, CAP>, number: u16)
+    requires { length text.old.items + 5 ≤ CAP }
+    ensures text { text.new.items ≡ text.old.items ++ decimal number }
+    ensures fits { length text.new.items ≤ length text.old.items + 5 }
+{
+    if number < 100 {
+        push_first(text, number as u8);
+        return;
+    }
+    if number < 10_000 {
+        push_first(text, (number / 100) as u8);
+        push_pair(text, (number % 100) as u8);
+        return;
+    }
+    text.push(b'0' + (number / 10_000) as u8);
+    push_pair(text, (number / 100 % 100) as u8);
+    push_pair(text, (number % 100) as u8);
+}
+
+/// Writes the two last digits of a number at a place.
+fn put_pair(digits: &mut [u8; MOST_DIGITS], at: usize, pair: u8)
+    requires pair { pair < 100 }
+    requires room { at + 2 ≤ MOST_DIGITS }
+    ensures { drop at digits.new ≡ (48 + pair / 10) ∷ (48 + pair % 10) ∷ drop (at + 2) digits.old }
+{
+    digits[at] = b'0' + pair / 10;
+    digits[at + 1] = b'0' + pair % 10;
+}
+
+/// Writes the one or two first digits of a number so that they end at a place, and says where they begin.
+fn put_first(digits: &mut [u8; MOST_DIGITS], end: usize, first: u8) -> usize
+    requires first { first < 100 }
+    requires room { length (decimal first) ≤ end }
+    requires end { end ≤ MOST_DIGITS }
+    ensures within { result ≤ end }
+    ensures written { drop result digits.new ≡ decimal first ++ drop end digits.old }
+{
+    if first < 10 {
+        digits[end - 1] = b'0' + first;
+        return end - 1;
+    }
+    put_pair(digits, end - 2, first);
+    end - 2
+}
+
+/// Writes the digits of a number at the end, and says where they begin.
+fn put_digits(digits: &mut [u8; MOST_DIGITS], number: u64) -> usize
+    ensures within { result ≤ MOST_DIGITS }
+    ensures written { drop result digits.new ≡ decimal number }
+{
+    let mut at = MOST_DIGITS;
+    let mut rest = number;
+    while rest >= 100 {
+        at -= 2;
+        put_pair(digits, at, (rest % 100) as u8);
+        rest /= 100;
+    }
+    put_first(digits, at, rest as u8)
+}
+
 /// Appends the number in decimal. Where memory is short, some of its digits may have been appended.
 pub fn append_decimal(out: &mut Vec<u8>, number: u64) -> Result<(), AllocError>
     ensures { OnOk result (out.new.items ≡ out.old.items ++ decimal number) }
@@ -162,6 +247,7 @@ pub fn append_decimal(out: &mut Vec<u8>, number: u64) -> Result<(), AllocError>
     if number < 100 {
         return append_pair(out, number as u8);
     }
-    append_decimal(out, number / 100)?;
-    append_pair(out, (number % 100) as u8)
+    let mut digits = [0u8; MOST_DIGITS];
+    let first = put_digits(&mut digits, number);
+    out.extend_from_slice(&digits[first..])
 }

@@ -1,4 +1,0 @@
-use Rattle.text_core.proofs.decimal.+append_decimal.Given as goal
-
-abbrev pub decreases-append_decimal : goal.decreases-append_decimal
-decreases-append_decimal l = l.number
