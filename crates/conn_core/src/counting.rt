@@ -21,6 +21,7 @@ use plan_types::{Section, Table, TableId, Track};
 use proxy_types::{KeyType, Stores};
 use rule_engine::Tracks;
 use stick_core::key_of;
+use text_core::is_same_name;
 
 /// Nobody tracks it, and nobody did.
 const NO_COUNTS: Counts = Counts { cur: 0, cnt: 0 };
@@ -148,7 +149,7 @@ fn place_of(tables: &[Table], name: &[u8]) -> Option<usize>
 {
     tables
         .iter()
-        .position(|table| table.name.as_slice() == name)
+        .position(|table| is_same_name(table.name.as_slice(), name))
 }
 
 /// The place of the table of the frontend of that name.
@@ -162,7 +163,7 @@ fn is_table_of(table: &Table, name: &[u8]) -> bool
     ensures { result ≡ is_table_of name.now table.now }
 {
     match table.section {
-        Section::Frontend => table.name.as_slice() == name,
+        Section::Frontend => is_same_name(table.name.as_slice(), name),
         Section::Backend => false,
     }
 }

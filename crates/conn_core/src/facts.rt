@@ -10,6 +10,7 @@ use conn_model::plain::Version;
 use conn_rows::Rows;
 use plan_types::{Frontend, TableId};
 use rule_engine::{Scene, Tracks};
+use text_core::is_same_name;
 
 /// What rules see of a connection.
 #[derive(Drop)]
@@ -77,7 +78,7 @@ impl RuleFacts<'_> {
         ensures { result ≡ open_named self.now.rows.now.frontends name.now + arrival_in self.now.arriving self.now.name.now name.now }
     {
         let open = self.rows.open_named(name);
-        if self.arriving && self.name == name {
+        if self.arriving && is_same_name(self.name, name) {
             open + 1
         } else {
             open

@@ -7,11 +7,12 @@ ghost use Rattle.conn_model.specs.Counts.{total};
 ghost use Rattle.conn_rows.specs.Counts.{open_stored};
 
 use crate::frontend::FrontendState;
+use text_core::is_same_name;
 
 fn has_name(own: &FrontendState, name: &[u8]) -> bool
     ensures { result ≡ bytes_eq own.now.name name.now }
 {
-    own.name() == name
+    is_same_name(own.name(), name)
 }
 
 /// How many connections of a frontend are open, if it has the name.

@@ -10,6 +10,7 @@ use crate::row::backend_in;
 use conn_model::settings::Settings;
 use conn_versions::item;
 use plan_types::{Backend, Frontend, Plan};
+use text_core::is_same_name;
 
 /// The frontend of that name.
 pub fn frontend_named<'a>(plan: &'a Plan, name: &[u8]) -> Option<&'a Frontend>
@@ -24,7 +25,7 @@ pub fn frontend_named<'a>(plan: &'a Plan, name: &[u8]) -> Option<&'a Frontend>
 fn has_name(frontend: &Frontend, name: &[u8]) -> bool
     ensures { result ≡ bytes_eq frontend.now.name name.now }
 {
-    frontend.name.as_slice() == name
+    is_same_name(frontend.name.as_slice(), name)
 }
 
 /// A server of a plan.

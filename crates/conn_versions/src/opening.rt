@@ -10,6 +10,7 @@ use list_core::Seq;
 use plan_types::{Backend, Section, Table, TableId};
 use proxy_types::{KeyType, Place, Stores};
 use std::alloc::{AllocError, Global};
+use text_core::is_same_name;
 
 /// A cursor for each backend, unset.
 pub fn cursors(alloc: Global, backends: &[Backend]) -> Result<Seq<Option<Place>>, AllocError>
@@ -87,7 +88,7 @@ fn same_table(a: &Table, b: &Table) -> bool
     ensures { result ≡ same_table a.now b.now }
 {
     same_section(a.section, b.section)
-        && a.name.as_slice() == b.name.as_slice()
+        && is_same_name(a.name.as_slice(), b.name.as_slice())
         && same_kind(a.kind, b.kind)
         && a.size == b.size
         && same_stores(a.stores, b.stores)

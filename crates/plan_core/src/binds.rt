@@ -6,6 +6,7 @@ ghost use Rattle.addr_core.specs.Same.{same_endpoint};
 ghost use Rattle.plan_core.specs.Binds.{same_flag, same_bind, has_bind, has_named_bind, has_binds_of, has_all_binds, same_binds, SameBinds};
 
 use plan_types::{Bind, Frontend, Plan};
+use text_core::is_same_name;
 
 fn same_flag(a: bool, b: bool) -> bool
     ensures { result ≡ same_flag a b }
@@ -32,7 +33,7 @@ fn has_bind(frontend: &Frontend, bind: &Bind) -> bool
 fn is_named(frontend: &Frontend, name: &[u8]) -> bool
     ensures { result ≡ bytes_eq frontend.now.name name.now }
 {
-    frontend.name.as_slice() == name
+    is_same_name(frontend.name.as_slice(), name)
 }
 
 fn frontend_has_bind(frontend: &Frontend, name: &[u8], bind: &Bind) -> bool

@@ -13,7 +13,7 @@ use crate::proxies::{Proxy, is_frontend};
 use crate::tables::{action_of, number_of};
 use conf_tree::{ActionWords, ConfigLine, Statement};
 use plan_types::{Backend, Table};
-use text_core::Word;
+use text_core::{Word, is_same_name};
 
 fn kind_number(kind: PlanKind) -> u8
     ensures { result ≡ kind_number kind }
@@ -65,7 +65,7 @@ fn bind_fault(proxy: &Proxy) -> Option<PlanFault>
 fn is_named(backend: &Backend, name: &Word) -> bool
     ensures { result ≡ bytes_eq backend.now.name name.now }
 {
-    backend.name.as_slice() == name.bytes()
+    is_same_name(backend.name.as_slice(), name.bytes())
 }
 
 /// The place of the backend of that name.

@@ -10,7 +10,7 @@ use conf_tree::{ConfigLine, Ruleset, Statement};
 use list_core::{Duplicate, Seq};
 use plan_types::{Action, Rule, Section, Stores, Table};
 use std::alloc::{AllocError, Global};
-use text_core::Word;
+use text_core::{Word, is_same_name};
 
 /// The table of a section.
 fn table_in(alloc: Global, proxy: &Proxy) -> Result<Option<Table>, AllocError>
@@ -45,7 +45,7 @@ pub fn tables_in(alloc: Global, all: &[Proxy]) -> Result<Seq<Table>, AllocError>
 fn is_named(table: &Table, name: &Word) -> bool
     ensures { result ≡ bytes_eq table.now.name name.now }
 {
-    table.name.as_slice() == name.bytes()
+    is_same_name(table.name.as_slice(), name.bytes())
 }
 
 fn is_table_of(table: &Table, name: &Word) -> bool

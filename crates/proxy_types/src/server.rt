@@ -5,6 +5,7 @@ ghost use Rattle.std.specs.Str.{bytes_eq};
 use addr_core::Endpoint;
 use list_core::{Duplicate, Seq};
 use std::alloc::{AllocError, Global};
+use text_core::is_same_name;
 
 /// What the counts of a server go by, through all versions of the configuration.
 #[derive(Debug, Drop)]
@@ -23,16 +24,10 @@ impl ServerIdentity {
         ensures value { result ≡ same_server self.now other.now }
         ensures equal { IsTrue result ↔ (self.now ≡ other.now) }
     {
-        is_same_name(&self.backend, &other.backend)
-            && is_same_name(&self.name, &other.name)
+        is_same_name(self.backend.as_slice(), other.backend.as_slice())
+            && is_same_name(self.name.as_slice(), other.name.as_slice())
             && self.to.is_same(&other.to)
     }
-}
-
-fn is_same_name(a: &Seq<u8>, b: &Seq<u8>) -> bool
-    ensures { result ≡ bytes_eq a.now b.now }
-{
-    a.as_slice() == b.as_slice()
 }
 
 impl Duplicate for ServerIdentity {

@@ -11,6 +11,7 @@ use list_core::Duplicate;
 use proxy_types::ServerIdentity;
 use std::alloc::{AllocError, Global};
 use std::marker::Model;
+use text_core::is_same_name;
 
 /// The open connections of a server.
 #[derive(Debug, Drop)]
@@ -271,8 +272,8 @@ impl Slots {
 fn is_of(count: &Count, backend: &[u8], name: &[u8], to: &Endpoint) -> bool
     ensures { result ≡ is_of (record { backend = backend.now; name = name.now; to = to.now }) count.now }
 {
-    count.identity.backend.as_slice() == backend
-        && count.identity.name.as_slice() == name
+    is_same_name(count.identity.backend.as_slice(), backend)
+        && is_same_name(count.identity.name.as_slice(), name)
         && count.identity.to.is_same(to)
 }
 

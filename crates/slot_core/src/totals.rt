@@ -5,6 +5,7 @@ ghost use Rattle.slot_core.specs.Totals.{has_name, is_unused, name_at, connectio
 
 use list_core::Seq;
 use std::alloc::{AllocError, Global};
+use text_core::is_same_name;
 
 /// The open connections to the servers of the backend of a name.
 #[derive(Debug, Drop)]
@@ -48,7 +49,7 @@ pub fn find_total(totals: &[BackendTotal], name: &[u8]) -> Option<usize>
 {
     totals
         .iter()
-        .position(|total| total.name.as_slice() == name)
+        .position(|total| is_same_name(total.name.as_slice(), name))
 }
 
 /// The first of which no server is counted.

@@ -45,7 +45,7 @@ loop-place-preserved c = λ n count lt at. by n count (earlier n c.loop-place.pl
 
     here : (count : Count) → slice_get c.args.self.now c.loop-place.place ≡ Some count → is_of c.args.identity.now count ≡ false
     here count at = elim c.else-index-total.branch [
-      else-index-total-via-then-index-total+else-is_same w ↦
+      | else-index-total-via-then-index-total+else-is_same w ↦
           let there : slice_get c.args.self.now c.loop-place.place ≡ Some w.index-then-index-total.result.now =
           ap (λ counts. slice_get counts c.loop-place.place) (sym c.self.view_is)
           ∙ slice_get-get_or c.self.inside.counts.items c.loop-place.place w.index-then-index-total.result.now counted ∙ ap Some (sym w.index-then-index-total.ensures) in
