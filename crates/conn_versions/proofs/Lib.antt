@@ -5,3 +5,4 @@ pub mod Founds
 pub mod Written
 pub mod Changes
 pub mod Judged
+pub mod Places

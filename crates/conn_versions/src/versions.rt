@@ -1,5 +1,5 @@
 //! Versions that are kept.
-ghost use Rattle.std.specs.Prelude.{◌≡◌, ◌+◌, ◌-◌, ◌<◌, ◌^◌, ◌==◌, ◌||◌, ℕ, true, false, not, nat_lt, List, [], ◌∷◌, map, filter, length, position, slice_get, slice_set, option_map, None, Some, IfNone, IfOk, IfSome, IsSome, OnOk, OnErr};
+ghost use Rattle.std.specs.Prelude.{◌≡◌, ◌+◌, ◌-◌, ◌<◌, ◌^◌, ◌==◌, ◌||◌, ℕ, true, false, not, nat_lt, List, [], ◌∷◌, map, filter, length, position, slice_get, slice_set, option_map, None, Some, IfNone, IfOk, IfSome, IsSome, IsTrue, OnOk, OnErr};
 ghost use Rattle.std.specs.List.{AllByRecursion};
 ghost use Rattle.std.specs.Option.{option_copied, option_map_or};
 ghost use Rattle.slot_core.specs.declared.slots.Count.{Count};
@@ -19,6 +19,7 @@ ghost use Rattle.conn_versions.specs.Slots.{KeepsPlaces};
 ghost use Rattle.conn_versions.specs.declared.versions.VersionPicks.{VersionPicks};
 ghost use Rattle.conn_versions.specs.Versions.{has_number, open_to, AreSound, HasServer};
 
+use crate::loads::item;
 use crate::opening::{cursors, table_ids};
 use crate::picks::{BackendPicks, note_places, pick, picks_of, slot_of, use_server};
 use addr_core::Addr;
@@ -228,7 +229,7 @@ impl Versions {
         let Some(place) = place_of(self.versions.as_slice(), version) else {
             unreachable!()
         };
-        let Some(number) = line_place(self.versions[place].plan.backends.as_slice(), line) else {
+        let Some(number) = place_with(&self.versions[place].plan, line, server) else {
             unreachable!()
         };
         let ix = slot_of(&self.picks[place].backends[number], server);
@@ -370,6 +371,37 @@ fn line_place(backends: &[Backend], line: u32) -> Option<usize>
     ensures { result ≡ position (has_line line) backends.now }
 {
     backends.iter().position(|backend| has_line(backend, line))
+}
+
+/// The place of the last backend that begins before that line.
+fn place_before(backends: &[Backend], line: u32) -> Option<usize>
+    ensures { IfSome result (λ place. place < length backends.now) }
+{
+    let next = backends.partition_point(|backend| backend.line < line);
+    next.checked_sub(1)
+}
+
+/// Whether the server of that number in the backend is of that line.
+fn has_server(backend: &Backend, line: u32, number: u16) -> bool
+    ensures { IsTrue result → has_line line backend.now ≡ true }
+{
+    match item(backend.servers.as_slice(), number) {
+        Some(server) => server.line == line,
+        None => false,
+    }
+}
+
+/// The place of the backend that has the server of a line. It is found without a look at other servers, where the
+/// backend has it under that number.
+fn place_with(plan: &Plan, line: u32, number: u16) -> Option<usize>
+    requires { IsSoundPlan plan.now }
+    ensures { result ≡ position (has_line line) plan.now.backends }
+{
+    let backends = plan.backends.as_slice();
+    match place_before(backends, line) {
+        Some(place) if has_server(&backends[place], line, number) => Some(place),
+        _ => line_place(backends, line),
+    }
 }
 
 fn cursor_at(cursors: &[Option<Place>], number: usize) -> Option<Place>

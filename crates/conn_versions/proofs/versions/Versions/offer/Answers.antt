@@ -24,8 +24,8 @@ unreachable-requires c =
     let wrong : None ≡ Some c.requires.there.kept = sym none ∙ some in
     cc
 
-pub unreachable-requires-in_default-line_place : goal.unreachable-requires-in_default-line_place
-unreachable-requires-in_default-line_place c =
+pub unreachable-requires-in_default-place_with : goal.unreachable-requires-in_default-place_with
+unreachable-requires-in_default-place_with c =
     let there : HasServer c.self.inside.versions.items c.args.version c.args.line c.args.server =
     subst (λ vs. HasServer vs c.args.version c.args.line c.args.server) (sym (ap (λ v. v.versions) c.self.view_is)) c.requires.there in
     let position_is = ap (position (has_number c.args.version)) (sym c.as_slice.ensures.value) ∙ sym c.place_of.ensures ∙ c.in-Some.is in
@@ -33,7 +33,7 @@ unreachable-requires-in_default-line_place c =
     version_there c.self.inside.versions.items c.args.version c.in-Some.place c.index.result.now position_is c.index.ensures in
     let same : there.kept ≡ c.index.result.now = one_item (version_at c.self.inside.versions.items c.args.version) there.kept c.index.result.now there.version_is named in
     let none : find (has_line c.args.line) c.index.result.now.plan.backends ≡ None =
-    nowhere (has_line c.args.line) c.index.result.now.plan.backends (ap (position (has_line c.args.line)) (sym c.as_slice-2.ensures) ∙ sym c.line_place.ensures ∙ c.in_default-line_place.is) in
+    nowhere (has_line c.args.line) c.index.result.now.plan.backends (sym c.place_with.ensures ∙ c.in_default-place_with.is) in
     let wrong : None ≡ Some there.backend = sym none ∙ ap (λ v. find (has_line c.args.line) v.plan.backends) (sym same) ∙ there.backend_is in
     cc
 
@@ -41,10 +41,10 @@ pub index-requires-3 : goal.index-requires-3
 index-requires-3 c =
     let version = found_version c.self.inside.slots c.self.inside.versions.items c.self.inside.picks.items c.args.version c.in-Some.place c.index.result.now c.index-2.result.now c.self.invariant
     (ap (position (has_number c.args.version)) (sym c.as_slice.ensures.value) ∙ sym c.place_of.ensures ∙ c.in-Some.is) c.index.ensures c.index-2.ensures in
-    let line : position (has_line c.args.line) c.index.result.now.plan.backends ≡ Some c.in-Some-line_place.number =
-    ap (position (has_line c.args.line)) (sym c.as_slice-2.ensures) ∙ sym c.line_place.ensures ∙ c.in-Some-line_place.is in
-    let own = within_own c.self.inside.slots c.index.result.now c.index-2.result.now.backends.items c.in-Some-line_place.number version.is
-    (position_within (has_line c.args.line) c.index.result.now.plan.backends c.in-Some-line_place.number line) in
+    let line : position (has_line c.args.line) c.index.result.now.plan.backends ≡ Some c.in-Some-place_with.number =
+    sym c.place_with.ensures ∙ c.in-Some-place_with.is in
+    let own = within_own c.self.inside.slots c.index.result.now c.index-2.result.now.backends.items c.in-Some-place_with.number version.is
+    (position_within (has_line c.args.line) c.index.result.now.plan.backends c.in-Some-place_with.number line) in
     let is = c.index-2.result.now.backends.ok.0 in
     omega (arith, own, is)
 
@@ -52,11 +52,11 @@ pub slot_of-ix-requires : goal.slot_of-ix-requires
 slot_of-ix-requires c =
     let version = found_version c.self.inside.slots c.self.inside.versions.items c.self.inside.picks.items c.args.version c.in-Some.place c.index.result.now c.index-2.result.now c.self.invariant
     (ap (position (has_number c.args.version)) (sym c.as_slice.ensures.value) ∙ sym c.place_of.ensures ∙ c.in-Some.is) c.index.ensures c.index-2.ensures in
-    let line : position (has_line c.args.line) c.index.result.now.plan.backends ≡ Some c.in-Some-line_place.number =
-    ap (position (has_line c.args.line)) (sym c.as_slice-2.ensures) ∙ sym c.line_place.ensures ∙ c.in-Some-line_place.is in
+    let line : position (has_line c.args.line) c.index.result.now.plan.backends ≡ Some c.in-Some-place_with.number =
+    sym c.place_with.ensures ∙ c.in-Some-place_with.is in
     let there : HasServer c.self.inside.versions.items c.args.version c.args.line c.args.server =
     subst (λ vs. HasServer vs c.args.version c.args.line c.args.server) (sym (ap (λ v. v.versions) c.self.view_is)) c.requires.there in
-    let server = found_server c.self.inside.slots c.self.inside.versions.items c.self.inside.picks.items c.args.version c.args.line c.args.server c.in-Some.place c.in-Some-line_place.number
+    let server = found_server c.self.inside.slots c.self.inside.versions.items c.self.inside.picks.items c.args.version c.args.line c.args.server c.in-Some.place c.in-Some-place_with.number
     c.index.result.now c.index-2.result.now c.index-3.result.now there version line c.index-3.ensures in
     server.below
 
@@ -70,11 +70,11 @@ pub take-requires-clause-there : goal.take-requires-clause-there
 take-requires-clause-there c =
     let version = found_version c.self.inside.slots c.self.inside.versions.items c.self.inside.picks.items c.args.version c.in-Some.place c.index.result.now c.index-2.result.now c.self.invariant
     (ap (position (has_number c.args.version)) (sym c.as_slice.ensures.value) ∙ sym c.place_of.ensures ∙ c.in-Some.is) c.index.ensures c.index-2.ensures in
-    let line : position (has_line c.args.line) c.index.result.now.plan.backends ≡ Some c.in-Some-line_place.number =
-    ap (position (has_line c.args.line)) (sym c.as_slice-2.ensures) ∙ sym c.line_place.ensures ∙ c.in-Some-line_place.is in
+    let line : position (has_line c.args.line) c.index.result.now.plan.backends ≡ Some c.in-Some-place_with.number =
+    sym c.place_with.ensures ∙ c.in-Some-place_with.is in
     let there : HasServer c.self.inside.versions.items c.args.version c.args.line c.args.server =
     subst (λ vs. HasServer vs c.args.version c.args.line c.args.server) (sym (ap (λ v. v.versions) c.self.view_is)) c.requires.there in
-    let server = found_server c.self.inside.slots c.self.inside.versions.items c.self.inside.picks.items c.args.version c.args.line c.args.server c.in-Some.place c.in-Some-line_place.number
+    let server = found_server c.self.inside.slots c.self.inside.versions.items c.self.inside.picks.items c.args.version c.args.line c.args.server c.in-Some.place c.in-Some-place_with.number
     c.index.result.now c.index-2.result.now c.index-3.result.now there version line c.index-3.ensures in
     identity_within c.self.inside.slots c.slot_of-ix.result.place (identity_in there.backend there.server) (server.counted c.slot_of-ix.result c.slot_of-ix.ensures)
 
@@ -82,14 +82,14 @@ pub invariant_of-self : goal.invariant_of-self
 invariant_of-self c =
     let version = found_version c.self.inside.slots c.self.inside.versions.items c.self.inside.picks.items c.args.version c.in-Some.place c.index.result.now c.index-2.result.now c.self.invariant
     (ap (position (has_number c.args.version)) (sym c.as_slice.ensures.value) ∙ sym c.place_of.ensures ∙ c.in-Some.is) c.index.ensures c.index-2.ensures in
-    let line : position (has_line c.args.line) c.index.result.now.plan.backends ≡ Some c.in-Some-line_place.number =
-    ap (position (has_line c.args.line)) (sym c.as_slice-2.ensures) ∙ sym c.line_place.ensures ∙ c.in-Some-line_place.is in
+    let line : position (has_line c.args.line) c.index.result.now.plan.backends ≡ Some c.in-Some-place_with.number =
+    sym c.place_with.ensures ∙ c.in-Some-place_with.is in
     let moved = found_version c.self.inside.slots c.self.inside.versions.items c.self.inside.picks.items c.args.version c.in-Some.place c.index_mut-version.result.now c.index_mut.result.now c.self.invariant
     (ap (position (has_number c.args.version)) (sym c.as_slice.ensures.value) ∙ sym c.place_of.ensures ∙ c.in-Some.is) c.index_mut-version.ensures.value c.index_mut.ensures.value in
     let same : c.index.result.now ≡ c.index_mut-version.result.now = one_item (slice_get c.self.inside.versions.items c.in-Some.place) c.index.result.now c.index_mut-version.result.now version.at moved.at in
     let next : c.move_cursor.new.version ≡ with_offer c.args.version c.args.line c.args.server c.index_mut-version.result.now =
     c.move_cursor.ensures.version
-    ∙ sym (offered c.args.version c.args.line c.args.server c.index_mut-version.result.now c.in-Some-line_place.number moved.numbered (ap (λ v. position (has_line c.args.line) v.plan.backends) (sym same) ∙ line)) in
+    ∙ sym (offered c.args.version c.args.line c.args.server c.index_mut-version.result.now c.in-Some-place_with.number moved.numbered (ap (λ v. position (has_line c.args.line) v.plan.backends) (sym same) ∙ line)) in
     let own : VersionPicks = record c.index_mut.result.now { backends = c.move_cursor.new.own } in
     let is : IsKept c.self.inside.slots (with_offer c.args.version c.args.line c.args.server c.index_mut-version.result.now) c.move_cursor.new.own.items =
     subst (λ v. IsKept c.self.inside.slots v c.move_cursor.new.own.items) next
@@ -105,14 +105,14 @@ pub returns-clause-versions : goal.returns-clause-versions
 returns-clause-versions c =
     let version = found_version c.self.inside.slots c.self.inside.versions.items c.self.inside.picks.items c.args.version c.in-Some.place c.index.result.now c.index-2.result.now c.self.invariant
     (ap (position (has_number c.args.version)) (sym c.as_slice.ensures.value) ∙ sym c.place_of.ensures ∙ c.in-Some.is) c.index.ensures c.index-2.ensures in
-    let line : position (has_line c.args.line) c.index.result.now.plan.backends ≡ Some c.in-Some-line_place.number =
-    ap (position (has_line c.args.line)) (sym c.as_slice-2.ensures) ∙ sym c.line_place.ensures ∙ c.in-Some-line_place.is in
+    let line : position (has_line c.args.line) c.index.result.now.plan.backends ≡ Some c.in-Some-place_with.number =
+    sym c.place_with.ensures ∙ c.in-Some-place_with.is in
     let moved = found_version c.self.inside.slots c.self.inside.versions.items c.self.inside.picks.items c.args.version c.in-Some.place c.index_mut-version.result.now c.index_mut.result.now c.self.invariant
     (ap (position (has_number c.args.version)) (sym c.as_slice.ensures.value) ∙ sym c.place_of.ensures ∙ c.in-Some.is) c.index_mut-version.ensures.value c.index_mut.ensures.value in
     let same : c.index.result.now ≡ c.index_mut-version.result.now = one_item (slice_get c.self.inside.versions.items c.in-Some.place) c.index.result.now c.index_mut-version.result.now version.at moved.at in
     let next : c.move_cursor.new.version ≡ with_offer c.args.version c.args.line c.args.server c.index_mut-version.result.now =
     c.move_cursor.ensures.version
-    ∙ sym (offered c.args.version c.args.line c.args.server c.index_mut-version.result.now c.in-Some-line_place.number moved.numbered (ap (λ v. position (has_line c.args.line) v.plan.backends) (sym same) ∙ line)) in
+    ∙ sym (offered c.args.version c.args.line c.args.server c.index_mut-version.result.now c.in-Some-place_with.number moved.numbered (ap (λ v. position (has_line c.args.line) v.plan.backends) (sym same) ∙ line)) in
     rw (next, ← c.self.view_is)
     (sym (one_version c.args.version c.args.line c.args.server c.self.inside.versions.items c.in-Some.place c.index_mut-version.result.now c.self.invariant.rise moved.at moved.numbered))
 
@@ -120,11 +120,11 @@ pub returns-clause-slot : goal.returns-clause-slot
 returns-clause-slot c =
     let version = found_version c.self.inside.slots c.self.inside.versions.items c.self.inside.picks.items c.args.version c.in-Some.place c.index.result.now c.index-2.result.now c.self.invariant
     (ap (position (has_number c.args.version)) (sym c.as_slice.ensures.value) ∙ sym c.place_of.ensures ∙ c.in-Some.is) c.index.ensures c.index-2.ensures in
-    let line : position (has_line c.args.line) c.index.result.now.plan.backends ≡ Some c.in-Some-line_place.number =
-    ap (position (has_line c.args.line)) (sym c.as_slice-2.ensures) ∙ sym c.line_place.ensures ∙ c.in-Some-line_place.is in
+    let line : position (has_line c.args.line) c.index.result.now.plan.backends ≡ Some c.in-Some-place_with.number =
+    sym c.place_with.ensures ∙ c.in-Some-place_with.is in
     let place = c.slot_of-ix.result.place in
     rw (c.take.ensures.slot, c.take.ensures.counts, ← c.self.view_is)
-    (λ there. identity-changed (λ n. n + 1) place c.self.inside.slots place ∙ (found_server c.self.inside.slots c.self.inside.versions.items c.self.inside.picks.items c.args.version c.args.line c.args.server c.in-Some.place c.in-Some-line_place.number
+    (λ there. identity-changed (λ n. n + 1) place c.self.inside.slots place ∙ (found_server c.self.inside.slots c.self.inside.versions.items c.self.inside.picks.items c.args.version c.args.line c.args.server c.in-Some.place c.in-Some-place_with.number
     c.index.result.now c.index-2.result.now c.index-3.result.now there version line c.index-3.ensures).counted c.slot_of-ix.result c.slot_of-ix.ensures)
 
 pub returns-clause-identities : goal.returns-clause-identities
