@@ -9,7 +9,7 @@ ghost use Rattle.plan_types.specs.Sound.{IsSoundBackend, IsSoundPlan};
 ghost use Rattle.plan_types.specs.declared.plan.Backend as backends;
 ghost use Rattle.conn_model.specs.declared.plain.Version as versions;
 ghost use Rattle.conn_model.specs.Answer.{version_at};
-ghost use Rattle.conn_model.specs.Words.{newest};
+ghost use Rattle.conn_model.specs.Words.{newest, Rise};
 ghost use Rattle.conn_model.specs.History.{new_version, next_version, with_offer, with_version};
 ghost use Rattle.conn_model.specs.Tables.{written_tables};
 ghost use Rattle.conn_model.specs.Servers.{cursor_at, identity_in, pick_in, with_cursor};
@@ -350,10 +350,18 @@ fn picks_of_all(
     Ok(all)
 }
 
+/// The place of the version of that number. Numbers rise, so that it is found by halves; the newest, which most calls
+/// are for, is looked at first.
 fn place_of(versions: &[Version], number: u64) -> Option<usize>
+    requires { Rise (λ version. version.number) versions.now }
     ensures { result ≡ position (has_number number) versions.now }
 {
-    versions.iter().position(|version| version.number == number)
+    match newest(versions) {
+        Some(version) if version.number == number => Some(versions.len() - 1),
+        _ => versions
+            .binary_search_by_key(&number, |version| version.number)
+            .ok(),
+    }
 }
 
 /// Whether a backend has a server of that line.

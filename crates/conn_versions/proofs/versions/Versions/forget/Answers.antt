@@ -1,10 +1,14 @@
-use Rattle.std.proofs.Common.{◌≡◌, None, Some, ap, sym, ◌∙◌}
+use Rattle.std.proofs.Common.{◌≡◌, None, Some, ap, sym, subst, ◌∙◌}
 use Rattle.std.specs.Prelude.{filter, find, position, ◌==◌}
 use Rattle.conn_model.proofs.Lists.{nowhere}
+use Rattle.conn_model.specs.Words.{Rise}
 use Rattle.conn_versions.specs.Versions.{has_number}
 use Rattle.conn_versions.proofs.Changes.{has_other, kept_without, none_removed, removed, version_found}
 use Rattle.conn_versions.proofs.Judged.{judged-removed}
 use Rattle.conn_versions.proofs.versions.Versions.forget.Goals as goal
+
+pub place_of-requires : goal.place_of-requires
+place_of-requires c = subst (Rise (λ version. version.number)) (sym c.as_slice.ensures.value) c.self.invariant.rise
 
 pub invariant_of-self : goal.invariant_of-self
 invariant_of-self c =

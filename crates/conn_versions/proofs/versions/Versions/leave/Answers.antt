@@ -1,13 +1,17 @@
-use Rattle.std.proofs.Common.{◌≡◌, ◌+◌, ◌-◌, None, refl, ap, sym, ◌∙◌, arith}
+use Rattle.std.proofs.Common.{◌≡◌, ◌+◌, ◌-◌, None, refl, ap, sym, subst, ◌∙◌, arith}
 use Rattle.std.specs.Prelude.{position, slice_set}
 use Rattle.conn_model.specs.Answer.{version_at}
 use Rattle.conn_model.proofs.Lists.{nowhere}
+use Rattle.conn_model.specs.Words.{Rise}
 use Rattle.conn_versions.specs.declared.versions.VersionPicks.{VersionPicks}
 use Rattle.conn_versions.specs.Judged.{judged_by, judged_in}
 use Rattle.conn_versions.specs.Kept.{connections_of}
 use Rattle.conn_versions.specs.Versions.{has_number}
 use Rattle.conn_versions.proofs.Judged.{found_count, judged-less, judged-other, kept_counting, not_kept, FoundCount}
 use Rattle.conn_versions.proofs.versions.Versions.leave.Goals as goal
+
+pub place_of-requires : goal.place_of-requires
+place_of-requires c = subst (Rise (λ version. version.number)) (sym c.as_slice.ensures.value) c.self.invariant.rise
 
 found : (c : goal.After-index_mut) → FoundCount c.self.inside.versions.items c.self.inside.picks.items c.args.number c.in-Some.place c.index_mut.result.now
 found c =

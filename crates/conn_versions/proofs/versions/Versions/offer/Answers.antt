@@ -5,6 +5,7 @@ use Rattle.plan_types.specs.Lines.{has_line}
 use Rattle.conn_model.specs.Answer.{version_at}
 use Rattle.conn_model.specs.History.{with_offer}
 use Rattle.conn_model.specs.Servers.{identity_in}
+use Rattle.conn_model.specs.Words.{Rise}
 use Rattle.conn_versions.specs.declared.versions.VersionPicks.{VersionPicks}
 use Rattle.conn_versions.specs.Versions.{has_number, HasServer}
 use Rattle.conn_versions.specs.Kept.{IsKept}
@@ -15,6 +16,9 @@ use Rattle.conn_versions.proofs.Judged.{judged-moved}
 use Rattle.conn_versions.proofs.Moves.{kept_moved, offered, one_version, still_kept}
 use Rattle.conn_versions.proofs.Founds.{found_server, found_version, version_there, within_own}
 use Rattle.conn_versions.proofs.versions.Versions.offer.Goals as goal
+
+pub place_of-requires : goal.place_of-requires
+place_of-requires c = subst (Rise (λ version. version.number)) (sym c.as_slice.ensures.value) c.self.invariant.rise
 
 pub unreachable-requires : goal.unreachable-requires
 unreachable-requires c =

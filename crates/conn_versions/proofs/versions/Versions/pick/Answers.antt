@@ -1,13 +1,17 @@
-use Rattle.std.proofs.Common.{◌≡◌, ◌<◌, Some, None, length, ap, sym, ◌∙◌, arith}
+use Rattle.std.proofs.Common.{◌≡◌, ◌<◌, Some, None, length, ap, sym, subst, ◌∙◌, arith}
 use Rattle.std.specs.Prelude.{option_map, position, slice_get}
 use Rattle.std.proofs.lemmas.Option.{slice_get_within}
 use Rattle.conn_model.specs.Answer.{version_at}
 use Rattle.conn_model.specs.Servers.{cursor_at, pick_in}
+use Rattle.conn_model.specs.Words.{Rise}
 use Rattle.conn_versions.specs.Versions.{has_number, open_to}
 use Rattle.list_core.proofs.Items.{one_item}
 use Rattle.conn_model.proofs.Lists.{nowhere}
 use Rattle.conn_versions.proofs.Founds.{found_backend, found_version, within_own, FoundBackend, FoundVersion}
 use Rattle.conn_versions.proofs.versions.Versions.pick.Goals as goal
+
+pub place_of-requires : goal.place_of-requires
+place_of-requires c = subst (Rise (λ version. version.number)) (sym c.as_slice.ensures.value) c.self.invariant.rise
 
 found : (c : goal.After-cursor_at) → FoundVersion c.self.inside.slots c.self.inside.versions.items c.self.inside.picks.items c.args.version c.in_ok-place.place c.index-kept.result.now c.index-own.result.now
 found c =
