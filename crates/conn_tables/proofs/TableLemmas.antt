@@ -3,6 +3,7 @@ use Rattle.std.proofs.Common.{◌≡◌, ℕ, zero, suc, ◌+◌, ◌<◌, Bool,
 use Rattle.std.specs.Prelude.{◌≤◌, ◌-◌, option_and_then, find, slice_get, option_map, ◌==◌, ◌&&◌, if◌then◌else◌}
 use Rattle.std.specs.List.{AllByRecursion, enumerate_from, position, position_or_len}
 use Rattle.std.specs.Option.{option_map_or}
+use Rattle.std.proofs.lemmas.Bool.{false≢true}
 use Rattle.std.proofs.lemmas.Bool.Decides.{nat_tests}
 use Rattle.std.proofs.lemmas.List.Folds.{find-set, find_past}
 use Rattle.std.proofs.lemmas.Option.{get_or_from_slice_get, slice_get_read}
@@ -12,6 +13,7 @@ use Rattle.stick_core.specs.declared.entries.StickEntry.{StickEntry}
 use Rattle.stick_core.specs.declared.entries.PlainEntry.{PlainEntry}
 use Rattle.stick_core.specs.Entries.{cur_of}
 use Rattle.stick_core.specs.PlainEntries.{AreTrackers, plain, touched, tracked_key, trackings_of, with_tracking}
+use Rattle.list_core.proofs.Items.{one_item}
 use Rattle.list_core.proofs.PlaceLemmas.{find-passes}
 use Rattle.addr_core.proofs.SameLemmas.{same_addr-refl}
 use Rattle.plan_types.specs.declared.plan.Table.{Table}
@@ -24,7 +26,7 @@ use Rattle.conn_tables.specs.Tables.{AreCounted, AreGrown, AreTables, IsGrown, I
 use Rattle.conn_tables.specs.declared.tracking.Tracking.{Tracking}
 use Rattle.conn_tables.specs.Tracks.{counter_on}
 use Rattle.conn_model.proofs.Lists.{all-at, all-found, found_there, place_is, position_within}
-use Rattle.conn_tables.proofs.PlaceLemmas.{all_set}
+use Rattle.conn_tables.proofs.PlaceLemmas.{all_set, position-only}
 
 -- Incarnations.
 
@@ -396,3 +398,27 @@ tracking_tables spare tables n stored next there same room known =
       room = let a = was.room in omega (arith, a, room);
     } in
     still_tables spare (spare - 1) tables n stored next there (ap (λ s. s.id) same) known (less_each spare tables known.each) is
+
+-- The place of a table.
+
+-- two places with tables of one incarnation are one
+one_incarnation : (tables : List StoredTable) → TablesDiffer tables → (i j : ℕ) (a b : StoredTable) →
+    slice_get tables i ≡ Some a → slice_get tables j ≡ Some b → a.id ≡ b.id → i ≡ j
+one_incarnation [] differ i j a b left right same = absurd (let wrong : None ≡ Some a = left in cc)
+one_incarnation (t ∷ tables) differ zero zero a b left right same = refl
+one_incarnation (t ∷ tables) differ zero (suc j) a b left right same =
+    let first : t ≡ a = one_item (Some t) t a refl left in
+    let other : same_id b.id t.id ≡ false = not_there t.id tables j b differ.0 right in
+    absurd (false≢true (sym other ∙ ap (same_id b.id) (ap (λ s. s.id) first ∙ same) ∙ same_id-refl b.id))
+one_incarnation (t ∷ tables) differ (suc i) zero a b left right same =
+    let first : t ≡ b = one_item (Some t) t b refl right in
+    let other : same_id a.id t.id ≡ false = not_there t.id tables i a differ.0 left in
+    absurd (false≢true (sym other ∙ ap (same_id a.id) (ap (λ s. s.id) first ∙ sym same) ∙ same_id-refl a.id))
+one_incarnation (t ∷ tables) differ (suc i) (suc j) a b left right same = ap suc (one_incarnation tables differ.1 i j a b left right same)
+
+-- a table of an incarnation is the first that is of it
+pub incarnation_place : (id : TableId) (tables : List StoredTable) → TablesDiffer tables → (place : ℕ) (stored : StoredTable) →
+    slice_get tables place ≡ Some stored → is_table id stored ≡ true → position (is_table id) tables ≡ Some place
+incarnation_place id tables differ place stored there is =
+    position-only (is_table id) tables place stored there is (λ m other at passes.
+    one_incarnation tables differ m place other stored at there (same_id-is other.id id passes ∙ sym (same_id-is stored.id id is)))

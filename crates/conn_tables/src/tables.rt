@@ -1,5 +1,5 @@
 //! The tables that are kept.
-ghost use Rattle.std.specs.Prelude.{◌≡◌, ◌+◌, ◌-◌, ◌≤◌, ◌<◌, ◌^◌, ◌++◌, ℕ, false, List, [], Some, map, filter, zip, length, find, option_map, IfOk, OnOk, OnErr};
+ghost use Rattle.std.specs.Prelude.{◌≡◌, ◌+◌, ◌-◌, ◌≤◌, ◌<◌, ◌^◌, ◌++◌, ◌==◌, ◌||◌, ◌&&◌, ℕ, false, nat_lt, List, [], Some, map, filter, zip, length, find, option_map, IfOk, OnOk, OnErr};
 ghost use Rattle.std.specs.Option.{option_copied};
 ghost use Rattle.std.specs.List.{AllByRecursion, enumerate_from, position};
 ghost use Rattle.addr_core.specs.declared.addr.Addr.{Addr};
@@ -10,7 +10,7 @@ ghost use Rattle.plan_types.specs.declared.track.TableId.{TableId};
 ghost use Rattle.plan_types.specs.declared.track.Track.{Track};
 ghost use Rattle.plan_types.specs.declared.plan.Table as plans;
 ghost use Rattle.conn_model.specs.Tables.{entry_counts, is_listed_by, new_table, new_tables, table_at, trackers, with_track, without_tracks};
-ghost use Rattle.conn_tables.specs.Tables.{AreCounted, AreGrown, AreNextIds, IsGrown, IsStored, begun_table, cur_in, is_begun, is_id_listed, is_listed_in, is_table, key_at, plain_table, table_key};
+ghost use Rattle.conn_tables.specs.Tables.{AreCounted, AreGrown, AreNextIds, IsGrown, IsStored, TablesDiffer, begun_table, cur_in, is_begun, is_id_listed, is_listed_in, is_table, key_at, plain_table, table_key};
 ghost use Rattle.conn_tables.specs.Tracks.{counter_on, plain_tracks, track_on, tracks_on};
 
 use crate::tracking::{Tracking, Trackings};
@@ -351,13 +351,30 @@ fn reserve_all(tables: &mut Vec<StoredTable>, more: usize) -> Result<(), AllocEr
 }
 
 fn find_table(tables: &[StoredTable], id: TableId) -> Option<&StoredTable>
+    requires { TablesDiffer tables.now }
     ensures { option_copied result ≡ find (is_table id) tables.now }
 {
-    tables.iter().find(|stored| stored.id == id)
+    let place = place_of(tables, id)?;
+    Some(&tables[place])
 }
 
+/// Whether an incarnation began before another, or at a place before it in the same version.
+fn is_before(id: TableId, other: TableId) -> bool
+    ensures { result ≡ nat_lt id.version other.version ||
+        (id.version == other.version && nat_lt id.position other.position) }
+{
+    id.version < other.version || (id.version == other.version && id.position < other.position)
+}
+
+/// The place of the table of that incarnation. Tables are added in the order of their incarnations, so that it is found
+/// by halves; only where it is not in that order is each table looked at.
 fn place_of(tables: &[StoredTable], id: TableId) -> Option<usize>
+    requires { TablesDiffer tables.now }
     ensures { result ≡ position (is_table id) tables.now }
 {
-    tables.iter().position(|stored| stored.id == id)
+    let place = tables.partition_point(|stored| is_before(stored.id, id));
+    match tables.get(place) {
+        Some(stored) if stored.id == id => Some(place),
+        _ => tables.iter().position(|stored| stored.id == id),
+    }
 }

@@ -1,10 +1,13 @@
-use Rattle.std.proofs.Common.{◌≡◌, Some, None, sym, ap, ◌∙◌}
+use Rattle.std.proofs.Common.{◌≡◌, Some, None, sym, ap, subst, ◌∙◌}
 use Rattle.std.specs.Prelude.{find, option_map}
 use Rattle.std.specs.Option.{option_copied}
 use Rattle.conn_model.specs.Tables.{entry_counts}
-use Rattle.conn_tables.specs.Tables.{is_table}
+use Rattle.conn_tables.specs.Tables.{TablesDiffer, is_table}
 use Rattle.conn_tables.proofs.TableLemmas.{stored_of, table_nowhere, table_there, trackers_of}
 use Rattle.conn_tables.proofs.tables.Tables.counts.Goals as goal
+
+pub find_table-requires : goal.find_table-requires
+find_table-requires c = subst TablesDiffer (sym c.as_slice.ensures.value) c.self.invariant.differ
 
 there : (c : goal.In_ok-stored) → find (is_table c.args.id) c.self.inside.tables.items ≡ Some c.in_ok-stored.stored.now
 there c = ap (λ xs. find (is_table c.args.id) xs) (sym c.as_slice.ensures.value) ∙ sym c.find_table.ensures ∙ ap option_copied c.in_ok-stored.was

@@ -1,11 +1,14 @@
-use Rattle.std.proofs.Common.{◌≡◌, ◌≤◌, None, ap, sym, ◌∙◌, refl, arith}
+use Rattle.std.proofs.Common.{◌≡◌, ◌≤◌, None, ap, sym, subst, ◌∙◌, refl, arith}
 use Rattle.std.specs.Prelude.{find}
 use Rattle.std.specs.List.{position}
 use Rattle.conn_tables.specs.declared.tables.StoredTable.{StoredTable}
-use Rattle.conn_tables.specs.Tables.{IsStored, cur_in, is_table}
+use Rattle.conn_tables.specs.Tables.{TablesDiffer, IsStored, cur_in, is_table}
 use Rattle.conn_model.proofs.Lists.{all-at, nowhere}
 use Rattle.conn_tables.proofs.TableLemmas.{Found, counts_left, cur_found, cur_nowhere, found_table, on_itself, plain_left, still_tables}
 use Rattle.conn_tables.proofs.tables.Tables.release_one.Goals as goal
+
+pub place_of-requires : goal.place_of-requires
+place_of-requires c = subst TablesDiffer (sym c.as_slice.ensures.value) c.self.invariant.differ
 
 found : (c : goal.After-release-arg-1) → Found c.in-Some.tracking.table c.self.inside.tables.items c.in-Some-place_of.place c.index_mut.result.now
 found c =

@@ -1,9 +1,12 @@
-use Rattle.std.proofs.Common.{◌≡◌, Some, None, sym, ap, ◌∙◌}
+use Rattle.std.proofs.Common.{◌≡◌, Some, None, sym, ap, subst, ◌∙◌}
 use Rattle.std.specs.Prelude.{find, option_map}
 use Rattle.std.specs.Option.{option_copied}
-use Rattle.conn_tables.specs.Tables.{is_table}
+use Rattle.conn_tables.specs.Tables.{TablesDiffer, is_table}
 use Rattle.conn_tables.proofs.TableLemmas.{table_nowhere, table_there}
 use Rattle.conn_tables.proofs.tables.Tables.table.Goals as goal
+
+pub find_table-requires : goal.find_table-requires
+find_table-requires c = subst TablesDiffer (sym c.as_slice.ensures.value) c.self.invariant.differ
 
 pub returns-in_err-stored : goal.returns-in_err-stored
 returns-in_err-stored c =

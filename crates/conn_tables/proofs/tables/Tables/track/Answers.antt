@@ -2,10 +2,13 @@ use Rattle.std.proofs.Common.{◌≡◌, Some, None, ap, sym, subst, ◌∙◌, 
 use Rattle.std.specs.Prelude.{find}
 use Rattle.std.specs.List.{position}
 use Rattle.conn_tables.specs.declared.tables.StoredTable.{StoredTable}
-use Rattle.conn_tables.specs.Tables.{AreCounted, StoredTables, cur_in, is_table, key_at, plain_table}
+use Rattle.conn_tables.specs.Tables.{AreCounted, StoredTables, TablesDiffer, cur_in, is_table, key_at, plain_table}
 use Rattle.conn_model.proofs.Lists.{nowhere}
 use Rattle.conn_tables.proofs.TableLemmas.{Found, counts_more, cur_found, found_table, key_nowhere, key_there, plain_more, trackers_of, tracking_tables}
 use Rattle.conn_tables.proofs.tables.Tables.track.Goals as goal
+
+pub place_of-requires : goal.place_of-requires
+place_of-requires c = subst TablesDiffer (sym c.as_slice.ensures.value) c.self.invariant.differ
 
 found : (c : goal.After-index_mut) → Found c.args.id c.self.inside.tables.items c.in-Some.place c.index_mut.result.now
 found c =
