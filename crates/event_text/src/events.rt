@@ -1,42 +1,13 @@
 //! Events as lines.
-ghost use Rattle.std.specs.Prelude.{◌≡◌, ◌+◌, ◌<◌, ◌^◌, ◌/◌, ◌%◌, ◌++◌, ◌∷◌, [], length, slice_index, codes, OnOk, Some};
-ghost use Rattle.hex.specs.Hex.{encode_lower, lower_digits};
-ghost use Rattle.event_text.specs.Script.{bar_lines, bytes_text, ended_lines, event_in_lines, event_line, event_lines, event_text, id_text, text_lines, IsHandedIn};
+ghost use Rattle.std.specs.Prelude.{◌≡◌, ◌+◌, ◌<◌, ◌^◌, ◌++◌, ◌∷◌, length, codes, OnOk, Some};
+ghost use Rattle.event_text.specs.Script.{bar_lines, ended_lines, event_in_lines, event_line, event_lines, event_text, id_text, text_lines, IsHandedIn};
 
+use crate::digits::write_bytes;
 use crate::replies::{write_field, write_id, write_place, write_text, write_why};
 use conn_model::event::{ConnId, OwnedEvent};
 use std::alloc::AllocError;
 use text_core::cut_at;
 use text_core::decimal::append_decimal;
-
-const DIGITS: [u8; 16] = *b"0123456789abcdef";
-
-/// A byte as two digits.
-fn write_byte(out: &mut Vec<u8>, byte: u8) -> Result<(), AllocError>
-    ensures { OnOk result (out.new.items ≡ out.old.items ++ slice_index lower_digits (byte / 16) ∷ slice_index lower_digits (byte % 16) ∷ []) }
-{
-    let high = DIGITS[usize::from(byte / 16)];
-    let low = DIGITS[usize::from(byte % 16)];
-    out.extend_from_slice(&[high, low])
-}
-
-fn write_digits(out: &mut Vec<u8>, bytes: &[u8]) -> Result<(), AllocError>
-    ensures { OnOk result (out.new.items ≡ out.old.items ++ encode_lower bytes.now) }
-{
-    for byte in bytes {
-        write_byte(out, *byte)?;
-    }
-    Ok(())
-}
-
-fn write_piece(out: &mut Vec<u8>, bytes: &[u8]) -> Result<(), AllocError>
-    ensures { OnOk result (out.new.items ≡ out.old.items ++ bytes_text bytes.now) }
-{
-    if bytes.is_empty() {
-        return write_text(out, b"-");
-    }
-    write_digits(out, bytes)
-}
 
 /// A verb and the name of a connection after it.
 fn write_verb(out: &mut Vec<u8>, verb: &[u8], id: &ConnId) -> Result<(), AllocError>
@@ -74,7 +45,7 @@ fn write_words(out: &mut Vec<u8>, moment: u64, event: &OwnedEvent) -> Result<(),
             write_text(out, b" piece ")?;
             write_id(out, id)?;
             write_text(out, b" ")?;
-            write_piece(out, bytes.as_slice())
+            write_bytes(out, bytes.as_slice())
         }
         OwnedEvent::Connected(id) => write_verb(out, b" connected ", id),
         OwnedEvent::ConnectFailed(id) => write_verb(out, b" failed ", id),

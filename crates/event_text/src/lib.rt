@@ -10,6 +10,7 @@ pub use replies::{
 };
 pub use script::{EventRequest, FirstLine, Request, read_event, read_request};
 
+mod digits;
 mod events;
 mod reload;
 mod replies;

@@ -1,15 +1,14 @@
 //! Replies and counts as lines.
-ghost use Rattle.std.specs.Prelude.{◌≡◌, ◌≤◌, ◌++◌, length, codes, OnOk};
+ghost use Rattle.std.specs.Prelude.{◌≡◌, ◌++◌, codes, OnOk};
 ghost use Rattle.std.specs.List.{flat_map};
-ghost use Rattle.hex.specs.Hex.{encode_lower};
 ghost use Rattle.text_core.specs.Decimal.{decimal};
 ghost use Rattle.addr_core.specs.declared.addr.Addr.TheVariants.{V4};
 ghost use Rattle.addr_core.specs.Text.{endpoint_text, host_text, text_of};
-ghost use Rattle.pp_v1.specs.declared.TheConstants.{LINE_LIMIT};
 ghost use Rattle.config_core.specs.Names.{open_text};
 ghost use Rattle.event_text.specs.Script.{bytes_text, id_text, why_text};
 ghost use Rattle.event_text.specs.Replies.{cause_text, count_line, fault_line, fault_name, header_fault_text, reply_line, reply_text, said_text, track_text};
 
+use crate::digits::write_bytes;
 use addr_core::{Addr, Endpoint, Pair};
 use config_core::OpenFault;
 use conn_model::ask::{Ask, Counts};
@@ -88,29 +87,6 @@ pub fn write_why(out: &mut Vec<u8>, why: &Why) -> Result<(), AllocError>
         Why::ClientTimeout => write_text(out, b"client-timeout"),
         Why::ServerTimeout => write_text(out, b"server-timeout"),
     }
-}
-
-/// The most hexadecimal digits of a header that is sent: two for each of the `LINE_LIMIT` bytes.
-const HEADER_DIGITS: usize = 214;
-
-fn write_hex(out: &mut Vec<u8>, bytes: &[u8]) -> Result<(), AllocError>
-    requires { length bytes.now ≤ LINE_LIMIT }
-    ensures { OnOk result (out.new.items ≡ out.old.items ++ encode_lower bytes.now) }
-{
-    let mut digits = [0u8; HEADER_DIGITS];
-    let text = &mut digits[..2 * bytes.len()];
-    let _fits = hex::encode_to_slice(bytes, text);
-    write_text(out, text)
-}
-
-fn write_bytes(out: &mut Vec<u8>, bytes: &[u8]) -> Result<(), AllocError>
-    requires { length bytes.now ≤ LINE_LIMIT }
-    ensures { OnOk result (out.new.items ≡ out.old.items ++ bytes_text bytes.now) }
-{
-    if bytes.is_empty() {
-        return write_text(out, b"-");
-    }
-    write_hex(out, bytes)
 }
 
 /// A word and a number after it.

@@ -1,12 +1,12 @@
 //! Scripts: the lines that hand in events, and those that ask for counts.
 ghost use Rattle.std.specs.Prelude.{◌≡◌, ◌==◌, ◌∷◌, ◌<◌, ◌^◌, ℕ, List, [], length, take, IfSome, IfNone, option_map};
-ghost use Rattle.std.specs.List.{list_any};
 ghost use Rattle.std.specs.Str.{bytes_eq};
 ghost use Rattle.conn_model.specs.declared.event.OwnedEvent.{OwnedEvent};
 ghost use Rattle.conn_model.specs.declared.event.TheConstants.{PIECE_LIMIT};
 ghost use Rattle.conn_model.specs.History.{owned_event};
-ghost use Rattle.event_text.specs.Script.{accept_of, ask_of, backend_asked, bare_event_of, bytes_in, bytes_of, close_of, ends_of, entry_asked, event_line, event_by_verb, event_on, event_read, frontend_asked, head_by_verb, head_of, head_read, head_written, id_of, is_upper_digit, piece_of, reload_of, server_asked, wanted, wanted_of, why_of, words_of, HasLines, EventHead, IsCounted, IsHandedIn, Wanted};
+ghost use Rattle.event_text.specs.Script.{accept_of, ask_of, backend_asked, bare_event_of, bytes_of, close_of, ends_of, entry_asked, event_line, event_by_verb, event_on, event_read, frontend_asked, head_by_verb, head_of, head_read, head_written, id_of, piece_of, reload_of, server_asked, wanted, wanted_of, why_of, words_of, HasLines, EventHead, IsCounted, IsHandedIn, Wanted};
 
+use crate::digits::read_hex;
 use addr_core::{Pair, read_addr, read_endpoint};
 use conn_model::ask::Ask;
 use conn_model::event::{ConnId, Event, Why};
@@ -175,29 +175,6 @@ fn read_bare_event(verb: &[u8], rest: &[u8]) -> Option<EventRequest>
     }
     let id = read_id(rest)?;
     event_on(verb, id)
-}
-
-/// Reads bytes in lower-case hexadecimal into the front of a buffer, if there is room, and says how many
-/// they are.
-fn read_hex(text: &[u8], buffer: &mut [u8]) -> Option<usize>
-    ensures bytes { option_map (λ length. take length buffer.new) result ≡ bytes_in (length buffer.old) text.now }
-    ensures room { length buffer.new ≡ length buffer.old }
-{
-    let count = text.len() / 2;
-    if has_upper(text) || count > buffer.len() {
-        return None;
-    }
-    let front = &mut buffer[..count];
-    match hex::decode_to_slice(text, front) {
-        Ok(()) => Some(count),
-        Err(_) => None,
-    }
-}
-
-fn has_upper(text: &[u8]) -> bool
-    ensures { result ≡ list_any is_upper_digit text.now }
-{
-    text.iter().any(|byte| b'A' <= *byte && *byte <= b'F')
 }
 
 /// The bytes of a word, into the front of a buffer; none are written as a dash.
