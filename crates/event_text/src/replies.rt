@@ -1,15 +1,16 @@
 //! Replies and counts as lines.
-ghost use Rattle.std.specs.Prelude.{◌≡◌, ◌++◌, codes, OnOk};
+ghost use Rattle.std.specs.Prelude.{◌≡◌, ◌≤◌, ◌++◌, [], length, codes, OnOk};
 ghost use Rattle.std.specs.List.{flat_map};
 ghost use Rattle.text_core.specs.Decimal.{decimal};
 ghost use Rattle.addr_core.specs.declared.addr.Addr.TheVariants.{V4};
-ghost use Rattle.addr_core.specs.Text.{endpoint_text, host_text, text_of};
+ghost use Rattle.addr_core.specs.Text.{endpoint_text, text_of};
 ghost use Rattle.config_core.specs.Names.{open_text};
 ghost use Rattle.event_text.specs.Script.{bytes_text, id_text, why_text};
 ghost use Rattle.event_text.specs.Replies.{cause_text, count_line, fault_line, fault_name, header_fault_text, reply_line, reply_text, said_text, track_text};
 
 use crate::digits::write_bytes;
 use addr_core::{Addr, Endpoint, Pair};
+use arrayvec::ArrayVec;
 use config_core::OpenFault;
 use conn_model::ask::{Ask, Counts};
 use conn_model::event::{ConnId, Why};
@@ -17,7 +18,7 @@ use conn_model::reply::{Cause, Reply, Said, StepFault};
 use plan_types::Track;
 use pp_any::HeaderFault;
 use std::alloc::{AllocError, Global};
-use text_core::decimal::append_decimal;
+use text_core::decimal::{append_decimal, push_short};
 
 pub fn write_text(out: &mut Vec<u8>, text: &[u8]) -> Result<(), AllocError>
     ensures { OnOk result (out.new.items ≡ out.old.items ++ text.now) }
@@ -25,17 +26,41 @@ pub fn write_text(out: &mut Vec<u8>, text: &[u8]) -> Result<(), AllocError>
     out.extend_from_slice(text)
 }
 
+/// Room for an IPv4 address and a port, with five bytes for each of their numbers.
+const PLACE_BYTES: usize = 32;
+
 /// An IPv4 address in dotted decimal.
+fn push_dotted(text: &mut ArrayVec<u8, PLACE_BYTES>, number: u32)
+    requires { text.old.items ≡ [] }
+    ensures text { text.new.items ≡ text_of (V4 number) }
+    ensures fits { length text.new.items ≤ 23 }
+{
+    push_short(text, (number / 0x100_0000) as u16);
+    text.push(b'.');
+    push_short(text, (number / 0x1_0000 % 0x100) as u16);
+    text.push(b'.');
+    push_short(text, (number / 0x100 % 0x100) as u16);
+    text.push(b'.');
+    push_short(text, (number % 0x100) as u16);
+}
+
 fn write_dotted(out: &mut Vec<u8>, number: u32) -> Result<(), AllocError>
     ensures { OnOk result (out.new.items ≡ out.old.items ++ text_of (V4 number)) }
 {
-    append_decimal(out, u64::from(number / 0x100_0000))?;
-    write_text(out, b".")?;
-    append_decimal(out, u64::from(number / 0x1_0000 % 0x100))?;
-    write_text(out, b".")?;
-    append_decimal(out, u64::from(number / 0x100 % 0x100))?;
-    write_text(out, b".")?;
-    append_decimal(out, u64::from(number % 0x100))
+    let mut text = ArrayVec::new();
+    push_dotted(&mut text, number);
+    out.extend_from_slice(text.as_slice())
+}
+
+/// An IPv4 address, and a port after it.
+fn write_dotted_place(out: &mut Vec<u8>, number: u32, port: u16) -> Result<(), AllocError>
+    ensures { OnOk result (out.new.items ≡ out.old.items ++ (text_of (V4 number) ++ codes ":" ++ decimal port)) }
+{
+    let mut text = ArrayVec::new();
+    push_dotted(&mut text, number);
+    text.push(b':');
+    push_short(&mut text, port);
+    out.extend_from_slice(text.as_slice())
 }
 
 fn write_addr(out: &mut Vec<u8>, addr: &Addr) -> Result<(), AllocError>
@@ -47,25 +72,25 @@ fn write_addr(out: &mut Vec<u8>, addr: &Addr) -> Result<(), AllocError>
     }
 }
 
-fn write_host(out: &mut Vec<u8>, addr: &Addr) -> Result<(), AllocError>
-    ensures { OnOk result (out.new.items ≡ out.old.items ++ host_text addr.now) }
+/// An IPv6 address in brackets.
+fn write_bracketed(out: &mut Vec<u8>, addr: &Addr) -> Result<(), AllocError>
+    ensures { OnOk result (out.new.items ≡ out.old.items ++ (codes "[" ++ text_of addr.now ++ codes "]")) }
 {
-    match *addr {
-        Addr::V4(number) => write_dotted(out, number),
-        Addr::V6(_) => {
-            write_text(out, b"[")?;
-            write_addr(out, addr)?;
-            write_text(out, b"]")
-        }
-    }
+    write_text(out, b"[")?;
+    write_addr(out, addr)?;
+    write_text(out, b"]")
 }
 
 pub fn write_endpoint(out: &mut Vec<u8>, endpoint: &Endpoint) -> Result<(), AllocError>
     ensures { OnOk result (out.new.items ≡ out.old.items ++ endpoint_text endpoint.now) }
 {
-    write_host(out, &endpoint.addr)?;
-    write_text(out, b":")?;
-    append_decimal(out, u64::from(endpoint.port))
+    match endpoint.addr {
+        Addr::V4(number) => write_dotted_place(out, number, endpoint.port),
+        Addr::V6(_) => {
+            write_bracketed(out, &endpoint.addr)?;
+            write_field(out, b":", u64::from(endpoint.port))
+        }
+    }
 }
 
 pub fn write_id(out: &mut Vec<u8>, id: &ConnId) -> Result<(), AllocError>
