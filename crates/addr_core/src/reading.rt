@@ -39,8 +39,8 @@ fn has_colon(text: &[u8]) -> bool
     text.contains(&b':')
 }
 
-/// The number of a part of an IPv4 address.
-fn octet(part: &[u8]) -> Result<u8, AddrFault>
+/// The number of a part of an IPv4 address, or the first of its faults in their order.
+fn octet_or_fault(part: &[u8]) -> Result<u8, AddrFault>
     ensures { result ≡ octet_of part.now }
 {
     if !are_digits(part) {
@@ -52,6 +52,16 @@ fn octet(part: &[u8]) -> Result<u8, AddrFault>
     match number_up_to(part, 255) {
         Some(number) => Ok(number as u8),
         None => Err(AddrFault::OutOfRange),
+    }
+}
+
+/// The same, where a part that has no fault is read in one pass.
+fn octet(part: &[u8]) -> Result<u8, AddrFault>
+    ensures { result ≡ octet_of part.now }
+{
+    match read_decimal(part, 255) {
+        Some(number) => Ok(number as u8),
+        None => octet_or_fault(part),
     }
 }
 
