@@ -6,4 +6,3 @@ pub mod Written
 pub mod Changes
 pub mod Judged
 pub mod Places
-pub mod Busy
