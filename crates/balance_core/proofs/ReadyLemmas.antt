@@ -1,8 +1,7 @@
 -- A server that is picked is usable and has room.
-use Rattle.std.proofs.Common.{◌≡◌, ℕ, zero, suc, ◌<◌, ◌≤◌, ◌+◌, Bool, true, false, List, [], ◌∷◌, ◌++◌, length, take, Option, Some, None, refl, sym, ap, ◌∙◌, arith, filter, map, subst, if◌then◌else◌}
-use Rattle.std.specs.Prelude.{nat_lt, find, slice_get, option_map, option_and_then, ◌==◌, ◌&&◌, ◌%◌, IfSome}
+use Rattle.std.proofs.Common.{◌≡◌, ℕ, zero, suc, ◌<◌, ◌≤◌, ◌+◌, Bool, true, false, List, [], ◌∷◌, ◌++◌, length, take, Option, Some, None, refl, ap, ◌∙◌, arith, filter, map, subst, if◌then◌else◌}
+use Rattle.std.specs.Prelude.{nat_lt, find, option_map, option_and_then, ◌==◌, ◌%◌, IfSome}
 use Rattle.std.specs.List.{range_with_len, AllByRecursion}
-use Rattle.std.specs.Option.{option_or, option_map_or}
 use Rattle.std.proofs.lemmas.Bool.Decides.{nat_tests}
 use Rattle.addr_core.specs.declared.addr.Addr.{Addr}
 use Rattle.proxy_types.specs.declared.balance.Method.{Method}
@@ -10,7 +9,7 @@ use Rattle.proxy_types.specs.declared.balance.Method.TheVariants.{RoundRobin, Le
 use Rattle.proxy_types.specs.declared.balance.Place.{Place}
 use Rattle.balance_core.specs.declared.load.ServerLoad.{ServerLoad}
 use Rattle.balance_core.specs.Loads.{weight_at, has_room_at, is_ready_at, total_weight}
-use Rattle.balance_core.specs.Orders.{lesser, least}
+use Rattle.balance_core.specs.Orders.{least}
 use Rattle.balance_core.specs.Rounds.{turn_of, turns_from, weights_of, turns, comes_before, is_after, next_of, can_take, next_turn}
 use Rattle.balance_core.specs.Least.{lightest, IsLightest}
 use Rattle.balance_core.specs.Source.{mixed, share_of, of_source}
