@@ -1,6 +1,6 @@
 -- Entries by their places, and the orders of places.
 use Rattle.std.proofs.Common.{◌≡◌, ◌≢◌, ◌<◌, ◌+◌, ◌-◌, ◌⊎◌, ℕ, zero, suc, Bool, true, false, cond, eqb, ltb, List, [], ◌∷◌, ◌++◌, length, map, get_or, set, take, Option, Some, None, inl, inr, refl, sym, ap, subst, ◌∙◌, arith, length-append}
-use Rattle.std.specs.Prelude.{filter, find, position, slice_get, IfSome}
+use Rattle.std.specs.Prelude.{filter, find, option_map, option_to_list, position, slice_get, IfSome}
 use Rattle.std.specs.List.{IsDistinct, list_any, swap_remove}
 use Rattle.std.specs.Option.{is_some}
 use Rattle.std.specs.Map.{keys_of, lookup}
@@ -19,12 +19,12 @@ use Rattle.indexmap.proofs.MapLemmas.{absent_from_lookup, insert_entry-absent, s
 use Rattle.indexmap.specs.Layout.{length-set_value_at}
 use Rattle.stick_core.specs.declared.entries.StickEntry.{StickEntry}
 use Rattle.stick_core.specs.declared.touch_list.Counts.{Counts}
-use Rattle.stick_core.specs.Entries.{is_of, is_free, others, without_first_free}
+use Rattle.stick_core.specs.Entries.{is_of, is_free, others, touched, without_first_free}
 use Rattle.stick_core.specs.Places.{entry_at, entry_of_pair, free_at, nothing, ranked, IsKept}
 use Rattle.stick_core.specs.Ring.{Ranking, Has, Lacks, Distinct, Below, without, first_of, next_of}
 use Rattle.stick_core.specs.PlainEntries.{plain, plain_entry}
 use Rattle.stick_core.proofs.EntryLemmas.{is_some-position}
-use Rattle.stick_core.proofs.TouchLemmas.{gone-here, gone-past}
+use Rattle.stick_core.proofs.TouchLemmas.{gone-here, gone-past, key-found}
 use Rattle.stick_core.proofs.RingLemmas.{eqb-self, eqb-is, eqb-apart, eqb-differ, lacks-itself, without-lacks, length-without, below-lacks, below-push, below-more, below-without, has-before, has-below, has-moved, has-push, once-push, once-without}
 
 -- by what places are told apart
@@ -337,6 +337,30 @@ put es es' t t' f f' key e counts p kept once found own cur cnt written moved fr
           ∙ ap (λ l. l ++ entry_at es' p ∷ []) (sym (others-map (entry_at es) key (length es) p at.1 t.order kept.below))
           ∙ ap (λ x. others key (ranked es t.order) ++ x ∷ []) here;
       len = length-kept es' t' f' is_kept ∙ len ∙ sym (length-kept es t f kept);
+    }
+
+-- and the entry of a key at its place, changed
+pub record IsChanged (change : StickEntry → StickEntry) (es es' : List (Addr × Counts)) (t t' f' : Ranking) (key : Addr) : Type 0 where
+  pub kept : IsKept es' t' f'
+  pub entries : ranked es' t'.order ≡ touched change key (ranked es t.order)
+  pub len : length (ranked es' t'.order) ≡ length (ranked es t.order)
+
+pub change-put : (change : StickEntry → StickEntry) → ((e : StickEntry) → (change e).key ≡ e.key) → (es es' : List (Addr × Counts)) (t t' f f' : Ranking) (key : Addr) (e : StickEntry) (p : ℕ)
+    → IsKept es t f → IsDistinct eq-value.it (keys_of es) → position (eq-value.it key) (keys_of es) ≡ Some p → e ≡ change (entry_at es p)
+    → es' ≡ set_value_at es p (record { cur = e.cur; cnt = e.cnt })
+    → t' ≡ record t { order = without p t.order ++ p ∷ [] }
+    → f' ≡ record f { order = without p f.order ++ cond (is_free e) (p ∷ []) [] }
+    → IsChanged change es es' t t' f' key
+change-put change keeps es es' t t' f f' key e p kept once found is written moved freed =
+    let there : find (is_of key) (ranked es t.order) ≡ Some (entry_at es p) = found-entry eq-value.it tied es t f key p kept once found in
+    let own : e.key ≡ key = ap (λ x. x.key) is ∙ keeps (entry_at es p) ∙ key-found key (ranked es t.order) (entry_at es p) there in
+    let all : IsPut es es' t t' f f' key e = put es es' t t' f f' key e (record { cur = e.cur; cnt = e.cnt }) p kept once found own refl refl written moved freed in
+    record {
+      kept = all.kept;
+      entries =
+          all.entries ∙ ap (λ x. others key (ranked es t.order) ++ x ∷ []) is
+          ∙ ap (λ o. others key (ranked es t.order) ++ option_to_list (option_map change o)) (sym there);
+      len = all.len;
     }
 
 -- where the order of the free places has a place

@@ -7,7 +7,7 @@ ghost use Rattle.stick_core.specs.PlainEntries.{plain, AreTrackers, count_at, tr
 
 use crate::entries::{PlainEntry, cnt_in, cur_in};
 use crate::key::key_of;
-use crate::touch_list::TouchList;
+use crate::touch_list::{Counts, TouchList};
 use addr_core::Addr;
 use list_core::Seq;
 use proxy_types::{KeyType, Stores};
@@ -131,6 +131,30 @@ impl StickTable {
         }
     }
 
+    /// Both counts of the address, as `cur` and `cnt` have them.
+    pub fn counts(&self, addr: &Addr) -> Counts
+        ensures cur { result.cur ≡ cur_at self.now addr.now }
+        ensures cnt { result.cnt ≡ cnt_at self.now addr.now }
+        ensures plain_cur { (trackers : Addr → ℕ) → AreTrackers trackers self.now.entries → result.cur ≡ trackers_at trackers self.now.kind addr.now }
+        ensures plain_cnt { result.cnt ≡ count_at self.now.kind (plain self.now.entries) addr.now }
+    {
+        self.count_both(addr)
+    }
+
+    fn count_both(&self, addr: &Addr) -> Counts
+        ensures cur { result.cur ≡ cur_at self.now addr.now }
+        ensures cnt { result.cnt ≡ cnt_at self.now addr.now }
+    {
+        let Some(key) = key_of(self.kind, addr) else {
+            return Counts { cur: 0, cnt: 0 };
+        };
+        let entry = self.touched.entry(&key);
+        Counts {
+            cur: cur_in(entry),
+            cnt: cnt_in(entry),
+        }
+    }
+
     /// How many track the key of a tracking.
     pub fn trackers(&self, tracked: &TrackToken) -> u64
         ensures { result ≡ cur_of tracked.now self.now.entries }
@@ -169,7 +193,7 @@ impl StickTable {
     fn can_list(&self, key: &Addr) -> bool
         ensures { result ≡ can_list self.now.size self.now.entries key.now }
     {
-        self.touched.entry(key).is_some() || self.has_room() || self.touched.has_free()
+        self.has_room() || self.touched.has_free() || self.touched.entry(key).is_some()
     }
 
     /// The keys in the order of their last touch, each with how often it was tracked.
@@ -245,14 +269,11 @@ impl StickTable {
         let Some(key) = key_of(self.kind, addr) else {
             return Ok(None);
         };
-        match self.touched.entry(&key) {
-            Some(entry) => self.touched.put_last(&key, entry.raised()),
-            None => {
-                if self.has_room() {
-                    self.touched.add(key)?;
-                } else if !self.touched.replace_first_free(key)? {
-                    return Ok(None);
-                }
+        if !self.touched.raise(&key) {
+            if self.has_room() {
+                self.touched.add(key)?;
+            } else if !self.touched.replace_first_free(key)? {
+                return Ok(None);
             }
         }
         Ok(Some(TrackToken { key }))
@@ -276,9 +297,7 @@ impl StickTable {
         ensures sound { IsSound self.old.size self.old.entries }
     {
         let TrackToken { key } = tracked;
-        if let Some(entry) = self.touched.entry(&key) {
-            self.touched.put_last(&key, entry.lowered());
-        }
+        self.touched.lower(&key);
     }
 
     fn has_room(&self) -> bool

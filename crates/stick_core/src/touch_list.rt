@@ -1,9 +1,9 @@
 //! Entries found by their keys, in the order of their last touch.
-ghost use Rattle.std.specs.Prelude.{◌≡◌, ◌+◌, ◌<◌, ◌≤◌, ◌++◌, ◌∷◌, [], true, false, cond, find, length, IfOk, OnOk, OnErr, IsOk, IsSome, None};
+ghost use Rattle.std.specs.Prelude.{◌≡◌, ◌+◌, ◌-◌, ◌^◌, ◌<◌, ◌≤◌, ◌++◌, ◌∷◌, [], true, false, cond, find, length, IfOk, OnOk, OnErr, IsOk, None};
 ghost use Rattle.std.specs.List.{list_any};
 ghost use Rattle.indexmap.specs.IndexMap.{index_map_len, with_value_at};
-ghost use Rattle.stick_core.specs.Entries.{is_of, is_free, others, added, without_first_free};
-ghost use Rattle.stick_core.specs.Places.{entry_at};
+ghost use Rattle.stick_core.specs.Entries.{is_of, is_free, is_listed, cur_of, added, released, tracked, without_first_free};
+ghost use Rattle.stick_core.specs.Places.{entry_at, IsKept};
 ghost use Rattle.stick_core.specs.PlainEntries.{plain};
 ghost use Rattle.stick_core.specs.Ring.{Has, Lacks, Distinct, without};
 
@@ -17,9 +17,11 @@ use std::marker::Model;
 
 /// What is counted of a key.
 #[derive(Clone, Copy, Debug, PartialEq, Eq)]
-pub(crate) struct Counts {
-    pub(crate) cur: u64,
-    pub(crate) cnt: u64,
+pub struct Counts {
+    /// How many counters of open connections track it.
+    pub cur: u64,
+    /// How often it was tracked, 2^64 - 1 for more.
+    pub cnt: u64,
 }
 
 /// A key that is tracked for the first time.
@@ -93,6 +95,27 @@ fn join(order: &mut Order, place: usize, belongs: bool)
     }
 }
 
+/// Puts an entry at a place, as the last one touched.
+fn put_last(
+    index: &mut IndexMap<Addr, Counts>,
+    touched: &mut Order,
+    free: &mut Order,
+    place: usize,
+    entry: StickEntry,
+)
+    requires kept { IsKept index.old.entries touched.old free.old }
+    requires place { place < index_map_len index.old }
+    ensures index { index.new ≡ with_value_at index.old place (record { cur = entry.cur; cnt = entry.cnt }) }
+    ensures touched { touched.new ≡ record touched.old { order = without place touched.old.order ++ place ∷ [] } }
+    ensures free { free.new ≡ record free.old { order = without place free.old.order ++ cond (is_free entry) (place ∷ []) [] } }
+{
+    let was_free = entry_at_place(index, place).cur == 0;
+    leave(free, place, was_free);
+    set_counts(index, place, counts_of(entry));
+    move_last(touched, place);
+    join(free, place, entry.cur == 0);
+}
+
 /// Entries found by their keys, in the order of their last touch. A call takes a time that does not grow with
 /// their number; only `listed` goes through them.
 #[derive(Debug, Drop)]
@@ -162,22 +185,48 @@ impl TouchList {
         self.free.reserve(more)
     }
 
-    /// Puts an entry in place of that of its key, as the last one touched.
-    pub(crate) fn put_last(&mut self, key: &Addr, entry: StickEntry)
-        requires there { IsSome (find (is_of key.now) self.old.entries) }
-        requires own { entry.key ≡ key.now }
-        ensures entries { self.new.entries ≡ others key.now self.old.entries ++ entry ∷ [] }
+    /// Counts one more tracking of a key, as the last one touched. It answers whether the key has an entry; without one
+    /// it changes nothing.
+    pub(crate) fn raise(&mut self, key: &Addr) -> bool
+        requires { cur_of key.now self.old.entries < 2 ^ 64 - 1 }
+        ensures answer { result ≡ is_listed key.now self.old.entries }
+        ensures entries { result ≡ true → self.new.entries ≡ tracked key.now self.old.entries }
+        ensures same { result ≡ false → self.new ≡ self.old }
+        ensures spare { self.new.spare ≡ self.old.spare }
+        ensures len { length self.new.entries ≡ length self.old.entries }
+    {
+        let Some(place) = self.index.get_index_of(key) else {
+            return false;
+        };
+        let entry = entry_at_place(&self.index, place);
+        put_last(
+            &mut self.index,
+            &mut self.touched,
+            &mut self.free,
+            place,
+            entry.raised(),
+        );
+        true
+    }
+
+    /// Counts the end of a tracking of a key, as the last one touched.
+    pub(crate) fn lower(&mut self, key: &Addr)
+        requires { 0 < cur_of key.now self.old.entries }
+        ensures entries { self.new.entries ≡ released key.now self.old.entries }
         ensures spare { self.new.spare ≡ self.old.spare }
         ensures len { length self.new.entries ≡ length self.old.entries }
     {
         let Some(place) = self.index.get_index_of(key) else {
             return;
         };
-        let was_free = entry_at_place(&self.index, place).cur == 0;
-        leave(&mut self.free, place, was_free);
-        set_counts(&mut self.index, place, counts_of(entry));
-        move_last(&mut self.touched, place);
-        join(&mut self.free, place, entry.cur == 0);
+        let entry = entry_at_place(&self.index, place);
+        put_last(
+            &mut self.index,
+            &mut self.touched,
+            &mut self.free,
+            place,
+            entry.lowered(),
+        );
     }
 
     /// Adds a key that is tracked for the first time, as the last one touched.
