@@ -366,9 +366,22 @@ fn is_before(id: TableId, other: TableId) -> bool
     id.version < other.version || (id.version == other.version && id.position < other.position)
 }
 
-/// The place of the table of that incarnation. Tables are added in the order of their incarnations, so that it is found
-/// by halves; only where it is not in that order is each table looked at.
+/// The place of the table of that incarnation. A table that began with the configuration that was opened first is most
+/// often at its place in that configuration, which is looked at first.
 fn place_of(tables: &[StoredTable], id: TableId) -> Option<usize>
+    requires { TablesDiffer tables.now }
+    ensures { result ≡ position (is_table id) tables.now }
+{
+    let own = usize::from(id.position);
+    match tables.get(own) {
+        Some(stored) if stored.id == id => Some(own),
+        _ => search_place(tables, id),
+    }
+}
+
+/// The same, wherever the table is. Tables are added in the order of their incarnations, so that it is found by halves;
+/// only where it is not in that order is each table looked at.
+fn search_place(tables: &[StoredTable], id: TableId) -> Option<usize>
     requires { TablesDiffer tables.now }
     ensures { result ≡ position (is_table id) tables.now }
 {

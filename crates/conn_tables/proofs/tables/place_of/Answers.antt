@@ -8,7 +8,7 @@ use Rattle.conn_tables.proofs.tables.place_of.Goals as goal
 pub returns-in-Some : goal.returns-in-Some
 returns-in-Some c =
     let tables = c.args.tables.now in
-    let place = c.partition_point-place.result in
+    let place = c.from-own.result in
     let stored = c.in-Some.stored.now in
     let at = c.in-Some.ensures.lookup in
     let there : slice_get tables place ≡ Some stored = slice_get_read tables (length tables) place stored refl at.3.0 at.1 in
