@@ -6,7 +6,7 @@ pub use entries::{PlainEntry, StickEntry};
 pub use key::key_of;
 pub use proxy_types::{KeyType, Stores};
 pub use table::{StickTable, TrackToken};
-pub use touch_list::Counts;
+pub use touch_list::KeyCounts;
 
 mod entries;
 mod key;

@@ -7,7 +7,7 @@ ghost use Rattle.stick_core.specs.PlainEntries.{plain, AreTrackers, count_at, tr
 
 use crate::entries::{PlainEntry, cnt_in, cur_in};
 use crate::key::key_of;
-use crate::touch_list::{Counts, TouchList};
+use crate::touch_list::{KeyCounts, TouchList};
 use addr_core::Addr;
 use list_core::Seq;
 use proxy_types::{KeyType, Stores};
@@ -132,7 +132,7 @@ impl StickTable {
     }
 
     /// Both counts of the address, as `cur` and `cnt` have them.
-    pub fn counts(&self, addr: &Addr) -> Counts
+    pub fn counts(&self, addr: &Addr) -> KeyCounts
         ensures cur { result.cur ≡ cur_at self.now addr.now }
         ensures cnt { result.cnt ≡ cnt_at self.now addr.now }
         ensures plain_cur { (trackers : Addr → ℕ) → AreTrackers trackers self.now.entries → result.cur ≡ trackers_at trackers self.now.kind addr.now }
@@ -141,15 +141,15 @@ impl StickTable {
         self.count_both(addr)
     }
 
-    fn count_both(&self, addr: &Addr) -> Counts
+    fn count_both(&self, addr: &Addr) -> KeyCounts
         ensures cur { result.cur ≡ cur_at self.now addr.now }
         ensures cnt { result.cnt ≡ cnt_at self.now addr.now }
     {
         let Some(key) = key_of(self.kind, addr) else {
-            return Counts { cur: 0, cnt: 0 };
+            return KeyCounts { cur: 0, cnt: 0 };
         };
         let entry = self.touched.entry(&key);
-        Counts {
+        KeyCounts {
             cur: cur_in(entry),
             cnt: cnt_in(entry),
         }

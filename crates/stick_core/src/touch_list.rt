@@ -17,7 +17,7 @@ use std::marker::Model;
 
 /// What is counted of a key.
 #[derive(Clone, Copy, Debug, PartialEq, Eq)]
-pub struct Counts {
+pub struct KeyCounts {
     /// How many counters of open connections track it.
     pub cur: u64,
     /// How often it was tracked, 2^64 - 1 for more.
@@ -25,20 +25,20 @@ pub struct Counts {
 }
 
 /// A key that is tracked for the first time.
-const FIRST: Counts = Counts { cur: 1, cnt: 1 };
+const FIRST: KeyCounts = KeyCounts { cur: 1, cnt: 1 };
 
-fn counts_of(entry: StickEntry) -> Counts
+fn counts_of(entry: StickEntry) -> KeyCounts
     ensures cur { result.cur ≡ entry.cur }
     ensures cnt { result.cnt ≡ entry.cnt }
 {
-    Counts {
+    KeyCounts {
         cur: entry.cur,
         cnt: entry.cnt,
     }
 }
 
 /// The entry at a place.
-fn entry_at_place(index: &IndexMap<Addr, Counts>, place: usize) -> StickEntry
+fn entry_at_place(index: &IndexMap<Addr, KeyCounts>, place: usize) -> StickEntry
     requires { place < index_map_len index.now }
     ensures { result ≡ entry_at index.now.entries place }
 {
@@ -53,7 +53,7 @@ fn entry_at_place(index: &IndexMap<Addr, Counts>, place: usize) -> StickEntry
 }
 
 /// Puts other counts at a place.
-fn set_counts(index: &mut IndexMap<Addr, Counts>, place: usize, counts: Counts)
+fn set_counts(index: &mut IndexMap<Addr, KeyCounts>, place: usize, counts: KeyCounts)
     requires { place < index_map_len index.old }
     ensures { index.new ≡ with_value_at index.old place counts }
 {
@@ -97,7 +97,7 @@ fn join(order: &mut Order, place: usize, belongs: bool)
 
 /// Puts an entry at a place, as the last one touched.
 fn put_last(
-    index: &mut IndexMap<Addr, Counts>,
+    index: &mut IndexMap<Addr, KeyCounts>,
     touched: &mut Order,
     free: &mut Order,
     place: usize,
@@ -120,7 +120,7 @@ fn put_last(
 /// their number; only `listed` goes through them.
 #[derive(Debug, Drop)]
 pub(crate) struct TouchList {
-    index: IndexMap<Addr, Counts>,
+    index: IndexMap<Addr, KeyCounts>,
     touched: Order,
     free: Order,
 }
