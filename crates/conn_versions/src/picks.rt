@@ -1,5 +1,5 @@
 //! What picks of a backend go by.
-ghost use Rattle.std.specs.Prelude.{◌≡◌, ◌<◌, ◌≤◌, ℕ, true, length, map, option_map, slice_get, None, Some, IfOk};
+ghost use Rattle.std.specs.Prelude.{◌≡◌, ◌<◌, ◌≤◌, ℕ, true, length, map, option_map, slice_get, None, Some, IfOk, IfSome};
 ghost use Rattle.proxy_types.specs.declared.limits.TheConstants.{MOST_SERVERS};
 ghost use Rattle.balance_core.specs.Cycles.{turn_at, IsRound};
 ghost use Rattle.balance_core.specs.Rounds.{next_turn, used_turn, weights_of};
@@ -17,6 +17,10 @@ use plan_types::{Backend, Server};
 use proxy_types::{Method, Place, ServerIdentity};
 use slot_core::{NamedPlaces, SlotIx, Slots};
 use std::alloc::{AllocError, Global};
+
+/// How far from a backend's own number the cycle of another is looked for. A file that has some backends more or less than
+/// the one before has the others near.
+const NEAR: usize = 8;
 
 /// What picks of a backend go by.
 #[derive(Debug, Drop)]
@@ -88,23 +92,65 @@ fn weights_of(alloc: Global, servers: &[Server]) -> Result<Vec<u16>, AllocError>
     Ok(weights)
 }
 
-/// The cycle of a backend.
-fn cycle_of(alloc: Global, servers: &[Server]) -> Result<Cycle, AllocError>
+/// The cycle of a backend, where `own` are those before it in its version and `before` those of a version before. It is a
+/// copy where one of either has the same weights, of those whose numbers are near.
+pub fn cycle_of(
+    alloc: Global,
+    servers: &[Server],
+    before: &[BackendPicks],
+    own: &[BackendPicks],
+) -> Result<Cycle, AllocError>
     requires { length servers.now ≤ MOST_SERVERS }
     ensures { IfOk result (IsRound (map weight_of servers.now)) }
 {
     let weights = weights_of(alloc, servers)?;
-    Cycle::of(alloc, weights.as_slice())
+    let weights = weights.as_slice();
+    let number = own.len();
+    if let Some(cycle) = cycle_near(before, number, weights) {
+        return cycle.duplicate(alloc);
+    }
+    match cycle_near(own, number, weights) {
+        Some(cycle) => cycle.duplicate(alloc),
+        None => Cycle::of(alloc, weights),
+    }
+}
+
+/// A cycle of those weights of a backend whose number is near.
+fn cycle_near<'a>(own: &'a [BackendPicks], number: usize, weights: &[u16]) -> Option<&'a Cycle>
+    ensures { IfSome result (λ cycle. IsRound weights.now cycle.now) }
+{
+    if let Some(cycle) = cycle_at(own, number, weights) {
+        return Some(cycle);
+    }
+    for near in number.saturating_sub(NEAR)..number.saturating_add(NEAR) {
+        if let Some(cycle) = cycle_at(own, near, weights) {
+            return Some(cycle);
+        }
+    }
+    None
+}
+
+/// The cycle of the backend of that number, if it is of those weights.
+fn cycle_at<'a>(own: &'a [BackendPicks], number: usize, weights: &[u16]) -> Option<&'a Cycle>
+    ensures { IfSome result (λ cycle. IsRound weights.now cycle.now) }
+{
+    let picks = own.get(number)?;
+    if picks.cycle.is_of(weights) {
+        Some(&picks.cycle)
+    } else {
+        None
+    }
 }
 
 /// What picks of a backend go by where nothing of it was used.
 pub fn picks_of(
     alloc: Global,
     backend: &Backend,
+    cycle: Cycle,
     slots: &mut Slots,
     named: &mut NamedPlaces,
 ) -> Result<BackendPicks, AllocError>
-    requires few { length backend.now.servers ≤ MOST_SERVERS }
+    requires round { IsRound (map weight_of backend.now.servers) cycle }
     requires apart { IdentitiesDiffer slots.old }
     requires many { length named.old ≡ length slots.old }
     ensures slots { IfOk result (λ own. AreSlots slots.new backend.now own.slots) }
@@ -112,7 +158,6 @@ pub fn picks_of(
     ensures keeps { KeepsPlaces slots.old named.old slots.new named.new }
     ensures tied { IfOk result (IsTied backend.now None) }
 {
-    let cycle = cycle_of(alloc, backend.servers.as_slice())?;
     let places = slots_of(alloc, backend, slots, named)?;
     Ok(BackendPicks {
         slots: places,

@@ -21,7 +21,7 @@ ghost use Rattle.conn_versions.specs.Versions.{has_number, open_to, AreSound, Ha
 
 use crate::loads::item;
 use crate::opening::{cursors, table_ids};
-use crate::picks::{BackendPicks, note_places, pick, picks_of, slot_of, use_server};
+use crate::picks::{BackendPicks, cycle_of, note_places, pick, picks_of, slot_of, use_server};
 use addr_core::Addr;
 use conn_model::plain::Version;
 use list_core::{Seq, newest};
@@ -73,7 +73,7 @@ impl Versions {
     {
         let mut slots = Slots::new(alloc);
         let mut named = slots.none_named(alloc)?;
-        let backends = picks_of_all(alloc, plan.backends.as_slice(), &mut slots, &mut named)?;
+        let backends = picks_of_all(alloc, plan.backends.as_slice(), &[], &mut slots, &mut named)?;
         let mut picks = Vec::new(alloc);
         picks.push(VersionPicks {
             backends,
@@ -108,6 +108,7 @@ impl Versions {
         let backends = picks_of_all(
             self.alloc,
             version.plan.backends.as_slice(),
+            newest_picks(self.picks.as_slice()),
             &mut self.slots,
             &mut named,
         )?;
@@ -329,10 +330,19 @@ fn note_all(named: &mut NamedPlaces, own: &[BackendPicks])
     }
 }
 
-/// What picks of each backend go by where nothing was used.
+/// What picks of the backends of the newest version go by.
+fn newest_picks(picks: &[VersionPicks]) -> &[BackendPicks] {
+    match newest(picks) {
+        Some(own) => own.backends.as_slice(),
+        None => &[],
+    }
+}
+
+/// What picks of each backend go by where nothing was used. `before` is what those of a version before go by.
 fn picks_of_all(
     alloc: Global,
     backends: &[Backend],
+    before: &[BackendPicks],
     slots: &mut Slots,
     named: &mut NamedPlaces,
 ) -> Result<Vec<BackendPicks>, AllocError>
@@ -345,7 +355,8 @@ fn picks_of_all(
 {
     let mut all = Vec::new(alloc);
     for backend in backends {
-        all.push(picks_of(alloc, backend, slots, named)?)?;
+        let cycle = cycle_of(alloc, backend.servers.as_slice(), before, all.as_slice())?;
+        all.push(picks_of(alloc, backend, cycle, slots, named)?)?;
     }
     Ok(all)
 }
