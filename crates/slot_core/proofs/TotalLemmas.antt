@@ -4,14 +4,14 @@ use Rattle.std.specs.Prelude.{slice_get, slice_set, ◌≢◌, if◌then◌else�
 use Rattle.std.specs.Option.{option_map, option_map_or}
 use Rattle.std.specs.Str.{bytes_eq}
 use Rattle.std.specs.List.{position}
-use Rattle.std.proofs.lemmas.Bool.{cases_eq, eqb-true, false_from_ne_true}
+use Rattle.std.proofs.lemmas.Bool.{cases_eq, eqb-true, false_from_ne_true, false≢true}
 use Rattle.std.proofs.lemmas.Option.{get_or_from_slice_get, slice_get-get_or, slice_get_read, slice_get_within}
 use Rattle.std.proofs.lemmas.Slice.Eq.{bytes_eq-Decides}
 use Rattle.proxy_types.specs.declared.server.ServerIdentity.{ServerIdentity}
 use Rattle.slot_core.specs.declared.slots.Count.{Count}
 use Rattle.slot_core.specs.declared.totals.BackendTotal.{BackendTotal}
 use Rattle.slot_core.specs.Counts.{closed, changed, is_of, open_at, open_in, with_open}
-use Rattle.slot_core.specs.Totals.{has_name, is_unused, name_at, connections_at, servers_at, with_connections, with_servers, with_total, servers_in, AreCounts, AreTotals, AreTotalsOf, IsTotal}
+use Rattle.slot_core.specs.Totals.{has_name, is_unused, name_at, connections_at, servers_at, with_connections, with_servers, with_total, servers_in, AreCounts, AreTotals, AreTotalsOf, IsTotal, NamesDiffer}
 use Rattle.slot_core.proofs.CountLemmas.{differ-added, differ-changed, differ-replaced, open_there}
 use Rattle.list_core.proofs.Items.{absent, all-at, found, get-last, get-other, get-pushed, get-set, length-set, one_item, push-cases, set-cases, within}
 
@@ -125,6 +125,18 @@ named_total totals q name is = by (slice_get totals q) refl
     by : (o : Option BackendTotal) → slice_get totals q ≡ o → (total : BackendTotal) × (slice_get totals q ≡ Some total) × (total.name ≡ name)
     by None e = absurd (let wrong : None ≡ Some name = sym (ap (option_map (λ t. t.name)) e) ∙ is in cc)
     by (Some total) e = (total, e, one_item (Some total.name) total.name name refl (sym (ap (option_map (λ t. t.name)) e) ∙ is))
+
+-- no other total is of the name
+pub name_only : (name : List ℕ) (totals : List BackendTotal) (n : ℕ) (total : BackendTotal) → NamesDiffer totals → slice_get totals n ≡ Some total → has_name name total ≡ true →
+    position (has_name name) totals ≡ Some n
+name_only name totals n total differ there is = by (position (has_name name) totals) refl
+  where
+    by : (o : Option ℕ) → position (has_name name) totals ≡ o → o ≡ Some n
+    by None none = absurd (false≢true (sym (all-at (λ t. has_name name t ≡ false) totals n total (absent (has_name name) totals none) there) ∙ is))
+    by (Some m) at =
+        let first = found (has_name name) totals m at in
+        let same : first.0.name ≡ total.name = (bytes_eq-Decides first.0.name name).0 first.2 ∙ sym ((bytes_eq-Decides total.name name).0 is) in
+        ap (λ k. Some k) (differ m n first.0 total first.1 there same)
 
 -- One total changes, and with it the numbers of its name.
 

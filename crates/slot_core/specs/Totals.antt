@@ -42,6 +42,10 @@ pub record IsTotal (connections_of servers_of : List ℕ → ℕ) (total : Backe
   pub open_is : total.connections ≡ connections_of total.name
   pub servers_is : total.servers ≡ servers_of total.name
 
+-- no two totals are of one name
+abbrev pub NamesDiffer : List BackendTotal → Type 0
+NamesDiffer totals = (m n : ℕ) (one other : BackendTotal) → slice_get totals m ≡ Some one → slice_get totals n ≡ Some other → one.name ≡ other.name → m ≡ n
+
 -- each total does, and no two are of one name
 pub record AreTotalsOf (connections_of servers_of : List ℕ → ℕ) (totals : List BackendTotal) : Type 0 where
   pub apart : (m n : ℕ) (one other : BackendTotal) → slice_get totals m ≡ Some one → slice_get totals n ≡ Some other → one.name ≡ other.name → m ≡ n

@@ -5,7 +5,9 @@ ghost use Rattle.std.specs.Option.{option_copied};
 ghost use Rattle.slot_core.specs.Counts.{is_of, place_of, closed, identity_at, open_at, open_of, open_in, open_in_all, named_at, with_open, slots_at, IdentitiesDiffer};
 
 use crate::places::NamedPlaces;
-use crate::totals::{BackendTotal, close_one, find_total, join, leave, open_one, place_of_total};
+use crate::totals::{
+    BackendTotal, Guesses, close_one, find_near, find_total, join, leave, open_one, place_of_total,
+};
 use addr_core::Endpoint;
 use list_core::Duplicate;
 use proxy_types::ServerIdentity;
@@ -56,6 +58,7 @@ pub struct Slots {
     /// Of each count, the place of the total of its backend.
     backends: Vec<usize>,
     totals: Vec<BackendTotal>,
+    guesses: Guesses,
 }
 
 impl Model for Slots {
@@ -80,6 +83,7 @@ impl Slots {
             counts: Vec::new(alloc),
             backends: Vec::new(alloc),
             totals: Vec::new(alloc),
+            guesses: Guesses::new(),
         }
     }
 
@@ -178,6 +182,7 @@ impl Slots {
     {
         let identity = identity.duplicate(self.alloc)?;
         let total = place_of_total(self.alloc, &mut self.totals, identity.backend.as_slice())?;
+        self.guesses.note(identity.backend.as_slice(), total);
         leave(&mut self.totals, self.backends[place]);
         join(&mut self.totals, total);
         self.backends[place] = total;
@@ -196,6 +201,7 @@ impl Slots {
     {
         let identity = identity.duplicate(self.alloc)?;
         let total = place_of_total(self.alloc, &mut self.totals, identity.backend.as_slice())?;
+        self.guesses.note(identity.backend.as_slice(), total);
         self.backends.try_reserve(1)?;
         self.counts.push(Count {
             identity,
@@ -236,7 +242,8 @@ impl Slots {
     pub fn offered(&self, backend: &[u8]) -> u64
         ensures { result ≡ open_in backend.now self.now }
     {
-        match find_total(self.totals.as_slice(), backend) {
+        let guess = self.guesses.place(backend);
+        match find_near(self.totals.as_slice(), backend, guess) {
             Some(place) => self.totals[place].connections,
             None => 0,
         }

@@ -1,7 +1,7 @@
 //! Running totals of open connections, by the names of backends.
 ghost use Rattle.std.specs.Prelude.{◌≡◌, ◌+◌, ◌-◌, ◌<◌, ◌^◌, ℕ, List, length, position, Some, IfOk};
 ghost use Rattle.slot_core.specs.declared.slots.Count.{Count};
-ghost use Rattle.slot_core.specs.Totals.{has_name, is_unused, name_at, connections_at, servers_at, with_connections, with_servers, with_total, AreTotals};
+ghost use Rattle.slot_core.specs.Totals.{has_name, is_unused, name_at, connections_at, servers_at, with_connections, with_servers, with_total, AreTotals, NamesDiffer};
 
 use list_core::Seq;
 use std::alloc::{AllocError, Global};
@@ -14,6 +14,46 @@ pub struct BackendTotal {
     pub connections: u64,
     /// How many servers of it are counted.
     pub servers: usize,
+}
+
+/// For how many names there are guesses.
+const GUESSES: usize = 1024;
+
+/// Where the totals of names most likely are. Names of one number share a guess, which is right for the one that was noted
+/// last, and each guess is checked.
+#[derive(Debug, Drop)]
+pub struct Guesses {
+    places: [u16; GUESSES],
+}
+
+impl Guesses {
+    /// The first place for each name.
+    pub fn new() -> Guesses {
+        Guesses {
+            places: [0; GUESSES],
+        }
+    }
+
+    /// Where the total of a name most likely is.
+    pub fn place(&self, name: &[u8]) -> usize {
+        usize::from(self.places[number_of(name)])
+    }
+
+    /// Notes where the total of a name is.
+    pub fn note(&mut self, name: &[u8], place: usize) {
+        self.places[number_of(name)] = u16::try_from(place).unwrap_or(0);
+    }
+}
+
+/// A number that follows from a name. Names that differ in their last letters and digits mostly have different ones.
+fn number_of(name: &[u8]) -> usize
+    ensures { result < 1024 }
+{
+    let mut number: u32 = 0;
+    for byte in name {
+        number = number.wrapping_mul(37).wrapping_add(u32::from(*byte));
+    }
+    number as usize % GUESSES
 }
 
 /// Where the total of a backend's name is. One that is new takes the place of one that has no server any more, if there
@@ -41,6 +81,23 @@ pub fn place_of_total(
     let place = totals.len();
     totals.push(total)?;
     Ok(place)
+}
+
+/// Where the total of that name is. It is looked for at that place first.
+pub fn find_near(totals: &[BackendTotal], name: &[u8], guess: usize) -> Option<usize>
+    requires { NamesDiffer totals.now }
+    ensures { result ≡ position (has_name name.now) totals.now }
+{
+    match totals.get(guess) {
+        Some(total) if is_named(total, name) => Some(guess),
+        _ => find_total(totals, name),
+    }
+}
+
+fn is_named(total: &BackendTotal, name: &[u8]) -> bool
+    ensures { result ≡ has_name name.now total.now }
+{
+    is_same_name(total.name.as_slice(), name)
 }
 
 /// Where the total of that name is.
