@@ -68,9 +68,10 @@ impl StoredTable {
         requires { self.now.entries.kind ≡ self.now.table.kind }
         ensures { (tracks : List Track) → AreTrackers (trackers tracks self.now.id) self.now.entries.entries → result ≡ entry_counts tracks addr.now (plain_table self.now) }
     {
+        let counts = self.entries.counts(addr);
         Counts {
-            cur: self.entries.cur(addr),
-            cnt: self.entries.cnt(addr),
+            cur: counts.cur,
+            cnt: counts.cnt,
         }
     }
 
