@@ -38,7 +38,7 @@ use conn_model::event::{ConnId, Event, HEADER_WAIT, Why};
 use conn_model::plain::{Listener, Plain};
 use conn_model::reply::{Cause, Reply, Said, StepFault};
 use conn_model::settings::Settings;
-use conn_rows::{RowSummary, Rows, ServerNames, frontend_named};
+use conn_rows::{RowSummary, Rows, ServerNames, frontend_near};
 use conn_versions::item;
 use list_core::{Duplicate, Seq};
 use plan_core::same_binds;
@@ -194,7 +194,7 @@ impl Core {
         let Some(version) = self.rows.newest() else {
             return None;
         };
-        let Some(judge) = frontend_named(&version.plan, own.name) else {
+        let Some(judge) = frontend_near(&version.plan, at.frontend, own.name) else {
             return None;
         };
         let connections = own.connections + 1;
@@ -326,7 +326,7 @@ impl Core {
         let Some(version) = self.rows.newest() else {
             return Err(StepFault::NoListener);
         };
-        let Some(frontend) = frontend_named(&version.plan, own.name) else {
+        let Some(frontend) = frontend_near(&version.plan, listener.frontend, own.name) else {
             return Err(StepFault::NoListener);
         };
         let Some(serial) = next_number(own.serial) else {

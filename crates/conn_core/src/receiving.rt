@@ -28,12 +28,13 @@ use crate::tracking::track_all;
 use addr_core::Pair;
 use conn_model::event::ConnId;
 use conn_model::reply::{Cause, Reply, Said};
-use conn_rows::{HeaderStatus, RowSummary, Rows, frontend_named};
+use conn_rows::{HeaderStatus, RowSummary, Rows, frontend_near};
 use pp_v1::Meaning;
 use rule_engine::{NO_TRACKS, Tracks};
 
 /// Whether there is what judges a connection of that version: the version, and its frontend in it.
 pub fn can_judge(rows: &Rows, id: ConnId, version: u64) -> bool
+    requires { AreSound rows.now.versions }
     ensures yes { result ≡ true → Judge rows.now.frontends rows.now.versions id version }
     ensures no { result ≡ false → Judge rows.now.frontends rows.now.versions id version → ⊥ }
 {
@@ -43,7 +44,7 @@ pub fn can_judge(rows: &Rows, id: ConnId, version: u64) -> bool
     let Some(version) = rows.version(version) else {
         return false;
     };
-    match frontend_named(&version.plan, own.name) {
+    match frontend_near(&version.plan, id.frontend, own.name) {
         Some(_) => true,
         None => false,
     }
@@ -51,6 +52,7 @@ pub fn can_judge(rows: &Rows, id: ConnId, version: u64) -> bool
 
 /// What rules see of an open connection of that version, which is judged by that pair.
 pub fn facts_of(rows: &Rows, id: ConnId, version: u64, judged: Pair) -> Option<RuleFacts<'_>>
+    requires { AreSound rows.now.versions }
     ensures some { IfSome result (λ facts. SeesOpen rows.now id version judged facts) }
     ensures none { IfNone result (Judge rows.now.frontends rows.now.versions id version → ⊥) }
 {
@@ -60,7 +62,7 @@ pub fn facts_of(rows: &Rows, id: ConnId, version: u64, judged: Pair) -> Option<R
     let Some(version) = rows.version(version) else {
         return None;
     };
-    let Some(frontend) = frontend_named(&version.plan, own.name) else {
+    let Some(frontend) = frontend_near(&version.plan, id.frontend, own.name) else {
         return None;
     };
     Some(RuleFacts {
@@ -77,10 +79,11 @@ pub fn facts_of(rows: &Rows, id: ConnId, version: u64, judged: Pair) -> Option<R
 
 /// What becomes of a connection whose header is whole.
 fn decision(rows: &Rows, id: ConnId, version: u64, judged: Pair) -> Option<TrackedOutcome>
+    requires { AreSound rows.now.versions }
     ensures some { IfSome result (λ d. (judge : Judge rows.now.frontends rows.now.versions id version) × ((state : Plain) (used : ℕ) → IsSeen id state rows.now →
         reply_by id used d ≡ decision (candidate_of state id judge.version judge.frontend) used judged no_tracks)) }
     ensures can { IfSome result (λ d. IsSome (row_at rows.now.frontends id) → ArePossible (open_tracks rows.now.frontends) rows.now.tables (tracks_at rows.now.frontends id) judged.source.addr d.tracks) }
-    ensures offers { IfSome result (λ d. AreSound rows.now.versions → CanOffer rows.now.versions version d.outcome) }
+    ensures offers { IfSome result (λ d. CanOffer rows.now.versions version d.outcome) }
     ensures none { IfNone result (Judge rows.now.frontends rows.now.versions id version → ⊥) }
 {
     let Some(facts) = facts_of(rows, id, version, judged) else {

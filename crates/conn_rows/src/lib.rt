@@ -4,7 +4,7 @@
 pub use frontend::HeaderStatus;
 pub use row::{RowSummary, ServerChoice, ServerNames};
 pub use rows::{FrontendSummary, Rows, RowsState};
-pub use settings::frontend_named;
+pub use settings::{frontend_named, frontend_near};
 
 mod counts;
 mod frontend;

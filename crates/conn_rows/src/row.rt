@@ -211,13 +211,14 @@ impl StoredRow {
         }
     }
 
-    /// How it is served as a connection to the frontend of that name, by the plan of its version.
-    pub fn settings(&self, name: &[u8], versions: &[Version]) -> Option<Settings>
+    /// How it is served as a connection to the frontend of that name, by the plan of its version. The frontend is looked
+    /// for at that number first.
+    pub fn settings(&self, number: u16, name: &[u8], versions: &[Version]) -> Option<Settings>
         requires { AreSound versions.now }
         ensures { result ≡ settings_at versions.now self.now.version name.now (line_of self.now.stage) }
     {
         let version = version_at(versions, self.version)?;
-        settings_by(name, self.stage.place(), &version.plan)
+        settings_by(number, name, self.stage.place(), &version.plan)
     }
 
     /// An equal row, as plain data, by the plans of these versions.

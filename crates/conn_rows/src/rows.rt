@@ -179,7 +179,7 @@ impl Rows {
     {
         let own = item(self.frontends.as_slice(), id.frontend)?;
         let row = own.row(id.serial)?;
-        row.settings(own.name(), self.kept.as_slice())
+        row.settings(id.frontend, own.name(), self.kept.as_slice())
     }
 
     /// How many connections of the frontend of that number are open.

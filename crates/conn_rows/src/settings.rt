@@ -3,6 +3,7 @@ ghost use Rattle.std.specs.Prelude.{◌≡◌, ℕ, Some, true, slice_get, optio
 ghost use Rattle.std.specs.Option.{option_copied};
 ghost use Rattle.std.specs.Str.{bytes_eq};
 ghost use Rattle.plan_types.specs.Lines.{has_line, LinesDiffer};
+ghost use Rattle.plan_types.specs.Sound.{IsSoundPlan};
 ghost use Rattle.conn_model.specs.Answer.{frontend_in};
 ghost use Rattle.conn_model.specs.Settings.{backend_with, settings_by, settings_of};
 
@@ -20,6 +21,17 @@ pub fn frontend_named<'a>(plan: &'a Plan, name: &[u8]) -> Option<&'a Frontend>
         .as_slice()
         .iter()
         .find(|frontend| has_name(frontend, name))
+}
+
+/// The frontend of that name, which is looked for at that number first.
+pub fn frontend_near<'a>(plan: &'a Plan, number: u16, name: &[u8]) -> Option<&'a Frontend>
+    requires { IsSoundPlan plan.now }
+    ensures { option_copied result ≡ frontend_in plan.now name.now }
+{
+    match item(plan.frontends.as_slice(), number) {
+        Some(frontend) if has_name(frontend, name) => Some(frontend),
+        _ => frontend_named(plan, name),
+    }
 }
 
 fn has_name(frontend: &Frontend, name: &[u8]) -> bool
@@ -88,11 +100,17 @@ fn settings_of(frontend: &Frontend, backend: Option<&Backend>) -> Settings
     }
 }
 
-/// How a connection to the frontend of that name is served by a plan, which was offered that server.
-pub fn settings_by(name: &[u8], place: Option<ServerPlace>, plan: &Plan) -> Option<Settings>
-    requires { LinesDiffer plan.now }
+/// How a connection to the frontend of that name is served by a plan, which was offered that server. The frontend is
+/// looked for at that number first.
+pub fn settings_by(
+    number: u16,
+    name: &[u8],
+    place: Option<ServerPlace>,
+    plan: &Plan,
+) -> Option<Settings>
+    requires { IsSoundPlan plan.now }
     ensures { result ≡ settings_by name.now (option_map (λ place. place.line) place) plan.now }
 {
-    let frontend = frontend_named(plan, name)?;
+    let frontend = frontend_near(plan, number, name)?;
     Some(settings_of(frontend, backend_with(plan, place)))
 }

@@ -23,7 +23,7 @@ settle-requires-clause-there c =
 
 pub settle-requires-clause-offers : goal.settle-requires-clause-offers
 settle-requires-clause-offers c =
-    subst (λ vs. CanOffer vs c.args.version c.in-Some.decision.outcome) (sym c.track_all.ensures.versions) (c.in-Some.ensures.offers c.requires.sound)
+    subst (λ vs. CanOffer vs c.args.version c.in-Some.decision.outcome) (sym c.track_all.ensures.versions) c.in-Some.ensures.offers
 
 pub returns-clause-reply : goal.returns-clause-reply
 returns-clause-reply c = λ judge state same.

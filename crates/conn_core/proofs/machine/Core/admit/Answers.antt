@@ -5,7 +5,9 @@ use Rattle.conn_model.specs.declared.event.ConnId.{ConnId}
 use Rattle.conn_model.specs.declared.plain.FrontendRows.{FrontendRows}
 use Rattle.conn_model.specs.declared.plain.Plain.{Plain}
 use Rattle.conn_model.specs.Answer.{accept_answer, admission, candidate_at, frontend_in, new_row, with_row}
+use Rattle.plan_types.specs.Sound.{IsSoundPlan}
 use Rattle.conn_model.proofs.Goes.{well_at}
+use Rattle.conn_model.proofs.TableSteps.{newest-all}
 use Rattle.conn_core.specs.declared.facts.RuleFacts.{RuleFacts}
 use Rattle.conn_model.proofs.Versions.{newest-at}
 use Rattle.conn_model.specs.Words.{newest}
@@ -15,6 +17,9 @@ use Rattle.conn_core.proofs.AcceptLemmas.{Found, answer_is}
 use Rattle.conn_core.proofs.JudgingLemmas.{accept_offers}
 use Rattle.conn_core.proofs.SeenLemmas.{view_at_accept}
 use Rattle.conn_core.proofs.machine.Core.admit.Goals as goal
+
+pub frontend_near-requires : goal.frontend_near-requires
+frontend_near-requires c = newest-all (λ version. IsSoundPlan version.plan) c.self.inside.rows.versions c.in-Some-newest.version.now c.in-Some-newest.ensures.sound (sym c.in-Some-newest.ensures.newest)
 
 pub admission-decision-requires : goal.admission-decision-requires
 admission-decision-requires c = newest-at c.self.inside.rows.versions c.in-Some-newest.version.now c.self.invariant.well.rise (sym c.in-Some-newest.ensures.newest)
@@ -27,18 +32,18 @@ returns-clause-reply c =
     let there : slice_get c.self.inside.rows.frontends number ≡ Some own = c.in-Some-frontend.ensures.some.1 in
     let sums = c.in-Some-frontend.ensures.some.2 in
     let version = c.in-Some-newest.version.now in
-    let frontend = c.in-Some-frontend_named.frontend.now in
+    let frontend = c.in-Some-frontend_near.frontend.now in
     let next : ConnId = record { frontend = number; serial = own.serial + 1 } in
     let found : Found q c.args.listener c.in-Some.listener.now own version frontend = record {
       listens = sym (c.in-Some.ensures ∙ ap (λ xs. slice_get xs c.args.listener) c.as_slice.ensures);
       there = there;
       newest_is = sym c.in-Some-newest.ensures.newest;
-      named = sym (c.in-Some-frontend_named.ensures ∙ ap (λ n. frontend_in version.plan n) sums.name);
+      named = sym (c.in-Some-frontend_near.ensures ∙ ap (λ n. frontend_in version.plan n) sums.name);
     } in
     let facts : RuleFacts = record {
       rows = record { ref_ptr = c.args.self.ref_ptr; now = c.self.inside.rows };
       version = c.in-Some-newest.version;
-      frontend = c.in-Some-frontend_named.frontend;
+      frontend = c.in-Some-frontend_near.frontend;
       name = c.in-Some-frontend.own.name;
       connections = c.in-Some-frontend.own.connections + 1;
       arriving = true;

@@ -10,4 +10,4 @@ pub settings_by-requires : goal.settings_by-requires
 settings_by-requires c =
     let version = c.in_ok-version.version.now in
     let there : version_at c.args.versions.now c.args.self.now.version ≡ Some version = sym c.version_at.ensures ∙ ap option_copied c.in_ok-version.was in
-    (all-found (λ v. IsSoundPlan v.plan) (λ v. v.number == c.args.self.now.version) c.args.versions.now version c.requires there).0.lines
+    (all-found (λ v. IsSoundPlan v.plan) (λ v. v.number == c.args.self.now.version) c.args.versions.now version c.requires there).0
