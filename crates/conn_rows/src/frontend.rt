@@ -17,7 +17,7 @@ ghost use Rattle.conn_rows.specs.Stored.{IsHeld, StoredFrontend, at_stage, has_s
 ghost use Rattle.slot_core.specs.Counts.{open_at, slots_at};
 ghost use Rattle.conn_tables.specs.Tables.{cur_in};
 ghost use Rattle.conn_tables.specs.Tracks.{counter_on, on_counter, track_by};
-ghost use Rattle.conn_versions.specs.Versions.{VersionsValue};
+ghost use Rattle.conn_versions.specs.Versions.{AreSound, VersionsValue};
 ghost use Rattle.conn_rows.specs.Value.{row_judged, row_on, row_slots, rows_total, HasSlot};
 ghost use Rattle.conn_model.specs.Changes.{held_after, row_tracking, with_row};
 ghost use Rattle.conn_rows.specs.Changes.{stage_fed, stage_offered, stage_up, status_of, stored_fed, stored_up, used_by};
@@ -204,6 +204,7 @@ impl FrontendState {
 
     /// Equal rows, as plain data, by the plans of these versions.
     pub fn plain(&self, alloc: Global, versions: &[Version]) -> Result<FrontendRows, AllocError>
+        requires { AreSound versions.now }
         ensures { IfOk result (λ own. own ≡ plain_frontend versions.now self.now) }
     {
         Ok(FrontendRows {

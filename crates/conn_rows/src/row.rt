@@ -1,7 +1,7 @@
 //! One open connection.
-ghost use Rattle.std.specs.Prelude.{◌≡◌, [], IfOk, None, find, option_and_then, option_map};
+ghost use Rattle.std.specs.Prelude.{◌≡◌, [], IfOk, IfSome, None, find, option_and_then, option_map};
 ghost use Rattle.std.specs.Option.{option_copied, option_map_or};
-ghost use Rattle.plan_types.specs.Lines.{has_line};
+ghost use Rattle.plan_types.specs.Lines.{has_line, LinesDiffer};
 ghost use Rattle.conn_tables.specs.Tracks.{no_trackings};
 ghost use Rattle.conn_versions.specs.Versions.{AreSound};
 ghost use Rattle.conn_model.specs.Answer.{version_at};
@@ -12,7 +12,7 @@ ghost use Rattle.conn_rows.specs.Summaries.{names_in, names_of, stored_summary};
 ghost use Rattle.conn_rows.specs.Stored.{assignment_in, awaits, line_of, phase_of, phase_with, plan_at, plain_row, slot_of, stored_arrival, waits};
 
 use crate::packed::{PackedChoice, PackedPair};
-use crate::settings::{ServerPlace, settings_by};
+use crate::settings::{ServerPlace, backend_at, settings_by};
 use addr_core::{Endpoint, Pair};
 use conn_model::plain::{Assignment, Phase, Row, Version};
 use conn_model::settings::Settings;
@@ -34,6 +34,18 @@ pub struct ServerChoice {
     pub to: Endpoint,
     /// The source and the destination by which the connection was judged.
     pub judged: Pair,
+}
+
+impl ServerChoice {
+    /// The server in a plan.
+    fn place(&self) -> ServerPlace
+        ensures { result ≡ record { line = self.now.line; number = self.now.server } }
+    {
+        ServerPlace {
+            line: self.line,
+            number: self.server,
+        }
+    }
 }
 
 /// The server that a connection was offered. It cannot be dropped.
@@ -100,18 +112,13 @@ impl Stage {
     {
         match self {
             Stage::Waiting(_) => None,
-            Stage::Offered(held) => {
-                let ServerChoice { server, line, .. } = held.seat.seat();
-                Some(ServerPlace {
-                    line,
-                    number: server,
-                })
-            }
+            Stage::Offered(held) => Some(held.seat.seat().place()),
         }
     }
 
     /// The same as plain data, by that plan.
     fn plain(&self, alloc: Global, plan: Option<&Plan>) -> Result<Phase, AllocError>
+        requires { IfSome plan (λ plan. LinesDiffer plan.now) }
         ensures { IfOk result (λ phase. phase ≡ phase_of (option_copied plan.entry) self.now) }
     {
         match self {
@@ -200,6 +207,7 @@ impl StoredRow {
 
     /// The names of the server that it was offered, by the plans of these versions.
     pub fn server<'a>(&self, versions: &'a [Version]) -> Option<ServerNames<'a>>
+        requires { AreSound versions.now }
         ensures { option_map names_in result ≡ option_map names_of (server_of (phase_of (plan_at versions.now self.now.version) self.now.stage)) }
     {
         match &self.stage {
@@ -223,6 +231,7 @@ impl StoredRow {
 
     /// An equal row, as plain data, by the plans of these versions.
     pub fn plain(&self, alloc: Global, versions: &[Version]) -> Result<Row, AllocError>
+        requires { AreSound versions.now }
         ensures { IfOk result (λ row. row ≡ plain_row versions.now self.now) }
     {
         let plan = plan_at(versions, self.version);
@@ -287,22 +296,25 @@ pub fn version_at(versions: &[Version], number: u64) -> Option<&Version>
 }
 
 /// The plan of the version of that number.
-pub fn plan_at(versions: &[Version], number: u64) -> Option<&Plan>
-    ensures { option_copied result ≡ plan_at versions.now number }
+fn plan_at(versions: &[Version], number: u64) -> Option<&Plan>
+    requires { AreSound versions.now }
+    ensures value { option_copied result ≡ plan_at versions.now number }
+    ensures lines { IfSome result (λ plan. LinesDiffer plan.now) }
 {
     let version = version_at(versions, number)?;
     Some(&version.plan)
 }
 
-/// The backend that has the server of that line.
-pub fn backend_of(plan: Option<&Plan>, line: u32) -> Option<&Backend>
-    ensures { option_copied result ≡ option_and_then (λ plan. find (has_line line) plan.backends) (option_copied plan.entry) }
+/// The backend that has a server.
+fn backend_of(plan: Option<&Plan>, place: ServerPlace) -> Option<&Backend>
+    requires { IfSome plan (λ plan. LinesDiffer plan.now) }
+    ensures { option_copied result ≡ option_and_then (λ plan. find (has_line place.line) plan.backends) (option_copied plan.entry) }
 {
     let plan = plan?;
-    backend_in(plan, line)
+    backend_at(plan, place)
 }
 
-/// The same of that plan.
+/// The backend of a plan that has the server of that line.
 pub fn backend_in(plan: &Plan, line: u32) -> Option<&Backend>
     ensures { option_copied result ≡ find (has_line line) plan.now.backends }
 {
@@ -337,10 +349,11 @@ fn assignment(
     plan: Option<&Plan>,
     seat: &ServerChoice,
 ) -> Result<Assignment, AllocError>
+    requires { IfSome plan (λ plan. LinesDiffer plan.now) }
     ensures { IfOk result (λ assignment. assignment ≡ assignment_in (option_copied plan.entry) seat.now) }
 {
     Ok(Assignment {
-        server: identity(alloc, backend_of(plan, seat.line), seat)?,
+        server: identity(alloc, backend_of(plan, seat.place()), seat)?,
         line: seat.line,
         judged: seat.judged,
     })
@@ -348,9 +361,10 @@ fn assignment(
 
 /// The names of a server by a plan, which are empty where the plan has no such server.
 fn names<'a>(plan: Option<&'a Plan>, seat: &ServerChoice) -> ServerNames<'a>
+    requires { IfSome plan (λ plan. LinesDiffer plan.now) }
     ensures { names_in result ≡ names_of (assignment_in (option_copied plan.entry) seat.now).server }
 {
-    match backend_of(plan, seat.line) {
+    match backend_of(plan, seat.place()) {
         Some(backend) => {
             let servers = backend.servers.as_slice();
             ServerNames {

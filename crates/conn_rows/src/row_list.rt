@@ -4,6 +4,7 @@ ghost use Rattle.std.specs.List.{AllByRecursion};
 ghost use Rattle.std.specs.Option.{option_copied};
 ghost use Rattle.keyed_list.specs.Entries.{IsFew};
 ghost use Rattle.conn_model.specs.Counts.{total};
+ghost use Rattle.conn_versions.specs.Versions.{AreSound};
 ghost use Rattle.conn_rows.specs.declared.row.StoredRow.{StoredRow};
 ghost use Rattle.conn_rows.specs.Stored.{has_serial, plain_row};
 
@@ -67,6 +68,7 @@ impl RowList {
 
     /// Equal rows, as plain data, by the plans of these versions.
     pub fn plain(&self, alloc: Global, versions: &[Version]) -> Result<Seq<Row>, AllocError>
+        requires { AreSound versions.now }
         ensures { IfOk result (λ copies. copies ≡ map (plain_row versions.now) self.now) }
     {
         let mut copies = Vec::with_capacity(alloc, self.entries.len())?;

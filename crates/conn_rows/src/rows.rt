@@ -397,6 +397,7 @@ fn plain_frontends(
     versions: &[Version],
     frontends: &[FrontendState],
 ) -> Result<Seq<FrontendRows>, AllocError>
+    requires { AreSound versions.now }
     ensures { IfOk result (λ copies. copies ≡ map (plain_frontend versions.now) frontends.now) }
 {
     let mut copies = Seq::new(alloc);

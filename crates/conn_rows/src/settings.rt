@@ -1,5 +1,5 @@
 //! How a connection is served.
-ghost use Rattle.std.specs.Prelude.{◌≡◌, ℕ, Some, true, slice_get, option_map, IfSome, IsTrue};
+ghost use Rattle.std.specs.Prelude.{◌≡◌, ℕ, Some, true, find, slice_get, option_map, IfSome, IsTrue};
 ghost use Rattle.std.specs.Option.{option_copied};
 ghost use Rattle.std.specs.Str.{bytes_eq};
 ghost use Rattle.plan_types.specs.Lines.{has_line, LinesDiffer};
@@ -68,15 +68,22 @@ fn has_place(backend: &Backend, place: ServerPlace) -> bool
 }
 
 /// The backend that has a server. It is found without a look at other servers, where the plan has it at its place.
-fn backend_with(plan: &Plan, place: Option<ServerPlace>) -> Option<&Backend>
+pub fn backend_at(plan: &Plan, place: ServerPlace) -> Option<&Backend>
     requires { LinesDiffer plan.now }
-    ensures { option_copied result ≡ backend_with plan.now (option_map (λ place. place.line) place) }
+    ensures { option_copied result ≡ find (has_line place.line) plan.now.backends }
 {
-    let place = place?;
     match backend_before(plan, place.line) {
         Some(backend) if has_place(backend, place) => Some(backend),
         _ => backend_in(plan, place.line),
     }
+}
+
+/// The same, if a server was offered.
+fn backend_with(plan: &Plan, place: Option<ServerPlace>) -> Option<&Backend>
+    requires { LinesDiffer plan.now }
+    ensures { option_copied result ≡ backend_with plan.now (option_map (λ place. place.line) place) }
+{
+    backend_at(plan, place?)
 }
 
 /// Times of the frontend, and of the backend once the connection was offered a server.
