@@ -64,7 +64,8 @@ pub fn write_bytes(out: &mut Vec<u8>, bytes: &[u8]) -> Result<(), AllocError>
     ensures { OnOk result (out.new.items ≡ out.old.items ++ bytes_text bytes.now) }
 {
     if bytes.is_empty() {
-        return out.extend_from_slice(b"-");
+        out.push(b'-')?;
+        return Ok(());
     }
     write_hex(out, bytes)
 }

@@ -1,21 +1,13 @@
 //! Events as lines.
 ghost use Rattle.std.specs.Prelude.{◌≡◌, ◌+◌, ◌<◌, ◌^◌, ◌++◌, ◌∷◌, length, codes, OnOk, Some};
-ghost use Rattle.event_text.specs.Script.{bar_lines, ended_lines, event_in_lines, event_line, event_lines, event_text, id_text, text_lines, IsHandedIn};
+ghost use Rattle.event_text.specs.Script.{bar_lines, ended_lines, event_in_lines, event_line, event_lines, event_text, text_lines, IsHandedIn};
 
 use crate::digits::write_bytes;
-use crate::replies::{write_field, write_id, write_place, write_text, write_why};
-use conn_model::event::{ConnId, OwnedEvent};
+use crate::replies::{write_field, write_named, write_place, write_text, write_why};
+use conn_model::event::OwnedEvent;
 use std::alloc::AllocError;
 use text_core::cut_at;
 use text_core::decimal::append_decimal;
-
-/// A verb and the name of a connection after it.
-fn write_verb(out: &mut Vec<u8>, verb: &[u8], id: &ConnId) -> Result<(), AllocError>
-    ensures { OnOk result (out.new.items ≡ out.old.items ++ (verb.now ++ id_text id.now)) }
-{
-    write_text(out, verb)?;
-    write_id(out, id)
-}
 
 /// How many lines a text has: one more than it has line feeds.
 fn count_lines(text: &[u8]) -> u64
@@ -42,20 +34,18 @@ fn write_words(out: &mut Vec<u8>, moment: u64, event: &OwnedEvent) -> Result<(),
             write_place(out, b" ", &real.destination())
         }
         OwnedEvent::Piece(id, bytes) => {
-            write_text(out, b" piece ")?;
-            write_id(out, id)?;
+            write_named(out, b" piece ", id)?;
             write_text(out, b" ")?;
             write_bytes(out, bytes.as_slice())
         }
-        OwnedEvent::Connected(id) => write_verb(out, b" connected ", id),
-        OwnedEvent::ConnectFailed(id) => write_verb(out, b" failed ", id),
+        OwnedEvent::Connected(id) => write_named(out, b" connected ", id),
+        OwnedEvent::ConnectFailed(id) => write_named(out, b" failed ", id),
         OwnedEvent::Close(id, why) => {
-            write_text(out, b" close ")?;
-            write_id(out, id)?;
+            write_named(out, b" close ", id)?;
             write_text(out, b" ")?;
             write_why(out, why)
         }
-        OwnedEvent::Expire(id) => write_verb(out, b" expire ", id),
+        OwnedEvent::Expire(id) => write_named(out, b" expire ", id),
         OwnedEvent::Reload(text) => write_field(out, b" reload ", count_lines(text.as_slice())),
     }
 }

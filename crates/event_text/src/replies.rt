@@ -1,5 +1,5 @@
 //! Replies and counts as lines.
-ghost use Rattle.std.specs.Prelude.{◌≡◌, ◌≤◌, ◌++◌, [], length, codes, OnOk};
+ghost use Rattle.std.specs.Prelude.{◌≡◌, ◌+◌, ◌≤◌, ◌<◌, ◌^◌, ◌++◌, ◌∷◌, [], length, codes, OnOk};
 ghost use Rattle.std.specs.List.{flat_map};
 ghost use Rattle.text_core.specs.Decimal.{decimal};
 ghost use Rattle.addr_core.specs.declared.addr.Addr.TheVariants.{V4};
@@ -26,14 +26,37 @@ pub fn write_text(out: &mut Vec<u8>, text: &[u8]) -> Result<(), AllocError>
     out.extend_from_slice(text)
 }
 
-/// Room for an IPv4 address and a port, with five bytes for each of their numbers.
-const PLACE_BYTES: usize = 32;
+fn write_byte(out: &mut Vec<u8>, byte: u8) -> Result<(), AllocError>
+    ensures { OnOk result (out.new.items ≡ out.old.items ++ byte ∷ []) }
+{
+    out.push(byte)?;
+    Ok(())
+}
 
-/// An IPv4 address in dotted decimal.
-fn push_dotted(text: &mut ArrayVec<u8, PLACE_BYTES>, number: u32)
-    requires { text.old.items ≡ [] }
-    ensures text { text.new.items ≡ text_of (V4 number) }
-    ensures fits { length text.new.items ≤ 23 }
+/// Room for the front of a line, with five bytes for each of its numbers.
+const BLOCK_BYTES: usize = 64;
+
+/// How many bytes a word in a block has at most.
+const MOST_WORD_BYTES: usize = 16;
+
+/// Numbers below this have five digits at most.
+const FEW: u64 = 0x1_0000;
+
+/// Appends a word. There must be room.
+fn push_word(text: &mut ArrayVec<u8, BLOCK_BYTES>, word: &[u8])
+    requires { length text.old.items + length word.now ≤ BLOCK_BYTES }
+    ensures { text.new.items ≡ text.old.items ++ word.now }
+{
+    for byte in word {
+        text.push(*byte);
+    }
+}
+
+/// Appends an IPv4 address in dotted decimal. There must be room for five bytes for each of its numbers.
+fn push_dotted(text: &mut ArrayVec<u8, BLOCK_BYTES>, number: u32)
+    requires { length text.old.items + 23 ≤ BLOCK_BYTES }
+    ensures text { text.new.items ≡ text.old.items ++ text_of (V4 number) }
+    ensures fits { length text.new.items ≤ length text.old.items + 23 }
 {
     push_short(text, (number / 0x100_0000) as u16);
     text.push(b'.');
@@ -52,14 +75,47 @@ fn write_dotted(out: &mut Vec<u8>, number: u32) -> Result<(), AllocError>
     out.extend_from_slice(text.as_slice())
 }
 
-/// An IPv4 address, and a port after it.
-fn write_dotted_place(out: &mut Vec<u8>, number: u32, port: u16) -> Result<(), AllocError>
-    ensures { OnOk result (out.new.items ≡ out.old.items ++ (text_of (V4 number) ++ codes ":" ++ decimal port)) }
+/// A word, an IPv4 address after it, and a port.
+fn write_dotted_place(
+    out: &mut Vec<u8>,
+    name: &[u8],
+    number: u32,
+    port: u16,
+) -> Result<(), AllocError>
+    requires { length name.now ≤ MOST_WORD_BYTES }
+    ensures { OnOk result (out.new.items ≡ out.old.items ++ (name.now ++ text_of (V4 number) ++ codes ":" ++ decimal port)) }
 {
     let mut text = ArrayVec::new();
+    push_word(&mut text, name);
     push_dotted(&mut text, number);
     text.push(b':');
     push_short(&mut text, port);
+    out.extend_from_slice(text.as_slice())
+}
+
+/// Appends the name of a connection, whose serial has five digits at most. There must be room for them.
+fn push_id(text: &mut ArrayVec<u8, BLOCK_BYTES>, frontend: u16, serial: u16)
+    requires { length text.old.items + 11 ≤ BLOCK_BYTES }
+    ensures text { text.new.items ≡ text.old.items ++ (decimal frontend ++ codes "." ++ decimal serial) }
+    ensures fits { length text.new.items ≤ length text.old.items + 11 }
+{
+    push_short(text, frontend);
+    text.push(b'.');
+    push_short(text, serial);
+}
+
+/// A word and the name of a connection after it.
+pub fn write_named(out: &mut Vec<u8>, name: &[u8], id: &ConnId) -> Result<(), AllocError>
+    requires { length name.now ≤ MOST_WORD_BYTES }
+    ensures { OnOk result (out.new.items ≡ out.old.items ++ (name.now ++ id_text id.now)) }
+{
+    if id.serial >= FEW {
+        write_text(out, name)?;
+        return write_id(out, id);
+    }
+    let mut text = ArrayVec::new();
+    push_word(&mut text, name);
+    push_id(&mut text, id.frontend, id.serial as u16);
     out.extend_from_slice(text.as_slice())
 }
 
@@ -84,20 +140,14 @@ fn write_bracketed(out: &mut Vec<u8>, addr: &Addr) -> Result<(), AllocError>
 pub fn write_endpoint(out: &mut Vec<u8>, endpoint: &Endpoint) -> Result<(), AllocError>
     ensures { OnOk result (out.new.items ≡ out.old.items ++ endpoint_text endpoint.now) }
 {
-    match endpoint.addr {
-        Addr::V4(number) => write_dotted_place(out, number, endpoint.port),
-        Addr::V6(_) => {
-            write_bracketed(out, &endpoint.addr)?;
-            write_field(out, b":", u64::from(endpoint.port))
-        }
-    }
+    write_place(out, b"", endpoint)
 }
 
 pub fn write_id(out: &mut Vec<u8>, id: &ConnId) -> Result<(), AllocError>
     ensures { OnOk result (out.new.items ≡ out.old.items ++ id_text id.now) }
 {
     append_decimal(out, u64::from(id.frontend))?;
-    write_text(out, b".")?;
+    write_byte(out, b'.')?;
     append_decimal(out, id.serial)
 }
 
@@ -124,10 +174,17 @@ pub fn write_field(out: &mut Vec<u8>, name: &[u8], number: u64) -> Result<(), Al
 
 /// A word and an endpoint after it.
 pub fn write_place(out: &mut Vec<u8>, name: &[u8], endpoint: &Endpoint) -> Result<(), AllocError>
+    requires { length name.now ≤ MOST_WORD_BYTES }
     ensures { OnOk result (out.new.items ≡ out.old.items ++ (name.now ++ endpoint_text endpoint.now)) }
 {
-    write_text(out, name)?;
-    write_endpoint(out, endpoint)
+    match endpoint.addr {
+        Addr::V4(number) => write_dotted_place(out, name, number, endpoint.port),
+        Addr::V6(_) => {
+            write_text(out, name)?;
+            write_bracketed(out, &endpoint.addr)?;
+            write_field(out, b":", u64::from(endpoint.port))
+        }
+    }
 }
 
 fn write_header_fault(out: &mut Vec<u8>, fault: HeaderFault) -> Result<(), AllocError>
@@ -159,12 +216,29 @@ pub fn write_cause(out: &mut Vec<u8>, cause: &Cause) -> Result<(), AllocError>
     }
 }
 
+/// The front of the line of an offer, whose numbers have five digits at most.
+fn write_short_given(out: &mut Vec<u8>, id: &ConnId, used: u16, line: u16) -> Result<(), AllocError>
+    requires { id.now.serial < 2 ^ 16 }
+    ensures { OnOk result (out.new.items ≡ out.old.items ++ (codes "offer " ++ id_text id.now ++ codes " used " ++ decimal used ++ codes " line " ++ decimal line)) }
+{
+    let mut text = ArrayVec::new();
+    push_word(&mut text, b"offer ");
+    push_id(&mut text, id.frontend, id.serial as u16);
+    push_word(&mut text, b" used ");
+    push_short(&mut text, used);
+    push_word(&mut text, b" line ");
+    push_short(&mut text, line);
+    out.extend_from_slice(text.as_slice())
+}
+
 /// The front of the line of an offer.
 fn write_given(out: &mut Vec<u8>, id: &ConnId, used: u64, line: u32) -> Result<(), AllocError>
     ensures { OnOk result (out.new.items ≡ out.old.items ++ (codes "offer " ++ id_text id.now ++ codes " used " ++ decimal used ++ codes " line " ++ decimal line)) }
 {
-    write_text(out, b"offer ")?;
-    write_id(out, id)?;
+    if id.serial < FEW && used < FEW && line < 0x1_0000 {
+        return write_short_given(out, id, used as u16, line as u16);
+    }
+    write_named(out, b"offer ", id)?;
     write_field(out, b" used ", used)?;
     write_field(out, b" line ", u64::from(line))
 }
@@ -183,8 +257,7 @@ fn write_said(out: &mut Vec<u8>, said: &Said) -> Result<(), AllocError>
 {
     match said {
         Said::Wait { id, used } => {
-            write_text(out, b"wait ")?;
-            write_id(out, id)?;
+            write_named(out, b"wait ", id)?;
             write_field(out, b" used ", *used)
         }
         Said::Offer {
@@ -202,29 +275,53 @@ fn write_said(out: &mut Vec<u8>, said: &Said) -> Result<(), AllocError>
             write_bytes(out, send.as_slice())
         }
         Said::Refuse { id, used, cause } => {
-            write_text(out, b"refuse ")?;
-            write_id(out, id)?;
+            write_named(out, b"refuse ", id)?;
             write_field(out, b" used ", *used)?;
-            write_text(out, b" ")?;
+            write_byte(out, b' ')?;
             write_cause(out, cause)
         }
-        Said::Up { id } => {
-            write_text(out, b"up ")?;
-            write_id(out, id)
-        }
+        Said::Up { id } => { write_named(out, b"up ", id) }
         Said::Closed { id, why } => {
-            write_text(out, b"closed ")?;
-            write_id(out, id)?;
-            write_text(out, b" ")?;
+            write_named(out, b"closed ", id)?;
+            write_byte(out, b' ')?;
             write_why(out, why)
         }
         Said::Reloaded { version } => write_field(out, b"reloaded ", *version),
     }
 }
 
+/// What a counter tracks under an IPv4 address, in a version whose number has five digits at most.
+fn write_short_track(
+    out: &mut Vec<u8>,
+    track: &Track,
+    version: u16,
+    number: u32,
+) -> Result<(), AllocError>
+    requires version { track.now.table.version ≡ version }
+    requires key { track.now.key ≡ V4 number }
+    ensures { OnOk result (out.new.items ≡ out.old.items ++ track_text track.now) }
+{
+    let mut text = ArrayVec::new();
+    push_word(&mut text, b" sc");
+    push_short(&mut text, u16::from(track.counter));
+    text.push(b'=');
+    push_short(&mut text, version);
+    text.push(b'.');
+    push_short(&mut text, track.table.position);
+    text.push(b'/');
+    push_dotted(&mut text, number);
+    out.extend_from_slice(text.as_slice())
+}
+
 fn write_track(out: &mut Vec<u8>, track: &Track) -> Result<(), AllocError>
     ensures { OnOk result (out.new.items ≡ out.old.items ++ track_text track.now) }
 {
+    let version = track.table.version;
+    if let Addr::V4(number) = track.key {
+        if version < FEW {
+            return write_short_track(out, track, version as u16, number);
+        }
+    }
     write_field(out, b" sc", u64::from(track.counter))?;
     write_field(out, b"=", track.table.version)?;
     write_field(out, b".", u64::from(track.table.position))?;
@@ -255,7 +352,7 @@ pub fn write_reply(out: &mut Vec<u8>, reply: &Reply) -> Result<(), AllocError>
 {
     write_said(out, &reply.said)?;
     write_tracks(out, reply.tracks.as_slice())?;
-    write_text(out, b"\n")
+    write_byte(out, b'\n')
 }
 
 /// Appends the line of counts that were asked for, or of no such thing. Where memory runs out, the front

@@ -10,8 +10,8 @@ use crate::digits::read_hex;
 use addr_core::{Pair, read_addr, read_endpoint};
 use conn_model::ask::Ask;
 use conn_model::event::{ConnId, Event, Why};
-use text_core::cut_at;
 use text_core::decimal::read_decimal;
+use text_core::{cut_at, is_same_name};
 
 /// An event that a line hands in. The bytes of a piece are in a buffer of the caller's.
 #[derive(Clone, Copy)]
@@ -76,7 +76,7 @@ fn cut_word(text: &[u8]) -> Option<(&[u8], &[u8])>
 fn is(word: &[u8], text: &[u8]) -> bool
     ensures { result ≡ bytes_eq word.now text.now }
 {
-    word == text
+    is_same_name(word, text)
 }
 
 fn read_id(word: &[u8]) -> Option<ConnId>
