@@ -12,7 +12,7 @@ ghost use Rattle.event_text.specs.Script.{head_read, with_text, words_of, HasLin
 ghost use Rattle.replay_core.specs.Turns.{plain_after};
 ghost use Rattle.audit_core.specs.Record.{numbered_head};
 ghost use Rattle.audit_core.specs.Verdict.{fault_at, reply_at, text_at};
-ghost use Rattle.audit_core.specs.Standing.{at_end, is_between, on_due, on_line};
+ghost use Rattle.audit_core.specs.Standing.{after_head, at_end, is_between, on_due, on_line, IsDue, Standing};
 ghost use Rattle.audit_core.specs.Line.{event_peer};
 ghost use Rattle.audit_core.specs.Printing.{due_reply};
 ghost use Rattle.audit_core.specs.Check.{reading_fault, IsLineFault};
@@ -33,7 +33,7 @@ use std::alloc::{AllocError, Global};
 use std::marker::Model;
 use std::mem;
 use text_core::cut_at;
-use text_core::decimal::write_decimal;
+use text_core::decimal::read_decimal;
 
 /// A core between two lines of a record. It cannot be dropped: it ends by `end`.
 pub struct Auditor {
@@ -74,7 +74,7 @@ fn fault_at(line: u64, kind: CheckKind) -> CheckFault
 fn is_number(word: &[u8], number: u64) -> bool
     ensures { result ≡ bytes_eq word.now (decimal number) }
 {
-    word == write_decimal(number).as_str().as_bytes()
+    read_decimal(word, number) == Some(number)
 }
 
 /// What the first line of an event says, which has the event after that number.
@@ -133,11 +133,11 @@ fn step(
     ensures plain { OnOk result (core.new ≡ plain_after core.old moment (owned_event event.now) (answer_in core.old moment (owned_event event.now))) }
     ensures err { OnErr result (core.new ≡ core.old) }
 {
-    match core.step(moment, event) {
-        Ok(reply) => Ok(Ok(reply)),
-        Err(StepFault::NoMemory) => Err(AllocError),
-        Err(fault) => Ok(Err(fault)),
+    let answered = core.step(moment, event);
+    if let Err(StepFault::NoMemory) = answered {
+        return Err(AllocError);
     }
+    Ok(answered)
 }
 
 /// The answer to an event, after which one connection more is open at most.
@@ -152,6 +152,37 @@ pub fn answer(
     ensures err { OnErr result (core.new ≡ core.old) }
 {
     step(core, moment, event)
+}
+
+/// Answers an event by its first line, where its piece is in front of the buffer. Then another line is due: its reply, or
+/// the first one of the text of a reload.
+fn answer_first(
+    alloc: Global,
+    core: &mut Core,
+    due: &mut Due,
+    first: &FirstLine,
+    piece: &[u8],
+) -> Result<(), AllocError>
+    requires { HasLines first.now }
+    ensures after { OnOk result ((s : Standing) → s.plain ≡ core.old → after_head s (head_read piece.now first.now)
+        ≡ record { plain = core.new; lines = s.lines + 1; records = s.records; due = due.new }) }
+    ensures few { OnOk result (open_connections core.new ≤ open_connections core.old + 1) }
+    ensures due { OnOk result (IsDue due.new) }
+    ensures err { OnErr result ((core.new ≡ core.old) × (due.new ≡ due.old)) }
+{
+    match *first {
+        FirstLine::Whole(moment, request) => {
+            let event = request.event(piece);
+            let Ok(answered) = answer(core, moment, &event) else {
+                return Err(AllocError);
+            };
+            *due = Due::Reply(peer_of(&event), answered);
+        }
+        FirstLine::Reload(moment, lines) => {
+            *due = Due::Text(PendingReload::new(alloc, moment, lines));
+        }
+    }
+    Ok(())
 }
 
 /// What is wrong with a line in the place of a reply, if anything is.
@@ -301,21 +332,42 @@ impl Auditor {
         ensures err { IfErr result (λ f. (f ≡ fault_at 0 CheckKind.NoMemory) ⊎ (IsLineFault f.kind × (on_due self.old dues.Event line.now ≡ Err f))) }
     {
         let at = self.lines + 1;
-        match read_numbered(self.records + 1, line, &mut self.piece) {
-            Some(FirstLine::Whole(moment, request)) => {
-                let event = request.event(&self.piece);
-                let Ok(answered) = answer(&mut self.core, moment, &event) else {
-                    return Err(fault_at(0, CheckKind::NoMemory));
-                };
-                self.due = Due::Reply(peer_of(&event), answered);
-            }
-            Some(FirstLine::Reload(moment, lines)) => {
-                self.due = Due::Text(PendingReload::new(self.alloc, moment, lines));
-            }
-            None => return Err(fault_at(at, CheckKind::Format)),
+        let Some(first) = read_numbered(self.records + 1, line, &mut self.piece) else {
+            return Err(fault_at(at, CheckKind::Format));
+        };
+        let (core, due) = (&mut self.core, &mut self.due);
+        if answer_first(self.alloc, core, due, &first, &self.piece).is_err() {
+            return Err(fault_at(0, CheckKind::NoMemory));
         }
         self.lines = at;
         Ok(())
+    }
+
+    /// Checks the first line of an event as `check_line` does, and answers what it says. The bytes of a piece are read into
+    /// the front of the buffer, which has the length `PIECE_LIMIT`. After a fault the check is over.
+    pub fn check_first(&mut self, line: &[u8], piece: &mut [u8]) -> Result<FirstLine, CheckFault>
+        requires short { length line.now ≤ MOST_LINE_BYTES }
+        requires room { length piece.old ≡ PIECE_LIMIT }
+        requires between { self.old.due ≡ dues.Event }
+        ensures ok { OnOk result (on_line self.old line.now ≡ Ok self.new) }
+        ensures first { IfOk result (λ first. numbered_head (self.old.records + 1) (words_of line.now) ≡ Some (head_read piece.new first)) }
+        ensures next { OnOk result ((self.new.lines ≡ self.old.lines + 1) × (self.new.lines ≤ MOST_RECORD_LINES)) }
+        ensures err { IfErr result (λ f. (f ≡ fault_at 0 CheckKind.NoMemory) ⊎ (IsLineFault f.kind × (on_line self.old line.now ≡ Err f))) }
+        ensures room { length piece.new ≡ length piece.old }
+    {
+        let at = self.lines + 1;
+        if self.lines == MOST_RECORD_LINES {
+            return Err(fault_at(at, CheckKind::TooLong));
+        }
+        let Some(first) = read_numbered(self.records + 1, line, piece) else {
+            return Err(fault_at(at, CheckKind::Format));
+        };
+        let (core, due) = (&mut self.core, &mut self.due);
+        if answer_first(self.alloc, core, due, &first, piece).is_err() {
+            return Err(fault_at(0, CheckKind::NoMemory));
+        }
+        self.lines = at;
+        Ok(first)
     }
 
     /// Checks a line of the text of a reload, and answers it after the last one.

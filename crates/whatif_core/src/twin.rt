@@ -4,16 +4,19 @@ ghost use Rattle.line_reader.specs.declared.lines.TheConstants.{MOST_LINE_BYTES}
 ghost use Rattle.conn_model.specs.declared.event.TheConstants.{PIECE_LIMIT};
 ghost use Rattle.conn_model.specs.History.{id_of, owned_event};
 ghost use Rattle.conn_rows.specs.Summaries.{names_in};
+ghost use Rattle.event_text.specs.Script.{head_read, words_of};
 ghost use Rattle.audit_core.specs.Printing.{due_reply};
+ghost use Rattle.audit_core.specs.Record.{numbered_head};
+ghost use Rattle.audit_core.specs.declared.due.Due.TheVariants as dues;
 ghost use Rattle.audit_core.specs.Standing.{at_end, on_line};
 ghost use Rattle.audit_core.specs.declared.fault.CheckFault.{CheckFault as Fault};
 ghost use Rattle.audit_core.specs.declared.fault.TheConstants.{MOST_RECORD_LINES};
-ghost use Rattle.whatif_core.specs.Deciding.{closed, decided, decision_of, offered_at, stepped};
+ghost use Rattle.whatif_core.specs.Deciding.{closed, decided, decision_of, decision_with, stepped};
 ghost use Rattle.whatif_core.specs.Lines.{both_on, handed_after, turn_after, turn_at};
 
 use crate::decision::{ComparedDecision, decision_in, named};
 use crate::turn::Turn;
-use audit_core::{Auditor, CheckFault, again, answer, read_numbered};
+use audit_core::{Auditor, CheckFault, again, answer};
 use conn_core::{Core, ServerNames};
 use conn_model::event::{Event, PIECE_LIMIT, Why};
 use conn_model::reply::Said;
@@ -43,20 +46,32 @@ impl Model for Twin {
     ghost invariant = { λ t. length t.piece.items ≡ PIECE_LIMIT };
 }
 
-/// The names of the server that the trial offered to the connection of a reply.
+/// The names of the server that a reply of the trial offers.
 fn trial_names<'a>(trial: &'a Core, said: &Said) -> Option<ServerNames<'a>>
-    ensures { option_map names_in result ≡ option_and_then (offered_at trial.now) (id_of said.now) }
+    ensures { decision_with (option_map names_in result) said.now ≡ decision_of trial.now said.now }
 {
-    let id = named(said)?;
-    trial.server(id)
+    match said {
+        Said::Offer { id, .. } => trial.server(*id),
+        Said::Wait { .. }
+        | Said::Refuse { .. }
+        | Said::Up { .. }
+        | Said::Closed { .. }
+        | Said::Reloaded { .. } => None,
+    }
 }
 
 /// The same of the balancer of the record.
 fn recorded_names<'a>(auditor: &'a Auditor, said: &Said) -> Option<ServerNames<'a>>
-    ensures { option_map names_in result ≡ option_and_then (offered_at auditor.now.plain) (id_of said.now) }
+    ensures { decision_with (option_map names_in result) said.now ≡ decision_of auditor.now.plain said.now }
 {
-    let id = named(said)?;
-    auditor.server(id)
+    match said {
+        Said::Offer { id, .. } => auditor.server(*id),
+        Said::Wait { .. }
+        | Said::Refuse { .. }
+        | Said::Up { .. }
+        | Said::Closed { .. }
+        | Said::Reloaded { .. } => None,
+    }
 }
 
 /// What the trial decides of an event.
@@ -130,6 +145,27 @@ fn check_again(auditor: &mut Auditor, line: &[u8]) -> Result<(), PrintFault>
     }
 }
 
+/// Checks the first line of an event once more, and answers what it says, with the bytes of a piece in front of the buffer.
+fn check_first_again(
+    auditor: &mut Auditor,
+    line: &[u8],
+    piece: &mut [u8],
+) -> Result<FirstLine, PrintFault>
+    requires short { length line.now ≤ MOST_LINE_BYTES }
+    requires room { length piece.old ≡ PIECE_LIMIT }
+    requires between { auditor.old.due ≡ dues.Event }
+    ensures ok { OnOk result (on_line auditor.old line.now ≡ Ok auditor.new) }
+    ensures first { IfOk result (λ first. numbered_head (auditor.old.records + 1) (words_of line.now) ≡ Some (head_read piece.new first)) }
+    ensures next { OnOk result ((auditor.new.lines ≡ auditor.old.lines + 1) × (auditor.new.lines ≤ MOST_RECORD_LINES)) }
+    ensures fault { IfErr result (λ f. (f ≡ PrintFault.NoMemory) ⊎ ((f ≡ PrintFault.Read) × (fault : Fault) × (on_line auditor.old line.now ≡ Err fault))) }
+    ensures room { length piece.new ≡ length piece.old }
+{
+    match auditor.check_first(line, piece) {
+        Ok(first) => Ok(first),
+        Err(fault) => Err(again(&fault)),
+    }
+}
+
 impl Twin {
     pub fn new(alloc: Global, auditor: Auditor, trial: Core, piece: Vec<u8>) -> Self
         requires { length piece.items ≡ PIECE_LIMIT }
@@ -179,9 +215,8 @@ impl Twin {
             check_again(&mut self.auditor, line)?;
             return Ok(None);
         }
-        match read_numbered(self.auditor.records() + 1, line, &mut self.piece) {
-            Some(FirstLine::Whole(moment, request)) => {
-                check_again(&mut self.auditor, line)?;
+        match check_first_again(&mut self.auditor, line, &mut self.piece)? {
+            FirstLine::Whole(moment, request) => {
                 let event = request.event(&self.piece);
                 let Ok(turn) = play(self.alloc, &self.auditor, &mut self.trial, moment, &event)
                 else {
@@ -189,10 +224,7 @@ impl Twin {
                 };
                 Ok(turn)
             }
-            Some(FirstLine::Reload(_, _)) | None => {
-                check_again(&mut self.auditor, line)?;
-                Ok(None)
-            }
+            FirstLine::Reload(_, _) => Ok(None),
         }
     }
 }

@@ -15,17 +15,18 @@ pub returns-in-Ok-clause-turn : goal.returns-in-Ok-clause-turn
 returns-in-Ok-clause-turn c =
     let s : Both = record { checked = c.self.inside.auditor; trial = c.self.inside.trial } in
     let line = c.args.line.now in
-    let piece = c.read_numbered.new.piece in
-    let moment = c.in-Some-Whole.moment in
-    let request = c.in-Some-Whole.request in
-    let next = c.check_again-in-Some-Whole.new.auditor in
+    let piece = c.check_first_again.new.piece in
+    let moment = c.in-Whole.moment in
+    let request = c.in-Whole.request in
+    let next = c.check_first_again.new.auditor in
+    let first = c.in_ok-moment.field-0 in
     let between : is_between s.checked.due ≡ true = cc in
-    let reads : option_map (head_read piece) c.read_numbered.result ≡ numbered_head (s.checked.records + 1) (words_of line) = rw c.records.ensures.count at c.read_numbered.ensures.head in
-    let read : c.read_numbered.result ≡ Some (Whole moment request) = cc in
+    let reads : option_map (head_read piece) (Some first) ≡ numbered_head (s.checked.records + 1) (words_of line) = sym c.in_ok-moment.ensures.first in
+    let read : first ≡ Whole moment request = cc in
     let given : event_at s.checked line ≡ Some (moment, event_read piece request) =
-    event_of_line s.checked line piece c.read_numbered.result between reads ∙ ap (λ r. whole_in (option_map (head_read piece) r)) read in
-    let step : on_line s.checked line ≡ Ok next = c.in_ok-check_again-in-Some-Whole.ensures.ok in
-    let room : c.self.inside.piece.len ≡ length piece = sym (c.read_numbered.ensures.room ∙ c.deref_mut.ensures.len) in
+    event_of_line s.checked line piece (Some first) between reads ∙ ap (λ f. whole_in (Some (head_read piece f))) read in
+    let step : on_line s.checked line ≡ Ok next = c.in_ok-moment.ensures.ok in
+    let room : c.self.inside.piece.len ≡ length piece = sym (c.check_first_again.ensures.room ∙ c.deref_mut.ensures.len) in
     let same : c.deref.result.now ≡ piece = c.deref.ensures.value ∙ ap (λ n. take n (piece ++ drop (length piece) c.self.inside.piece.items)) room ∙ take-append_seam piece (drop (length piece) c.self.inside.piece.items) in
     let event : owned_event c.event-event.result ≡ event_read piece request = c.event-event.ensures ∙ ap (λ p. event_read p request) same in
     let turn : c.in-Ok.turn ≡ option_map (turn_after next.plain s.trial moment (event_read piece request)) (due_reply next.due) = rw event at c.in-Ok.ensures.turn in
