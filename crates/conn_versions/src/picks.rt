@@ -122,7 +122,7 @@ fn cycle_near<'a>(own: &'a [BackendPicks], number: usize, weights: &[u16]) -> Op
     if let Some(cycle) = cycle_at(own, number, weights) {
         return Some(cycle);
     }
-    for near in number.saturating_sub(NEAR)..number.saturating_add(NEAR) {
+    for near in number.saturating_sub(NEAR)..number.saturating_add(NEAR + 1) {
         if let Some(cycle) = cycle_at(own, near, weights) {
             return Some(cycle);
         }

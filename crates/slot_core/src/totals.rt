@@ -1,6 +1,7 @@
 //! Running totals of open connections, by the names of backends.
 ghost use Rattle.std.specs.Prelude.{◌≡◌, ◌+◌, ◌-◌, ◌<◌, ◌^◌, ℕ, List, length, position, Some, IfOk};
 ghost use Rattle.slot_core.specs.declared.slots.Count.{Count};
+ghost use Rattle.slot_core.specs.declared.totals.TheConstants.{GUESSES};
 ghost use Rattle.slot_core.specs.Totals.{has_name, is_unused, name_at, connections_at, servers_at, with_connections, with_servers, with_total, AreTotals, NamesDiffer};
 
 use list_core::Seq;
@@ -19,8 +20,11 @@ pub struct BackendTotal {
 /// For how many names there are guesses.
 const GUESSES: usize = 1024;
 
-/// Where the totals of names most likely are. Names of one number share a guess, which is right for the one that was noted
-/// last, and each guess is checked.
+/// How many of a name's last bytes its number follows from.
+const LAST_BYTES: usize = 16;
+
+/// Where the totals of names most likely are. Names of one number share a guess, which is right for the one that was
+/// noted last, and each guess is checked.
 #[derive(Debug, Drop)]
 pub struct Guesses {
     places: [u16; GUESSES],
@@ -45,15 +49,16 @@ impl Guesses {
     }
 }
 
-/// A number that follows from a name. Names that differ in their last letters and digits mostly have different ones.
+/// A number that follows from a name's length and its last bytes. Names of one file mostly have different ones.
 fn number_of(name: &[u8]) -> usize
-    ensures { result < 1024 }
+    ensures { result < GUESSES }
 {
+    let begin = name.len().saturating_sub(LAST_BYTES);
     let mut number: u32 = 0;
-    for byte in name {
+    for byte in &name[begin..] {
         number = number.wrapping_mul(37).wrapping_add(u32::from(*byte));
     }
-    number as usize % GUESSES
+    (number as usize).wrapping_add(name.len()) % GUESSES
 }
 
 /// Where the total of a backend's name is. One that is new takes the place of one that has no server any more, if there
