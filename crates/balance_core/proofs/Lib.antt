@@ -5,3 +5,6 @@ pub mod RankLemmas
 pub mod RoundLemmas
 pub mod LeastLemmas
 pub mod ReadyLemmas
+pub mod WholeLemmas
+pub mod RisingLemmas
+pub mod SinkLemmas

@@ -6,3 +6,4 @@ pub mod Ranks
 pub mod Least
 pub mod Source
 pub mod Picks
+pub mod Times

@@ -13,4 +13,8 @@ pub mod laws;
 mod least;
 mod load;
 mod round;
+mod settle;
 mod source;
+mod spread;
+#[cfg(test)]
+mod tests;
