@@ -5,8 +5,7 @@ use Rattle.std.specs.List.{AllByRecursion}
 use Rattle.std.proofs.lemmas.List.{length-map}
 use Rattle.keyed_list.specs.Entries as keyed
 use Rattle.keyed_list.specs.Entries.{item_at, items_of, with_item, without, AreKept, AreNumbered, IsFew}
-use Rattle.keyed_list.proofs.EntryLemmas.{all-append, all-filter, all-front}
-use Rattle.keyed_list.proofs.BoxLemmas.{kept-front, kept-with_item, kept-without}
+use Rattle.keyed_list.proofs.EntryLemmas.{all-append, all-filter, all-front, kept-front, kept-with_item, kept-without}
 use Rattle.keyed_list.proofs.ItemLemmas.{item_at-is, number-found, numbered-with_item, total-taken, with_item-is, without-is}
 use Rattle.conn_model.specs.Counts.{total}
 use Rattle.conn_rows.specs.declared.row.StoredRow.{StoredRow}

@@ -1,3 +1,4 @@
-pub mod BoxLemmas
 pub mod EntryLemmas
 pub mod ItemLemmas
+pub mod PlaceLemmas
+pub mod TreeLemmas

@@ -1,3 +1,4 @@
 pub mod Boxes
 pub mod Entries
+pub mod Kept
 pub mod Lends

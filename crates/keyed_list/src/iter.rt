@@ -1,22 +1,28 @@
 //! The entries of a list, one after the other.
+ghost use Rattle.std.specs.Prelude.{ℕ};
 ghost use Rattle.std.specs.Iterator.{YieldsFirstBy, item_count};
+ghost use Rattle.std.specs.Slice.Iter.{iter_rest};
+ghost use Rattle.keyed_list.specs.Boxes.{entries_in, opened_by};
 
 use std::collections::btree_map;
 use std::marker::Model;
+use std::slice;
 
 /// The entries of a list that are left, in the order of their keys. A contract sees the list of them.
 #[derive(Drop)]
 pub struct Iter<'a, T> {
-    pub(crate) rest: btree_map::Iter<'a, u64, Box<T>>,
+    pub(crate) tree: btree_map::Iter<'a, u64, Box<T>>,
+    pub(crate) places: slice::Iter<'a, (u64, Option<Box<T>>)>,
 }
 
 impl<'a, T> Model for Iter<'a, T> {
-    ghost use Rattle.std.specs.Prelude.{ℕ, List};
-    ghost use Rattle.keyed_list.specs.Boxes.{opened_by};
+    ghost use Rattle.std.specs.Prelude.{ℕ, List, ◌++◌};
+    ghost use Rattle.std.specs.Slice.Iter.{iter_rest};
+    ghost use Rattle.keyed_list.specs.Boxes.{entries_in, opened_by, settled};
 
     ghost Value = { List (ℕ × T) };
 
-    ghost view = { λ it. opened_by (λ own. own.value) it.rest };
+    ghost view = { λ it. entries_in (opened_by (λ own. own.value) (settled it.tree ++ iter_rest it.places)) };
 }
 
 impl<'a, T> Iterator for Iter<'a, T> {
@@ -27,9 +33,21 @@ impl<'a, T> Iterator for Iter<'a, T> {
     ghost remaining = { item_count (λ rest. rest) };
 
     fn next(&mut self) -> Option<(u64, &'a T)> {
-        match self.rest.next() {
+        match self.tree.next() {
             Some((key, own)) => Some((*key, &**own)),
-            None => None,
+            None => next_item(&mut self.places),
         }
     }
+}
+
+/// The next item of places, with its key.
+fn next_item<'a, T>(places: &mut slice::Iter<'a, (u64, Option<Box<T>>)>) -> Option<(u64, &'a T)>
+    ensures { YieldsFirstBy (λ item. (item.0, item.1.now)) (λ rest. entries_in (opened_by (λ own. own.value) (iter_rest rest))) places.old result places.new }
+{
+    while let Some((key, own)) = places.next() {
+        if let Some(own) = own {
+            return Some((*key, &**own));
+        }
+    }
+    None
 }

@@ -6,3 +6,4 @@ pub use list::KeyedList;
 
 mod iter;
 mod list;
+mod places;

@@ -5,6 +5,7 @@ ghost use Rattle.std.specs.Option.{option_copied};
 ghost use Rattle.keyed_list.specs.Entries.{item_at, without, with_item, total, IsFew, Rise};
 
 use crate::iter::Iter;
+use crate::places::{close_up, place_of, settle, take_last, trim};
 use std::alloc::{AllocFailed, Global};
 use std::collections::BTreeMap;
 use std::marker::Model;
@@ -12,11 +13,16 @@ use std::marker::Model;
 /// The most entries of a list. No memory holds as many.
 const MOST: usize = (1 << 56) - 1;
 
+/// How many items lie in places at the most. Those before them lie in a tree.
+const MOST_NEAR: usize = 1024;
+
 /// Items by keys, each added under a key above all others. A contract sees the list of the entries, a key and an item
 /// each, in the order of their keys.
 ///
-/// It is a `BTreeMap` of boxes. What is done at a key takes time in the logarithm of the length, and an item stays
-/// where it is in memory until it is taken out. Its memory is given back then.
+/// The last items, 1,024 at the most, lie in places in a row, and those before them in a `BTreeMap`; each item has a box
+/// of its own, and stays where it is in memory until it is taken out. Its memory is given back then. What is done at a key
+/// takes time in the logarithm of the length, and at the last key no time that grows with it. A call moves 64 items to the
+/// tree at the most, and closes up 2,064 places at the most.
 ///
 /// The items may be of any type. Where they cannot be dropped, neither can the list: it ends by `end`, once its items
 /// were taken out.
@@ -24,21 +30,25 @@ const MOST: usize = (1 << 56) - 1;
 pub struct KeyedList<T> {
     alloc: Global,
     tree: BTreeMap<u64, Box<T>>,
+    /// By rising keys. A place whose item was taken out is empty.
+    places: Vec<(u64, Option<Box<T>>)>,
+    /// How many places have an item.
+    count: usize,
 }
 
 impl<T> Model for KeyedList<T> {
-    ghost use Rattle.std.specs.Prelude.{ℕ, List};
+    ghost use Rattle.std.specs.Prelude.{ℕ, List, ◌++◌};
     ghost use Rattle.std.specs.Coded.{coded_list, coded×, coded_ℕ};
-    ghost use Rattle.keyed_list.specs.Boxes.{opened_by};
-    ghost use Rattle.keyed_list.specs.Entries.{AreKept};
+    ghost use Rattle.keyed_list.specs.Boxes.{entries_in, opened_by, settled};
+    ghost use Rattle.keyed_list.specs.Kept.{AreKeptPlaces};
 
     ghost Value = { List (ℕ × T) };
 
     ghost coded = { coded_list (coded× coded_ℕ T.code) };
 
-    ghost view = { λ l. opened_by (λ own. own.value) l.tree.entries };
+    ghost view = { λ l. entries_in (opened_by (λ own. own.value) (settled l.tree.entries ++ l.places.items)) };
 
-    ghost invariant = { λ l. AreKept (opened_by (λ own. own.value) l.tree.entries) };
+    ghost invariant = { λ l. AreKeptPlaces (λ own. own.value) (settled l.tree.entries) l.places.items l.count };
 }
 
 impl<T> KeyedList<T> {
@@ -52,6 +62,8 @@ impl<T> KeyedList<T> {
         KeyedList {
             alloc,
             tree: BTreeMap::new(alloc),
+            places: Vec::new(alloc),
+            count: 0,
         }
     }
 
@@ -61,16 +73,22 @@ impl<T> KeyedList<T> {
         ensures few { IsFew result }
         ensures rise { Rise (λ e. e.0) self.now }
     {
-        self.tree.len()
+        self.tree.len() + self.count
     }
 
     /// The item of a key.
     pub fn get(&self, key: u64) -> Option<&T>
         ensures { option_copied result ≡ item_at key self.now }
     {
-        match self.tree.get(&key) {
-            Some(own) => Some(&**own),
-            None => None,
+        match place_of(self.places.as_slice(), key) {
+            Some(place) => match &self.places[place].1 {
+                Some(own) => Some(&**own),
+                None => None,
+            },
+            None => match self.tree.get(&key) {
+                Some(far) => Some(&**far),
+                None => None,
+            },
         }
     }
 
@@ -81,9 +99,15 @@ impl<T> KeyedList<T> {
         ensures* writes_back { sem 𝓛 (lends_item T.row self.entry key result) }
         ensures value { item_at key self.old ≡ Some result.now }
     {
-        match self.tree.get_mut(&key) {
-            Some(own) => &mut **own,
-            None => unreachable!(),
+        match place_of(self.places.as_slice(), key) {
+            Some(place) => match self.places[place].1.as_mut() {
+                Some(own) => &mut **own,
+                None => unreachable!(),
+            },
+            None => match self.tree.get_mut(&key) {
+                Some(far) => &mut **far,
+                None => unreachable!(),
+            },
         }
     }
 
@@ -92,7 +116,8 @@ impl<T> KeyedList<T> {
         ensures { result ≡ self.now }
     {
         Iter {
-            rest: self.tree.iter(),
+            tree: self.tree.iter(),
+            places: self.places.iter(),
         }
     }
 
@@ -104,16 +129,32 @@ impl<T> KeyedList<T> {
         ensures err { OnErr result (self.new ≡ self.old) }
         ensures value_returned { IfErr result (λ failed. failed.value ≡ item) }
     {
-        if MOST <= self.tree.len() {
+        if MOST <= self.len() {
             return Err(AllocFailed { value: item });
         }
         let own = Box::new(self.alloc, item)?;
-        match self.tree.insert(key, own) {
-            Ok(None) => Ok(()),
-            Ok(Some(_before)) => unreachable!(),
-            Err(failed) => Err(AllocFailed {
-                value: Box::into_inner(failed.value.1),
-            }),
+        self.settle_first();
+        trim(&mut self.places);
+        match self.places.push((key, Some(own))) {
+            Ok(()) => {
+                self.count += 1;
+                Ok(())
+            }
+            Err(failed) => match failed.value.1 {
+                Some(own) => Err(AllocFailed {
+                    value: Box::into_inner(own),
+                }),
+                None => unreachable!(),
+            },
+        }
+    }
+
+    /// Moves the first items to the tree, where many lie in places.
+    fn settle_first(&mut self)
+        ensures { self.new ≡ self.old }
+    {
+        if self.count >= MOST_NEAR {
+            self.count = settle(self.alloc, &mut self.tree, &mut self.places, self.count);
         }
     }
 
@@ -126,7 +167,13 @@ impl<T> KeyedList<T> {
         // By any measure of an entry, the list has less by the measure of this one.
         ensures counts { IfSome result (λ item. (worth : ℕ × T → ℕ) → total worth self.new + worth (key, item) ≡ total worth self.old) }
     {
-        let own = self.tree.remove(&key)?;
+        let Some(place) = place_of(self.places.as_slice(), key) else {
+            let own = self.tree.remove(&key)?;
+            return Some(Box::into_inner(own));
+        };
+        let own = self.places[place].1.take()?;
+        self.count -= 1;
+        close_up(self.alloc, &mut self.places, self.count);
         Some(Box::into_inner(own))
     }
 
@@ -135,6 +182,10 @@ impl<T> KeyedList<T> {
         ensures last { self.old ≡ self.new ++ option_to_list result }
         ensures none { IfNone result (self.old ≡ []) }
     {
+        if let Some((key, own)) = take_last(&mut self.places) {
+            self.count -= 1;
+            return Some((key, Box::into_inner(own)));
+        }
         let (key, own) = self.tree.pop_last()?;
         Some((key, Box::into_inner(own)))
     }
@@ -143,7 +194,14 @@ impl<T> KeyedList<T> {
     pub fn end(self)
         requires { self ≡ [] }
     {
-        let KeyedList { alloc: _, tree } = self;
+        let KeyedList {
+            alloc: _,
+            tree,
+            mut places,
+            count: _,
+        } = self;
         tree.destroy_empty();
+        trim(&mut places);
+        places.destroy_empty();
     }
 }
