@@ -1,5 +1,5 @@
 -- How a connection is judged.
-use Rattle.std.proofs.Common.{◌≡◌, ℕ, Bool, false, List, length, Some, Result, Ok, Err, refl, sym, ap, subst, ◌∙◌, arith}
+use Rattle.std.proofs.Common.{◌≡◌, ℕ, Bool, true, false, List, [], length, Some, Result, Ok, Err, refl, sym, ap, subst, ◌∙◌, arith}
 use Rattle.std.specs.Prelude.{nat_le, ◌<◌, ◌==◌, ◌||◌, if◌then◌else◌}
 use Rattle.std.proofs.lemmas.Bool.{eqb-true}
 use Rattle.std.proofs.lemmas.Bool.Decides.{nat_tests}
@@ -13,11 +13,13 @@ use Rattle.rule_engine.specs.Meaning.{present}
 use Rattle.rule_engine.specs.Judging.{judged, judged_after, no_tracks, TrackSlots}
 use Rattle.rule_engine.specs.declared.judging.Judged.{Judged}
 use Rattle.rule_engine.proofs.SlotLemmas.{none_made}
+use Rattle.pp_v1.specs.Line.{line_of}
+use Rattle.pp_v2.specs.Block.{header_of}
 use Rattle.conn_model.specs.declared.event.ConnId.{ConnId}
 use Rattle.conn_model.specs.declared.reply.Cause.{Cause}
 use Rattle.conn_model.specs.declared.reply.Cause.TheVariants.{Line}
 use Rattle.conn_model.specs.declared.reply.Reply.{Reply}
-use Rattle.conn_model.specs.declared.reply.Said.TheVariants.{Refuse}
+use Rattle.conn_model.specs.declared.reply.Said.TheVariants.{Offer as GiveServer, Refuse}
 use Rattle.conn_model.specs.declared.plain.Plain.{Plain}
 use Rattle.conn_model.specs.declared.plain.Version.{Version}
 use Rattle.conn_model.specs.Answer.{accept_answer, admission, candidate_at, entry_reply, reply_of, reply_with, said_of, server_unless, version_at, NumberedServer}
@@ -31,17 +33,25 @@ use Rattle.conn_model.proofs.Replies.{accepted, Accepted}
 use Rattle.conn_model.proofs.Versions.{newest-at}
 use Rattle.conn_core.specs.declared.facts.RuleFacts.{RuleFacts}
 use Rattle.conn_core.specs.declared.outcome.TrackedOutcome.{TrackedOutcome}
+use Rattle.conn_core.specs.declared.outcome.HeaderForm.TheVariants.{Absent, Version1, Version2}
 use Rattle.conn_core.specs.declared.outcome.Outcome.{Outcome}
 use Rattle.conn_core.specs.declared.outcome.Outcome.TheVariants as outcomes
 use Rattle.conn_core.specs.Changes.{CanOffer}
 use Rattle.conn_core.specs.Machine.{AreSound, IsCoreState}
 use Rattle.conn_core.specs.Judging.{decided, facts_view, AreAllowed}
-use Rattle.conn_core.specs.Outcome.{outcome_of, reply_by, said_by}
+use Rattle.conn_core.specs.Outcome.{header_in, outcome_of, reply_by, said_by}
 use Rattle.conn_core.specs.Tracking.{IsPossible}
 use Rattle.conn_core.proofs.TrackLemmas.{allowed_after}
 
+-- the header of the form that a server wants is the one that it is sent
+header_is : (version2 version1 : Bool) (judged : PairValue) →
+    header_in (if version2 then Version2 else if version1 then Version1 else Absent) judged ≡ (if version2 then header_of judged else if version1 then line_of judged else [])
+header_is true version1 judged = refl
+header_is false true judged = refl
+header_is false false judged = refl
+
 said_of_outcome : (id : ConnId) (used : ℕ) (judged : PairValue) (result : Result NumberedServer Cause) → said_by id used (outcome_of judged result) ≡ said_of id used judged result
-said_of_outcome id used judged (Ok given) = refl
+said_of_outcome id used judged (Ok given) = ap (λ (items : List ℕ). GiveServer id used given.server.line given.number given.server.to judged (record { items = items })) (header_is given.server.send_proxy_v2 given.server.send_proxy judged)
 said_of_outcome id used judged (Err cause) = refl
 
 -- a version is found under its own number

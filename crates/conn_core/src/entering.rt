@@ -31,6 +31,7 @@ pub struct SessionStart {
 }
 
 /// Keeps what becomes of a connection at its accept, under the next serial of its frontend.
+#[inline(always)]
 pub fn enter(
     rows: &mut Rows,
     id: ConnId,
@@ -67,6 +68,7 @@ pub fn enter(
 }
 
 /// Opens a connection that tracks those.
+#[inline(always)]
 fn insert(
     rows: &mut Rows,
     id: ConnId,

@@ -95,6 +95,7 @@ fn picked(backend: &Backend, turn: Option<u16>) -> ServerVerdict<'_>
 }
 
 /// A server for a connection after its session rules.
+#[inline(always)]
 fn session_verdict<'a>(facts: &RuleFacts<'a>, says: &Judged) -> ServerVerdict<'a>
     requires { version_at facts.now.rows.now.versions facts.now.version.now.number ≡ Some facts.now.version.now }
     ensures { result_of result ≡ server_unless (facts_view facts.now (present says.now.tracks)) (rejection says.now) }
@@ -105,6 +106,7 @@ fn session_verdict<'a>(facts: &RuleFacts<'a>, says: &Judged) -> ServerVerdict<'a
     }
 }
 
+#[inline(always)]
 fn outcome(verdict: ServerVerdict<'_>, judged: Pair) -> Outcome
     ensures { result ≡ outcome_of judged (result_of verdict.entry) }
 {
@@ -114,18 +116,21 @@ fn outcome(verdict: ServerVerdict<'_>, judged: Pair) -> Outcome
     }
 }
 
-/// What becomes of a connection of that judged pair, where the step made those tracks before: the session rules
-/// first, then the backend and its server.
-pub fn decide(judged: Pair, facts: &RuleFacts<'_>, earlier: Tracks) -> TrackedOutcome
+/// Decides what becomes of a connection of that judged pair, where the step made the tracks that are in the decision:
+/// the session rules first, then the backend and its server.
+#[inline(always)]
+pub fn decide(judged: Pair, facts: &RuleFacts<'_>, decision: &mut TrackedOutcome)
     requires { version_at facts.now.rows.now.versions facts.now.version.now.number ≡ Some facts.now.version.now }
-    ensures reply { (id : ConnId) (used : ℕ) → reply_by id used result ≡ decided (facts_view facts.now) facts.now.frontend.now id used judged earlier }
-    ensures can { AreAllowed facts.now earlier → AreAllowed facts.now result.tracks }
+    ensures reply { (id : ConnId) (used : ℕ) → reply_by id used decision.new ≡ decided (facts_view facts.now) facts.now.frontend.now id used judged decision.old.tracks }
+    ensures can { AreAllowed facts.now decision.old.tracks → AreAllowed facts.now decision.new.tracks }
 {
-    let says = judge_after(facts.frontend.session_rules.as_slice(), facts, earlier);
-    TrackedOutcome {
-        outcome: outcome(session_verdict(facts, &says), judged),
-        tracks: says.tracks,
-    }
+    let says = judge_after(
+        facts.frontend.session_rules.as_slice(),
+        facts,
+        decision.tracks,
+    );
+    decision.tracks = says.tracks;
+    decision.outcome = outcome(session_verdict(facts, &says), judged);
 }
 
 /// Whether a header has to come first: the listener takes one, or a connection rule that was tried expects one.
@@ -135,37 +140,36 @@ fn demands_header(accept_proxy: bool, says: &Judged) -> bool
     accept_proxy || says.expects_header
 }
 
-/// What becomes of a connection at its accept, where so many others of its frontend are open: the limit of the
+/// Decides what becomes of a connection at its accept, where so many others of its frontend are open: the limit of the
 /// frontend first, then the connection rules, then it waits where its listener or one of those rules demands a header.
+#[inline(always)]
 pub fn admission(
     accept_proxy: bool,
     real: Pair,
     others: u64,
     facts: &RuleFacts<'_>,
-) -> TrackedOutcome
+    decision: &mut TrackedOutcome,
+)
     requires { version_at facts.now.rows.now.versions facts.now.version.now.number ≡ Some facts.now.version.now }
     ensures reply { (state : Plain) (id : ConnId) → view_of (candidate_of state id facts.now.version.now facts.now.frontend.now) real.source.addr ≡ facts_view facts.now →
-        reply_by id 0 result ≡ admission (candidate_of state id facts.now.version.now facts.now.frontend.now) accept_proxy real others }
-    ensures can { AreAllowed facts.now result.tracks }
+        reply_by id 0 decision.new ≡ admission (candidate_of state id facts.now.version.now facts.now.frontend.now) accept_proxy real others }
+    ensures can { AreAllowed facts.now decision.new.tracks }
 {
     if others >= facts.frontend.limit {
-        return TrackedOutcome {
-            outcome: Outcome::Refuse(Cause::Line(facts.frontend.limit_line)),
-            tracks: NO_TRACKS,
-        };
+        decision.tracks = NO_TRACKS;
+        decision.outcome = Outcome::Refuse(Cause::Line(facts.frontend.limit_line));
+        return;
     }
     let says = judge(facts.frontend.connection_rules.as_slice(), facts);
+    decision.tracks = says.tracks;
     let outcome = match rejecting_line(&says) {
         Some(line) => Outcome::Refuse(Cause::Line(line)),
         None => {
             if !demands_header(accept_proxy, &says) {
-                return decide(real, facts, says.tracks);
+                return decide(real, facts, decision);
             }
             Outcome::Wait
         }
     };
-    TrackedOutcome {
-        outcome,
-        tracks: says.tracks,
-    }
+    decision.outcome = outcome;
 }

@@ -28,7 +28,7 @@ use crate::entering::{SessionStart, enter};
 use crate::facts::RuleFacts;
 use crate::judging::admission;
 use crate::opening::listeners;
-use crate::outcome::{TrackedOutcome, plain_reply, reply};
+use crate::outcome::{Outcome, TrackedOutcome, plain_reply, reply};
 use crate::receiving::{can_judge, facts_of, receive};
 use crate::tracking::STEP_TRACKS;
 use addr_core::Pair;
@@ -267,6 +267,7 @@ impl Core {
         self.clock
     }
 
+    #[inline(always)]
     fn dispatch(&mut self, moment: u64, event: &Event<'_>) -> Result<Reply, StepFault>
         ensures reply { IfOk result (λ r. answer_in self.old moment (owned_event event.now) ≡ Ok r) }
         ensures new { IfOk result (λ r. self.new ≡ after self.old (entry moment (owned_event event.now) r ∷ [])) }
@@ -285,6 +286,7 @@ impl Core {
         }
     }
 
+    #[inline(always)]
     fn accept(&mut self, moment: u64, listener: u16, real: Pair) -> Result<Reply, StepFault>
         ensures reply { IfOk result (λ r. answer_in self.old moment (owned.Accept listener real) ≡ Ok r) }
         ensures new { IfOk result (λ r. self.new ≡ after self.old (entry moment (owned.Accept listener real) r ∷ [])) }
@@ -292,11 +294,11 @@ impl Core {
         ensures err { OnErr result (self.new ≡ self.old) }
     {
         let now = self.clock.max(moment);
-        let Admission {
-            id,
-            version,
-            decision,
-        } = self.admit(now, listener, real)?;
+        let mut decision = TrackedOutcome {
+            outcome: Outcome::Wait,
+            tracks: NO_TRACKS,
+        };
+        let Admission { id, version } = self.admit(now, listener, real, &mut decision)?;
         let arrival = SessionStart {
             version,
             real,
@@ -306,14 +308,21 @@ impl Core {
             return Err(StepFault::NoMemory);
         };
         self.clock = now;
-        Ok(reply(id, 0, decision))
+        Ok(reply(id, 0, &decision))
     }
 
-    /// What becomes of a connection at its accept, the name that it gets, and the version that judges it.
-    fn admit(&self, now: u64, listener: u16, real: Pair) -> Result<Admission, StepFault>
-        ensures reply { IfOk result (λ a. accept_answer self.now now listener real ≡ Ok (reply_by a.id 0 a.decision)) }
-        ensures can { IfOk result (λ a. ArePossible (open_tracks self.now.frontends) self.now.tables [] real.source.addr a.decision.tracks) }
-        ensures offers { IfOk result (λ a. CanOffer self.now.versions a.version a.decision.outcome) }
+    /// Decides what becomes of a connection at its accept.
+    #[inline(always)]
+    fn admit(
+        &self,
+        now: u64,
+        listener: u16,
+        real: Pair,
+        decision: &mut TrackedOutcome,
+    ) -> Result<Admission, StepFault>
+        ensures reply { IfOk result (λ a. accept_answer self.now now listener real ≡ Ok (reply_by a.id 0 decision.new)) }
+        ensures can { OnOk result (ArePossible (open_tracks self.now.frontends) self.now.tables [] real.source.addr decision.new.tracks) }
+        ensures offers { IfOk result (λ a. CanOffer self.now.versions a.version decision.new.outcome) }
         ensures fault { IfErr result (λ f. accept_answer self.now now listener real ≡ Err f) }
         ensures next { IfOk result (λ a. (own : FrontendRows) × IsNext self.now a own) }
     {
@@ -342,17 +351,23 @@ impl Core {
             own: NO_TRACKS,
             source: real.source().addr,
         };
-        let decision = admission(listener.accept_proxy, real, own.connections, &facts);
+        admission(
+            listener.accept_proxy,
+            real,
+            own.connections,
+            &facts,
+            decision,
+        );
         Ok(Admission {
             id: ConnId {
                 frontend: listener.frontend,
                 serial,
             },
             version: version.number,
-            decision,
         })
     }
 
+    #[inline(always)]
     fn piece(&mut self, moment: u64, id: ConnId, piece: &[u8]) -> Result<Reply, StepFault>
         ensures reply { IfOk result (λ r. piece_answer self.old id piece.now ≡ Ok r) }
         ensures new { IfOk result (λ r. self.new ≡ after self.old (entry moment (owned.Piece id piece.now) r ∷ [])) }
@@ -402,6 +417,7 @@ impl Core {
         Ok(())
     }
 
+    #[inline(always)]
     fn connected(&mut self, moment: u64, id: ConnId) -> Result<Reply, StepFault>
         ensures reply { IfOk result (λ r. answer_in self.old moment (owned.Connected id) ≡ Ok r) }
         ensures new { IfOk result (λ r. self.new ≡ after self.old (entry moment (owned.Connected id) r ∷ [])) }
@@ -415,6 +431,7 @@ impl Core {
         Ok(plain_reply(Said::Up { id }))
     }
 
+    #[inline(always)]
     fn connect_failed(&mut self, moment: u64, id: ConnId) -> Result<Reply, StepFault>
         ensures reply { IfOk result (λ r. answer_in self.old moment (owned.ConnectFailed id) ≡ Ok r) }
         ensures new { IfOk result (λ r. self.new ≡ after self.old (entry moment (owned.ConnectFailed id) r ∷ [])) }
@@ -432,6 +449,7 @@ impl Core {
         }))
     }
 
+    #[inline(always)]
     fn close(&mut self, moment: u64, id: ConnId, why: Why) -> Result<Reply, StepFault>
         ensures reply { IfOk result (λ r. answer_in self.old moment (owned.Close id why) ≡ Ok r) }
         ensures new { IfOk result (λ r. self.new ≡ after self.old (entry moment (owned.Close id why) r ∷ [])) }
@@ -448,6 +466,7 @@ impl Core {
         Ok(plain_reply(Said::Closed { id, why }))
     }
 
+    #[inline(always)]
     fn expire(&mut self, moment: u64, id: ConnId) -> Result<Reply, StepFault>
         ensures reply { IfOk result (λ r. answer_in self.old moment (owned.Expire id) ≡ Ok r) }
         ensures new { IfOk result (λ r. self.new ≡ after self.old (entry moment (owned.Expire id) r ∷ [])) }
@@ -555,11 +574,10 @@ fn is_due(accepted: u64, now: u64) -> bool
     }
 }
 
-/// What becomes of a connection at its accept.
+/// The name that a connection gets at its accept.
 #[derive(Drop)]
 struct Admission {
     id: ConnId,
     /// The version of the configuration that judges it.
     version: u64,
-    decision: TrackedOutcome,
 }

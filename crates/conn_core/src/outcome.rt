@@ -1,7 +1,7 @@
 //! What becomes of a connection.
 ghost use Rattle.std.specs.Prelude.{◌≡◌, ◌≤◌, length};
-ghost use Rattle.conn_model.specs.Answer.{header_sent, reply_of};
-ghost use Rattle.conn_core.specs.Outcome.{offer_of, reply_by, said_by};
+ghost use Rattle.conn_model.specs.Answer.{reply_of};
+ghost use Rattle.conn_core.specs.Outcome.{form_of, header_in, offer_of, reply_by, said_by};
 
 use crate::tracking::present_tracks;
 use addr_core::Pair;
@@ -19,7 +19,16 @@ use rule_engine::Tracks;
 pub struct Offer {
     pub seat: ServerChoice,
     /// What the server is sent before the stream.
-    pub send: ArrayVec<u8, LINE_LIMIT>,
+    pub header: HeaderForm,
+}
+
+/// How a server is told the judged pair.
+#[derive(Clone, Copy, Debug, PartialEq, Eq)]
+pub enum HeaderForm {
+    /// It is told nothing.
+    Absent,
+    Version1,
+    Version2,
 }
 
 /// What becomes of a connection.
@@ -39,17 +48,18 @@ pub struct TrackedOutcome {
 }
 
 /// The reply to a connection of which that becomes. So many bytes of the piece belong to its header.
-pub fn reply(id: ConnId, used: u64, decision: TrackedOutcome) -> Reply
-    ensures { result ≡ reply_by id used decision }
+#[inline(always)]
+pub fn reply(id: ConnId, used: u64, decision: &TrackedOutcome) -> Reply
+    ensures { result ≡ reply_by id used decision.now }
 {
-    let TrackedOutcome { outcome, tracks } = decision;
     Reply {
-        said: said(id, used, outcome),
-        tracks: present_tracks(&tracks),
+        said: said(id, used, &decision.outcome),
+        tracks: present_tracks(&decision.tracks),
     }
 }
 
 /// The reply of a step that tracks nothing.
+#[inline(always)]
 pub fn plain_reply(said: Said) -> Reply
     ensures { result ≡ reply_of said }
 {
@@ -60,25 +70,31 @@ pub fn plain_reply(said: Said) -> Reply
 }
 
 /// What is said to a connection of that outcome. So many bytes of the piece belong to its header.
-fn said(id: ConnId, used: u64, outcome: Outcome) -> Said
-    ensures { result ≡ said_by id used outcome }
+#[inline(always)]
+fn said(id: ConnId, used: u64, outcome: &Outcome) -> Said
+    ensures { result ≡ said_by id used outcome.now }
 {
     match outcome {
         Outcome::Wait => Said::Wait { id, used },
-        Outcome::Offer(Offer { seat, send }) => Said::Offer {
+        Outcome::Offer(Offer { seat, header: form }) => Said::Offer {
             id,
             used,
             line: seat.line,
             server: seat.server,
             to: seat.to,
             judged: seat.judged,
-            send,
+            send: header(*form, seat.judged),
         },
-        Outcome::Refuse(cause) => Said::Refuse { id, used, cause },
+        Outcome::Refuse(cause) => Said::Refuse {
+            id,
+            used,
+            cause: *cause,
+        },
     }
 }
 
 /// The offer of a server that has that number in its backend.
+#[inline(always)]
 pub fn offer_of(number: u16, server: &Server, judged: Pair) -> Offer
     ensures { result ≡ offer_of number server.now judged }
 {
@@ -89,20 +105,30 @@ pub fn offer_of(number: u16, server: &Server, judged: Pair) -> Offer
             to: server.to,
             judged,
         },
-        send: header(server, judged),
+        header: form_of(server),
     }
 }
 
-/// The header that the server is sent, which states the judged pair (proxy-protocol.txt, section 2).
-fn header(server: &Server, judged: Pair) -> ArrayVec<u8, LINE_LIMIT>
-    ensures { result ≡ record { items = header_sent server.now judged } }
+fn form_of(server: &Server) -> HeaderForm
+    ensures { result ≡ form_of server.now }
 {
     if server.send_proxy_v2 {
-        in_line(write_v2(&judged).as_slice())
+        HeaderForm::Version2
     } else if server.send_proxy {
-        write_v1(&judged)
+        HeaderForm::Version1
     } else {
-        ArrayVec::new()
+        HeaderForm::Absent
+    }
+}
+
+/// The header of that form, which states the judged pair (proxy-protocol.txt, section 2).
+fn header(form: HeaderForm, judged: Pair) -> ArrayVec<u8, LINE_LIMIT>
+    ensures { result ≡ record { items = header_in form judged } }
+{
+    match form {
+        HeaderForm::Absent => ArrayVec::new(),
+        HeaderForm::Version1 => write_v1(&judged),
+        HeaderForm::Version2 => in_line(write_v2(&judged).as_slice()),
     }
 }
 

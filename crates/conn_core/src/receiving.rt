@@ -78,6 +78,7 @@ pub fn facts_of(rows: &Rows, id: ConnId, version: u64, judged: Pair) -> Option<R
 }
 
 /// What becomes of a connection whose header is whole.
+#[inline(always)]
 fn decision(rows: &Rows, id: ConnId, version: u64, judged: Pair) -> Option<TrackedOutcome>
     requires { AreSound rows.now.versions }
     ensures some { IfSome result (λ d. (judge : Judge rows.now.frontends rows.now.versions id version) × ((state : Plain) (used : ℕ) → IsSeen id state rows.now →
@@ -89,7 +90,12 @@ fn decision(rows: &Rows, id: ConnId, version: u64, judged: Pair) -> Option<Track
     let Some(facts) = facts_of(rows, id, version, judged) else {
         return None;
     };
-    Some(judging::decide(judged, &facts, NO_TRACKS))
+    let mut decision = TrackedOutcome {
+        outcome: Outcome::Wait,
+        tracks: NO_TRACKS,
+    };
+    judging::decide(judged, &facts, &mut decision);
+    Some(decision)
 }
 
 /// What a connection tracks since earlier steps, by counter.
@@ -113,6 +119,7 @@ fn judged_pair(real: Pair, meaning: Meaning) -> Pair
 }
 
 /// Judges a connection whose header is whole: it is offered a server, or ends.
+#[inline(always)]
 fn decide(rows: &mut Rows, id: ConnId, version: u64, judged: Pair, used: u64) -> Reply
     requires there { IsJudged rows.old.frontends id version }
     requires sorted { AreSorted rows.old.frontends id }
@@ -132,10 +139,11 @@ fn decide(rows: &mut Rows, id: ConnId, version: u64, judged: Pair, used: u64) ->
     };
     track_all(rows, id, &decision.tracks);
     settle(rows, id, version, &decision.outcome);
-    reply(id, used, decision)
+    reply(id, used, &decision)
 }
 
 /// Keeps what becomes of a connection that waited, and that the version of that number judges.
+#[inline(always)]
 fn settle(rows: &mut Rows, id: ConnId, version: u64, outcome: &Outcome)
     requires there { IsJudged rows.old.frontends id version }
     requires offers { CanOffer rows.old.versions version outcome.now }
@@ -153,6 +161,7 @@ fn settle(rows: &mut Rows, id: ConnId, version: u64, outcome: &Outcome)
 }
 
 /// Feeds a piece to a connection that waits, and says what becomes of it.
+#[inline(always)]
 pub fn receive(rows: &mut Rows, id: ConnId, row: &RowSummary, piece: &[u8]) -> Reply
     requires waits { (found : Row × Rest) × (waiting_row rows.old.frontends id ≡ Ok found) × (row.now ≡ summary_of found.0) }
     requires judge { Judge rows.old.frontends rows.old.versions id row.now.version }

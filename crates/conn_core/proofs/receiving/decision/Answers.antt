@@ -39,16 +39,16 @@ returns-clause-can c = λ there.
     let sees = c.in-Some.ensures.some in
     let facts = c.in-Some.facts in
     let none = c.decide.ensures.can (none_made (IsPossible (open_tracks facts.rows.now.frontends) facts.rows.now.tables (present facts.own) facts.source)) in
-    subst (λ (addr : Addr). ArePossible (open_tracks c.args.rows.now.frontends) c.args.rows.now.tables (tracks_at c.args.rows.now.frontends c.args.id) addr c.decide.result.tracks) sees.source
-    (subst (λ (tracks : List Track). ArePossible (open_tracks c.args.rows.now.frontends) c.args.rows.now.tables tracks facts.source c.decide.result.tracks) sees.tracks
-    (subst (λ rows. ArePossible (open_tracks rows.frontends) rows.tables (present facts.own) facts.source c.decide.result.tracks) sees.rows_are none))
+    subst (λ (addr : Addr). ArePossible (open_tracks c.args.rows.now.frontends) c.args.rows.now.tables (tracks_at c.args.rows.now.frontends c.args.id) addr c.decide.new.decision.tracks) sees.source
+    (subst (λ (tracks : List Track). ArePossible (open_tracks c.args.rows.now.frontends) c.args.rows.now.tables tracks facts.source c.decide.new.decision.tracks) sees.tracks
+    (subst (λ rows. ArePossible (open_tracks rows.frontends) rows.tables (present facts.own) facts.source c.decide.new.decision.tracks) sees.rows_are none))
 
 pub returns-clause-offers : goal.returns-clause-offers
 returns-clause-offers c =
     let p : Plain = record { clock = 0; listeners = []; frontends = c.args.rows.now.frontends; versions = c.args.rows.now.versions; tables = c.args.rows.now.tables } in
     let some = returns-clause-some c in
-    let reply : reply_by c.args.id 0 c.decide.result ≡ decision (candidate_of p c.args.id some.0.version some.0.frontend) 0 c.args.judged no_tracks =
+    let reply : reply_by c.args.id 0 c.decide.new.decision ≡ decision (candidate_of p c.args.id some.0.version some.0.frontend) 0 c.args.judged no_tracks =
     some.1 p 0 (record { own = refl; named = λ name. refl; offered = λ name. refl; served = λ server. refl; tracks = refl; tracked = refl; tables = refl }) in
-    can_offer (served_by c.args.rows.now.frontends) c.args.rows.now.versions c.args.version some.0.version c.args.id 0 c.decide.result.outcome c.requires some.0.kept
+    can_offer (served_by c.args.rows.now.frontends) c.args.rows.now.versions c.args.version some.0.version c.args.id 0 c.decide.new.decision.outcome c.requires some.0.kept
     (subst (λ (r : Reply). OffersWell (served_by c.args.rows.now.frontends) some.0.version.plan r.said) (sym reply)
     (decision-offers (candidate_of p c.args.id some.0.version some.0.frontend) 0 c.args.judged no_tracks))

@@ -17,19 +17,19 @@ use Rattle.conn_core.proofs.StateLemmas.{IsAfter}
 use Rattle.conn_core.proofs.machine.Core.accept.Goals as goal
 
 pub enter-requires-clause-offers : goal.enter-requires-clause-offers
-enter-requires-clause-offers c = subst (λ p. CanOffer p.versions c.in_ok-id.field-0.version c.in_ok-id.field-0.decision.outcome) (sym c.self.view_is) c.in_ok-id.ensures.offers
+enter-requires-clause-offers c = subst (λ p. CanOffer p.versions c.in_ok-id.field-0.version c.admit.new.decision.outcome) (sym c.self.view_is) c.in_ok-id.ensures.offers
 
 state : (c : goal.After-reply) → Plain
 state c = state_of c.self.inside.clock c.self.inside.listeners c.self.inside.rows
 
 reply : (c : goal.After-reply) → Reply
-reply c = reply_by c.in_ok-id.field-0.id 0 c.in_ok-id.field-0.decision
+reply c = reply_by c.in_ok-id.field-0.id 0 c.admit.new.decision
 
 after_is : (c : goal.After-reply) → IsAfter (state c) (entry c.args.moment (Accept c.args.listener c.args.real) (reply c)) (state_of c.max-now.result c.self.inside.listeners c.enter.new.rows)
 unfolding state reply
 after_is c =
     let arrival : SessionStart = record { version = c.in_ok-id.field-0.version; real = c.args.real; accepted = c.max-now.result } in
-    let decision : TrackedOutcome = c.in_ok-id.field-0.decision in
+    let decision : TrackedOutcome = c.admit.new.decision in
     let own : FrontendRows = c.in_ok-id.ensures.next.0 in
     let next : IsNext (state c) c.in_ok-id.field-0 own = subst (λ s. IsNext s c.in_ok-id.field-0 own) (sym c.self.view_is) c.in_ok-id.ensures.next.1 in
     let is : accept_answer (state c) (max c.self.inside.clock c.args.moment) c.args.listener c.args.real ≡ Ok (reply c) =

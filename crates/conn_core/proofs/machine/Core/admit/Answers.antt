@@ -21,8 +21,8 @@ use Rattle.conn_core.proofs.machine.Core.admit.Goals as goal
 pub frontend_near-requires : goal.frontend_near-requires
 frontend_near-requires c = newest-all (λ version. IsSoundPlan version.plan) c.self.inside.rows.versions c.in-Some-newest.version.now c.in-Some-newest.ensures.sound (sym c.in-Some-newest.ensures.newest)
 
-pub admission-decision-requires : goal.admission-decision-requires
-admission-decision-requires c = newest-at c.self.inside.rows.versions c.in-Some-newest.version.now c.self.invariant.well.rise (sym c.in-Some-newest.ensures.newest)
+pub admission-requires : goal.admission-requires
+admission-requires c = newest-at c.self.inside.rows.versions c.in-Some-newest.version.now c.self.invariant.well.rise (sym c.in-Some-newest.ensures.newest)
 
 pub returns-clause-reply : goal.returns-clause-reply
 returns-clause-reply c =
@@ -61,15 +61,15 @@ returns-clause-reply c =
       none = refl;
       judged = ap (λ e. e.addr) c.source.ensures.value;
     }) in
-    let reply : reply_by next 0 c.admission-decision.result ≡ admission (candidate_at q c.args.now number c.args.real own version frontend) c.in-Some.listener.now.accept_proxy c.args.real (length own.rows) =
-    c.admission-decision.ensures.reply (with_row q number own (new_row (own.serial + 1) version.number c.args.real c.args.now)) next sees
+    let reply : reply_by next 0 c.admission.new.decision ≡ admission (candidate_at q c.args.now number c.args.real own version frontend) c.in-Some.listener.now.accept_proxy c.args.real (length own.rows) =
+    c.admission.ensures.reply (with_row q number own (new_row (own.serial + 1) version.number c.args.real c.args.now)) next sees
     ∙ ap (λ n. admission (candidate_at q c.args.now number c.args.real own version frontend) c.in-Some.listener.now.accept_proxy c.args.real n) sums.connections in
     let fits : own.serial + 1 < 2 ^ 64 = let s = sums.serial in let next = c.in-Some-next_number.ensures.next.1 in omega (arith, s, next) in
     ap (λ s. accept_answer s c.args.now c.args.listener c.args.real) (sym c.self.view_is)
-    ∙ answer_is q c.args.now c.args.listener c.args.real c.in-Some.listener.now own version frontend found fits (reply_by next 0 c.admission-decision.result) reply
-    ∙ ap (λ n. Ok (reply_by (record { frontend = number; serial = n }) 0 c.admission-decision.result)) (ap (λ n. n + 1) (sym sums.serial) ∙ sym c.in-Some-next_number.ensures.next.0)
+    ∙ answer_is q c.args.now c.args.listener c.args.real c.in-Some.listener.now own version frontend found fits (reply_by next 0 c.admission.new.decision) reply
+    ∙ ap (λ n. Ok (reply_by (record { frontend = number; serial = n }) 0 c.admission.new.decision)) (ap (λ n. n + 1) (sym sums.serial) ∙ sym c.in-Some-next_number.ensures.next.0)
 
 pub returns-clause-offers : goal.returns-clause-offers
 returns-clause-offers c =
     accept_offers c.args.self.now (subst IsCoreState c.self.view_is c.self.invariant) c.args.now c.args.listener c.args.real (record { frontend = c.in-Some.listener.now.frontend; serial = c.in-Some-next_number.serial })
-    c.admission-decision.result c.in-Some-newest.version.now (ap (λ p. newest p.versions) (sym c.self.view_is) ∙ sym c.in-Some-newest.ensures.newest) (returns-clause-reply c)
+    c.admission.new.decision c.in-Some-newest.version.now (ap (λ p. newest p.versions) (sym c.self.view_is) ∙ sym c.in-Some-newest.ensures.newest) (returns-clause-reply c)
