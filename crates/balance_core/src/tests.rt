@@ -2,10 +2,13 @@
 use crate::cycle::{settles_whole, sorted_turns, turn_count};
 use crate::settle::settle;
 use crate::spread::spread_turns;
-use proxy_types::Place;
+use proxy_types::{MOST_SERVERS, Place};
 use std::alloc::{AllocError, Global};
 use std::process::Abort;
 use std::test::Fail;
+
+/// As many servers as a backend may have.
+const MANY: u64 = MOST_SERVERS as u64;
 
 /// Lists of weights: none, none that has a turn, one, equal ones, the least and the greatest, and such as
 /// have many turns at one time.
@@ -16,14 +19,14 @@ static LISTS: [&[u16]; 16] = [
     &[1],
     &[2],
     &[256],
-    &[65535],
+    &[u16::MAX],
     &[1, 1, 1, 1],
     &[0, 5, 0, 5],
     &[1, 2, 3, 4, 5, 6, 7, 8],
     &[8, 7, 6, 5, 4, 3, 2, 1],
     &[1, 3, 5, 7, 9, 15, 45, 105, 315],
-    &[255, 256, 65535],
-    &[65535, 1, 65534, 1, 32768, 32767],
+    &[255, 256, u16::MAX],
+    &[u16::MAX, 1, u16::MAX - 1, 1, 32768, 32767],
     &[256, 255, 254, 253, 252, 251],
     &[1000, 1001, 1002, 1003, 1004, 1005, 1006],
 ];
@@ -87,11 +90,11 @@ fn stepped_weights(
 fn stepped_weights_are_spread(rt: HostRuntime) -> Result<(), Fail> {
     let alloc = rt.alloc();
     for (count, run, step) in [
-        (64, 64, 1),
-        (64, 64, 4),
-        (64, 2, 1),
+        (MANY, MANY, 1),
+        (MANY, MANY, 4),
+        (MANY, 2, 1),
         (60, 3, 1),
-        (64, 1, 256),
+        (MANY, 1, 256),
         (500, 5, 2),
         (40, 4, 85),
     ] {
@@ -102,7 +105,7 @@ fn stepped_weights_are_spread(rt: HostRuntime) -> Result<(), Fail> {
     }
     // Those of 1 before those of 3: all of the first come at the time of the middle ones of the second.
     let mut weights = vec![in alloc; 1u16; 32]?;
-    weights.resize(64, 3)?;
+    weights.resize(MOST_SERVERS, 3)?;
     spreads(&rt, alloc, weights.as_slice())?;
     Ok(())
 }
@@ -115,8 +118,8 @@ fn made_weights_are_spread(rt: HostRuntime) -> Result<(), Fail> {
         (2, 9),
         (3, 300),
         (9, 40),
-        (64, 1),
-        (64, 256),
+        (MANY, 1),
+        (MANY, 256),
         (300, 3),
         (7, 5000),
     ] {
@@ -133,7 +136,7 @@ fn made_weights_are_spread(rt: HostRuntime) -> Result<(), Fail> {
 #[test]
 fn more_turns_than_buckets_are_spread(rt: HostRuntime) -> Result<(), Fail> {
     let alloc = rt.alloc();
-    let weights = made_weights(alloc, 48, 65535, 7)?;
+    let weights = made_weights(alloc, 48, u64::from(u16::MAX), 7)?;
     spreads(&rt, alloc, weights.as_slice())?;
     Ok(())
 }
