@@ -113,7 +113,8 @@ impl RowList {
         pushed
     }
 
-    /// Takes the row of a serial out, if it is there. It takes no memory.
+    /// Takes the row of a serial out, if it is there. It asks for a smaller block at times, and goes on without it if that
+    /// is refused.
     pub fn take(&mut self, serial: u64) -> Option<StoredRow>
         ensures row { result ≡ find (has_serial serial) self.old }
         ensures left { self.new ≡ filter (λ row. not (has_serial serial row)) self.old }
@@ -123,7 +124,7 @@ impl RowList {
         self.entries.take(serial)
     }
 
-    /// Takes the last row out. It takes no memory.
+    /// Takes the last row out. It asks for a smaller block at times, and goes on without it if that is refused.
     pub fn pop(&mut self) -> Option<StoredRow>
         ensures counts { IfSome result (λ row. (worth : StoredRow → ℕ) → total worth self.new + worth row ≡ total worth self.old) }
         ensures shorter { IfSome result (λ row. length self.new + 1 ≡ length self.old) }

@@ -327,7 +327,7 @@ impl Rows {
         self.frontends[usize::from(id.frontend)].track(id.serial, track.counter, tracking);
     }
 
-    /// Ends a connection, if it is open, with what it tracks, in the order of counters. It takes no memory.
+    /// Ends a connection, if it is open, with what it tracks, in the order of counters. It needs no memory.
     pub fn remove(&mut self, id: ConnId)
         ensures { self.new ≡ record self.old { frontends = without_conn id self.old.frontends; tables = without_tracks (tracks_at self.old.frontends id) self.old.tables } }
     {

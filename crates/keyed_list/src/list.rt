@@ -22,7 +22,7 @@ const MOST_NEAR: usize = 1024;
 /// The last items, 1,024 at the most, lie in places in a row, and those before them in a `BTreeMap`; each item has a box
 /// of its own, and stays where it is in memory until it is taken out. Its memory is given back then. What is done at a key
 /// takes time in the logarithm of the length, and at the last key no time that grows with it. A call moves 64 items to the
-/// tree at the most, and closes up 2,064 places at the most.
+/// tree at the most, and closes up 2,064 places at the most, unless memory was refused.
 ///
 /// The items may be of any type. Where they cannot be dropped, neither can the list: it ends by `end`, once its items
 /// were taken out.
@@ -158,7 +158,7 @@ impl<T> KeyedList<T> {
         }
     }
 
-    /// Takes the item of a key out. It takes no memory.
+    /// Takes the item of a key out. It asks for a smaller block at times, and goes on without it if that is refused.
     pub fn take(&mut self, key: u64) -> Option<T>
         ensures item { result ≡ item_at key self.old }
         ensures left { self.new ≡ without key self.old }
@@ -177,13 +177,14 @@ impl<T> KeyedList<T> {
         Some(Box::into_inner(own))
     }
 
-    /// Takes the last entry out. It takes no memory.
+    /// Takes the last entry out. It asks for a smaller block at times, and goes on without it if that is refused.
     pub fn pop(&mut self) -> Option<(u64, T)>
         ensures last { self.old ≡ self.new ++ option_to_list result }
         ensures none { IfNone result (self.old ≡ []) }
     {
         if let Some((key, own)) = take_last(&mut self.places) {
             self.count -= 1;
+            close_up(self.alloc, &mut self.places, self.count);
             return Some((key, Box::into_inner(own)));
         }
         let (key, own) = self.tree.pop_last()?;

@@ -14,6 +14,9 @@ use std::{mem, vec};
 /// How many places may be empty besides as many as have an item.
 const FEW: usize = 16;
 
+/// How many times as large as they need the block of the places may be.
+const SPARE: usize = 4;
+
 /// How many places are settled at once.
 const BATCH: usize = 64;
 
@@ -57,15 +60,16 @@ pub fn trim<T>(places: &mut Vec<(u64, Option<Box<T>>)>)
     }
 }
 
-/// Moves the items to a block of their own where more places are empty than have an item, so that both time and memory
-/// follow the number of items. If memory is refused, all stays as it is.
+/// Moves the items to a block of their own where more places are empty than have an item, or where the block is much
+/// larger than they need, so that both time and memory follow the number of items. If memory is refused, all stays as it
+/// is.
 pub fn close_up<T>(alloc: Global, places: &mut Vec<(u64, Option<Box<T>>)>, count: usize)
     requires { count ≡ length (entries_in (opened_by (λ own. own.value) places.old.items)) }
     ensures entries { entries_in (opened_by (λ own. own.value) places.new.items) ≡ entries_in (opened_by (λ own. own.value) places.old.items) }
     ensures rise { (far : List (ℕ × Option (Box T Global))) → Rise (λ p. p.0) (far ++ places.old.items) → Rise (λ p. p.0) (far ++ places.new.items) }
 {
     let most = count.saturating_mul(2).saturating_add(FEW);
-    if places.len() <= most {
+    if places.len() <= most && places.capacity() / SPARE <= most {
         return;
     }
     let Ok(mut kept) = Vec::with_capacity(alloc, most) else {

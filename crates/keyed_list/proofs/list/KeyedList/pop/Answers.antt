@@ -1,23 +1,30 @@
 use Rattle.std.proofs.Common.{◌++◌, ◌∷◌, [], length, Some, sym, ap, ◌∙◌, subst, arith, length-append, append-nil, append_assoc}
 use Rattle.keyed_list.specs.Boxes.{entries_in, opened_by, settled}
 use Rattle.keyed_list.specs.Entries.{Rise}
-use Rattle.keyed_list.proofs.PlaceLemmas.{entries-both, entries-last, last_out}
+use Rattle.keyed_list.proofs.PlaceLemmas.{entries-both, entries-last, last_out, same-after}
 use Rattle.keyed_list.proofs.TreeLemmas.{length-settled, settled-append}
 use Rattle.keyed_list.proofs.PlaceLemmas.{no-items}
 use Rattle.keyed_list.proofs.TreeLemmas.{rise_popped}
 use Rattle.keyed_list.proofs.list.KeyedList.pop.Goals as goal
+
+pub close_up-requires : goal.close_up-requires
+close_up-requires g c =
+    let less = c.self.invariant.count ∙ ap length c.in-Some.ensures.entries ∙ length-append (entries_in (opened_by (λ own. own.value) (c.take_last.new.places.items))) ((c.in-Some.key, c.in-Some.own.value) ∷ []) in
+    omega (arith, less)
 
 pub invariant_of-self : goal.invariant_of-self
 invariant_of-self g c =
     let less = c.self.invariant.count ∙ ap length c.in-Some.ensures.entries ∙ length-append (entries_in (opened_by (λ own. own.value) (c.take_last.new.places.items))) ((c.in-Some.key, c.in-Some.own.value) ∷ []) in
     let few = c.self.invariant.few in
     let before = length-settled (λ own. own.value) c.self.inside.tree.entries c.self.inside.places.items in
-    let after = length-settled (λ own. own.value) c.self.inside.tree.entries c.take_last.new.places.items in
+    let after = length-settled (λ own. own.value) c.self.inside.tree.entries c.close_up.new.places.items in
+    let same = ap length c.close_up.ensures.entries in
     let count = c.self.invariant.count in
     record {
-      rise = last_out (settled c.self.inside.tree.entries) c.take_last.new.places.items (c.in-Some.key, Some c.in-Some.own) (c.in-Some.ensures.rise (settled c.self.inside.tree.entries) c.self.invariant.rise);
-      count = omega (arith, less);
-      few = omega (arith, few, before, after, less, count);
+      rise = c.close_up.ensures.rise (settled c.self.inside.tree.entries)
+          (last_out (settled c.self.inside.tree.entries) c.take_last.new.places.items (c.in-Some.key, Some c.in-Some.own) (c.in-Some.ensures.rise (settled c.self.inside.tree.entries) c.self.invariant.rise));
+      count = omega (arith, less, same);
+      few = omega (arith, few, before, after, less, count, same);
     }
 
 pub returns-in-Some-clause-last : goal.returns-in-Some-clause-last
@@ -25,6 +32,7 @@ returns-in-Some-clause-last g c =
     sym c.self.view_is ∙ entries-both (λ own. own.value) (settled c.self.inside.tree.entries) c.self.inside.places.items ∙ ap (λ es. entries_in (opened_by (λ own. own.value) ((settled c.self.inside.tree.entries))) ++ es) c.in-Some.ensures.entries
     ∙ sym (append_assoc (entries_in (opened_by (λ own. own.value) ((settled c.self.inside.tree.entries)))) (entries_in (opened_by (λ own. own.value) (c.take_last.new.places.items))) ((c.in-Some.key, c.in-Some.own.value) ∷ []))
     ∙ ap (λ es. es ++ (c.in-Some.key, c.in-Some.own.value) ∷ []) (sym (entries-both (λ own. own.value) (settled c.self.inside.tree.entries) c.take_last.new.places.items)) ∙ ap (λ x. entries_in (opened_by (λ own. own.value) ((settled c.self.inside.tree.entries) ++ c.take_last.new.places.items)) ++ (c.in-Some.key, x) ∷ []) (sym c.into_inner.ensures)
+    ∙ ap (λ es. es ++ (c.in-Some.key, c.into_inner.result) ∷ []) (sym (same-after (λ own. own.value) (settled c.self.inside.tree.entries) c.close_up.new.places.items c.take_last.new.places.items c.close_up.ensures.entries))
 
 pub invariant_of-self-2 : goal.invariant_of-self-2
 invariant_of-self-2 g c =
