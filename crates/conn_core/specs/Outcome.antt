@@ -32,7 +32,7 @@ said_by id used (Refuse cause) = saids.Refuse id used cause
 abbrev pub reply_by : ConnId → ℕ → TrackedOutcome → Reply
 reply_by id used decision = reply_with (said_by id used decision.outcome) decision.tracks
 
--- how a server is told the judged pair
+-- the form in which a server is sent the judged pair
 abbrev pub form_of : Server → HeaderForm
 form_of server = if server.send_proxy_v2 then Version2 else if server.send_proxy then Version1 else Absent
 

@@ -18,14 +18,14 @@ use rule_engine::Tracks;
 #[derive(Drop)]
 pub struct Offer {
     pub seat: ServerChoice,
-    /// What the server is sent before the stream.
+    /// The form of the header that the server is sent before the stream.
     pub header: HeaderForm,
 }
 
-/// How a server is told the judged pair.
+/// The form in which a server is sent the judged pair.
 #[derive(Clone, Copy, Debug, PartialEq, Eq)]
 pub enum HeaderForm {
-    /// It is told nothing.
+    /// It is sent no header.
     Absent,
     Version1,
     Version2,
