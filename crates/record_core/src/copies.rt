@@ -17,13 +17,22 @@ pub fn copy_event(alloc: Global, event: &Event) -> Result<OwnedEvent, AllocError
 {
     match *event {
         Event::Accept(listener, real) => Ok(OwnedEvent::Accept(listener, real)),
-        Event::Piece(id, bytes) => Ok(OwnedEvent::Piece(id, Seq::duplicate_of(alloc, bytes)?)),
+        Event::Piece(id, bytes) => Ok(OwnedEvent::Piece(id, copy_text(alloc, bytes)?)),
         Event::Connected(id) => Ok(OwnedEvent::Connected(id)),
         Event::ConnectFailed(id) => Ok(OwnedEvent::ConnectFailed(id)),
         Event::Close(id, why) => Ok(OwnedEvent::Close(id, why)),
         Event::Expire(id) => Ok(OwnedEvent::Expire(id)),
-        Event::Reload(text) => Ok(OwnedEvent::Reload(Seq::duplicate_of(alloc, text.as_bytes())?)),
+        Event::Reload(text) => Ok(OwnedEvent::Reload(copy_text(alloc, text.as_bytes())?)),
     }
+}
+
+/// The bytes in memory of their own, copied at once.
+fn copy_text(alloc: Global, bytes: &[u8]) -> Result<Seq<u8>, AllocError>
+    ensures { IfOk result (λ copy. copy ≡ bytes.now) }
+{
+    let mut copy = Vec::with_capacity(alloc, bytes.len())?;
+    copy.extend_from_slice(bytes)?;
+    Ok(Seq::of(copy))
 }
 
 /// An equal reply, without taking memory.
