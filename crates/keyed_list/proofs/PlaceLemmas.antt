@@ -95,6 +95,14 @@ module _ {B : Type 0} where
       let above : r.0 < p.0 = all-at (λ s. r.0 < s.0) ps n p rise.0 at in
       (all-set (λ k. r.0 < k) ps n q (subst (λ k. r.0 < k) (sym same) above) rise.0, rise-set ps n p q at same rise.1)
 
+  -- none has a key below the first one's
+  pub none-before : (key : ℕ) (ps : List (ℕ × Option B)) (first : ℕ × Option B) → first ≡ get_or ps 0 first → key < first.0 → Rise (λ p. p.0) ps →
+      AllByRecursion (λ p. (p.0 == key) ≡ false) ps
+  none-before key [] first there less rise = tt
+  none-before key (p ∷ ps) first there less rise =
+      let own : key < p.0 = subst (λ q. key < q.0) there less in
+      (grind (arith, nat_tests, own), all-more (λ q. p.0 < q.0) (λ q. (q.0 == key) ≡ false) ps (λ q more. grind (arith, nat_tests, own, more)) rise.0)
+
   -- how keys compare with one rises along the places
   comparisons_rise : (key : ℕ) (ps : List (ℕ × Option B)) → Rise (λ p. p.0) ps → IsNonDecreasingBy (λ p. ordering_index (nat_cmp p.0 key)) ps
   comparisons_rise key ps rise i j d from within = elim (cases_lt i j) [

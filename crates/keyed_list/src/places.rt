@@ -21,14 +21,15 @@ const SPARE: usize = 4;
 const BATCH: usize = 64;
 
 /// The place of a key, which may be empty. It is found by halves; the last place, which most calls are for, is looked at
-/// first.
+/// first, and a key before the first place, whose item lies in the tree, is not searched for.
 pub fn place_of<T>(places: &[(u64, Option<Box<T>>)], key: u64) -> Option<usize>
     requires { Rise (λ p. p.0) places.now }
     ensures some { IfSome result (λ place. IfSome (slice_get places.now place) (λ p. p.0 ≡ key) × (place < length places.now)) }
     ensures none { IfNone result (AllByRecursion (λ p. (p.0 == key) ≡ false) places.now) }
 {
-    match places.last() {
-        Some(last) if last.0 == key => Some(places.len() - 1),
+    match places {
+        [.., last] if last.0 == key => Some(places.len() - 1),
+        [first, ..] if key < first.0 => None,
         _ => places.binary_search_by_key(&key, |place| place.0).ok(),
     }
 }
