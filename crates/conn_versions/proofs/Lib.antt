@@ -6,3 +6,4 @@ pub mod Written
 pub mod Changes
 pub mod Judged
 pub mod Places
+pub mod Busy

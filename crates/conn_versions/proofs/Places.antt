@@ -69,7 +69,7 @@ line_place plan sound line place backend there has =
 -- Versions.
 
 -- numbers rise by place
-rise-at : {X : Type 0} (number : X → ℕ) (xs : List X) → Rise number xs → (i j : ℕ) (x y : X) → i < j →
+pub rise-at : {X : Type 0} (number : X → ℕ) (xs : List X) → Rise number xs → (i j : ℕ) (x y : X) → i < j →
     slice_get xs i ≡ Some x → slice_get xs j ≡ Some y → number x < number y
 rise-at number [] rise i j x y less left right = absurd (let wrong : None ≡ Some x = left in cc)
 rise-at number (z ∷ xs) rise i zero x y less left right = absurd (omega (arith, less))

@@ -1,6 +1,9 @@
 -- How many open connections the versions judge.
-use Rattle.std.specs.Prelude.{ℕ, Bool, List, [], ◌∷◌, filter, nat_lt, ◌==◌, ◌||◌, if◌then◌else◌}
+use Rattle.std.specs.Prelude.{ℕ, Bool, true, List, [], ◌∷◌, filter, nat_lt, IsSome, ◌≡◌, ◌==◌, ◌||◌, if◌then◌else◌}
+use Rattle.std.specs.Option.{option_map_or}
 use Rattle.conn_model.specs.declared.plain.Version.{Version}
+use Rattle.conn_model.specs.Answer.{version_at}
+use Rattle.conn_model.specs.Words.{newest}
 use Rattle.conn_versions.specs.Versions.{VersionsValue}
 
 -- of the version of a number, where each of the versions judges so many; 0 where it is not kept
@@ -23,3 +26,9 @@ is_in_use judged force number = (number == force) || nat_lt 0 (judged number)
 -- the versions that are
 abbrev pub in_use : (ℕ → ℕ) → ℕ → List Version → List Version
 in_use judged force versions = filter (λ version. is_in_use judged force version.number) versions
+
+-- each version is, where the newest is the one in force
+abbrev pub AreAllInUse : VersionsValue → Type 0
+AreAllInUse kept =
+    (number : ℕ) → IsSome (version_at kept.versions number) →
+    is_in_use (judged_of kept) (option_map_or (λ version. version.number) (newest kept.versions) 0) number ≡ true

@@ -1,5 +1,5 @@
 -- The versions that are kept, with what picks of their backends go by.
-use Rattle.std.specs.Prelude.{ℕ, Bool, List, Option, length, map, slice_get, Some, ◌≡◌}
+use Rattle.std.specs.Prelude.{ℕ, Bool, true, List, Option, length, map, slice_get, Some, ◌+◌, ◌<◌, ◌≡◌}
 use Rattle.proxy_types.specs.declared.balance.Place.{Place}
 use Rattle.slot_core.specs.declared.slots.Count.{Count}
 use Rattle.slot_core.specs.Counts.{IdentitiesDiffer}
@@ -40,6 +40,15 @@ pub record AreKept (counts : List Count) (versions : List Version) (all : List V
   pub sound : AreSound versions
   pub many : length all ≡ length versions
   pub each : (n : ℕ) (version : Version) (own : VersionPicks) → slice_get versions n ≡ Some version → slice_get all n ≡ Some own → IsKept counts version own.backends.items
+
+-- each version but the newest judges an open connection
+abbrev pub AreBusy : List VersionPicks → Type 0
+AreBusy all = (n : ℕ) (own : VersionPicks) → n + 1 < length all → slice_get all n ≡ Some own → 0 < own.connections
+
+-- what is kept, and what is known of it
+pub record AreVersions (counts : List Count) (versions : List Version) (all : List VersionPicks) (settled : Bool) : Type 0 where
+  pub kept : AreKept counts versions all
+  pub busy : settled ≡ true → AreBusy all
 
 -- each place of each backend is named, if there is such a place
 abbrev pub AreAllNoted : List Bool → List BackendPicks → Type 0

@@ -1,5 +1,5 @@
 //! Versions that are kept.
-ghost use Rattle.std.specs.Prelude.{◌≡◌, ◌+◌, ◌-◌, ◌<◌, ◌^◌, ◌==◌, ◌||◌, ℕ, true, false, not, nat_lt, List, [], ◌∷◌, map, filter, length, position, slice_get, slice_set, option_map, None, Some, IfNone, IfOk, IfSome, IsSome, IsTrue, OnOk, OnErr};
+ghost use Rattle.std.specs.Prelude.{◌≡◌, ◌+◌, ◌-◌, ◌<◌, ◌^◌, ◌==◌, ◌||◌, ◌&&◌, ℕ, true, false, not, nat_lt, List, [], ◌∷◌, map, filter, length, position, slice_get, slice_set, option_map, None, Some, IfNone, IfOk, IfSome, IsSome, IsTrue, OnOk, OnErr};
 ghost use Rattle.std.specs.List.{AllByRecursion};
 ghost use Rattle.std.specs.Option.{option_copied, option_map_or};
 ghost use Rattle.slot_core.specs.declared.slots.Count.{Count};
@@ -13,7 +13,7 @@ ghost use Rattle.conn_model.specs.Words.{newest, Rise};
 ghost use Rattle.conn_model.specs.History.{new_version, next_version, with_offer, with_version};
 ghost use Rattle.conn_model.specs.Tables.{written_tables};
 ghost use Rattle.conn_model.specs.Servers.{cursor_at, identity_in, pick_in, with_cursor};
-ghost use Rattle.conn_versions.specs.Judged.{in_use, is_in_use, judged_by, judged_of};
+ghost use Rattle.conn_versions.specs.Judged.{AreAllInUse, in_use, is_in_use, judged_by, judged_of};
 ghost use Rattle.conn_versions.specs.Kept.{AreAllNoted, AreCounted, AreTied};
 ghost use Rattle.conn_versions.specs.Slots.{KeepsPlaces};
 ghost use Rattle.conn_versions.specs.declared.versions.VersionPicks.{VersionPicks};
@@ -49,18 +49,20 @@ pub struct Versions {
     versions: Vec<Version>,
     /// Of each version.
     picks: Vec<VersionPicks>,
+    /// Whether it is known that each version but the newest judges an open connection.
+    settled: bool,
     slots: Slots,
 }
 
 impl Model for Versions {
     ghost use Rattle.conn_versions.specs.Versions.{VersionsValue};
-    ghost use Rattle.conn_versions.specs.Kept.{AreKept, connections_of};
+    ghost use Rattle.conn_versions.specs.Kept.{AreVersions, connections_of};
 
     ghost Value = { VersionsValue };
 
     ghost view = { λ v. record { versions = v.versions.items; counts = v.slots; judged = connections_of v.picks.items } };
 
-    ghost invariant = { λ v. AreKept v.slots v.versions.items v.picks.items };
+    ghost invariant = { λ v. AreVersions v.slots v.versions.items v.picks.items v.settled };
 }
 
 impl Versions {
@@ -85,6 +87,7 @@ impl Versions {
             alloc,
             versions,
             picks,
+            settled: false,
             slots,
         })
     }
@@ -114,6 +117,7 @@ impl Versions {
         )?;
         self.versions.try_reserve(1)?;
         self.picks.try_reserve(1)?;
+        self.settled = false;
         self.versions.push_reserved(version);
         self.picks.push_reserved(VersionPicks {
             backends,
@@ -131,6 +135,7 @@ impl Versions {
         if let Some(place) = place_of(self.versions.as_slice(), number) {
             let _version = self.versions.remove(place);
             let _picks = self.picks.remove(place);
+            self.settled = false;
         }
     }
 
@@ -143,6 +148,9 @@ impl Versions {
         ensures some { result ≡ true → length self.new.versions < length self.old.versions }
         ensures none { result ≡ false → self.new.versions ≡ self.old.versions }
     {
+        if self.is_settled() {
+            return false;
+        }
         let Some(newest) = newest(self.as_slice()) else {
             return false;
         };
@@ -152,7 +160,23 @@ impl Versions {
             self.forget(number);
             some = true;
         }
+        self.settle();
         some
+    }
+
+    /// Whether it is known that no version is to be forgotten.
+    fn is_settled(&self) -> bool
+        ensures { IsTrue result → AreAllInUse self.now }
+    {
+        self.settled
+    }
+
+    /// Notes that no version is to be forgotten.
+    fn settle(&mut self)
+        requires { AreAllInUse self.old }
+        ensures { self.new ≡ self.old }
+    {
+        self.settled = true;
     }
 
     /// The number of the first version that is neither the one in force nor judges an open connection.
@@ -271,7 +295,10 @@ impl Versions {
         ensures judged { (other : ℕ) → IsSome (version_at self.old.versions other) → judged_of self.new other + judged_by other number ≡ judged_of self.old other }
     {
         if let Some(place) = place_of(self.versions.as_slice(), number) {
-            self.picks[place].connections -= 1;
+            let own = &mut self.picks[place];
+            own.connections -= 1;
+            let left = own.connections;
+            self.settled = stays_settled(self.settled, left);
         }
     }
 }
@@ -281,6 +308,13 @@ fn is_in_use(number: u64, force: u64, connections: u64) -> bool
     ensures { result ≡ (number == force) || nat_lt 0 connections }
 {
     number == force || connections > 0
+}
+
+/// Whether no version is to be forgotten still, once one judges so many.
+fn stays_settled(settled: bool, connections: u64) -> bool
+    ensures { result ≡ settled && nat_lt 0 connections }
+{
+    settled && connections > 0
 }
 
 /// The version of that number, of a plan, which follows another, if there is one before.

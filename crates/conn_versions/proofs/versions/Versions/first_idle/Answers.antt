@@ -13,7 +13,7 @@ returns-then-not-is_in_use-clause-some c =
     let version = c.version-item.result in
     let within : c.loop-place.place < length versions = let less = c.loop-place-test.true in let same = ap length c.deref-version-items.ensures.value in omega (arith, less, same) in
     let at =
-    read_count c.self.inside.slots versions c.self.inside.picks.items c.loop-place.place version c.index.result.now c.self.invariant within (rw c.deref-version-items.ensures.value at c.version-item.is)
+    read_count c.self.inside.slots versions c.self.inside.picks.items c.loop-place.place version c.index.result.now c.self.invariant.kept within (rw c.deref-version-items.ensures.value at c.version-item.is)
     c.index.ensures in
     rw (← c.self.view_is)
     (place_kept versions c.loop-place.place version at.0, ap (λ n. (version.number == c.args.force) || nat_lt 0 n) at.1 ∙ sym c.is_in_use.ensures ∙ c.if-not-is_in_use.true)
@@ -24,7 +24,7 @@ loop-place-preserved c =
     let version = c.version-item.result in
     let within : c.loop-place.place < length versions = let less = c.loop-place-test.true in let same = ap length c.deref-version-items.ensures.value in omega (arith, less, same) in
     let at =
-    read_count c.self.inside.slots versions c.self.inside.picks.items c.loop-place.place version c.index.result.now c.self.invariant within (rw c.deref-version-items.ensures.value at c.version-item.is)
+    read_count c.self.inside.slots versions c.self.inside.picks.items c.loop-place.place version c.index.result.now c.self.invariant.kept within (rw c.deref-version-items.ensures.value at c.version-item.is)
     c.index.ensures in
     let kept : VersionsValue = record { versions = versions; counts = c.self.inside.slots; judged = connections_of c.self.inside.picks.items } in
     let before = rw (← c.self.view_is) at c.loop-place.invariant in

@@ -1,30 +1,33 @@
 use Rattle.std.proofs.Common.{◌≡◌, ◌+◌, ◌-◌, None, refl, ap, sym, subst, ◌∙◌, arith}
-use Rattle.std.specs.Prelude.{position, slice_set}
+use Rattle.std.specs.Prelude.{nat_lt, position, slice_set}
+use Rattle.std.proofs.lemmas.Bool.Decides.{nat_tests}
 use Rattle.conn_model.specs.Answer.{version_at}
-use Rattle.conn_model.proofs.Lists.{nowhere}
+use Rattle.conn_model.proofs.Lists.{and_true, nowhere}
 use Rattle.conn_model.specs.Words.{Rise}
 use Rattle.conn_versions.specs.declared.versions.VersionPicks.{VersionPicks}
 use Rattle.conn_versions.specs.Judged.{judged_by, judged_in}
 use Rattle.conn_versions.specs.Kept.{connections_of}
 use Rattle.conn_versions.specs.Versions.{has_number}
+use Rattle.conn_versions.proofs.Busy.{busy_set}
 use Rattle.conn_versions.proofs.Judged.{found_count, judged-less, judged-other, kept_counting, not_kept, FoundCount}
 use Rattle.conn_versions.proofs.versions.Versions.leave.Goals as goal
+use Rattle.conn_versions.proofs.versions.Versions.leave.Goals.{After-index_mut-own}
 
 pub place_of-requires : goal.place_of-requires
-place_of-requires c = subst (Rise (λ version. version.number)) (sym c.as_slice.ensures.value) c.self.invariant.rise
+place_of-requires c = subst (Rise (λ version. version.number)) (sym c.as_slice.ensures.value) c.self.invariant.kept.rise
 
-found : (c : goal.After-index_mut) → FoundCount c.self.inside.versions.items c.self.inside.picks.items c.args.number c.in-Some.place c.index_mut.result.now
+found : (c : After-index_mut-own) → FoundCount c.self.inside.versions.items c.self.inside.picks.items c.args.number c.in-Some.place c.index_mut-own.result.now
 found c =
-    found_count c.self.inside.slots c.self.inside.versions.items c.self.inside.picks.items c.args.number c.in-Some.place c.index_mut.result.now c.self.invariant
-    (ap (position (has_number c.args.number)) (sym c.as_slice.ensures.value) ∙ sym c.place_of.ensures ∙ c.in-Some.is) c.index_mut.ensures.value
+    found_count c.self.inside.slots c.self.inside.versions.items c.self.inside.picks.items c.args.number c.in-Some.place c.index_mut-own.result.now c.self.invariant.kept
+    (ap (position (has_number c.args.number)) (sym c.as_slice.ensures.value) ∙ sym c.place_of.ensures ∙ c.in-Some.is) c.index_mut-own.ensures.value
 
-found_after : (c : goal.After-self-1) → FoundCount c.self.inside.versions.items c.self.inside.picks.items c.args.number c.in-Some.place c.index_mut.result.now
+found_after : (c : goal.After-self-in-Some-1) → FoundCount c.self.inside.versions.items c.self.inside.picks.items c.args.number c.in-Some.place c.index_mut-own.result.now
 found_after c =
-    found_count c.self.inside.slots c.self.inside.versions.items c.self.inside.picks.items c.args.number c.in-Some.place c.index_mut.result.now c.self.invariant
-    (ap (position (has_number c.args.number)) (sym c.as_slice.ensures.value) ∙ sym c.place_of.ensures ∙ c.in-Some.is) c.index_mut.ensures.value
+    found_count c.self.inside.slots c.self.inside.versions.items c.self.inside.picks.items c.args.number c.in-Some.place c.index_mut-own.result.now c.self.invariant.kept
+    (ap (position (has_number c.args.number)) (sym c.as_slice.ensures.value) ∙ sym c.place_of.ensures ∙ c.in-Some.is) c.index_mut-own.ensures.value
 
-pub overflow_sub-index_mut : goal.overflow_sub-index_mut
-overflow_sub-index_mut c =
+pub overflow_sub-own : goal.overflow_sub-own
+overflow_sub-own c =
     let at = found c in
     let there = rw (← c.self.view_is) at c.requires.there in
     let some = there at.kept in
@@ -42,14 +45,20 @@ returns-in_default-clause-judged c =
 pub invariant_of-self : goal.invariant_of-self
 invariant_of-self c =
     let at = found_after c in
-    let own = c.index_mut.result.now in
-    kept_counting c.self.inside.slots c.self.inside.versions.items c.self.inside.picks.items c.in-Some.place own _ at.own_there refl c.self.invariant
+    let own = c.index_mut-own.result.now in
+    let next : VersionPicks = record own { connections = own.connections - 1 } in
+    record {
+      kept = kept_counting c.self.inside.slots c.self.inside.versions.items c.self.inside.picks.items c.in-Some.place own next at.own_there refl c.self.invariant.kept;
+      busy = λ known.
+          let both = and_true c.self.inside.settled (nat_lt 0 next.connections) (sym c.stays_settled-self-inside.ensures ∙ known) in
+          busy_set c.self.inside.picks.items c.in-Some.place own next at.own_there (λ some. grind (arith, nat_tests, both.1)) (c.self.invariant.busy both.0);
+    }
 
 pub returns-in-Some-clause-judged : goal.returns-in-Some-clause-judged
 returns-in-Some-clause-judged c =
     let versions = c.self.inside.versions.items in
     let all = c.self.inside.picks.items in
-    let own = c.index_mut.result.now in
+    let own = c.index_mut-own.result.now in
     let at = found_after c in
     let there = rw (← c.self.view_is) at c.requires.there in
     let some = there at.kept in
@@ -57,4 +66,4 @@ returns-in-Some-clause-judged c =
     let next : VersionPicks = record own { connections = own.connections - 1 } in
     rw (← c.self.view_is) (λ other kept.
     ap (λ n. judged_in versions (connections_of (slice_set all c.in-Some.place next)) other + judged_by other n) (sym at.named)
-    ∙ judged-less versions all c.in-Some.place at.version own next c.self.invariant.rise at.there at.own_there (omega (arith, some, is)) other)
+    ∙ judged-less versions all c.in-Some.place at.version own next c.self.invariant.kept.rise at.there at.own_there (omega (arith, some, is)) other)

@@ -4,6 +4,7 @@ use Rattle.conn_versions.specs.declared.versions.VersionPicks.{VersionPicks}
 use Rattle.conn_versions.proofs.Judged.{judged-push}
 use Rattle.conn_versions.proofs.Moves.{new_kept}
 use Rattle.conn_versions.proofs.Written.{first_version}
+use Rattle.std.proofs.lemmas.Bool.{false≢true}
 use Rattle.conn_versions.proofs.versions.Versions.new.Goals as goal
 
 pub invariant_of-result : goal.invariant_of-result
@@ -15,7 +16,11 @@ invariant_of-result c =
     ∙ ap (λ v. v ∷ []) (c.in_ok-version_after.ensures ∙ first_version 1 c.args.plan) in
     let plan = rw c.as_slice.ensures at c.in_ok-backends.ensures.tied in
     let counted = rw c.as_slice.ensures at c.in_ok-backends.ensures.counted in
-    rw (versions, all) (new_kept c.picks_of_all.new.slots (new_version 1 c.args.plan) own c.in_ok-backends.ensures.keeps.apart c.requires (record { tied = plan; counted = counted }))
+    rw (versions, all)
+    (record {
+      kept = new_kept c.picks_of_all.new.slots (new_version 1 c.args.plan) own c.in_ok-backends.ensures.keeps.apart c.requires (record { tied = plan; counted = counted });
+      busy = λ known. absurd (false≢true known);
+    })
 
 pub returns-clause-versions : goal.returns-clause-versions
 returns-clause-versions c =

@@ -14,11 +14,12 @@ use Rattle.conn_model.proofs.Lists.{nowhere, position_within}
 use Rattle.conn_versions.proofs.Identities.{identity-changed, identity_within}
 use Rattle.conn_versions.proofs.Judged.{judged-moved}
 use Rattle.conn_versions.proofs.Moves.{kept_moved, offered, one_version, still_kept}
+use Rattle.conn_versions.proofs.Busy.{busy_set}
 use Rattle.conn_versions.proofs.Founds.{found_server, found_version, version_there, within_own}
 use Rattle.conn_versions.proofs.versions.Versions.offer.Goals as goal
 
 pub place_of-requires : goal.place_of-requires
-place_of-requires c = subst (Rise (λ version. version.number)) (sym c.as_slice.ensures.value) c.self.invariant.rise
+place_of-requires c = subst (Rise (λ version. version.number)) (sym c.as_slice.ensures.value) c.self.invariant.kept.rise
 
 pub unreachable-requires : goal.unreachable-requires
 unreachable-requires c =
@@ -43,7 +44,7 @@ unreachable-requires-in_default-place_with c =
 
 pub index-requires-3 : goal.index-requires-3
 index-requires-3 c =
-    let version = found_version c.self.inside.slots c.self.inside.versions.items c.self.inside.picks.items c.args.version c.in-Some.place c.index.result.now c.index-2.result.now c.self.invariant
+    let version = found_version c.self.inside.slots c.self.inside.versions.items c.self.inside.picks.items c.args.version c.in-Some.place c.index.result.now c.index-2.result.now c.self.invariant.kept
     (ap (position (has_number c.args.version)) (sym c.as_slice.ensures.value) ∙ sym c.place_of.ensures ∙ c.in-Some.is) c.index.ensures c.index-2.ensures in
     let line : position (has_line c.args.line) c.index.result.now.plan.backends ≡ Some c.in-Some-place_with.number =
     sym c.place_with.ensures ∙ c.in-Some-place_with.is in
@@ -54,7 +55,7 @@ index-requires-3 c =
 
 pub slot_of-ix-requires : goal.slot_of-ix-requires
 slot_of-ix-requires c =
-    let version = found_version c.self.inside.slots c.self.inside.versions.items c.self.inside.picks.items c.args.version c.in-Some.place c.index.result.now c.index-2.result.now c.self.invariant
+    let version = found_version c.self.inside.slots c.self.inside.versions.items c.self.inside.picks.items c.args.version c.in-Some.place c.index.result.now c.index-2.result.now c.self.invariant.kept
     (ap (position (has_number c.args.version)) (sym c.as_slice.ensures.value) ∙ sym c.place_of.ensures ∙ c.in-Some.is) c.index.ensures c.index-2.ensures in
     let line : position (has_line c.args.line) c.index.result.now.plan.backends ≡ Some c.in-Some-place_with.number =
     sym c.place_with.ensures ∙ c.in-Some-place_with.is in
@@ -66,13 +67,13 @@ slot_of-ix-requires c =
 
 pub move_cursor-requires-clause-tied : goal.move_cursor-requires-clause-tied
 move_cursor-requires-clause-tied c =
-    let moved = found_version c.self.inside.slots c.self.inside.versions.items c.self.inside.picks.items c.args.version c.in-Some.place c.index_mut-version.result.now c.index_mut.result.now c.self.invariant
+    let moved = found_version c.self.inside.slots c.self.inside.versions.items c.self.inside.picks.items c.args.version c.in-Some.place c.index_mut-version.result.now c.index_mut.result.now c.self.invariant.kept
     (ap (position (has_number c.args.version)) (sym c.as_slice.ensures.value) ∙ sym c.place_of.ensures ∙ c.in-Some.is) c.index_mut-version.ensures.value c.index_mut.ensures.value in
     moved.is.tied
 
 pub take-requires-clause-there : goal.take-requires-clause-there
 take-requires-clause-there c =
-    let version = found_version c.self.inside.slots c.self.inside.versions.items c.self.inside.picks.items c.args.version c.in-Some.place c.index.result.now c.index-2.result.now c.self.invariant
+    let version = found_version c.self.inside.slots c.self.inside.versions.items c.self.inside.picks.items c.args.version c.in-Some.place c.index.result.now c.index-2.result.now c.self.invariant.kept
     (ap (position (has_number c.args.version)) (sym c.as_slice.ensures.value) ∙ sym c.place_of.ensures ∙ c.in-Some.is) c.index.ensures c.index-2.ensures in
     let line : position (has_line c.args.line) c.index.result.now.plan.backends ≡ Some c.in-Some-place_with.number =
     sym c.place_with.ensures ∙ c.in-Some-place_with.is in
@@ -84,11 +85,11 @@ take-requires-clause-there c =
 
 pub invariant_of-self : goal.invariant_of-self
 invariant_of-self c =
-    let version = found_version c.self.inside.slots c.self.inside.versions.items c.self.inside.picks.items c.args.version c.in-Some.place c.index.result.now c.index-2.result.now c.self.invariant
+    let version = found_version c.self.inside.slots c.self.inside.versions.items c.self.inside.picks.items c.args.version c.in-Some.place c.index.result.now c.index-2.result.now c.self.invariant.kept
     (ap (position (has_number c.args.version)) (sym c.as_slice.ensures.value) ∙ sym c.place_of.ensures ∙ c.in-Some.is) c.index.ensures c.index-2.ensures in
     let line : position (has_line c.args.line) c.index.result.now.plan.backends ≡ Some c.in-Some-place_with.number =
     sym c.place_with.ensures ∙ c.in-Some-place_with.is in
-    let moved = found_version c.self.inside.slots c.self.inside.versions.items c.self.inside.picks.items c.args.version c.in-Some.place c.index_mut-version.result.now c.index_mut.result.now c.self.invariant
+    let moved = found_version c.self.inside.slots c.self.inside.versions.items c.self.inside.picks.items c.args.version c.in-Some.place c.index_mut-version.result.now c.index_mut.result.now c.self.invariant.kept
     (ap (position (has_number c.args.version)) (sym c.as_slice.ensures.value) ∙ sym c.place_of.ensures ∙ c.in-Some.is) c.index_mut-version.ensures.value c.index_mut.ensures.value in
     let same : c.index.result.now ≡ c.index_mut-version.result.now = one_item (slice_get c.self.inside.versions.items c.in-Some.place) c.index.result.now c.index_mut-version.result.now version.at moved.at in
     let next : c.move_cursor.new.version ≡ with_offer c.args.version c.args.line c.args.server c.index_mut-version.result.now =
@@ -99,30 +100,33 @@ invariant_of-self c =
     subst (λ v. IsKept c.self.inside.slots v c.move_cursor.new.own.items) next
     (record { tied = c.move_cursor.ensures.tied; counted = c.move_cursor.ensures.counted c.self.inside.slots moved.is.counted }) in
     rw (c.take.ensures.counts, next)
-    (still_kept (λ n. n + 1) _ c.self.inside.slots
-    (slice_set c.self.inside.versions.items c.in-Some.place (with_offer c.args.version c.args.line c.args.server c.index_mut-version.result.now))
-    (slice_set c.self.inside.picks.items c.in-Some.place own)
-    (kept_moved c.args.version c.args.line c.args.server c.self.inside.slots c.self.inside.versions.items c.self.inside.picks.items c.in-Some.place c.index_mut-version.result.now own c.self.invariant moved.at
-    moved.numbered is))
+    (record {
+      kept = still_kept (λ n. n + 1) _ c.self.inside.slots
+          (slice_set c.self.inside.versions.items c.in-Some.place (with_offer c.args.version c.args.line c.args.server c.index_mut-version.result.now))
+          (slice_set c.self.inside.picks.items c.in-Some.place own)
+          (kept_moved c.args.version c.args.line c.args.server c.self.inside.slots c.self.inside.versions.items c.self.inside.picks.items c.in-Some.place c.index_mut-version.result.now own c.self.invariant.kept moved.at
+          moved.numbered is);
+      busy = λ known. busy_set c.self.inside.picks.items c.in-Some.place c.index_mut.result.now own moved.own_at (λ some. some) (c.self.invariant.busy known);
+    })
 
 pub returns-clause-versions : goal.returns-clause-versions
 returns-clause-versions c =
-    let version = found_version c.self.inside.slots c.self.inside.versions.items c.self.inside.picks.items c.args.version c.in-Some.place c.index.result.now c.index-2.result.now c.self.invariant
+    let version = found_version c.self.inside.slots c.self.inside.versions.items c.self.inside.picks.items c.args.version c.in-Some.place c.index.result.now c.index-2.result.now c.self.invariant.kept
     (ap (position (has_number c.args.version)) (sym c.as_slice.ensures.value) ∙ sym c.place_of.ensures ∙ c.in-Some.is) c.index.ensures c.index-2.ensures in
     let line : position (has_line c.args.line) c.index.result.now.plan.backends ≡ Some c.in-Some-place_with.number =
     sym c.place_with.ensures ∙ c.in-Some-place_with.is in
-    let moved = found_version c.self.inside.slots c.self.inside.versions.items c.self.inside.picks.items c.args.version c.in-Some.place c.index_mut-version.result.now c.index_mut.result.now c.self.invariant
+    let moved = found_version c.self.inside.slots c.self.inside.versions.items c.self.inside.picks.items c.args.version c.in-Some.place c.index_mut-version.result.now c.index_mut.result.now c.self.invariant.kept
     (ap (position (has_number c.args.version)) (sym c.as_slice.ensures.value) ∙ sym c.place_of.ensures ∙ c.in-Some.is) c.index_mut-version.ensures.value c.index_mut.ensures.value in
     let same : c.index.result.now ≡ c.index_mut-version.result.now = one_item (slice_get c.self.inside.versions.items c.in-Some.place) c.index.result.now c.index_mut-version.result.now version.at moved.at in
     let next : c.move_cursor.new.version ≡ with_offer c.args.version c.args.line c.args.server c.index_mut-version.result.now =
     c.move_cursor.ensures.version
     ∙ sym (offered c.args.version c.args.line c.args.server c.index_mut-version.result.now c.in-Some-place_with.number moved.numbered (ap (λ v. position (has_line c.args.line) v.plan.backends) (sym same) ∙ line)) in
     rw (next, ← c.self.view_is)
-    (sym (one_version c.args.version c.args.line c.args.server c.self.inside.versions.items c.in-Some.place c.index_mut-version.result.now c.self.invariant.rise moved.at moved.numbered))
+    (sym (one_version c.args.version c.args.line c.args.server c.self.inside.versions.items c.in-Some.place c.index_mut-version.result.now c.self.invariant.kept.rise moved.at moved.numbered))
 
 pub returns-clause-slot : goal.returns-clause-slot
 returns-clause-slot c =
-    let version = found_version c.self.inside.slots c.self.inside.versions.items c.self.inside.picks.items c.args.version c.in-Some.place c.index.result.now c.index-2.result.now c.self.invariant
+    let version = found_version c.self.inside.slots c.self.inside.versions.items c.self.inside.picks.items c.args.version c.in-Some.place c.index.result.now c.index-2.result.now c.self.invariant.kept
     (ap (position (has_number c.args.version)) (sym c.as_slice.ensures.value) ∙ sym c.place_of.ensures ∙ c.in-Some.is) c.index.ensures c.index-2.ensures in
     let line : position (has_line c.args.line) c.index.result.now.plan.backends ≡ Some c.in-Some-place_with.number =
     sym c.place_with.ensures ∙ c.in-Some-place_with.is in
@@ -137,7 +141,7 @@ returns-clause-identities c = λ place.
 
 pub returns-clause-judged : goal.returns-clause-judged
 returns-clause-judged c =
-    let moved = found_version c.self.inside.slots c.self.inside.versions.items c.self.inside.picks.items c.args.version c.in-Some.place c.index_mut-version.result.now c.index_mut.result.now c.self.invariant
+    let moved = found_version c.self.inside.slots c.self.inside.versions.items c.self.inside.picks.items c.args.version c.in-Some.place c.index_mut-version.result.now c.index_mut.result.now c.self.invariant.kept
     (ap (position (has_number c.args.version)) (sym c.as_slice.ensures.value) ∙ sym c.place_of.ensures ∙ c.in-Some.is) c.index_mut-version.ensures.value c.index_mut.ensures.value in
     let own : VersionPicks = record c.index_mut.result.now { backends = c.move_cursor.new.own } in
     rw (← c.self.view_is)

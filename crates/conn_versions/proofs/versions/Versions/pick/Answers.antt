@@ -11,11 +11,11 @@ use Rattle.conn_versions.proofs.Founds.{found_backend, found_version, within_own
 use Rattle.conn_versions.proofs.versions.Versions.pick.Goals as goal
 
 pub place_of-requires : goal.place_of-requires
-place_of-requires c = subst (Rise (λ version. version.number)) (sym c.as_slice.ensures.value) c.self.invariant.rise
+place_of-requires c = subst (Rise (λ version. version.number)) (sym c.as_slice.ensures.value) c.self.invariant.kept.rise
 
 found : (c : goal.After-cursor_at) → FoundVersion c.self.inside.slots c.self.inside.versions.items c.self.inside.picks.items c.args.version c.in_ok-place.place c.index-kept.result.now c.index-own.result.now
 found c =
-    found_version c.self.inside.slots c.self.inside.versions.items c.self.inside.picks.items c.args.version c.in_ok-place.place c.index-kept.result.now c.index-own.result.now c.self.invariant
+    found_version c.self.inside.slots c.self.inside.versions.items c.self.inside.picks.items c.args.version c.in_ok-place.place c.index-kept.result.now c.index-own.result.now c.self.invariant.kept
     (ap (position (has_number c.args.version)) (sym c.as_slice.ensures.value) ∙ sym c.place_of.ensures ∙ c.in_ok-place.was) c.index-kept.ensures c.index-own.ensures
 
 pub index-requires : goal.index-requires
@@ -30,10 +30,10 @@ picks : (c : goal.After-index) → FoundBackend c.self.inside.slots c.index-kept
 picks c =
     let less = c.if-number-len.true in
     let len = c.len.ensures in
-    let version = found_version c.self.inside.slots c.self.inside.versions.items c.self.inside.picks.items c.args.version c.in_ok-place.place c.index-kept.result.now c.index-own.result.now c.self.invariant
+    let version = found_version c.self.inside.slots c.self.inside.versions.items c.self.inside.picks.items c.args.version c.in_ok-place.place c.index-kept.result.now c.index-own.result.now c.self.invariant.kept
     (ap (position (has_number c.args.version)) (sym c.as_slice.ensures.value) ∙ sym c.place_of.ensures ∙ c.in_ok-place.was) c.index-kept.ensures c.index-own.ensures in
     found_backend c.self.inside.slots c.self.inside.versions.items c.self.inside.picks.items c.args.version c.in_ok-place.place c.from-number.result c.index-kept.result.now c.index-own.result.now
-    c.index-as_slice-number.result c.index.result.now c.self.invariant version (omega (arith, less, len)) (rw c.as_slice-then-number-len.ensures at c.index-as_slice-number.is) c.index.ensures
+    c.index-as_slice-number.result c.index.result.now c.self.invariant.kept version (omega (arith, less, len)) (rw c.as_slice-then-number-len.ensures at c.index-as_slice-number.is) c.index.ensures
 
 pub pick-requires-clause-served : goal.pick-requires-clause-served
 pick-requires-clause-served c = (picks c).served
@@ -49,12 +49,12 @@ returns-in_err-place-clause-picked c =
 
 pub returns-then-number-len-clause-picked : goal.returns-then-number-len-clause-picked
 returns-then-number-len-clause-picked c =
-    let version = found_version c.self.inside.slots c.self.inside.versions.items c.self.inside.picks.items c.args.version c.in_ok-place.place c.index-kept.result.now c.index-own.result.now c.self.invariant
+    let version = found_version c.self.inside.slots c.self.inside.versions.items c.self.inside.picks.items c.args.version c.in_ok-place.place c.index-kept.result.now c.index-own.result.now c.self.invariant.kept
     (ap (position (has_number c.args.version)) (sym c.as_slice.ensures.value) ∙ sym c.place_of.ensures ∙ c.in_ok-place.was) c.index-kept.ensures c.index-own.ensures in
     let less = c.if-number-len.true in
     let len = c.len.ensures in
     let at = (found_backend c.self.inside.slots c.self.inside.versions.items c.self.inside.picks.items c.args.version c.in_ok-place.place c.from-number.result c.index-kept.result.now c.index-own.result.now
-    c.index-as_slice-number.result c.index.result.now c.self.invariant version (omega (arith, less, len)) (rw c.as_slice-then-number-len.ensures at c.index-as_slice-number.is) c.index.ensures).at in
+    c.index-as_slice-number.result c.index.result.now c.self.invariant.kept version (omega (arith, less, len)) (rw c.as_slice-then-number-len.ensures at c.index-as_slice-number.is) c.index.ensures).at in
     rw (← c.self.view_is) (λ kept backend is there.
     let same : c.index-kept.result.now ≡ kept = one_item (version_at c.self.inside.versions.items c.args.version) c.index-kept.result.now kept version.named is in
     let own : c.index-as_slice-number.result ≡ backend =
@@ -68,7 +68,7 @@ returns-then-number-len-clause-picked c =
 
 pub returns-else-number-len-clause-picked : goal.returns-else-number-len-clause-picked
 returns-else-number-len-clause-picked c =
-    let version = found_version c.self.inside.slots c.self.inside.versions.items c.self.inside.picks.items c.args.version c.in_ok-place.place c.index-kept.result.now c.index-own.result.now c.self.invariant
+    let version = found_version c.self.inside.slots c.self.inside.versions.items c.self.inside.picks.items c.args.version c.in_ok-place.place c.index-kept.result.now c.index-own.result.now c.self.invariant.kept
     (ap (position (has_number c.args.version)) (sym c.as_slice.ensures.value) ∙ sym c.place_of.ensures ∙ c.in_ok-place.was) c.index-kept.ensures c.index-own.ensures in
     let past = c.if-number-len.false in
     let len = c.len.ensures in
@@ -81,18 +81,18 @@ returns-else-number-len-clause-picked c =
 
 pub returns-then-number-len-clause-no_version : goal.returns-then-number-len-clause-no_version
 returns-then-number-len-clause-no_version c =
-    let version = found_version c.self.inside.slots c.self.inside.versions.items c.self.inside.picks.items c.args.version c.in_ok-place.place c.index-kept.result.now c.index-own.result.now c.self.invariant
+    let version = found_version c.self.inside.slots c.self.inside.versions.items c.self.inside.picks.items c.args.version c.in_ok-place.place c.index-kept.result.now c.index-own.result.now c.self.invariant.kept
     (ap (position (has_number c.args.version)) (sym c.as_slice.ensures.value) ∙ sym c.place_of.ensures ∙ c.in_ok-place.was) c.index-kept.ensures c.index-own.ensures in
     rw (← c.self.view_is) (λ none. absurd (let wrong : None ≡ Some c.index-kept.result.now = sym none ∙ version.named in cc))
 
 pub returns-then-number-len-clause-no_backend : goal.returns-then-number-len-clause-no_backend
 returns-then-number-len-clause-no_backend c =
-    let version = found_version c.self.inside.slots c.self.inside.versions.items c.self.inside.picks.items c.args.version c.in_ok-place.place c.index-kept.result.now c.index-own.result.now c.self.invariant
+    let version = found_version c.self.inside.slots c.self.inside.versions.items c.self.inside.picks.items c.args.version c.in_ok-place.place c.index-kept.result.now c.index-own.result.now c.self.invariant.kept
     (ap (position (has_number c.args.version)) (sym c.as_slice.ensures.value) ∙ sym c.place_of.ensures ∙ c.in_ok-place.was) c.index-kept.ensures c.index-own.ensures in
     let less = c.if-number-len.true in
     let len = c.len.ensures in
     let at = (found_backend c.self.inside.slots c.self.inside.versions.items c.self.inside.picks.items c.args.version c.in_ok-place.place c.from-number.result c.index-kept.result.now c.index-own.result.now
-    c.index-as_slice-number.result c.index.result.now c.self.invariant version (omega (arith, less, len)) (rw c.as_slice-then-number-len.ensures at c.index-as_slice-number.is) c.index.ensures).at in
+    c.index-as_slice-number.result c.index.result.now c.self.invariant.kept version (omega (arith, less, len)) (rw c.as_slice-then-number-len.ensures at c.index-as_slice-number.is) c.index.ensures).at in
     rw (← c.self.view_is) (λ kept is none.
     let same : c.index-kept.result.now ≡ kept = one_item (version_at c.self.inside.versions.items c.args.version) c.index-kept.result.now kept version.named is in
     let there : slice_get kept.plan.backends c.args.backend ≡ Some c.index-as_slice-number.result =
