@@ -3,7 +3,7 @@ ghost use Rattle.std.specs.Prelude.{◌≡◌, ◌+◌, ◌<◌, ◌^◌, ◌++�
 ghost use Rattle.event_text.specs.Script.{bar_lines, ended_lines, event_in_lines, event_line, event_lines, event_text, text_lines, IsHandedIn};
 
 use crate::digits::write_bytes;
-use crate::replies::{write_field, write_named, write_place, write_text, write_why};
+use crate::replies::{write_accept, write_byte, write_ended, write_field, write_named, write_text};
 use conn_model::event::OwnedEvent;
 use std::alloc::AllocError;
 use text_core::cut_at;
@@ -28,23 +28,15 @@ fn write_words(out: &mut Vec<u8>, moment: u64, event: &OwnedEvent) -> Result<(),
 {
     append_decimal(out, moment)?;
     match event {
-        OwnedEvent::Accept(listener, real) => {
-            write_field(out, b" accept ", u64::from(*listener))?;
-            write_place(out, b" ", &real.source())?;
-            write_place(out, b" ", &real.destination())
-        }
+        OwnedEvent::Accept(listener, real) => write_accept(out, *listener, real),
         OwnedEvent::Piece(id, bytes) => {
             write_named(out, b" piece ", id)?;
-            write_text(out, b" ")?;
+            write_byte(out, b' ')?;
             write_bytes(out, bytes.as_slice())
         }
         OwnedEvent::Connected(id) => write_named(out, b" connected ", id),
         OwnedEvent::ConnectFailed(id) => write_named(out, b" failed ", id),
-        OwnedEvent::Close(id, why) => {
-            write_named(out, b" close ", id)?;
-            write_text(out, b" ")?;
-            write_why(out, why)
-        }
+        OwnedEvent::Close(id, why) => write_ended(out, b" close ", id, why),
         OwnedEvent::Expire(id) => write_named(out, b" expire ", id),
         OwnedEvent::Reload(text) => write_field(out, b" reload ", count_lines(text.as_slice())),
     }
@@ -54,9 +46,9 @@ fn write_words(out: &mut Vec<u8>, moment: u64, event: &OwnedEvent) -> Result<(),
 fn write_bar(out: &mut Vec<u8>, line: &[u8]) -> Result<(), AllocError>
     ensures { OnOk result (out.new.items ≡ out.old.items ++ (0x7C ∷ line.now ++ codes "\n")) }
 {
-    write_text(out, b"|")?;
+    write_byte(out, b'|')?;
     write_text(out, line)?;
-    write_text(out, b"\n")
+    write_byte(out, b'\n')
 }
 
 /// The lines of a text, each after a bar.
@@ -75,7 +67,7 @@ fn write_lines(out: &mut Vec<u8>, moment: u64, event: &OwnedEvent) -> Result<(),
     ensures { OnOk result (out.new.items ≡ out.old.items ++ event_text moment event.now) }
 {
     write_words(out, moment, event)?;
-    write_text(out, b"\n")?;
+    write_byte(out, b'\n')?;
     if let OwnedEvent::Reload(text) = event {
         write_bars(out, text.as_slice())?;
     }

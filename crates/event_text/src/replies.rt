@@ -1,5 +1,5 @@
 //! Replies and counts as lines.
-ghost use Rattle.std.specs.Prelude.{◌≡◌, ◌+◌, ◌≤◌, ◌<◌, ◌^◌, ◌++◌, ◌∷◌, [], length, codes, OnOk};
+ghost use Rattle.std.specs.Prelude.{◌≡◌, ◌+◌, ◌≤◌, ◌<◌, ◌^◌, ◌++◌, ◌∷◌, [], length, codes, IfSome, IsTrue, OnOk};
 ghost use Rattle.std.specs.List.{flat_map};
 ghost use Rattle.text_core.specs.Decimal.{decimal};
 ghost use Rattle.addr_core.specs.declared.addr.Addr.TheVariants.{V4};
@@ -26,7 +26,7 @@ pub fn write_text(out: &mut Vec<u8>, text: &[u8]) -> Result<(), AllocError>
     out.extend_from_slice(text)
 }
 
-fn write_byte(out: &mut Vec<u8>, byte: u8) -> Result<(), AllocError>
+pub fn write_byte(out: &mut Vec<u8>, byte: u8) -> Result<(), AllocError>
     ensures { OnOk result (out.new.items ≡ out.old.items ++ byte ∷ []) }
 {
     out.push(byte)?;
@@ -36,6 +36,12 @@ fn write_byte(out: &mut Vec<u8>, byte: u8) -> Result<(), AllocError>
 /// Room for the front of a line, with five bytes for each of its numbers.
 const BLOCK_BYTES: usize = 64;
 
+/// The same of an offer, up to the bytes that are sent.
+const OFFER_BYTES: usize = 160;
+
+/// The same of an accept, whose listener and endpoints these are.
+const ACCEPT_BYTES: usize = 80;
+
 /// How many bytes a word in a block has at most.
 const MOST_WORD_BYTES: usize = 16;
 
@@ -43,8 +49,8 @@ const MOST_WORD_BYTES: usize = 16;
 const FEW: u64 = 0x1_0000;
 
 /// Appends a word. There must be room.
-fn push_word(text: &mut ArrayVec<u8, BLOCK_BYTES>, word: &[u8])
-    requires { length text.old.items + length word.now ≤ BLOCK_BYTES }
+fn push_word<const CAP: usize>(text: &mut ArrayVec<u8, CAP>, word: &[u8])
+    requires { length text.old.items + length word.now ≤ CAP }
     ensures { text.new.items ≡ text.old.items ++ word.now }
 {
     for byte in word {
@@ -53,8 +59,8 @@ fn push_word(text: &mut ArrayVec<u8, BLOCK_BYTES>, word: &[u8])
 }
 
 /// Appends an IPv4 address in dotted decimal. There must be room for five bytes for each of its numbers.
-fn push_dotted(text: &mut ArrayVec<u8, BLOCK_BYTES>, number: u32)
-    requires { length text.old.items + 23 ≤ BLOCK_BYTES }
+fn push_dotted<const CAP: usize>(text: &mut ArrayVec<u8, CAP>, number: u32)
+    requires { length text.old.items + 23 ≤ CAP }
     ensures text { text.new.items ≡ text.old.items ++ text_of (V4 number) }
     ensures fits { length text.new.items ≤ length text.old.items + 23 }
 {
@@ -67,10 +73,22 @@ fn push_dotted(text: &mut ArrayVec<u8, BLOCK_BYTES>, number: u32)
     push_short(text, (number % 0x100) as u16);
 }
 
+/// Appends a word, an IPv4 address after it, and a port. There must be room.
+fn push_place<const CAP: usize>(text: &mut ArrayVec<u8, CAP>, name: &[u8], number: u32, port: u16)
+    requires { length text.old.items + length name.now + 29 ≤ CAP }
+    ensures text { text.new.items ≡ text.old.items ++ (name.now ++ text_of (V4 number) ++ codes ":" ++ decimal port) }
+    ensures fits { length text.new.items ≤ length text.old.items + length name.now + 29 }
+{
+    push_word(text, name);
+    push_dotted(text, number);
+    text.push(b':');
+    push_short(text, port);
+}
+
 fn write_dotted(out: &mut Vec<u8>, number: u32) -> Result<(), AllocError>
     ensures { OnOk result (out.new.items ≡ out.old.items ++ text_of (V4 number)) }
 {
-    let mut text = ArrayVec::new();
+    let mut text: ArrayVec<u8, BLOCK_BYTES> = ArrayVec::new();
     push_dotted(&mut text, number);
     out.extend_from_slice(text.as_slice())
 }
@@ -85,17 +103,14 @@ fn write_dotted_place(
     requires { length name.now ≤ MOST_WORD_BYTES }
     ensures { OnOk result (out.new.items ≡ out.old.items ++ (name.now ++ text_of (V4 number) ++ codes ":" ++ decimal port)) }
 {
-    let mut text = ArrayVec::new();
-    push_word(&mut text, name);
-    push_dotted(&mut text, number);
-    text.push(b':');
-    push_short(&mut text, port);
+    let mut text: ArrayVec<u8, BLOCK_BYTES> = ArrayVec::new();
+    push_place(&mut text, name, number, port);
     out.extend_from_slice(text.as_slice())
 }
 
 /// Appends the name of a connection, whose serial has five digits at most. There must be room for them.
-fn push_id(text: &mut ArrayVec<u8, BLOCK_BYTES>, frontend: u16, serial: u16)
-    requires { length text.old.items + 11 ≤ BLOCK_BYTES }
+fn push_id<const CAP: usize>(text: &mut ArrayVec<u8, CAP>, frontend: u16, serial: u16)
+    requires { length text.old.items + 11 ≤ CAP }
     ensures text { text.new.items ≡ text.old.items ++ (decimal frontend ++ codes "." ++ decimal serial) }
     ensures fits { length text.new.items ≤ length text.old.items + 11 }
 {
@@ -113,10 +128,56 @@ pub fn write_named(out: &mut Vec<u8>, name: &[u8], id: &ConnId) -> Result<(), Al
         write_text(out, name)?;
         return write_id(out, id);
     }
-    let mut text = ArrayVec::new();
+    let mut text: ArrayVec<u8, BLOCK_BYTES> = ArrayVec::new();
     push_word(&mut text, name);
     push_id(&mut text, id.frontend, id.serial as u16);
     out.extend_from_slice(text.as_slice())
+}
+
+/// A word, the name of a connection after it, and why it ended.
+pub fn write_ended(out: &mut Vec<u8>, name: &[u8], id: &ConnId, why: &Why) -> Result<(), AllocError>
+    requires { length name.now ≤ MOST_WORD_BYTES }
+    ensures { OnOk result (out.new.items ≡ out.old.items ++ (name.now ++ id_text id.now ++ codes " " ++ why_text why.now)) }
+{
+    let Ok(serial) = u16::try_from(id.serial) else {
+        write_named(out, name, id)?;
+        write_byte(out, b' ')?;
+        return write_why(out, why);
+    };
+    let mut text: ArrayVec<u8, BLOCK_BYTES> = ArrayVec::new();
+    push_word(&mut text, name);
+    push_id(&mut text, id.frontend, serial);
+    text.push(b' ');
+    push_word(&mut text, why_word(why));
+    out.extend_from_slice(text.as_slice())
+}
+
+/// The address and the port of an endpoint of IPv4.
+fn v4_place(endpoint: &Endpoint) -> Option<(u32, u16)>
+    ensures { IfSome result (λ place. (endpoint.now.addr ≡ V4 place.0) × (endpoint.now.port ≡ place.1)) }
+{
+    match endpoint.addr {
+        Addr::V4(number) => Some((number, endpoint.port)),
+        Addr::V6(_) => None,
+    }
+}
+
+/// The listener of an accept, the client and the local end of its connection.
+pub fn write_accept(out: &mut Vec<u8>, listener: u16, real: &Pair) -> Result<(), AllocError>
+    ensures { OnOk result (out.new.items ≡ out.old.items ++ (codes " accept " ++ decimal listener ++ codes " " ++ endpoint_text real.now.source ++ codes " " ++ endpoint_text real.now.destination)) }
+{
+    let (peer, local) = (real.source(), real.destination());
+    if let (Some(from), Some(to)) = (v4_place(&peer), v4_place(&local)) {
+        let mut text: ArrayVec<u8, ACCEPT_BYTES> = ArrayVec::new();
+        push_word(&mut text, b" accept ");
+        push_short(&mut text, listener);
+        push_place(&mut text, b" ", from.0, from.1);
+        push_place(&mut text, b" ", to.0, to.1);
+        return out.extend_from_slice(text.as_slice());
+    }
+    write_field(out, b" accept ", u64::from(listener))?;
+    write_place(out, b" ", &peer)?;
+    write_place(out, b" ", &local)
 }
 
 fn write_addr(out: &mut Vec<u8>, addr: &Addr) -> Result<(), AllocError>
@@ -132,9 +193,9 @@ fn write_addr(out: &mut Vec<u8>, addr: &Addr) -> Result<(), AllocError>
 fn write_bracketed(out: &mut Vec<u8>, addr: &Addr) -> Result<(), AllocError>
     ensures { OnOk result (out.new.items ≡ out.old.items ++ (codes "[" ++ text_of addr.now ++ codes "]")) }
 {
-    write_text(out, b"[")?;
+    write_byte(out, b'[')?;
     write_addr(out, addr)?;
-    write_text(out, b"]")
+    write_byte(out, b']')
 }
 
 pub fn write_endpoint(out: &mut Vec<u8>, endpoint: &Endpoint) -> Result<(), AllocError>
@@ -151,17 +212,24 @@ pub fn write_id(out: &mut Vec<u8>, id: &ConnId) -> Result<(), AllocError>
     append_decimal(out, id.serial)
 }
 
+fn why_word(why: &Why) -> &'static [u8]
+    ensures word { result.now ≡ why_text why.now }
+    ensures fits { length result.now ≤ MOST_WORD_BYTES }
+{
+    match *why {
+        Why::Done => b"done",
+        Why::Fault => b"fault",
+        Why::Stopped => b"stopped",
+        Why::Failed => b"failed",
+        Why::ClientTimeout => b"client-timeout",
+        Why::ServerTimeout => b"server-timeout",
+    }
+}
+
 pub fn write_why(out: &mut Vec<u8>, why: &Why) -> Result<(), AllocError>
     ensures { OnOk result (out.new.items ≡ out.old.items ++ why_text why.now) }
 {
-    match *why {
-        Why::Done => write_text(out, b"done"),
-        Why::Fault => write_text(out, b"fault"),
-        Why::Stopped => write_text(out, b"stopped"),
-        Why::Failed => write_text(out, b"failed"),
-        Why::ClientTimeout => write_text(out, b"client-timeout"),
-        Why::ServerTimeout => write_text(out, b"server-timeout"),
-    }
+    write_text(out, why_word(why))
 }
 
 /// A word and a number after it.
@@ -216,27 +284,62 @@ pub fn write_cause(out: &mut Vec<u8>, cause: &Cause) -> Result<(), AllocError>
     }
 }
 
-/// The front of the line of an offer, whose numbers have five digits at most.
-fn write_short_given(out: &mut Vec<u8>, id: &ConnId, used: u16, line: u16) -> Result<(), AllocError>
-    requires { id.now.serial < 2 ^ 16 }
-    ensures { OnOk result (out.new.items ≡ out.old.items ++ (codes "offer " ++ id_text id.now ++ codes " used " ++ decimal used ++ codes " line " ++ decimal line)) }
+/// Appends the front of the line of an offer, whose numbers have five digits at most. There must be room.
+fn push_given<const CAP: usize>(text: &mut ArrayVec<u8, CAP>, id: &ConnId, used: u16, line: u16)
+    requires serial { id.now.serial < 2 ^ 16 }
+    requires room { length text.old.items + 39 ≤ CAP }
+    ensures text { text.new.items ≡ text.old.items ++ (codes "offer " ++ id_text id.now ++ codes " used " ++ decimal used ++ codes " line " ++ decimal line) }
+    ensures fits { length text.new.items ≤ length text.old.items + 39 }
 {
-    let mut text = ArrayVec::new();
-    push_word(&mut text, b"offer ");
-    push_id(&mut text, id.frontend, id.serial as u16);
-    push_word(&mut text, b" used ");
-    push_short(&mut text, used);
-    push_word(&mut text, b" line ");
-    push_short(&mut text, line);
+    push_word(text, b"offer ");
+    push_id(text, id.frontend, id.serial as u16);
+    push_word(text, b" used ");
+    push_short(text, used);
+    push_word(text, b" line ");
+    push_short(text, line);
+}
+
+/// The line of an offer up to the bytes that are sent, whose numbers have five digits at most and whose endpoints are of
+/// IPv4.
+fn write_short_offer(
+    out: &mut Vec<u8>,
+    id: &ConnId,
+    used: u16,
+    line: u16,
+    to: (u32, u16),
+    source: (u32, u16),
+    destination: (u32, u16),
+) -> Result<(), AllocError>
+    requires { id.now.serial < 2 ^ 16 }
+    ensures { OnOk result (out.new.items ≡ out.old.items ++ (codes "offer " ++ id_text id.now ++ codes " used " ++ decimal used ++ codes " line " ++ decimal line
+        ++ codes " to " ++ (text_of (V4 to.0) ++ codes ":" ++ decimal to.1)
+        ++ codes " src " ++ (text_of (V4 source.0) ++ codes ":" ++ decimal source.1)
+        ++ codes " dst " ++ (text_of (V4 destination.0) ++ codes ":" ++ decimal destination.1) ++ codes " send ")) }
+{
+    let mut text: ArrayVec<u8, OFFER_BYTES> = ArrayVec::new();
+    push_given(&mut text, id, used, line);
+    push_place(&mut text, b" to ", to.0, to.1);
+    push_place(&mut text, b" src ", source.0, source.1);
+    push_place(&mut text, b" dst ", destination.0, destination.1);
+    push_word(&mut text, b" send ");
     out.extend_from_slice(text.as_slice())
+}
+
+/// Whether these numbers of an offer have five digits at most.
+fn are_short(id: &ConnId, used: u64, line: u32) -> bool
+    ensures { IsTrue result → (id.now.serial < 2 ^ 16) × (used < 2 ^ 16) × (line < 2 ^ 16) }
+{
+    id.serial < FEW && used < FEW && line < 0x1_0000
 }
 
 /// The front of the line of an offer.
 fn write_given(out: &mut Vec<u8>, id: &ConnId, used: u64, line: u32) -> Result<(), AllocError>
     ensures { OnOk result (out.new.items ≡ out.old.items ++ (codes "offer " ++ id_text id.now ++ codes " used " ++ decimal used ++ codes " line " ++ decimal line)) }
 {
-    if id.serial < FEW && used < FEW && line < 0x1_0000 {
-        return write_short_given(out, id, used as u16, line as u16);
+    if are_short(id, used, line) {
+        let mut text: ArrayVec<u8, BLOCK_BYTES> = ArrayVec::new();
+        push_given(&mut text, id, used as u16, line as u16);
+        return out.extend_from_slice(text.as_slice());
     }
     write_named(out, b"offer ", id)?;
     write_field(out, b" used ", used)?;
@@ -250,6 +353,33 @@ fn write_places(out: &mut Vec<u8>, to: &Endpoint, judged: &Pair) -> Result<(), A
     write_place(out, b" to ", to)?;
     write_place(out, b" src ", &judged.source())?;
     write_place(out, b" dst ", &judged.destination())
+}
+
+/// The line of an offer up to the bytes that are sent.
+fn write_offer(
+    out: &mut Vec<u8>,
+    id: &ConnId,
+    used: u64,
+    line: u32,
+    to: &Endpoint,
+    judged: &Pair,
+) -> Result<(), AllocError>
+    ensures { OnOk result (out.new.items ≡ out.old.items ++ (codes "offer " ++ id_text id.now ++ codes " used " ++ decimal used ++ codes " line " ++ decimal line
+        ++ codes " to " ++ endpoint_text to.now ++ codes " src " ++ endpoint_text judged.now.source ++ codes " dst " ++ endpoint_text judged.now.destination ++ codes " send ")) }
+{
+    if are_short(id, used, line) {
+        let ends = (judged.source(), judged.destination());
+        if let (Some(to), Some(source), Some(destination)) = (
+            v4_place(to),
+            v4_place(&ends.0),
+            v4_place(&ends.1),
+        ) {
+            return write_short_offer(out, id, used as u16, line as u16, to, source, destination);
+        }
+    }
+    write_given(out, id, used, line)?;
+    write_places(out, to, judged)?;
+    write_text(out, b" send ")
 }
 
 fn write_said(out: &mut Vec<u8>, said: &Said) -> Result<(), AllocError>
@@ -269,9 +399,7 @@ fn write_said(out: &mut Vec<u8>, said: &Said) -> Result<(), AllocError>
             judged,
             send,
         } => {
-            write_given(out, id, *used, *line)?;
-            write_places(out, to, judged)?;
-            write_text(out, b" send ")?;
+            write_offer(out, id, *used, *line, to, judged)?;
             write_bytes(out, send.as_slice())
         }
         Said::Refuse { id, used, cause } => {
@@ -281,11 +409,7 @@ fn write_said(out: &mut Vec<u8>, said: &Said) -> Result<(), AllocError>
             write_cause(out, cause)
         }
         Said::Up { id } => { write_named(out, b"up ", id) }
-        Said::Closed { id, why } => {
-            write_named(out, b"closed ", id)?;
-            write_byte(out, b' ')?;
-            write_why(out, why)
-        }
+        Said::Closed { id, why } => write_ended(out, b"closed ", id, why),
         Said::Reloaded { version } => write_field(out, b"reloaded ", *version),
     }
 }
@@ -301,7 +425,7 @@ fn write_short_track(
     requires key { track.now.key ≡ V4 number }
     ensures { OnOk result (out.new.items ≡ out.old.items ++ track_text track.now) }
 {
-    let mut text = ArrayVec::new();
+    let mut text: ArrayVec<u8, BLOCK_BYTES> = ArrayVec::new();
     push_word(&mut text, b" sc");
     push_short(&mut text, u16::from(track.counter));
     text.push(b'=');
