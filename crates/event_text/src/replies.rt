@@ -287,9 +287,9 @@ pub fn write_cause(out: &mut Vec<u8>, cause: &Cause) -> Result<(), AllocError>
 /// Appends the front of the line of an offer, whose numbers have five digits at most. There must be room.
 fn push_given<const CAP: usize>(text: &mut ArrayVec<u8, CAP>, id: &ConnId, used: u16, line: u16)
     requires serial { id.now.serial < 2 ^ 16 }
-    requires room { length text.old.items + 39 ≤ CAP }
+    requires room { length text.old.items + 40 ≤ CAP }
     ensures text { text.new.items ≡ text.old.items ++ (codes "offer " ++ id_text id.now ++ codes " used " ++ decimal used ++ codes " line " ++ decimal line) }
-    ensures fits { length text.new.items ≤ length text.old.items + 39 }
+    ensures fits { length text.new.items ≤ length text.old.items + 40 }
 {
     push_word(text, b"offer ");
     push_id(text, id.frontend, id.serial as u16);
