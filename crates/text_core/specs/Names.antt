@@ -1,5 +1,5 @@
 -- Names.
-use Rattle.std.specs.Prelude.{ℕ, Bool, not, ◌&&◌, ◌||◌, ◌==◌, nat_le, nat_lt, List, [], ◌∷◌, length, position, Option}
+use Rattle.std.specs.Prelude.{◌≡◌, ℕ, Bool, not, ◌≤◌, ◌<◌, ◌&&◌, ◌||◌, ◌==◌, nat_le, nat_lt, slice_index, List, [], ◌∷◌, length, position, Option}
 use Rattle.std.specs.List.{list_all, filter}
 use Rattle.std.specs.Str.{bytes_eq}
 
@@ -18,3 +18,7 @@ place_of name names = position (λ other. bytes_eq other name) names
 abbrev pub distinct : List (List ℕ) → List (List ℕ)
 distinct [] = []
 distinct (name ∷ names) = name ∷ filter (λ other. not (bytes_eq other name)) (distinct names)
+
+-- two texts have the same bytes from a place to another
+abbrev pub AreSameBetween : List ℕ → List ℕ → ℕ → ℕ → Type 0
+AreSameBetween one other from to = (k : ℕ) → from ≤ k → k < to → slice_index one k ≡ slice_index other k

@@ -1,4 +1,5 @@
 //! A word of a text.
+use crate::name::is_same_name;
 use std::marker::Model;
 
 /// A word, which borrows the text. Contracts see its bytes.
@@ -38,7 +39,7 @@ impl<'a> Word<'a> {
     pub fn is(&self, text: &[u8]) -> bool
         ensures { result ≡ bytes_eq self.now text.now }
     {
-        self.bytes == text
+        self.bytes.len() == text.len() && is_same_name(self.bytes, text)
     }
 
     /// The same word once more: a type whose contracts see another value cannot be `Copy`.
