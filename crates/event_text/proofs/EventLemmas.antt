@@ -70,7 +70,7 @@ words_of-joined word [] lack = slice_split_none (is_mark 0x20) word lack.0
 words_of-joined word (next ∷ words) lack =
     slice_split_at (is_mark 0x20) word 0x20 (join_with_byte 0x20 (next ∷ words)) lack.0 refl ∙ ap (λ ws. word ∷ ws) (words_of-joined next words lack.1)
 
-id_of-written : (id : ConnId) → id.frontend < 2 ^ 16 → id.serial < 2 ^ 64 → id_of (id_text id) ≡ Some id
+pub id_of-written : (id : ConnId) → id.frontend < 2 ^ 16 → id.serial < 2 ^ 64 → id_of (id_text id) ≡ Some id
 id_of-written id small short =
     let cut : slice_split (is_mark 0x2E) (id_text id) ≡ decimal id.frontend ∷ decimal id.serial ∷ [] =
     ap (slice_split (is_mark 0x2E)) (append_assoc (decimal id.frontend) (codes ".") (decimal id.serial))
@@ -88,7 +88,7 @@ why_of-written Failed = refl
 why_of-written ClientTimeout = refl
 why_of-written ServerTimeout = refl
 
-ends_of-written : (real : PairValue) → IsEndpoint real.source → IsEndpoint real.destination → same_family real.source.addr real.destination.addr ≡ true
+pub ends_of-written : (real : PairValue) → IsEndpoint real.source → IsEndpoint real.destination → same_family real.source.addr real.destination.addr ≡ true
     → ends_of (endpoint_text real.source) (endpoint_text real.destination) ≡ Some real
 ends_of-written real first second same =
     let source : endpoint_of (endpoint_text real.source) ≡ Ok real.source = endpoint_of_written (endpoint_text real.source) real.source first refl in

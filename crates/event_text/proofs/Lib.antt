@@ -4,3 +4,5 @@ pub mod EventLemmas
 pub mod LongLemmas
 pub mod DigitLemmas
 pub mod LineLemmas
+pub mod TableLemmas
+pub mod FrontLemmas

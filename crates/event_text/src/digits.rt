@@ -1,7 +1,7 @@
 //! Bytes in hexadecimal, in lower case.
-ghost use Rattle.std.specs.Prelude.{◌≡◌, ◌+◌, ◌*◌, ◌/◌, ◌%◌, ◌<◌, ◌≤◌, ◌++◌, ◌∷◌, [], length, slice_index, take, true, option_map, OnOk};
+ghost use Rattle.std.specs.Prelude.{◌≡◌, ◌+◌, ◌*◌, ◌/◌, ◌%◌, ◌<◌, ◌≤◌, ◌++◌, ◌∷◌, [], length, slice_index, take, option_map, OnOk};
 ghost use Rattle.hex.specs.Hex.{encode_lower, lower_digits};
-ghost use Rattle.event_text.specs.Digits.{byte_of, is_lower_digit, lower_value};
+ghost use Rattle.event_text.specs.Digits.{byte_of, value_or_none};
 ghost use Rattle.event_text.specs.Script.{bytes_in, bytes_text};
 
 use arrayvec::ArrayVec;
@@ -70,32 +70,42 @@ pub fn write_bytes(out: &mut Vec<u8>, bytes: &[u8]) -> Result<(), AllocError>
     write_hex(out, bytes)
 }
 
-fn is_lower_digit(byte: u8) -> bool
-    ensures { result ≡ is_lower_digit byte }
-{
-    b'0' <= byte && byte <= b'9' || b'a' <= byte && byte <= b'f'
-}
+/// For each byte its value as a digit, and for the others a value that no digit has.
+static VALUES: [u8; 256] = *b"\
+    \xff\xff\xff\xff\xff\xff\xff\xff\xff\xff\xff\xff\xff\xff\xff\xff\
+    \xff\xff\xff\xff\xff\xff\xff\xff\xff\xff\xff\xff\xff\xff\xff\xff\
+    \xff\xff\xff\xff\xff\xff\xff\xff\xff\xff\xff\xff\xff\xff\xff\xff\
+    \x00\x01\x02\x03\x04\x05\x06\x07\x08\x09\xff\xff\xff\xff\xff\xff\
+    \xff\xff\xff\xff\xff\xff\xff\xff\xff\xff\xff\xff\xff\xff\xff\xff\
+    \xff\xff\xff\xff\xff\xff\xff\xff\xff\xff\xff\xff\xff\xff\xff\xff\
+    \xff\x0a\x0b\x0c\x0d\x0e\x0f\xff\xff\xff\xff\xff\xff\xff\xff\xff\
+    \xff\xff\xff\xff\xff\xff\xff\xff\xff\xff\xff\xff\xff\xff\xff\xff\
+    \xff\xff\xff\xff\xff\xff\xff\xff\xff\xff\xff\xff\xff\xff\xff\xff\
+    \xff\xff\xff\xff\xff\xff\xff\xff\xff\xff\xff\xff\xff\xff\xff\xff\
+    \xff\xff\xff\xff\xff\xff\xff\xff\xff\xff\xff\xff\xff\xff\xff\xff\
+    \xff\xff\xff\xff\xff\xff\xff\xff\xff\xff\xff\xff\xff\xff\xff\xff\
+    \xff\xff\xff\xff\xff\xff\xff\xff\xff\xff\xff\xff\xff\xff\xff\xff\
+    \xff\xff\xff\xff\xff\xff\xff\xff\xff\xff\xff\xff\xff\xff\xff\xff\
+    \xff\xff\xff\xff\xff\xff\xff\xff\xff\xff\xff\xff\xff\xff\xff\xff\
+    \xff\xff\xff\xff\xff\xff\xff\xff\xff\xff\xff\xff\xff\xff\xff\xff";
 
-fn lower_value(digit: u8) -> u8
-    requires { is_lower_digit digit ≡ true }
-    ensures value { result ≡ lower_value digit }
-    ensures small { result < 16 }
+/// The value of a byte as a digit.
+fn value_or_none(byte: u8) -> u8
+    ensures { result ≡ value_or_none byte }
 {
-    if digit <= b'9' {
-        digit - b'0'
-    } else {
-        digit - b'a' + 10
-    }
+    VALUES[usize::from(byte)]
 }
 
 /// The byte of two digits, if they are such.
 fn byte_of(high: u8, low: u8) -> Option<u8>
     ensures { result ≡ byte_of high low }
 {
-    if !is_lower_digit(high) || !is_lower_digit(low) {
+    let high = value_or_none(high);
+    let low = value_or_none(low);
+    if high >= 16 || low >= 16 {
         return None;
     }
-    Some(lower_value(high) * 16 + lower_value(low))
+    Some(high * 16 + low)
 }
 
 /// Reads bytes into the front of a buffer, if there is room, and says how many they are.

@@ -12,6 +12,7 @@ pub use script::{EventRequest, FirstLine, Request, read_event, read_request};
 
 mod digits;
 mod events;
+mod fronts;
 mod reload;
 mod replies;
 mod script;

@@ -1,17 +1,19 @@
 //! Scripts: the lines that hand in events, and those that ask for counts.
-ghost use Rattle.std.specs.Prelude.{◌≡◌, ◌==◌, ◌∷◌, ◌<◌, ◌^◌, ℕ, List, [], length, take, IfSome, IfNone, option_map};
+ghost use Rattle.std.specs.Prelude.{◌≡◌, ◌==◌, ◌∷◌, ◌<◌, ◌≤◌, ◌^◌, ℕ, List, [], length, codes, take, IfSome, IfNone, option_map};
 ghost use Rattle.std.specs.Str.{bytes_eq};
 ghost use Rattle.conn_model.specs.declared.event.OwnedEvent.{OwnedEvent};
 ghost use Rattle.conn_model.specs.declared.event.TheConstants.{PIECE_LIMIT};
 ghost use Rattle.conn_model.specs.History.{owned_event};
+ghost use Rattle.event_text.specs.Fronts.{ends_in, event_after, head_after, id_alone, id_first, number_first};
 ghost use Rattle.event_text.specs.Script.{accept_of, ask_of, backend_asked, bare_event_of, bytes_of, close_of, ends_of, entry_asked, event_line, event_by_verb, event_on, event_read, frontend_asked, head_by_verb, head_of, head_read, head_written, id_of, piece_of, reload_of, server_asked, wanted, wanted_of, why_of, words_of, HasLines, EventHead, IsCounted, IsHandedIn, Wanted};
 
 use crate::digits::read_hex;
+use crate::fronts::{after, id, id_before, is_word, number_before, pair};
 use addr_core::{Pair, read_addr, read_endpoint};
 use conn_model::ask::Ask;
 use conn_model::event::{ConnId, Event, Why};
+use text_core::cut_at;
 use text_core::decimal::read_decimal;
-use text_core::{cut_at, is_same_name};
 
 /// An event that a line hands in. The bytes of a piece are in a buffer of the caller's.
 #[derive(Clone, Copy)]
@@ -76,7 +78,7 @@ fn cut_word(text: &[u8]) -> Option<(&[u8], &[u8])>
 fn is(word: &[u8], text: &[u8]) -> bool
     ensures { result ≡ bytes_eq word.now text.now }
 {
-    is_same_name(word, text)
+    is_word(word, text)
 }
 
 fn read_id(word: &[u8]) -> Option<ConnId>
@@ -126,27 +128,77 @@ fn read_ends(peer: &[u8], local: &[u8]) -> Option<Pair>
     Pair::of(source, destination)
 }
 
-fn read_accept(rest: &[u8]) -> Option<EventRequest>
-    ensures { (buffer : List ℕ) → option_map (event_read buffer) result ≡ accept_of (words_of rest.now) }
+/// The pair of the two words of a text.
+fn read_pair(text: &[u8]) -> Option<Pair>
+    ensures { result ≡ ends_in (words_of text.now) }
 {
-    let (listener, rest) = cut_word(rest)?;
-    let (peer, local) = cut_word(rest)?;
+    if let Some(real) = pair(text) {
+        return Some(real);
+    }
+    let (peer, local) = cut_word(text)?;
     if let Some((_last, _more)) = cut_word(local) {
         return None;
     }
-    let listener = read_decimal(listener, 65535)?;
-    let real = read_ends(peer, local)?;
+    read_ends(peer, local)
+}
+
+/// The number of the first of some words, and the text of the others.
+fn first_number(text: &[u8], most: u64) -> Option<(u64, &[u8])>
+    ensures words { option_map (λ parts. (parts.0, words_of parts.1.now)) result
+        ≡ number_first most (words_of text.now) }
+    ensures small { IfSome result (λ parts. parts.0 ≤ most) }
+{
+    if let Some((number, rest)) = number_before(text, b' ')
+        && number <= most
+    {
+        return Some((number, rest));
+    }
+    let (word, rest) = cut_word(text)?;
+    let number = read_decimal(word, most)?;
+    Some((number, rest))
+}
+
+/// The connection of the first of some words, and the text of the others.
+fn first_id(text: &[u8]) -> Option<(ConnId, &[u8])>
+    ensures { option_map (λ parts. (parts.0, words_of parts.1.now)) result
+        ≡ id_first (words_of text.now) }
+{
+    if let Some((id, rest)) = id_before(text) {
+        return Some((id, rest));
+    }
+    let (word, rest) = cut_word(text)?;
+    let id = read_id(word)?;
+    Some((id, rest))
+}
+
+/// The connection of the one word of a text.
+fn only_id(text: &[u8]) -> Option<ConnId>
+    ensures { result ≡ id_alone (words_of text.now) }
+{
+    if let Some(found) = id(text) {
+        return Some(found);
+    }
+    if let Some((_name, _more)) = cut_word(text) {
+        return None;
+    }
+    read_id(text)
+}
+
+fn read_accept(rest: &[u8]) -> Option<EventRequest>
+    ensures { (buffer : List ℕ) → option_map (event_read buffer) result ≡ accept_of (words_of rest.now) }
+{
+    let (listener, rest) = first_number(rest, 65535)?;
+    let real = read_pair(rest)?;
     Some(EventRequest::Accept(listener as u16, real))
 }
 
 fn read_close(rest: &[u8]) -> Option<EventRequest>
     ensures { (buffer : List ℕ) → option_map (event_read buffer) result ≡ close_of (words_of rest.now) }
 {
-    let (name, note) = cut_word(rest)?;
+    let (id, note) = first_id(rest)?;
     if let Some((_last, _more)) = cut_word(note) {
         return None;
     }
-    let id = read_id(name)?;
     let why = read_why(note)?;
     Some(EventRequest::Close(id, why))
 }
@@ -170,10 +222,7 @@ fn event_on(verb: &[u8], id: ConnId) -> Option<EventRequest>
 fn read_bare_event(verb: &[u8], rest: &[u8]) -> Option<EventRequest>
     ensures { (buffer : List ℕ) → option_map (event_read buffer) result ≡ bare_event_of verb.now (words_of rest.now) }
 {
-    if let Some((_name, _more)) = cut_word(rest) {
-        return None;
-    }
-    let id = read_id(rest)?;
+    let id = only_id(rest)?;
     event_on(verb, id)
 }
 
@@ -196,11 +245,10 @@ fn read_piece(rest: &[u8], buffer: &mut [u8]) -> Option<EventRequest>
     ensures event { option_map (event_read buffer.new) result ≡ piece_of (words_of rest.now) }
     ensures room { length buffer.new ≡ length buffer.old }
 {
-    let (name, bytes) = cut_word(rest)?;
+    let (id, bytes) = first_id(rest)?;
     if let Some((_last, _more)) = cut_word(bytes) {
         return None;
     }
-    let id = read_id(name)?;
     let length = read_bytes(bytes, buffer)?;
     Some(EventRequest::Piece(id, length))
 }
@@ -236,26 +284,53 @@ fn read_reload(moment: u64, rest: &[u8]) -> Option<FirstLine>
     Some(FirstLine::Reload(moment, lines))
 }
 
-fn read_whole(moment: u64, verb: &[u8], rest: &[u8], buffer: &mut [u8]) -> Option<FirstLine>
-    requires { length buffer.old ≡ PIECE_LIMIT }
-    ensures head { option_map (head_read buffer.new) result ≡ option_map (λ event. EventHead.whole (moment, event)) (event_by_verb verb.now (words_of rest.now)) }
-    ensures lines { IfSome result HasLines }
-    ensures room { length buffer.new ≡ length buffer.old }
+fn read_connected(rest: &[u8]) -> Option<EventRequest>
+    ensures { (buffer : List ℕ) → option_map (event_read buffer) result
+        ≡ bare_event_of (codes "connected") (words_of rest.now) }
 {
-    let event = read_event_words(verb, rest, buffer)?;
-    Some(FirstLine::Whole(moment, event))
+    let id = only_id(rest)?;
+    Some(EventRequest::Connected(id))
 }
 
-fn read_head(moment: u64, verb: &[u8], rest: &[u8], buffer: &mut [u8]) -> Option<FirstLine>
+/// The event of a line, after its moment. The verbs that each connection has are looked for first.
+fn event_after(text: &[u8], buffer: &mut [u8]) -> Option<EventRequest>
     requires { length buffer.old ≡ PIECE_LIMIT }
-    ensures head { option_map (head_read buffer.new) result ≡ head_by_verb moment verb.now (words_of rest.now) }
+    ensures event { option_map (event_read buffer.new) result ≡ event_after (words_of text.now) }
+    ensures room { length buffer.new ≡ length buffer.old }
+{
+    if let Some(rest) = after(text, b"accept ") {
+        return read_accept(rest);
+    }
+    if let Some(rest) = after(text, b"piece ") {
+        return read_piece(rest, buffer);
+    }
+    if let Some(rest) = after(text, b"connected ") {
+        return read_connected(rest);
+    }
+    if let Some(rest) = after(text, b"close ") {
+        return read_close(rest);
+    }
+    let (verb, rest) = cut_word(text)?;
+    read_event_words(verb, rest, buffer)
+}
+
+/// What a line says after its moment. No verb but that of a reload begins with its first byte.
+fn read_timed(moment: u64, text: &[u8], buffer: &mut [u8]) -> Option<FirstLine>
+    requires { length buffer.old ≡ PIECE_LIMIT }
+    ensures head { option_map (head_read buffer.new) result
+        ≡ head_after moment (words_of text.now) }
     ensures lines { IfSome result HasLines }
     ensures room { length buffer.new ≡ length buffer.old }
 {
-    if is(verb, b"reload") {
+    if !text.is_empty() && text[0] == b'r' {
+        let (verb, rest) = cut_word(text)?;
+        if !is(verb, b"reload") {
+            return None;
+        }
         return read_reload(moment, rest);
     }
-    read_whole(moment, verb, rest, buffer)
+    let event = event_after(text, buffer)?;
+    Some(FirstLine::Whole(moment, event))
 }
 
 fn head_in(line: &[u8], buffer: &mut [u8]) -> Option<FirstLine>
@@ -264,10 +339,8 @@ fn head_in(line: &[u8], buffer: &mut [u8]) -> Option<FirstLine>
     ensures lines { IfSome result HasLines }
     ensures room { length buffer.new ≡ length buffer.old }
 {
-    let (moment, rest) = cut_word(line)?;
-    let (verb, rest) = cut_word(rest)?;
-    let moment = read_decimal(moment, u64::MAX)?;
-    read_head(moment, verb, rest, buffer)
+    let (moment, rest) = first_number(line, u64::MAX)?;
+    read_timed(moment, rest, buffer)
 }
 
 /// What the first line of an event says. The bytes of a piece are read into the front of the buffer, which has the
@@ -377,6 +450,9 @@ fn request_in(line: &[u8], buffer: &mut [u8]) -> Option<Request>
     ensures lines { IfSome result IsCounted }
     ensures room { length buffer.new ≡ length buffer.old }
 {
+    if line.is_empty() || line[0] != b'a' {
+        return event_request(line, buffer);
+    }
     match cut_word(line) {
         Some((word, rest)) => {
             if is(word, b"ask") {

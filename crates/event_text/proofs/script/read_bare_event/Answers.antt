@@ -1,9 +1,7 @@
-use Rattle.std.proofs.Common.{refl, sym, ◌∙◌}
-use Rattle.event_text.proofs.LongLemmas.{bare_long}
+use Rattle.std.proofs.Common.{◌∙◌}
+use Rattle.event_text.specs.Script.{words_of}
+use Rattle.event_text.proofs.FrontLemmas.{bare_some}
 use Rattle.event_text.proofs.script.read_bare_event.Goals as goal
 
-pub returns-in-Some : goal.returns-in-Some
-returns-in-Some c = λ buffer. rw c.in-Some.ensures.some (sym (bare_long c.args.verb.now c.in-Some._name.now c.in-Some._more.now))
-
 pub returns : goal.returns
-returns c = λ buffer. c.event_on.ensures buffer ∙ sym (rw (c.in_default.ensures.none, sym c.in_ok-id.ensures) refl)
+returns c = λ buffer. c.event_on.ensures buffer ∙ bare_some c.args.verb.now (words_of c.args.rest.now) c.in_ok-id.id c.in_ok-id.ensures

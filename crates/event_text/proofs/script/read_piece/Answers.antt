@@ -1,7 +1,7 @@
-use Rattle.std.proofs.Common.{sym}
-use Rattle.event_text.proofs.LongLemmas.{piece_long}
+use Rattle.event_text.specs.Script.{words_of}
+use Rattle.event_text.proofs.FrontLemmas.{piece_more}
 use Rattle.event_text.proofs.script.read_piece.Goals as goal
 
 pub returns-in-Some-clause-event : goal.returns-in-Some-clause-event
 returns-in-Some-clause-event c =
-    rw (c.in_ok-name.ensures.some, c.in-Some.ensures.some) (sym (piece_long c.in_ok-name.name.now c.in-Some._last.now c.in-Some._more.now))
+    piece_more (words_of c.args.rest.now) (words_of c.in_ok-id.bytes.now) c.in_ok-id.id c.in-Some._last.now c.in-Some._more.now c.in_ok-id.ensures c.in-Some.ensures.some

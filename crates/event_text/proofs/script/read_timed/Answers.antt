@@ -1,0 +1,12 @@
+use Rattle.std.proofs.Common.{sym, ◌∙◌}
+use Rattle.event_text.specs.Script.{words_of}
+use Rattle.event_text.proofs.FrontLemmas.{not_event}
+use Rattle.event_text.proofs.script.read_timed.Goals as goal
+
+pub returns-then-not-is-clause-head : goal.returns-then-not-is-clause-head
+returns-then-not-is-clause-head c =
+    not_event c.args.moment c.args.text.now c.in_ok-verb.verb.now (words_of c.in_ok-verb.rest.now) c.if-text-eq114.true c.in_ok-verb.ensures.some (sym c.is.ensures ∙ c.if-not-is.true)
+
+pub returns-then-text-eq114-clause-head : goal.returns-then-text-eq114-clause-head
+returns-then-text-eq114-clause-head c =
+    rw (c.in_ok-verb.ensures.some, sym c.is.ensures ∙ c.if-not-is.false) (c.read_reload.ensures.head c.args.buffer.now)
