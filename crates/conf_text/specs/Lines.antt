@@ -18,6 +18,17 @@ is_quoting b = b == 0x22 || b == 0x27 || b == 0x5C
 abbrev pub is_plain : ℕ → Bool
 is_plain b = is_blank b || (nat_le 0x21 b && nat_le b 0x7E)
 
+-- a line may have the byte
+abbrev pub is_allowed : ℕ → Bool
+is_allowed b = is_plain b && not (is_quoting b)
+
+-- what is wrong with the characters of a line
+abbrev pub check_bytes : List ℕ → Result (Unit {0}) LineKind
+check_bytes code =
+    if list_any is_quoting code then Err Quoting
+    else if not (list_all is_plain code) then Err NotAscii
+    else Ok tt
+
 -- the line without its comment
 abbrev pub code_in : List ℕ → List ℕ
 code_in line = before is_hash line

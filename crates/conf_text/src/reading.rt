@@ -2,7 +2,7 @@
 ghost use Rattle.std.specs.Prelude.{◌≡◌, ◌+◌, ◌<◌, ◌≤◌, length, IfOk};
 ghost use Rattle.std.specs.List.{list_all, list_any};
 ghost use Rattle.list_core.specs.Each.{Gives};
-ghost use Rattle.conf_text.specs.Lines.{is_quoting, is_plain, judged_code, judged_line, lines_of};
+ghost use Rattle.conf_text.specs.Lines.{is_quoting, is_plain, is_allowed, check_bytes, judged_code, judged_line, lines_of};
 
 use crate::cut::{first_line, without_comment, without_return, words};
 use crate::line::{
@@ -25,6 +25,40 @@ fn is_plain(code: &[u8]) -> bool
         .all(|b| *b == b' ' || *b == b'\t' || 0x21 <= *b && *b <= 0x7E)
 }
 
+/// Whether a line may have the byte: it is plain, and does not quote.
+fn is_allowed(b: u8) -> bool
+    ensures { result ≡ is_allowed b }
+{
+    (b == b'\t' || b' ' <= b && b <= 0x7E) && b != b'"' && b != b'\'' && b != b'\\'
+}
+
+/// Whether a line may have all of the bytes. It looks at each, so that several are compared at once.
+fn are_allowed(code: &[u8]) -> bool
+    ensures { result ≡ list_all is_allowed code.now }
+{
+    let mut all = true;
+    for b in code {
+        all = all & is_allowed(*b);
+    }
+    all
+}
+
+/// What is wrong with the bytes of a line.
+fn check_bytes(code: &[u8]) -> Result<(), LineKind>
+    ensures { result ≡ check_bytes code.now }
+{
+    if are_allowed(code) {
+        return Ok(());
+    }
+    if has_quoting(code) {
+        return Err(LineKind::Quoting);
+    }
+    if !is_plain(code) {
+        return Err(LineKind::NotAscii);
+    }
+    Ok(())
+}
+
 fn read_code(alloc: Global, number: u32, code: &[u8]) -> Result<Line, Stop<LineKind>>
     ensures reads { Gives result (judged_code number code.now) }
     ensures number { IfOk result (λ _. number ≤ MOST_LINES) }
@@ -36,13 +70,10 @@ fn read_code(alloc: Global, number: u32, code: &[u8]) -> Result<Line, Stop<LineK
     if number > MOST_LINES {
         return Err(Stop::Fault(LineKind::TooManyLines));
     }
-    if has_quoting(code) {
-        return Err(Stop::Fault(LineKind::Quoting));
+    match check_bytes(code) {
+        Ok(()) => Ok(Line { number, words }),
+        Err(kind) => Err(Stop::Fault(kind)),
     }
-    if !is_plain(code) {
-        return Err(Stop::Fault(LineKind::NotAscii));
-    }
-    Ok(Line { number, words })
 }
 
 fn read_line(alloc: Global, number: u32, line: &[u8]) -> Result<Line, Stop<LineKind>>
