@@ -101,14 +101,19 @@ fn value(form: Form, word: &Word) -> Result<Pattern, AclFault>
 fn each_value(alloc: Global, form: Form, words: &[Word]) -> Result<Seq<Pattern>, Stop<AclFault>>
     ensures { Gives result (each (λ done w. value_of form w) [] words.now) }
 {
-    let mut patterns = Seq::new(alloc);
+    let mut patterns = Vec::new(alloc);
     for word in words {
         match value(form, word) {
-            Ok(pattern) => patterns.push(pattern)?,
+            Ok(pattern) => {
+                if patterns.is_empty() {
+                    patterns.reserve_exact(words.len())?;
+                }
+                patterns.push(pattern)?;
+            }
             Err(fault) => return Err(Stop::Fault(fault)),
         }
     }
-    Ok(patterns)
+    Ok(Seq::of(patterns))
 }
 
 /// One value or more.

@@ -1,5 +1,5 @@
 //! Tests.
-ghost use Rattle.std.specs.Prelude.{◌≡◌, IfOk};
+ghost use Rattle.std.specs.Prelude.{◌≡◌, ◌≤◌, length, IfOk};
 ghost use Rattle.std.specs.List.{list_any};
 ghost use Rattle.acl_core.specs.Networks.{networks};
 ghost use Rattle.acl_core.specs.Truth.{matches, test_holds};
@@ -13,7 +13,7 @@ use std::alloc::{AllocError, Global};
 use std::marker::Model;
 
 /// One criterion against its patterns, which are alternatives. Beside them it has an index of their
-/// networks, so that an address is searched for by halves, and a copy takes the time of a new test.
+/// networks, so that an address is searched for by halves.
 #[derive(Debug, Drop)]
 pub struct Test {
     criterion: Criterion,
@@ -33,11 +33,21 @@ impl Model for Test {
     ghost invariant = { λ t. t.index ≡ networks t.patterns };
 }
 
+/// The room for the networks among patterns, by the first: all patterns of a test are networks, or none is.
+fn network_room(patterns: &[Pattern]) -> usize
+    ensures { result ≤ length patterns.now }
+{
+    match patterns {
+        [Pattern::Network(_), ..] => patterns.len(),
+        _ => 0,
+    }
+}
+
 /// The networks among patterns.
 fn networks_of(alloc: Global, patterns: &[Pattern]) -> Result<Vec<Net>, AllocError>
     ensures { IfOk result (λ nets. nets.items ≡ networks patterns.now) }
 {
-    let mut nets = Vec::new(alloc);
+    let mut nets = Vec::with_capacity(alloc, network_room(patterns))?;
     for pattern in patterns {
         if let Pattern::Network(net) = pattern {
             nets.push(*net)?;
@@ -95,10 +105,10 @@ fn some_pattern_holds(patterns: &[Pattern], value: &Value) -> bool
 
 impl Duplicate for Test {
     fn duplicate(&self, alloc: Global) -> Result<Test, AllocError> {
-        Test::of(
-            alloc,
-            self.criterion.duplicate(alloc)?,
-            self.patterns.duplicate(alloc)?,
-        )
+        Ok(Test {
+            criterion: self.criterion.duplicate(alloc)?,
+            patterns: self.patterns.duplicate(alloc)?,
+            index: self.index.duplicate(alloc)?,
+        })
     }
 }

@@ -109,6 +109,10 @@ fn some_other_holds<V: View>(tests: &[Test], view: &V) -> bool
 
 impl Duplicate for Tests {
     fn duplicate(&self, alloc: Global) -> Result<Tests, AllocError> {
-        Tests::of(alloc, self.tests.duplicate(alloc)?)
+        Ok(Tests {
+            tests: self.tests.duplicate(alloc)?,
+            is_all_source: self.is_all_source,
+            index: self.index.duplicate(alloc)?,
+        })
     }
 }

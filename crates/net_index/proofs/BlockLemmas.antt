@@ -17,17 +17,23 @@ power_small rest less =
     let one : 1 * 2 ^ rest ≡ 2 ^ rest = omega arith in
     ap (λ n. n % 340282366920938463463374607431768211456) one ∙ mod-eq_of_lt below
 
+pub power_short : (rest : ℕ) → rest < 32 → 1 * 2 ^ rest % 4294967296 ≡ 2 ^ rest
+power_short rest less =
+    let below : 2 ^ rest < 2 ^ 32 = pow-lt less in
+    let one : 1 * 2 ^ rest ≡ 2 ^ rest = omega arith in
+    ap (λ n. n % 4294967296) one ∙ mod-eq_of_lt below
+
 -- a block ends within the numbers of so many bits
-pub block_fits : (number rest : ℕ) → number < 2 ^ 128 → rest < 128 → number / 2 ^ rest * 2 ^ rest + 2 ^ rest ≤ 2 ^ 128
-block_fits number rest fits less =
-    let whole : (128 - rest) + rest ≡ 128 = omega (arith, less) in
-    let split : 2 ^ 128 ≡ 2 ^ (128 - rest) * 2 ^ rest = ap (λ n. 2 ^ n) (sym whole) ∙ pow-add 2 (128 - rest) rest in
-    let inside : number < 2 ^ (128 - rest) * 2 ^ rest = subst (λ n. number < n) split fits in
-    let blocks : number / 2 ^ rest < 2 ^ (128 - rest) = (div-lt_iff_lt-mul (pow_pos rest)).1 inside in
-    let next : number / 2 ^ rest + 1 ≤ 2 ^ (128 - rest) = omega (arith, blocks) in
-    let times : (number / 2 ^ rest + 1) * 2 ^ rest ≤ 2 ^ (128 - rest) * 2 ^ rest = mul-le-mul_right (2 ^ rest) next in
+pub block_fits : (width number rest : ℕ) → number < 2 ^ width → rest < width → number / 2 ^ rest * 2 ^ rest + 2 ^ rest ≤ 2 ^ width
+block_fits width number rest fits less =
+    let whole : (width - rest) + rest ≡ width = omega (arith, less) in
+    let split : 2 ^ width ≡ 2 ^ (width - rest) * 2 ^ rest = ap (λ n. 2 ^ n) (sym whole) ∙ pow-add 2 (width - rest) rest in
+    let inside : number < 2 ^ (width - rest) * 2 ^ rest = subst (λ n. number < n) split fits in
+    let blocks : number / 2 ^ rest < 2 ^ (width - rest) = (div-lt_iff_lt-mul (pow_pos rest)).1 inside in
+    let next : number / 2 ^ rest + 1 ≤ 2 ^ (width - rest) = omega (arith, blocks) in
+    let times : (number / 2 ^ rest + 1) * 2 ^ rest ≤ 2 ^ (width - rest) * 2 ^ rest = mul-le-mul_right (2 ^ rest) next in
     let out : (number / 2 ^ rest + 1) * 2 ^ rest ≡ number / 2 ^ rest * 2 ^ rest + 2 ^ rest = omega arith in
-    subst (λ n. number / 2 ^ rest * 2 ^ rest + 2 ^ rest ≤ n) (sym split) (subst (λ n. n ≤ 2 ^ (128 - rest) * 2 ^ rest) out times)
+    subst (λ n. number / 2 ^ rest * 2 ^ rest + 2 ^ rest ≤ n) (sym split) (subst (λ n. n ≤ 2 ^ (width - rest) * 2 ^ rest) out times)
 
 pub block_begins : (number size : ℕ) → number - number % size ≡ number / size * size
 block_begins number size =
@@ -64,8 +70,8 @@ block_has number size n range some first last = by (number / size == n / size) r
             absurd (let wrong : (number / size == n / size) ≡ true = grind (arith, nat_tests, same) in cc)
 
 -- what a network of either family has
-pub holds_four : (net : Prefix) (number n bits : ℕ) (of_six : Bool) → net.addr ≡ V4 number → bits ≡ net.bits → of_six ≡ false → (number / 2 ^ (32 - bits) == n / 2 ^ (32 - bits)) ≡ holds net (numbered of_six n)
-holds_four net number n bits of_six addr same family = rw (family, addr, same) refl
+pub holds_four : (net : Prefix) (number n bits : ℕ) → net.addr ≡ V4 number → bits ≡ net.bits → (number / 2 ^ (32 - bits) == n / 2 ^ (32 - bits)) ≡ holds net (numbered false n)
+holds_four net number n bits addr same = rw (addr, same) refl
 
-pub holds_six : (net : Prefix) (number n bits : ℕ) (of_six : Bool) → net.addr ≡ V6 number → bits ≡ net.bits → of_six ≡ true → (number / 2 ^ (128 - bits) == n / 2 ^ (128 - bits)) ≡ holds net (numbered of_six n)
-holds_six net number n bits of_six addr same family = rw (family, addr, same) refl
+pub holds_six : (net : Prefix) (number n bits : ℕ) → net.addr ≡ V6 number → bits ≡ net.bits → (number / 2 ^ (128 - bits) == n / 2 ^ (128 - bits)) ≡ holds net (numbered true n)
+holds_six net number n bits addr same = rw (addr, same) refl

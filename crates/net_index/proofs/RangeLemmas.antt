@@ -1,15 +1,16 @@
 -- Ranges that are apart.
-use Rattle.std.proofs.lemmas.List.{take_more}
-use Rattle.std.proofs.Common.{◌≡◌, take, ℕ, zero, suc, ◌+◌, ◌-◌, ◌<◌, ◌≤◌, Bool, true, false, List, [], ◌∷◌, ◌++◌, length, get_or, max, leb-true, refl, sym, ap, subst, ◌∙◌, arith}
+use Rattle.std.proofs.lemmas.List.{get_or-map, length-map, take_all, take_more}
+use Rattle.std.proofs.Common.{◌≡◌, map, take, drop, ℕ, zero, suc, ◌+◌, ◌-◌, ◌<◌, ◌≤◌, Bool, true, false, List, [], ◌∷◌, ◌++◌, length, get_or, max, leb-true, refl, sym, ap, subst, ◌∙◌, arith}
 use Rattle.std.specs.Prelude.{nat_le, ◌&&◌, ◌||◌}
-use Rattle.std.specs.List.{AllByRecursion}
+use Rattle.std.specs.List.{AllByRecursion, list_any}
 use Rattle.std.specs.List.Sorted.{IsNonDecreasingBy, IsPartitionPoint}
 use lib.Dec.{leb}
 use Rattle.std.proofs.lemmas.Bool.Decides.{nat_tests}
 use Rattle.std.proofs.lemmas.List.Folds.{list_any-append}
 use Rattle.std.proofs.lemmas.List.Sorted.{IsNonDecreasingBy-from_all_adjacent}
 use Rattle.net_index.specs.declared.range.Range.{Range}
-use Rattle.net_index.specs.Ranges.{covers, is_within, AreApart, BeginBefore, IsBefore}
+use Rattle.net_index.specs.declared.range.Short.{Short}
+use Rattle.net_index.specs.Ranges.{covers, is_within, wide, AreApart, BeginBefore, IsBefore}
 
 all_push : {X : Type 0} (P : X → Type 0) (xs : List X) (x : X) → AllByRecursion P xs → P x → AllByRecursion P (xs ++ x ∷ [])
 all_push P [] x all is = (is, tt)
@@ -166,3 +167,31 @@ pub rises_more : (index : ℕ) (xs ys : List Range) (d : Range) → IsNonDecreas
 rises_more index xs ys d sorted below before =
     let up : (get_or xs index d).first ≤ (get_or xs (index + 1) d).first = sorted index (index + 1) d (omega arith) below in
     all_more {P = λ range. range.first ≤ (get_or xs index d).first} {Q = λ range. range.first ≤ (get_or xs (index + 1) d).first} (λ x le. omega (arith, le, up)) ys before
+
+pub covers_next : (n index : ℕ) (first : Range) (rest : List Range) (d : Range) → index < length rest → covers (first ∷ take (index + 1) rest) n ≡ (covers (first ∷ take index rest) n || is_within n (get_or rest index d))
+covers_next n index first rest d below =
+    ap (λ b. is_within n first || b) (covers_more n index rest d below) ∙ sym (or_assoc (is_within n first) (covers (take index rest) n) (is_within n (get_or rest index d)))
+
+-- The ranges after the first.
+
+pub first_and_rest : {A : Type 0} (xs : List A) (d : A) → 0 < length xs → get_or xs 0 d ∷ take (length xs - 1) (drop 1 xs) ≡ xs
+first_and_rest [] d some = absurd (omega (arith, some))
+first_and_rest (x ∷ xs) d some = ap (λ ys. x ∷ ys) (take_all (length (x ∷ xs) - 1) xs (omega arith))
+
+pub rest_sorted : (first : Range) (rest : List Range) → IsNonDecreasingBy (λ range. range.first) (first ∷ rest) → IsNonDecreasingBy (λ range. range.first) rest
+rest_sorted first rest sorted i j d less below = sorted (suc i) (suc j) d (omega (arith, less)) (omega (arith, below))
+
+pub first_begins : (first : Range) (rest : List Range) (d : Range) → IsNonDecreasingBy (λ range. range.first) (first ∷ rest) → 0 < length rest → BeginBefore (get_or rest 0 d).first (first ∷ [])
+first_begins first rest d sorted below = (sorted 0 1 d (omega arith) (omega (arith, below)), tt)
+
+-- Ranges of 32 bits.
+
+pub wide_sorted : (xs : List Short) → IsNonDecreasingBy (λ short. short.first) xs → IsNonDecreasingBy (λ range. range.first) (map wide xs)
+wide_sorted xs sorted i j d less below =
+    let e : Short = record { first = 0; last = 0 } in
+    let inside : j < length xs = subst (λ n. j < n) (length-map xs wide) below in
+    rw (get_or-map wide xs i e d (omega (arith, less, inside)), get_or-map wide xs j e d inside) (sorted i j e less inside)
+
+pub any_wide : (n : ℕ) (xs : List Short) → covers (map wide xs) n ≡ list_any (λ short. is_within n (wide short)) xs
+any_wide n [] = refl
+any_wide n (x ∷ xs) = ap (λ b. is_within n (wide x) || b) (any_wide n xs)

@@ -2,9 +2,14 @@
 use Rattle.std.specs.Prelude.{ℕ, Bool, false, nat_le, ◌&&◌, ◌<◌, ◌≤◌, List, [], ◌∷◌, Option, Some, None}
 use Rattle.std.specs.List.{list_any, AllByRecursion}
 use Rattle.net_index.specs.declared.range.Range.{Range}
+use Rattle.net_index.specs.declared.range.Short.{Short}
 
 abbrev pub is_within : ℕ → Range → Bool
 is_within n range = nat_le range.first n && nat_le n range.last
+
+-- a range of numbers of 32 bits, as any range
+abbrev pub wide : Short → Range
+wide short = record { first = short.first; last = short.last }
 
 abbrev pub is_in : Option Range → ℕ → Bool
 is_in None n = false

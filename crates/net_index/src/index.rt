@@ -1,10 +1,9 @@
 //! An index of networks.
-ghost use Rattle.std.specs.Prelude.{◌≡◌, ℕ, IfOk};
-ghost use Rattle.std.specs.List.{list_any};
-ghost use Rattle.net_index.specs.Ranges.{covers};
-ghost use Rattle.net_index.specs.Index.{has_addr, numbered};
+ghost use Rattle.std.specs.Prelude.{◌≡◌, true, false, length, IfOk};
+ghost use Rattle.std.specs.List.{list_any, filter};
+ghost use Rattle.net_index.specs.Index.{has_addr, is_of, HasFamily};
 
-use crate::range::range_of;
+use crate::range::{range_of, short_of};
 use crate::ranges::Ranges;
 use addr_core::{Addr, Net};
 use std::alloc::{AllocError, Global};
@@ -30,13 +29,42 @@ impl Model for NetIndex {
     ghost invariant = { λ i. IsIndex i.nets.items i.four i.six };
 }
 
-/// The addresses of one family that some networks have.
-fn gather(alloc: Global, nets: &[Net], of_six: bool) -> Result<Ranges, AllocError>
-    ensures { IfOk result (λ ranges. (n : ℕ) → covers ranges n ≡ list_any (has_addr (numbered of_six n)) nets.now) }
+fn is_of(net: &Net, of_six: bool) -> bool
+    ensures { result ≡ is_of of_six net.now }
 {
-    let mut ranges = Vec::new(alloc);
+    match net.addr() {
+        Addr::V4(_) => !of_six,
+        Addr::V6(_) => of_six,
+    }
+}
+
+/// How many networks are of a family.
+fn count_of(nets: &[Net], of_six: bool) -> usize
+    ensures { result ≡ length (filter (is_of of_six) nets.now) }
+{
+    nets.iter().filter(|net| is_of(net, of_six)).count()
+}
+
+/// The addresses of IPv4 that some networks have.
+fn gather_four(alloc: Global, nets: &[Net]) -> Result<Ranges, AllocError>
+    ensures { IfOk result (HasFamily false nets.now) }
+{
+    let mut ranges = Vec::with_capacity(alloc, count_of(nets, false))?;
     for net in nets {
-        if let Some(range) = range_of(net, of_six) {
+        if let Some(range) = short_of(net) {
+            ranges.push(range)?;
+        }
+    }
+    Ranges::of_short(alloc, ranges)
+}
+
+/// The addresses of IPv6 that some networks have.
+fn gather_six(alloc: Global, nets: &[Net]) -> Result<Ranges, AllocError>
+    ensures { IfOk result (HasFamily true nets.now) }
+{
+    let mut ranges = Vec::with_capacity(alloc, count_of(nets, true))?;
+    for net in nets {
+        if let Some(range) = range_of(net) {
             ranges.push(range)?;
         }
     }
@@ -50,8 +78,19 @@ impl NetIndex {
     {
         Ok(NetIndex {
             nets: nets.to_vec(alloc)?,
-            four: gather(alloc, nets, false)?,
-            six: gather(alloc, nets, true)?,
+            four: gather_four(alloc, nets)?,
+            six: gather_six(alloc, nets)?,
+        })
+    }
+
+    /// An index of the same networks. It copies what is found, in place of finding it again.
+    pub fn duplicate(&self, alloc: Global) -> Result<NetIndex, AllocError>
+        ensures { IfOk result (λ copy. copy ≡ self.now) }
+    {
+        Ok(NetIndex {
+            nets: self.nets.to_vec(alloc)?,
+            four: self.four.duplicate(alloc)?,
+            six: self.six.duplicate(alloc)?,
         })
     }
 

@@ -1,7 +1,8 @@
 //! The addresses of a network as a range of numbers.
-ghost use Rattle.std.specs.Prelude.{◌≡◌, ◌≤◌, ◌+◌, ◌*◌, ◌/◌, ◌^◌, ℕ};
+ghost use Rattle.std.specs.Prelude.{◌≡◌, ◌≤◌, ◌+◌, ◌*◌, ◌/◌, ◌^◌, ℕ, true, false};
 ghost use Rattle.addr_core.specs.Prefix.{holds};
-ghost use Rattle.net_index.specs.Ranges.{is_in};
+ghost use Rattle.std.specs.Option.{option_map};
+ghost use Rattle.net_index.specs.Ranges.{is_in, wide};
 ghost use Rattle.net_index.specs.Index.{numbered};
 
 use addr_core::{Addr, Net};
@@ -11,6 +12,13 @@ use addr_core::{Addr, Net};
 pub(crate) struct Range {
     pub(crate) first: u128,
     pub(crate) last: u128,
+}
+
+/// Numbers of 32 bits from the first to the last, both included: many of them are sorted.
+#[derive(Clone, Copy, Debug, PartialEq, Eq)]
+pub(crate) struct Short {
+    pub(crate) first: u32,
+    pub(crate) last: u32,
 }
 
 /// The numbers that agree with one in all bits except so many last ones.
@@ -33,13 +41,52 @@ fn block(number: u128, rest: u8) -> Range
     }
 }
 
-/// The addresses of one family that a network has, as numbers.
-pub(crate) fn range_of(net: &Net, of_six: bool) -> Option<Range>
-    ensures { (n : ℕ) → is_in result n ≡ holds net.now (numbered of_six n) }
+/// The same of numbers of 32 bits.
+fn short_block(number: u32, rest: u8) -> Short
+    requires { rest ≤ 32 }
+    ensures first { result.first ≡ number / 2 ^ rest * 2 ^ rest }
+    ensures last { result.last + 1 ≡ result.first + 2 ^ rest }
 {
-    match (net.addr(), of_six) {
-        (Addr::V4(number), false) => Some(block(u128::from(number), 32 - net.bits())),
-        (Addr::V6(number), true) => Some(block(number, 128 - net.bits())),
-        (Addr::V4(_), true) | (Addr::V6(_), false) => None,
+    if rest == 32 {
+        return Short {
+            first: 0,
+            last: u32::MAX,
+        };
+    }
+    let count = 1u32 << rest;
+    let first = number - number % count;
+    Short {
+        first,
+        last: first + (count - 1),
+    }
+}
+
+/// The addresses of IPv4 that a network has, as numbers.
+pub(crate) fn short_of(net: &Net) -> Option<Short>
+    ensures { (n : ℕ) → is_in (option_map wide result) n ≡ holds net.now (numbered false n) }
+{
+    match net.addr() {
+        Addr::V4(number) => Some(short_block(number, 32 - net.bits())),
+        Addr::V6(_) => None,
+    }
+}
+
+/// The addresses of IPv6 that a network has, as numbers.
+pub(crate) fn range_of(net: &Net) -> Option<Range>
+    ensures { (n : ℕ) → is_in result n ≡ holds net.now (numbered true n) }
+{
+    match net.addr() {
+        Addr::V4(_) => None,
+        Addr::V6(number) => Some(block(number, 128 - net.bits())),
+    }
+}
+
+/// The same numbers.
+pub(crate) fn wide(short: Short) -> Range
+    ensures { result ≡ wide short }
+{
+    Range {
+        first: u128::from(short.first),
+        last: u128::from(short.last),
     }
 }

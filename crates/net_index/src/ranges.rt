@@ -1,9 +1,9 @@
 //! Ranges of numbers that are apart from one another.
-ghost use Rattle.std.specs.Prelude.{◌≡◌, ◌≤◌, ◌||◌, ◌++◌, ℕ, List, IfOk, OnOk};
+ghost use Rattle.std.specs.Prelude.{◌≡◌, ◌≤◌, ◌||◌, ◌++◌, ◌∷◌, [], ℕ, List, map, IfOk};
 ghost use Rattle.std.specs.List.{AllByRecursion};
-ghost use Rattle.net_index.specs.Ranges.{covers, is_within, AreApart, BeginBefore};
+ghost use Rattle.net_index.specs.Ranges.{covers, is_within, wide, AreApart, BeginBefore};
 
-use crate::range::Range;
+use crate::range::{Range, Short, wide};
 use std::alloc::{AllocError, Global};
 use std::marker::Model;
 
@@ -25,28 +25,35 @@ impl Model for Ranges {
     ghost invariant = { λ r. AreApart r.items.items };
 }
 
-/// Adds a range that begins where the last one begins, or after it. Where the two meet they become one.
-fn join(items: &mut Vec<Range>, range: Range) -> Result<(), AllocError>
-    requires apart { AreApart items.old.items }
-    requires rises { BeginBefore range.first items.old.items }
-    ensures apart { OnOk result (AreApart items.new.items) }
-    ensures rises { OnOk result (BeginBefore range.first items.new.items) }
-    ensures covers { OnOk result ((n : ℕ) → covers items.new.items n ≡ (covers items.old.items n || is_within n range)) }
+/// Adds a range that begins where the last one begins, or after it, and gives the last one then. Where the two meet they
+/// become one. The last one is not among the items yet.
+fn join(items: &mut Vec<Range>, last: Range, range: Range) -> Result<Range, AllocError>
+    requires apart { AreApart (items.old.items ++ last ∷ []) }
+    requires rises { BeginBefore range.first (items.old.items ++ last ∷ []) }
+    ensures apart { IfOk result (λ next. AreApart (items.new.items ++ next ∷ [])) }
+    ensures rises { IfOk result (λ next. BeginBefore range.first (items.new.items ++ next ∷ [])) }
+    ensures covers { IfOk result (λ next. (n : ℕ) → covers (items.new.items ++ next ∷ []) n
+        ≡ (covers (items.old.items ++ last ∷ []) n || is_within n range)) }
 {
-    let Some(last) = items.pop() else {
-        items.push(range)?;
-        return Ok(());
-    };
     if range.first <= last.last {
-        items.push(Range {
+        return Ok(Range {
             first: last.first,
             last: last.last.max(range.last),
-        })?;
-    } else {
-        items.push(last)?;
-        items.push(range)?;
+        });
     }
-    Ok(())
+    items.push(last)?;
+    Ok(range)
+}
+
+/// The items and the last one.
+fn ended(items: Vec<Range>, end: Range) -> Result<Ranges, AllocError>
+    requires { AreApart (items.items ++ end ∷ []) }
+    ensures { IfOk result (λ ranges. ranges ≡ items.items ++ end ∷ []) }
+{
+    let mut items = items;
+    items.push(end)?;
+    items.shrink_to_fit();
+    Ok(Ranges { items })
 }
 
 impl Ranges {
@@ -56,11 +63,47 @@ impl Ranges {
     {
         let mut ranges = ranges;
         ranges.sort_unstable_by_key(|range| range.first);
-        let mut items = Vec::new(alloc);
-        for range in &ranges {
-            join(&mut items, *range)?;
+        let [first, rest @ ..] = ranges.as_slice() else {
+            return Ok(Ranges {
+                items: Vec::new(alloc),
+            });
+        };
+        let mut items = Vec::with_capacity(alloc, ranges.len())?;
+        let mut last = *first;
+        for range in rest {
+            last = join(&mut items, last, *range)?;
         }
-        Ok(Ranges { items })
+        let joined = ended(items, last)?;
+        Ok(joined)
+    }
+
+    /// The numbers of some ranges of 32 bits, in any order.
+    pub(crate) fn of_short(alloc: Global, ranges: Vec<Short>) -> Result<Ranges, AllocError>
+        ensures { IfOk result (λ all. (n : ℕ) → covers all n ≡ covers (map wide ranges.items) n) }
+    {
+        let mut ranges = ranges;
+        ranges.sort_unstable_by_key(|range| range.first);
+        let [first, rest @ ..] = ranges.as_slice() else {
+            return Ok(Ranges {
+                items: Vec::new(alloc),
+            });
+        };
+        let mut items = Vec::with_capacity(alloc, ranges.len())?;
+        let mut last = wide(*first);
+        for range in rest {
+            last = join(&mut items, last, wide(*range))?;
+        }
+        let joined = ended(items, last)?;
+        Ok(joined)
+    }
+
+    /// The same ranges.
+    pub(crate) fn duplicate(&self, alloc: Global) -> Result<Ranges, AllocError>
+        ensures { IfOk result (λ copy. copy ≡ self.now) }
+    {
+        Ok(Ranges {
+            items: self.items.to_vec(alloc)?,
+        })
     }
 
     /// Whether some range has the number.

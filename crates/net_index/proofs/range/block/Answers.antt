@@ -5,6 +5,6 @@ use Rattle.net_index.proofs.range.block.Goals as goal
 pub overflow_add-result : goal.overflow_add-result
 overflow_add-result c =
     let less : c.args.rest < 128 = omega (arith, c.requires, c.if-rest-eq128.false) in
-    let fits = block_fits c.args.number c.args.rest (omega (arith, c.ranges.number.fits)) less in
+    let fits = block_fits 128 c.args.number c.args.rest (omega (arith, c.ranges.number.fits)) less in
     let begins = block_begins c.args.number (2 ^ c.args.rest) in
     rw (power_small c.args.rest less) (omega (arith, fits, begins))

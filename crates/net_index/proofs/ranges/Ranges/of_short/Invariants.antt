@@ -1,0 +1,10 @@
+use Rattle.std.proofs.Common.{◌≡◌, ◌<◌, ◌++◌, ◌∷◌, [], ℕ, length, map, get_or, take}
+use Rattle.net_index.specs.Ranges.{covers, wide, AreApart, BeginBefore}
+use Rattle.net_index.proofs.ranges.Ranges.of_short.Given as goal
+
+abbrev pub invariant-loop-range : goal.invariant-loop-range
+invariant-loop-range l = record {
+  apart : AreApart (l.items.items ++ l.last ∷ []);
+  rises : l.range-index < length l.rest → BeginBefore (get_or (map wide l.rest) l.range-index (record { first = 0; last = 0 })).first (l.items.items ++ l.last ∷ []);
+  covers : (n : ℕ) → covers (l.items.items ++ l.last ∷ []) n ≡ covers (l.initial.last ∷ take l.range-index (map wide l.rest)) n;
+}
