@@ -204,6 +204,16 @@ fn server_count(lines: &[ConfigLine]) -> usize
         .count()
 }
 
+/// Whether there are as many servers as there may be. Short sections need no look at their lines.
+fn are_servers(lines: &[ConfigLine]) -> bool
+    ensures { result ≡ lines_reach MOST_SERVERS is_server lines.now }
+{
+    if lines.len() < MOST_SERVERS {
+        return false;
+    }
+    server_count(lines) >= MOST_SERVERS
+}
+
 /// Whether an earlier line has what may be given once.
 fn is_taken(kept: &Kept, place: &SectionPlace, statement: &Statement) -> bool
     ensures { result ≡ is_taken kept.now place.now statement.now }
@@ -225,7 +235,7 @@ fn is_full(kept: &Kept, place: &SectionPlace, statement: &Statement) -> bool
         Statement::Rule(_, _, _) | Statement::UseBackend(_, _) => {
             are_rules(section_lines(place, items))
         }
-        Statement::Server(_) => server_count(section_lines(place, items)) >= MOST_SERVERS,
+        Statement::Server(_) => are_servers(section_lines(place, items)),
         Statement::Nothing
         | Statement::Global
         | Statement::Defaults

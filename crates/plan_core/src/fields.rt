@@ -109,7 +109,7 @@ fn line_server(alloc: Global, item: &ConfigLine) -> Result<Option<Server>, Alloc
 {
     match &item.statement {
         Statement::Server(server) => Ok(Some(Server {
-            name: Seq::duplicate_of(alloc, server.name.bytes())?,
+            name: Seq::of(server.name.bytes().to_vec(alloc)?),
             line: item.line,
             to: server.to,
             weight: server.weight.unwrap_or(1),

@@ -36,6 +36,7 @@ impl<'a> Word<'a> {
     }
 
     /// Whether it is this text.
+    #[inline(always)]
     pub fn is(&self, text: &[u8]) -> bool
         ensures { result ≡ bytes_eq self.now text.now }
     {
