@@ -1,4 +1,6 @@
 pub mod OpenLemmas
+pub mod LiveLemmas
+pub mod DueLemmas
 pub mod VerdictLemmas
 pub mod LinesLemmas
 pub mod RecordLemmas

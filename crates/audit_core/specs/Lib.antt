@@ -1,6 +1,7 @@
 pub mod Record
 pub mod Verdict
 pub mod Standing
+pub mod Awaited
 pub mod Check
 pub mod Line
 pub mod Audit

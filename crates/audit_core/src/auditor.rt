@@ -8,10 +8,11 @@ ghost use Rattle.conn_model.specs.Answer.{answer_in, row_at};
 ghost use Rattle.conn_model.specs.Counts.{server_of, total, open_connections};
 ghost use Rattle.conn_rows.specs.Summaries.{names_in, names_of};
 ghost use Rattle.conn_model.specs.History.{owned_event};
-ghost use Rattle.event_text.specs.Script.{head_read, with_text, words_of, HasLines};
+ghost use Rattle.event_text.specs.Script.{event_read, head_read, with_text, words_of, HasLines};
 ghost use Rattle.replay_core.specs.Turns.{plain_after};
 ghost use Rattle.audit_core.specs.Record.{numbered_head};
 ghost use Rattle.audit_core.specs.Verdict.{fault_at, reply_at, text_at};
+ghost use Rattle.audit_core.specs.Awaited.{due_of};
 ghost use Rattle.audit_core.specs.Standing.{after_head, at_end, is_between, on_due, on_line, IsDue, Standing};
 ghost use Rattle.audit_core.specs.Line.{event_peer};
 ghost use Rattle.audit_core.specs.Printing.{due_reply};
@@ -19,15 +20,15 @@ ghost use Rattle.audit_core.specs.Check.{reading_fault, IsLineFault};
 ghost use Rattle.audit_core.specs.declared.due.Due.TheVariants as dues;
 ghost use Rattle.audit_core.specs.declared.fault.TheConstants.{MOST_RECORD_LINES};
 
-use crate::due::Due;
+use crate::due::{Awaited, NextLine};
 use crate::fault::{CheckFault, CheckKind, MOST_RECORD_LINES};
-use crate::writing::write_recorded;
 use addr_core::Endpoint;
 use conn_core::{Core, ServerNames};
+use conn_model::ask::Ask;
 use conn_model::event::{ConnId, Event};
 use conn_model::plain::FrontendRows;
 use conn_model::reply::{Reply, StepFault};
-use event_text::{FirstLine, PendingReload, read_bar, read_event};
+use event_text::{EventRequest, FirstLine, PendingReload, read_bar, read_event, write_reply_text};
 use line_reader::ReadFault;
 use std::alloc::{AllocError, Global};
 use std::marker::Model;
@@ -42,7 +43,7 @@ pub struct Auditor {
     lines: u64,
     records: u64,
     /// What the next line has to be.
-    due: Due,
+    due: Awaited,
     /// The bytes of the piece of a line.
     piece: Vec<u8>,
     /// The line of a reply.
@@ -52,15 +53,16 @@ pub struct Auditor {
 impl Model for Auditor {
     ghost use Rattle.std.specs.Prelude.{◌≡◌, ◌≤◌, length};
     ghost use Rattle.conn_model.specs.declared.event.TheConstants.{PIECE_LIMIT};
+    ghost use Rattle.audit_core.specs.Awaited.{due_of};
     ghost use Rattle.audit_core.specs.Standing.{IsDue, Standing};
     ghost use Rattle.conn_model.specs.Counts.{open_connections};
     ghost use Rattle.audit_core.specs.declared.fault.TheConstants.{MOST_RECORD_LINES};
 
     ghost Value = { Standing };
 
-    ghost view = { λ a. record { plain = a.core; lines = a.lines; records = a.records; due = a.due } };
+    ghost view = { λ a. record { plain = a.core; lines = a.lines; records = a.records; due = due_of a.due } };
 
-    ghost invariant = { λ a. (a.lines ≤ MOST_RECORD_LINES) × (a.records ≤ a.lines) × (open_connections a.core ≤ a.lines) × (length a.piece.items ≡ PIECE_LIMIT) × IsDue a.due };
+    ghost invariant = { λ a. (a.lines ≤ MOST_RECORD_LINES) × (a.records ≤ a.lines) × (open_connections a.core ≤ a.lines) × (length a.piece.items ≡ PIECE_LIMIT) × IsDue (due_of a.due) };
 }
 
 /// A fault of that line.
@@ -109,35 +111,50 @@ fn add_line(at: u64, pending: &mut PendingReload, line: &[u8]) -> Result<(), Che
 }
 
 /// The peer of an event that is an accept.
-fn peer_of(event: &Event<'_>) -> Option<Endpoint>
-    ensures { result ≡ event_peer (owned_event event.now) }
+fn peer_of(event: &EventRequest) -> Option<Endpoint>
+    ensures { (buffer : List ℕ) → result ≡ event_peer (event_read buffer event.now) }
 {
     match event {
-        Event::Accept(_, real) => Some(real.source()),
-        Event::Piece(..)
-        | Event::Connected(_)
-        | Event::ConnectFailed(_)
-        | Event::Close(..)
-        | Event::Expire(_)
-        | Event::Reload(_) => None,
+        EventRequest::Accept(_, real) => Some(real.source()),
+        EventRequest::Piece(..)
+        | EventRequest::Connected(_)
+        | EventRequest::ConnectFailed(_)
+        | EventRequest::Close(..)
+        | EventRequest::Expire(_) => None,
     }
 }
 
-/// The answer to an event.
+/// The answer to an event, in the place of another one.
 fn step(
     core: &mut Core,
     moment: u64,
     event: &Event<'_>,
-) -> Result<Result<Reply, StepFault>, AllocError>
-    ensures answered { IfOk result (λ answered. answered ≡ answer_in core.old moment (owned_event event.now)) }
+    answered: &mut Result<Reply, StepFault>,
+) -> Result<(), AllocError>
+    ensures answered { OnOk result (answered.new ≡ answer_in core.old moment (owned_event event.now)) }
     ensures plain { OnOk result (core.new ≡ plain_after core.old moment (owned_event event.now) (answer_in core.old moment (owned_event event.now))) }
     ensures err { OnErr result (core.new ≡ core.old) }
 {
-    let answered = core.step(moment, event);
-    if let Err(StepFault::NoMemory) = answered {
-        return Err(AllocError);
+    *answered = core.step(moment, event);
+    match answered {
+        Err(StepFault::NoMemory) => Err(AllocError),
+        Ok(_) | Err(_) => Ok(()),
     }
-    Ok(answered)
+}
+
+/// The same, after which one connection more is open at most.
+fn answer_into(
+    core: &mut Core,
+    moment: u64,
+    event: &Event<'_>,
+    answered: &mut Result<Reply, StepFault>,
+) -> Result<(), AllocError>
+    ensures answered { OnOk result (answered.new ≡ answer_in core.old moment (owned_event event.now)) }
+    ensures plain { OnOk result (core.new ≡ plain_after core.old moment (owned_event event.now) (answer_in core.old moment (owned_event event.now))) }
+    ensures few { OnOk result (open_connections core.new ≤ open_connections core.old + 1) }
+    ensures err { OnErr result (core.new ≡ core.old) }
+{
+    step(core, moment, event, answered)
 }
 
 /// The answer to an event, after which one connection more is open at most.
@@ -151,7 +168,9 @@ pub fn answer(
     ensures few { OnOk result (open_connections core.new ≤ open_connections core.old + 1) }
     ensures err { OnErr result (core.new ≡ core.old) }
 {
-    step(core, moment, event)
+    let mut answered = Err(StepFault::NoSuch);
+    answer_into(core, moment, event, &mut answered)?;
+    Ok(answered)
 }
 
 /// Answers an event by its first line, where its piece is in front of the buffer. Then another line is due: its reply, or
@@ -159,27 +178,27 @@ pub fn answer(
 fn answer_first(
     alloc: Global,
     core: &mut Core,
-    due: &mut Due,
+    due: &mut Awaited,
     first: &FirstLine,
     piece: &[u8],
 ) -> Result<(), AllocError>
-    requires { HasLines first.now }
+    requires lines { HasLines first.now }
+    requires due { IsDue (due_of due.old) }
     ensures after { OnOk result ((s : Standing) → s.plain ≡ core.old → after_head s (head_read piece.now first.now)
-        ≡ record { plain = core.new; lines = s.lines + 1; records = s.records; due = due.new }) }
+        ≡ record { plain = core.new; lines = s.lines + 1; records = s.records; due = due_of due.new }) }
     ensures few { OnOk result (open_connections core.new ≤ open_connections core.old + 1) }
-    ensures due { OnOk result (IsDue due.new) }
-    ensures err { OnErr result ((core.new ≡ core.old) × (due.new ≡ due.old)) }
+    ensures due { IsDue (due_of due.new) }
+    ensures err { OnErr result (core.new ≡ core.old) }
 {
-    match *first {
+    match first {
         FirstLine::Whole(moment, request) => {
-            let event = request.event(piece);
-            let Ok(answered) = answer(core, moment, &event) else {
-                return Err(AllocError);
-            };
-            *due = Due::Reply(peer_of(&event), answered);
+            answer_into(core, *moment, &request.event(piece), &mut due.answered)?;
+            due.peer = peer_of(request);
+            due.next = NextLine::Reply;
         }
         FirstLine::Reload(moment, lines) => {
-            *due = Due::Text(PendingReload::new(alloc, moment, lines));
+            due.reload = PendingReload::new(alloc, *moment, *lines);
+            due.next = NextLine::Text;
         }
     }
     Ok(())
@@ -197,16 +216,16 @@ fn judge_reply(
     ensures ok { OnOk result ((reply : Reply) × (reply_at at answered.now line.now ≡ Ok reply)) }
     ensures err { IfErr result (λ f. (f ≡ fault_at 0 CheckKind.NoMemory) ⊎ (IsLineFault f.kind × (reply_at at answered.now line.now ≡ Err f))) }
 {
-    if !line.starts_with(b"= ") {
+    let Some(given) = line.strip_prefix(b"= ") else {
         return Err(fault_at(at, CheckKind::Format));
-    }
+    };
     match answered {
         Ok(reply) => {
             text.clear();
-            if write_recorded(text, reply).is_err() {
+            if write_reply_text(text, reply).is_err() {
                 return Err(fault_at(0, CheckKind::NoMemory));
             }
-            if line != text.as_slice() {
+            if given != text.as_slice() {
                 return Err(fault_at(at, CheckKind::WrongReply));
             }
             Ok(())
@@ -215,7 +234,22 @@ fn judge_reply(
     }
 }
 
-/// How many connections are open in all frontends.
+/// How many connections are open in all frontends, if these are fewer than 65,535.
+fn open_in_all(core: &Core) -> Option<u64>
+    requires { open_connections core.now < 2 ^ 64 }
+    ensures { IfSome result (λ sum. sum ≡ open_connections core.now) }
+{
+    let mut open = 0u64;
+    for number in 0..u16::MAX {
+        match core.counts(&Ask::Frontend(number)) {
+            Some(counts) => open += counts.cur,
+            None => return Some(open),
+        }
+    }
+    None
+}
+
+/// How many connections are open in the frontends of a list.
 fn count_open(frontends: &[FrontendRows]) -> u64
     requires { total (λ own. length own.rows) frontends.now < 2 ^ 64 }
     ensures { result ≡ total (λ own. length own.rows) frontends.now }
@@ -238,7 +272,7 @@ impl Auditor {
             core,
             lines: 0,
             records: 0,
-            due: Due::Event,
+            due: Awaited::event(alloc),
             piece,
             reply: Vec::new(alloc),
         }
@@ -259,9 +293,12 @@ impl Auditor {
     pub fn answered(&self) -> Option<(Option<Endpoint>, &Reply)>
         ensures { option_map (λ a. (a.0, a.1.now)) result ≡ due_reply self.now.due }
     {
-        match &self.due {
-            Due::Reply(peer, Ok(reply)) => Some((*peer, reply)),
-            Due::Event | Due::Text(_) | Due::Reply(_, Err(_)) => None,
+        match self.due.next {
+            NextLine::Reply => match &self.due.answered {
+                Ok(reply) => Some((self.due.peer, reply)),
+                Err(_) => None,
+            },
+            NextLine::Event | NextLine::Text => None,
         }
     }
 
@@ -269,9 +306,9 @@ impl Auditor {
     pub fn is_between(&self) -> bool
         ensures { result ≡ is_between self.now.due }
     {
-        match &self.due {
-            Due::Event => true,
-            Due::Text(_) | Due::Reply(..) => false,
+        match self.due.next {
+            NextLine::Event => true,
+            NextLine::Text | NextLine::Reply => false,
         }
     }
 
@@ -294,6 +331,9 @@ impl Auditor {
     pub fn live(&self) -> Result<u64, AllocError>
         ensures { IfOk result (λ live. live ≡ open_connections self.now.plain) }
     {
+        if let Some(open) = open_in_all(&self.core) {
+            return Ok(open);
+        }
         let plain = self.core.plain()?;
         Ok(count_open(plain.frontends.as_slice()))
     }
@@ -317,9 +357,9 @@ impl Auditor {
         ensures ok { OnOk result (at_end self.now ≡ Ok self.now) }
         ensures err { IfErr result (λ f. IsLineFault f.kind × (at_end self.now ≡ Err f)) }
     {
-        match &self.due {
-            Due::Event => Ok(()),
-            Due::Text(_) | Due::Reply(..) => Err(fault_at(self.lines + 1, CheckKind::Format)),
+        match self.due.next {
+            NextLine::Event => Ok(()),
+            NextLine::Text | NextLine::Reply => Err(fault_at(self.lines + 1, CheckKind::Format)),
         }
     }
 
@@ -383,35 +423,17 @@ impl Auditor {
         add_line(at, &mut pending, line)?;
         self.lines = at;
         if pending.missing() > 0 {
-            self.due = Due::Text(pending);
+            self.due.reload = pending;
+            self.due.next = NextLine::Text;
             return Ok(());
         }
         let event = pending.event();
-        let Ok(answered) = answer(&mut self.core, pending.moment(), &event) else {
+        let (core, answered) = (&mut self.core, &mut self.due.answered);
+        if answer_into(core, pending.moment(), &event, answered).is_err() {
             return Err(fault_at(0, CheckKind::NoMemory));
-        };
-        self.due = Due::Reply(None, answered);
-        Ok(())
-    }
-
-    /// Checks a line in the place of a reply.
-    fn check_reply(
-        &mut self,
-        peer: Option<Endpoint>,
-        answered: &Result<Reply, StepFault>,
-        line: &[u8],
-    ) -> Result<(), CheckFault>
-        requires short { length line.now ≤ MOST_LINE_BYTES }
-        requires few { self.old.lines < MOST_RECORD_LINES }
-        requires none { self.old.due ≡ dues.Event }
-        ensures ok { OnOk result (on_due self.old (dues.Reply peer answered.now) line.now ≡ Ok self.new) }
-        ensures next { OnOk result ((self.new.lines ≡ self.old.lines + 1) × (self.new.lines ≤ MOST_RECORD_LINES)) }
-        ensures err { IfErr result (λ f. (f ≡ fault_at 0 CheckKind.NoMemory) ⊎ (IsLineFault f.kind × (on_due self.old (dues.Reply peer answered.now) line.now ≡ Err f))) }
-    {
-        let at = self.lines + 1;
-        judge_reply(at, answered, line, &mut self.reply)?;
-        self.lines = at;
-        self.records += 1;
+        }
+        self.due.peer = None;
+        self.due.next = NextLine::Reply;
         Ok(())
     }
 
@@ -425,10 +447,20 @@ impl Auditor {
         if self.lines == MOST_RECORD_LINES {
             return Err(fault_at(self.lines + 1, CheckKind::TooLong));
         }
-        match mem::replace(&mut self.due, Due::Event) {
-            Due::Event => self.check_event(line),
-            Due::Text(pending) => self.check_text(pending, line),
-            Due::Reply(peer, answered) => self.check_reply(peer, &answered, line),
+        match mem::replace(&mut self.due.next, NextLine::Event) {
+            NextLine::Event => self.check_event(line),
+            NextLine::Text => {
+                let none = PendingReload::new(self.alloc, 0, 0);
+                let pending = mem::replace(&mut self.due.reload, none);
+                self.check_text(pending, line)
+            }
+            NextLine::Reply => {
+                let at = self.lines + 1;
+                judge_reply(at, &self.due.answered, line, &mut self.reply)?;
+                self.lines = at;
+                self.records += 1;
+                Ok(())
+            }
         }
     }
 }

@@ -24,8 +24,9 @@ pub fn write_record(out: &mut Vec<u8>, entry: &Record) -> Result<(), AllocError>
     ensures { OnOk result (out.new.items ≡ out.old.items ++ entry_text entry.now.number (entry_of entry.now)) }
 {
     append_decimal(out, entry.number)?;
-    out.extend_from_slice(b" ")?;
+    out.push(b' ')?;
     write_event(out, entry.moment, &entry.event)?;
     write_recorded(out, &entry.reply)?;
-    out.extend_from_slice(b"\n")
+    out.push(b'\n')?;
+    Ok(())
 }

@@ -4,7 +4,7 @@ use Rattle.conn_model.specs.Answer.{answer_in}
 use Rattle.conn_model.specs.History.{owned_event}
 use Rattle.conn_model.specs.Counts.{open_connections}
 use Rattle.audit_core.proofs.OpenLemmas.{open_answered}
-use Rattle.audit_core.proofs.auditor.answer.Goals as goal
+use Rattle.audit_core.proofs.auditor.answer_into.Goals as goal
 
 pub returns-clause-few : goal.returns-clause-few
 returns-clause-few c =
