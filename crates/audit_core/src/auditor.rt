@@ -60,9 +60,12 @@ impl Model for Auditor {
 
     ghost Value = { Standing };
 
-    ghost view = { λ a. record { plain = a.core; lines = a.lines; records = a.records; due = due_of a.due } };
+    ghost view = { λ a.
+        record { plain = a.core; lines = a.lines; records = a.records; due = due_of a.due } };
 
-    ghost invariant = { λ a. (a.lines ≤ MOST_RECORD_LINES) × (a.records ≤ a.lines) × (open_connections a.core ≤ a.lines) × (length a.piece.items ≡ PIECE_LIMIT) × IsDue (due_of a.due) };
+    ghost invariant = { λ a. (a.lines ≤ MOST_RECORD_LINES) × (a.records ≤ a.lines)
+        × (open_connections a.core ≤ a.lines) × (length a.piece.items ≡ PIECE_LIMIT)
+        × IsDue (due_of a.due) };
 }
 
 /// A fault of that line.
@@ -131,7 +134,8 @@ fn step(
     event: &Event<'_>,
     answered: &mut Result<Reply, StepFault>,
 ) -> Result<(), AllocError>
-    ensures answered { OnOk result (answered.new ≡ answer_in core.old moment (owned_event event.now)) }
+    ensures answered { OnOk result
+        (answered.new ≡ answer_in core.old moment (owned_event event.now)) }
     ensures plain { OnOk result (core.new ≡ plain_after core.old moment (owned_event event.now) (answer_in core.old moment (owned_event event.now))) }
     ensures err { OnErr result (core.new ≡ core.old) }
 {
@@ -149,7 +153,8 @@ fn answer_into(
     event: &Event<'_>,
     answered: &mut Result<Reply, StepFault>,
 ) -> Result<(), AllocError>
-    ensures answered { OnOk result (answered.new ≡ answer_in core.old moment (owned_event event.now)) }
+    ensures answered { OnOk result
+        (answered.new ≡ answer_in core.old moment (owned_event event.now)) }
     ensures plain { OnOk result (core.new ≡ plain_after core.old moment (owned_event event.now) (answer_in core.old moment (owned_event event.now))) }
     ensures few { OnOk result (open_connections core.new ≤ open_connections core.old + 1) }
     ensures err { OnErr result (core.new ≡ core.old) }
@@ -185,7 +190,12 @@ fn answer_first(
     requires lines { HasLines first.now }
     requires due { IsDue (due_of due.old) }
     ensures after { OnOk result ((s : Standing) → s.plain ≡ core.old → after_head s (head_read piece.now first.now)
-        ≡ record { plain = core.new; lines = s.lines + 1; records = s.records; due = due_of due.new }) }
+        ≡ record {
+          plain = core.new;
+          lines = s.lines + 1;
+          records = s.records;
+          due = due_of due.new;
+        }) }
     ensures few { OnOk result (open_connections core.new ≤ open_connections core.old + 1) }
     ensures due { IsDue (due_of due.new) }
     ensures err { OnErr result (core.new ≡ core.old) }

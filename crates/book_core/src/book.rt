@@ -37,7 +37,7 @@ pub enum CutFault {
     Full,
 }
 
-/// By how many records of the last segment the next journal is measured at the most.
+/// A journal asks for room for so many records at once at the most, and an eighth more.
 const MOST_ROOM: usize = 512;
 
 /// A core with the records of all that it answered. Those in memory are its journal; a cut hands them over as one
@@ -49,7 +49,7 @@ pub struct Book {
     journal: Vec<Record>,
     segments: Producer<Segment>,
     made: u64,
-    /// How many records the segment had that was cut last.
+    /// How many records the latest segment has.
     latest: usize,
 }
 
@@ -63,8 +63,8 @@ impl Model for Book {
     ghost invariant = { λ b. IsBook (state_of b.base b.journal.items b.segments b.core b.made) };
 }
 
-/// Makes room for one record more. A journal without any gets it at once for that many and an eighth more, if there is
-/// memory: the next segment will have about as many as the last one.
+/// Makes room for one record more. A journal without any asks for so many at once, since its segment will have about as
+/// many as the latest one.
 fn make_room(journal: &mut Vec<Record>, count: usize) -> Result<(), AllocError>
     ensures items { journal.new.items ≡ journal.old.items }
     ensures room { OnOk result (vec_len journal.new < vec_capacity journal.new) }

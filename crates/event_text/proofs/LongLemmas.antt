@@ -1,11 +1,8 @@
 -- Lines with a word too many hand in no event.
 use Rattle.std.proofs.Common.{◌≡◌, ℕ, List, ◌∷◌, None, refl}
 use Rattle.std.specs.List.{slice_split}
-use Rattle.event_text.specs.Script.{accept_of, backend_asked, bare_event_of, close_of, entry_asked, frontend_asked, id_in, is_mark, piece_of, reload_of, server_asked, words_of}
+use Rattle.event_text.specs.Script.{backend_asked, close_of, entry_asked, frontend_asked, id_in, is_mark, piece_of, reload_of, server_asked, words_of}
 use Rattle.text_core.proofs.CutLemmas.{split_first}
-
-pub accept_long : (a b c text : List ℕ) → accept_of (a ∷ b ∷ c ∷ words_of text) ≡ None
-accept_long a b c text = let some = split_first (is_mark 0x20) text in rw (some.2) refl
 
 pub close_long : (a b text : List ℕ) → close_of (a ∷ b ∷ words_of text) ≡ None
 close_long a b text = let some = split_first (is_mark 0x20) text in rw (some.2) refl
@@ -27,9 +24,6 @@ backend_long a text = let some = split_first (is_mark 0x20) text in rw (some.2) 
 
 pub server_long : (a b text : List ℕ) → server_asked (a ∷ b ∷ words_of text) ≡ None
 server_long a b text = let some = split_first (is_mark 0x20) text in rw (some.2) refl
-
-pub bare_long : (verb a text : List ℕ) → bare_event_of verb (a ∷ words_of text) ≡ None
-bare_long verb a text = let some = split_first (is_mark 0x20) text in rw (some.2) refl
 
 pub reload_long : (moment : ℕ) (a text : List ℕ) → reload_of moment (a ∷ words_of text) ≡ None
 reload_long moment a text = let some = split_first (is_mark 0x20) text in rw (some.2) refl

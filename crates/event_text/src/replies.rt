@@ -76,7 +76,8 @@ fn push_dotted<const CAP: usize>(text: &mut ArrayVec<u8, CAP>, number: u32)
 /// Appends a word, an IPv4 address after it, and a port. There must be room.
 fn push_place<const CAP: usize>(text: &mut ArrayVec<u8, CAP>, name: &[u8], number: u32, port: u16)
     requires { length text.old.items + length name.now + 29 ≤ CAP }
-    ensures text { text.new.items ≡ text.old.items ++ (name.now ++ text_of (V4 number) ++ codes ":" ++ decimal port) }
+    ensures text { text.new.items
+        ≡ text.old.items ++ (name.now ++ text_of (V4 number) ++ codes ":" ++ decimal port) }
     ensures fits { length text.new.items ≤ length text.old.items + length name.now + 29 }
 {
     push_word(text, name);
@@ -137,7 +138,8 @@ pub fn write_named(out: &mut Vec<u8>, name: &[u8], id: &ConnId) -> Result<(), Al
 /// A word, the name of a connection after it, and why it ended.
 pub fn write_ended(out: &mut Vec<u8>, name: &[u8], id: &ConnId, why: &Why) -> Result<(), AllocError>
     requires { length name.now ≤ MOST_WORD_BYTES }
-    ensures { OnOk result (out.new.items ≡ out.old.items ++ (name.now ++ id_text id.now ++ codes " " ++ why_text why.now)) }
+    ensures { OnOk result (out.new.items
+        ≡ out.old.items ++ (name.now ++ id_text id.now ++ codes " " ++ why_text why.now)) }
 {
     let Ok(serial) = u16::try_from(id.serial) else {
         write_named(out, name, id)?;
@@ -154,7 +156,8 @@ pub fn write_ended(out: &mut Vec<u8>, name: &[u8], id: &ConnId, why: &Why) -> Re
 
 /// The address and the port of an endpoint of IPv4.
 fn v4_place(endpoint: &Endpoint) -> Option<(u32, u16)>
-    ensures { IfSome result (λ place. (endpoint.now.addr ≡ V4 place.0) × (endpoint.now.port ≡ place.1)) }
+    ensures { IfSome result
+        (λ place. (endpoint.now.addr ≡ V4 place.0) × (endpoint.now.port ≡ place.1)) }
 {
     match endpoint.addr {
         Addr::V4(number) => Some((number, endpoint.port)),
@@ -164,7 +167,9 @@ fn v4_place(endpoint: &Endpoint) -> Option<(u32, u16)>
 
 /// The listener of an accept, the client and the local end of its connection.
 pub fn write_accept(out: &mut Vec<u8>, listener: u16, real: &Pair) -> Result<(), AllocError>
-    ensures { OnOk result (out.new.items ≡ out.old.items ++ (codes " accept " ++ decimal listener ++ codes " " ++ endpoint_text real.now.source ++ codes " " ++ endpoint_text real.now.destination)) }
+    ensures { OnOk result (out.new.items ≡ out.old.items ++ (codes " accept " ++ decimal listener
+        ++ codes " " ++ endpoint_text real.now.source
+        ++ codes " " ++ endpoint_text real.now.destination)) }
 {
     let (peer, local) = (real.source(), real.destination());
     if let (Some(from), Some(to)) = (v4_place(&peer), v4_place(&local)) {
@@ -288,7 +293,9 @@ pub fn write_cause(out: &mut Vec<u8>, cause: &Cause) -> Result<(), AllocError>
 fn push_given<const CAP: usize>(text: &mut ArrayVec<u8, CAP>, id: &ConnId, used: u16, line: u16)
     requires serial { id.now.serial < 2 ^ 16 }
     requires room { length text.old.items + 40 ≤ CAP }
-    ensures text { text.new.items ≡ text.old.items ++ (codes "offer " ++ id_text id.now ++ codes " used " ++ decimal used ++ codes " line " ++ decimal line) }
+    ensures text { text.new.items ≡ text.old.items
+        ++ (codes "offer " ++ id_text id.now
+        ++ codes " used " ++ decimal used ++ codes " line " ++ decimal line) }
     ensures fits { length text.new.items ≤ length text.old.items + 40 }
 {
     push_word(text, b"offer ");
@@ -311,10 +318,13 @@ fn write_short_offer(
     destination: (u32, u16),
 ) -> Result<(), AllocError>
     requires { id.now.serial < 2 ^ 16 }
-    ensures { OnOk result (out.new.items ≡ out.old.items ++ (codes "offer " ++ id_text id.now ++ codes " used " ++ decimal used ++ codes " line " ++ decimal line
+    ensures { OnOk result (out.new.items ≡ out.old.items
+        ++ (codes "offer " ++ id_text id.now
+        ++ codes " used " ++ decimal used ++ codes " line " ++ decimal line
         ++ codes " to " ++ (text_of (V4 to.0) ++ codes ":" ++ decimal to.1)
         ++ codes " src " ++ (text_of (V4 source.0) ++ codes ":" ++ decimal source.1)
-        ++ codes " dst " ++ (text_of (V4 destination.0) ++ codes ":" ++ decimal destination.1) ++ codes " send ")) }
+        ++ codes " dst " ++ (text_of (V4 destination.0) ++ codes ":" ++ decimal destination.1)
+        ++ codes " send ")) }
 {
     let mut text: ArrayVec<u8, OFFER_BYTES> = ArrayVec::new();
     push_given(&mut text, id, used, line);
@@ -364,8 +374,11 @@ fn write_offer(
     to: &Endpoint,
     judged: &Pair,
 ) -> Result<(), AllocError>
-    ensures { OnOk result (out.new.items ≡ out.old.items ++ (codes "offer " ++ id_text id.now ++ codes " used " ++ decimal used ++ codes " line " ++ decimal line
-        ++ codes " to " ++ endpoint_text to.now ++ codes " src " ++ endpoint_text judged.now.source ++ codes " dst " ++ endpoint_text judged.now.destination ++ codes " send ")) }
+    ensures { OnOk result (out.new.items ≡ out.old.items
+        ++ (codes "offer " ++ id_text id.now
+        ++ codes " used " ++ decimal used ++ codes " line " ++ decimal line
+        ++ codes " to " ++ endpoint_text to.now ++ codes " src " ++ endpoint_text judged.now.source
+        ++ codes " dst " ++ endpoint_text judged.now.destination ++ codes " send ")) }
 {
     if are_short(id, used, line) {
         let ends = (judged.source(), judged.destination());

@@ -444,6 +444,7 @@ fn count_request(rest: &[u8]) -> Option<Request>
     Some(Request::Ask(ask))
 }
 
+/// What a line asks for. Only a line that begins with an `a` may ask for counts.
 fn request_in(line: &[u8], buffer: &mut [u8]) -> Option<Request>
     requires { length buffer.old ≡ PIECE_LIMIT }
     ensures request { option_map (wanted buffer.new) result ≡ wanted_of (words_of line.now) }
