@@ -1,5 +1,5 @@
 //! A core with its records.
-ghost use Rattle.std.specs.Prelude.{◌≡◌, ◌↔◌, ◌<◌, ◌≤◌, ◌+◌, ◌^◌, [], ◌∷◌, ◌++◌, length, vec_len, vec_capacity, IfOk, IfErr, OnErr, OnOk, Err, Ok};
+ghost use Rattle.std.specs.Prelude.{◌≡◌, ◌↔◌, ◌<◌, ◌≤◌, ◌+◌, ◌^◌, [], ◌∷◌, ◌++◌, length, IfOk, IfErr, OnErr, OnOk, Err, Ok};
 ghost use Rattle.conn_model.specs.Counts.{counts_in, open_connections};
 ghost use Rattle.conn_model.specs.History.{answer, counts, entry, owned_event};
 ghost use Rattle.conn_model.specs.Settings.{settings_in};
@@ -17,7 +17,7 @@ use conn_model::settings::Settings;
 use list_core::Seq;
 use record_core::{Record, Segment, copy_event, copy_reply};
 use rtrb::{Consumer, Producer};
-use std::alloc::{AllocError, AllocFailed, Global};
+use std::alloc::{AllocFailed, Global};
 use std::marker::Model;
 use std::mem;
 
@@ -37,9 +37,6 @@ pub enum CutFault {
     Full,
 }
 
-/// A journal asks for room for so many records at once at the most, and an eighth more.
-const MOST_ROOM: usize = 512;
-
 /// A core with the records of all that it answered. Those in memory are its journal; a cut hands them over as one
 /// segment. It cannot be dropped: it ends by `end`.
 pub struct Book {
@@ -49,8 +46,6 @@ pub struct Book {
     journal: Vec<Record>,
     segments: Producer<Segment>,
     made: u64,
-    /// How many records the latest segment has.
-    latest: usize,
 }
 
 impl Model for Book {
@@ -61,19 +56,6 @@ impl Model for Book {
     ghost view = { λ b. state_of b.base b.journal.items b.segments b.core b.made };
 
     ghost invariant = { λ b. IsBook (state_of b.base b.journal.items b.segments b.core b.made) };
-}
-
-/// Makes room for one record more. A journal without any asks for so many at once, since its segment will have about as
-/// many as the latest one.
-fn make_room(journal: &mut Vec<Record>, count: usize) -> Result<(), AllocError>
-    ensures items { journal.new.items ≡ journal.old.items }
-    ensures room { OnOk result (vec_len journal.new < vec_capacity journal.new) }
-{
-    let few = count.min(MOST_ROOM);
-    if few > 0 && journal.capacity() == 0 && journal.reserve(few + few / 8).is_ok() {
-        return Ok(());
-    }
-    journal.reserve(1)
 }
 
 impl Book {
@@ -97,7 +79,6 @@ impl Book {
                 journal: Vec::new(alloc),
                 segments,
                 made: 0,
-                latest: 0,
             }),
             Err(_) => Err(AllocFailed {
                 value: (core, segments),
@@ -132,7 +113,7 @@ impl Book {
         if self.made == u64::MAX {
             return Err(StepFault::Exhausted);
         }
-        let Ok(()) = make_room(&mut self.journal, self.latest) else {
+        let Ok(()) = self.journal.reserve(1) else {
             return Err(StepFault::NoMemory);
         };
         let Ok(kept) = copy_event(self.alloc, event) else {
@@ -176,7 +157,6 @@ impl Book {
             return Err(CutFault::Full);
         }
         let first = self.made - self.journal.len() as u64 + 1;
-        self.latest = self.journal.len();
         let records = mem::replace(&mut self.journal, Vec::new(self.alloc));
         self.segments.push_reserved(Segment {
             first,
@@ -245,7 +225,6 @@ impl Book {
             journal: _journal,
             segments: _segments,
             made: _,
-            latest: _,
         } = self;
         core.end();
     }
