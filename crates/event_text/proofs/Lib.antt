@@ -4,5 +4,4 @@ pub mod EventLemmas
 pub mod LongLemmas
 pub mod DigitLemmas
 pub mod LineLemmas
-pub mod TableLemmas
 pub mod FrontLemmas

@@ -1,4 +1,3 @@
-pub mod Digits
 pub mod Script
 pub mod Replies
 pub mod Fronts

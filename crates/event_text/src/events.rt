@@ -2,7 +2,7 @@
 ghost use Rattle.std.specs.Prelude.{◌≡◌, ◌+◌, ◌<◌, ◌^◌, ◌++◌, ◌∷◌, length, codes, OnOk, Some};
 ghost use Rattle.event_text.specs.Script.{bar_lines, ended_lines, event_in_lines, event_line, event_lines, event_text, text_lines, IsHandedIn};
 
-use crate::digits::write_bytes;
+use crate::digits::write_piece;
 use crate::replies::{write_accept, write_byte, write_ended, write_field, write_named, write_text};
 use conn_model::event::OwnedEvent;
 use std::alloc::AllocError;
@@ -32,7 +32,7 @@ fn write_words(out: &mut Vec<u8>, moment: u64, event: &OwnedEvent) -> Result<(),
         OwnedEvent::Piece(id, bytes) => {
             write_named(out, b" piece ", id)?;
             write_byte(out, b' ')?;
-            write_bytes(out, bytes.as_slice())
+            write_piece(out, bytes.as_slice())
         }
         OwnedEvent::Connected(id) => write_named(out, b" connected ", id),
         OwnedEvent::ConnectFailed(id) => write_named(out, b" failed ", id),

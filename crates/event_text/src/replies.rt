@@ -8,7 +8,7 @@ ghost use Rattle.config_core.specs.Names.{open_text};
 ghost use Rattle.event_text.specs.Script.{bytes_text, id_text, why_text};
 ghost use Rattle.event_text.specs.Replies.{cause_text, count_line, fault_line, fault_name, header_fault_text, reply_line, reply_text, said_text, track_text};
 
-use crate::digits::write_bytes;
+use crate::digits::write_header;
 use addr_core::{Addr, Endpoint, Pair};
 use arrayvec::ArrayVec;
 use config_core::OpenFault;
@@ -413,7 +413,7 @@ fn write_said(out: &mut Vec<u8>, said: &Said) -> Result<(), AllocError>
             send,
         } => {
             write_offer(out, id, *used, *line, to, judged)?;
-            write_bytes(out, send.as_slice())
+            write_header(out, send.as_slice())
         }
         Said::Refuse { id, used, cause } => {
             write_named(out, b"refuse ", id)?;
