@@ -18,7 +18,7 @@ use Rattle.indexmap.specs.IndexMap.{set_value_at, insert_entry}
 use Rattle.indexmap.proofs.MapLemmas.{absent_from_lookup, insert_entry-absent, some_index}
 use Rattle.indexmap.specs.Layout.{length-set_value_at}
 use Rattle.stick_core.specs.declared.entries.StickEntry.{StickEntry}
-use Rattle.stick_core.specs.declared.touch_list.KeyCounts.{KeyCounts}
+use Rattle.stick_core.specs.declared.touch_list.Counts.{Counts}
 use Rattle.stick_core.specs.Entries.{is_of, is_free, others, touched, without_first_free}
 use Rattle.stick_core.specs.Places.{entry_at, entry_of_pair, free_at, nothing, ranked, IsKept}
 use Rattle.stick_core.specs.Ring.{Ranking, Has, Lacks, Distinct, Below, without, first_of, next_of}
@@ -114,14 +114,14 @@ map-push f (x ∷ xs) p = ap (λ l. f x ∷ l) (map-push f xs p)
 abbrev pub IsKeyEq : (Addr → Addr → Bool) → Type 0
 IsKeyEq eq = (a b : Addr) → eq a b ≡ same_addr b a
 
-key-at : (es : List (Addr × KeyCounts)) (q : ℕ) → q < length es → get_or (keys_of es) q (V4 0) ≡ (entry_at es q).key
+key-at : (es : List (Addr × Counts)) (q : ℕ) → q < length es → get_or (keys_of es) q (V4 0) ≡ (entry_at es q).key
 key-at es q less = get_or-map (λ e. e.0) es q nothing (V4 0) less
 
-length-keys : (es : List (Addr × KeyCounts)) → length (keys_of es) ≡ length es
+length-keys : (es : List (Addr × Counts)) → length (keys_of es) ≡ length es
 length-keys [] = refl
 length-keys (e ∷ es) = ap suc (length-keys es)
 
-pub is_at : (eq : Addr → Addr → Bool) → IsKeyEq eq → (es : List (Addr × KeyCounts)) (key : Addr) (p : ℕ) → IsDistinct eq (keys_of es) → position (eq key) (keys_of es) ≡ Some p
+pub is_at : (eq : Addr → Addr → Bool) → IsKeyEq eq → (es : List (Addr × Counts)) (key : Addr) (p : ℕ) → IsDistinct eq (keys_of es) → position (eq key) (keys_of es) ≡ Some p
     → (p < length es) × IsAt (λ q. is_of key (entry_at es q)) (length es) p × (is_of key (entry_at es p) ≡ true)
 is_at eq tied es key p once found = (within, at, own)
   where
@@ -155,7 +155,7 @@ is_at eq tied es key p once found = (within, at, own)
             side true lt = same_addr-sym (entry_at es p).key (entry_at es q).key (differ q p (grind (arith, nat_tests)) within)
             side false ge = let apart : q ≢ p = eqb-differ q p is in differ p q (grind (arith, nat_tests)) less
 
-pub found-entry : (eq : Addr → Addr → Bool) → IsKeyEq eq → (es : List (Addr × KeyCounts)) (touched free : Ranking) (key : Addr) (p : ℕ) → IsKept es touched free
+pub found-entry : (eq : Addr → Addr → Bool) → IsKeyEq eq → (es : List (Addr × Counts)) (touched free : Ranking) (key : Addr) (p : ℕ) → IsKept es touched free
     → IsDistinct eq (keys_of es) → position (eq key) (keys_of es) ≡ Some p → find (is_of key) (ranked es touched.order) ≡ Some (entry_at es p)
 found-entry eq tied es touched free key p kept once found =
     let at : (p < length es) × IsAt (λ q. is_of key (entry_at es q)) (length es) p × (is_of key (entry_at es p) ≡ true) = is_at eq tied es key p once found in
@@ -173,7 +173,7 @@ any-none {X} p (x ∷ xs) k d none less = by (p x) refl none (λ j rest in_xs. a
         at zero less = is
         at (suc j) less = more j (rw is at none) (omega (arith, less))
 
-pub missing-entry : (eq : Addr → Addr → Bool) → IsKeyEq eq → (es : List (Addr × KeyCounts)) (touched free : Ranking) (key : Addr) → IsKept es touched free
+pub missing-entry : (eq : Addr → Addr → Bool) → IsKeyEq eq → (es : List (Addr × Counts)) (touched free : Ranking) (key : Addr) → IsKept es touched free
     → position (eq key) (keys_of es) ≡ None → find (is_of key) (ranked es touched.order) ≡ None
 missing-entry eq tied es touched free key kept missing =
     let none : list_any (eq key) (keys_of es) ≡ false = sym (is_some-position (eq key) (keys_of es)) ∙ ap (λ o. is_some o) missing in
@@ -197,7 +197,7 @@ none-has f key (x ∷ xs) q none has = by (is_of key (f x)) refl none has (none-
     by false is none (inl here) more = ap (λ k. is_of key (f k)) here ∙ is
     by false is none (inr there) more = more (rw is at none) there
 
-no-place : (es : List (Addr × KeyCounts)) (touched free : Ranking) (key : Addr) → IsKept es touched free
+no-place : (es : List (Addr × Counts)) (touched free : Ranking) (key : Addr) → IsKept es touched free
     → find (is_of key) (ranked es touched.order) ≡ None → position (eq-value.it key) (keys_of es) ≡ None
 no-place es touched free key kept none = by (position (eq-value.it key) (keys_of es)) refl
   where
@@ -212,19 +212,19 @@ no-place es touched free key kept none = by (position (eq-value.it key) (keys_of
         absurd (let wrong : true ≡ false = sym own ∙ none-has (entry_at es) key touched.order p none (kept.each p within) in cc)
 
 -- a key that is not found goes last into the index
-pub inserted : (es : List (Addr × KeyCounts)) (touched free : Ranking) (key : Addr) (counts : KeyCounts) → IsKept es touched free
+pub inserted : (es : List (Addr × Counts)) (touched free : Ranking) (key : Addr) (counts : Counts) → IsKept es touched free
     → find (is_of key) (ranked es touched.order) ≡ None → insert_entry eq-value.it es key counts ≡ es ++ (key, counts) ∷ []
 inserted es touched free key counts kept none =
     let no_index : position (eq-value.it key) (keys_of es) ≡ None = no-place es touched free key kept none in
     let gone : is_some (lookup (eq-value.it key) es) ≡ false = sym (some_index (eq-value.it key) es) ∙ ap (λ o. is_some o) no_index in
     insert_entry-absent eq-value.it key counts es (absent_from_lookup (eq-value.it key) es (no-value (lookup (eq-value.it key) es) gone))
   where
-    no-value : (o : Option KeyCounts) → is_some o ≡ false → o ≡ None
+    no-value : (o : Option Counts) → is_some o ≡ false → o ≡ None
     no-value None is = refl
     no-value (Some counts) is = absurd (cc)
 
 -- more room changes nothing else
-pub kept-same : (es es' : List (Addr × KeyCounts)) (t t' f f' : Ranking) → IsKept es t f → es' ≡ es → t' ≡ record t { spare = t'.spare } → f' ≡ record f { spare = f'.spare }
+pub kept-same : (es es' : List (Addr × Counts)) (t t' f f' : Ranking) → IsKept es t f → es' ≡ es → t' ≡ record t { spare = t'.spare } → f' ≡ record f { spare = f'.spare }
     → IsKept es' t' f'
 kept-same es es' t t' f f' kept same to fo =
     let order : t'.order ≡ t.order = ap (λ r. r.order) to in
@@ -240,12 +240,12 @@ kept-same es es' t t' f f' kept same to fo =
     }
 
 -- Writes at a place.
-pub at-set : (es : List (Addr × KeyCounts)) (p : ℕ) (counts : KeyCounts) → p < length es → get_or (set_value_at es p counts) p nothing ≡ ((get_or es p nothing).0, counts)
+pub at-set : (es : List (Addr × Counts)) (p : ℕ) (counts : Counts) → p < length es → get_or (set_value_at es p counts) p nothing ≡ ((get_or es p nothing).0, counts)
 at-set [] p counts less = absurd (omega (arith, less))
 at-set (e ∷ es) zero counts less = refl
 at-set (e ∷ es) (suc p) counts less = at-set es p counts (omega (arith, less))
 
-pub at-set-apart : (es : List (Addr × KeyCounts)) (p : ℕ) (counts : KeyCounts) (q : ℕ) → q ≢ p → get_or (set_value_at es p counts) q nothing ≡ get_or es q nothing
+pub at-set-apart : (es : List (Addr × Counts)) (p : ℕ) (counts : Counts) (q : ℕ) → q ≢ p → get_or (set_value_at es p counts) q nothing ≡ get_or es q nothing
 at-set-apart [] p counts q apart = refl
 at-set-apart (e ∷ es) zero counts zero apart = absurd (apart refl)
 at-set-apart (e ∷ es) zero counts (suc q) apart = refl
@@ -256,29 +256,29 @@ length-map : (f : ℕ → StickEntry) (xs : List ℕ) → length (map f xs) ≡ 
 length-map f [] = refl
 length-map f (x ∷ xs) = ap suc (length-map f xs)
 
-pub set-entry : (es : List (Addr × KeyCounts)) (p : ℕ) (counts : KeyCounts) (e : StickEntry) → p < length es → e.key ≡ (entry_at es p).key → counts.cur ≡ e.cur → counts.cnt ≡ e.cnt → entry_at (set_value_at es p counts) p ≡ e
+pub set-entry : (es : List (Addr × Counts)) (p : ℕ) (counts : Counts) (e : StickEntry) → p < length es → e.key ≡ (entry_at es p).key → counts.cur ≡ e.cur → counts.cnt ≡ e.cnt → entry_at (set_value_at es p counts) p ≡ e
 set-entry es p counts e less key cur cnt = ap entry_of_pair (at-set es p counts less) ∙ rw (← key, cur, cnt) refl
 
-pub set-entry-apart : (es : List (Addr × KeyCounts)) (p : ℕ) (counts : KeyCounts) (q : ℕ) → q ≢ p → entry_at (set_value_at es p counts) q ≡ entry_at es q
+pub set-entry-apart : (es : List (Addr × Counts)) (p : ℕ) (counts : Counts) (q : ℕ) → q ≢ p → entry_at (set_value_at es p counts) q ≡ entry_at es q
 set-entry-apart es p counts q apart = ap entry_of_pair (at-set-apart es p counts q apart)
 
 -- the free places once a place is moved to the end
-pub free-moved : (es es' : List (Addr × KeyCounts)) (p : ℕ) (xs : List ℕ) → ((q : ℕ) → q ≢ p → entry_at es' q ≡ entry_at es q)
+pub free-moved : (es es' : List (Addr × Counts)) (p : ℕ) (xs : List ℕ) → ((q : ℕ) → q ≢ p → entry_at es' q ≡ entry_at es q)
     → filter (free_at es') (without p xs ++ p ∷ []) ≡ without p (filter (free_at es) xs) ++ cond (free_at es' p) (p ∷ []) []
 free-moved es es' p xs apart =
     filter-push (free_at es') (without p xs) p
     ∙ ap (λ l. l ++ cond (free_at es' p) (p ∷ []) [])
     (filter-apart (free_at es) (free_at es') p (λ q differ. ap is_free (apart q differ)) (without p xs) (lacks-itself p xs) ∙ filter-without (free_at es) p xs)
 
-length-ranked : (es : List (Addr × KeyCounts)) (xs : List ℕ) → length (ranked es xs) ≡ length xs
+length-ranked : (es : List (Addr × Counts)) (xs : List ℕ) → length (ranked es xs) ≡ length xs
 length-ranked es xs = length-map (entry_at es) xs
 
 -- there are as many entries as places
-pub length-kept : (es : List (Addr × KeyCounts)) (t f : Ranking) → IsKept es t f → length (ranked es t.order) ≡ length es
+pub length-kept : (es : List (Addr × Counts)) (t f : Ranking) → IsKept es t f → length (ranked es t.order) ≡ length es
 length-kept es t f kept = length-ranked es t.order ∙ kept.count
 
 -- a place whose entry is changed is moved to the end
-pub kept-moved : (es es' : List (Addr × KeyCounts)) (p : ℕ) (t t' f f' : Ranking) → IsKept es t f → p < length es → length es' ≡ length es
+pub kept-moved : (es es' : List (Addr × Counts)) (p : ℕ) (t t' f f' : Ranking) → IsKept es t f → p < length es → length es' ≡ length es
     → ((q : ℕ) → q ≢ p → entry_at es' q ≡ entry_at es q)
     → t' ≡ record t { order = without p t.order ++ p ∷ [] }
     → f'.places ≡ f.places → f'.order ≡ without p f.order ++ cond (free_at es' p) (p ∷ []) []
@@ -302,7 +302,7 @@ kept-moved es es' p t t' f f' kept less len apart moved fp fo =
     }
 
 -- the entries then
-ranked-moved : (es es' : List (Addr × KeyCounts)) (p : ℕ) (xs : List ℕ) → ((q : ℕ) → q ≢ p → entry_at es' q ≡ entry_at es q)
+ranked-moved : (es es' : List (Addr × Counts)) (p : ℕ) (xs : List ℕ) → ((q : ℕ) → q ≢ p → entry_at es' q ≡ entry_at es q)
     → ranked es' (without p xs ++ p ∷ []) ≡ ranked es (without p xs) ++ entry_at es' p ∷ []
 ranked-moved es es' p xs apart =
     map-push (entry_at es') (without p xs) p ∙ ap (λ l. l ++ entry_at es' p ∷ []) (map-apart (entry_at es) (entry_at es') p apart (without p xs) (lacks-itself p xs))
@@ -310,12 +310,12 @@ ranked-moved es es' p xs apart =
 -- The entry of a key is changed.
 
 -- what the writes then come to
-pub record IsPut (es es' : List (Addr × KeyCounts)) (t t' f f' : Ranking) (key : Addr) (e : StickEntry) : Type 0 where
+pub record IsPut (es es' : List (Addr × Counts)) (t t' f f' : Ranking) (key : Addr) (e : StickEntry) : Type 0 where
   pub kept : IsKept es' t' f'
   pub entries : ranked es' t'.order ≡ others key (ranked es t.order) ++ e ∷ []
   pub len : length (ranked es' t'.order) ≡ length (ranked es t.order)
 
-pub put : (es es' : List (Addr × KeyCounts)) (t t' f f' : Ranking) (key : Addr) (e : StickEntry) (counts : KeyCounts) (p : ℕ) → IsKept es t f
+pub put : (es es' : List (Addr × Counts)) (t t' f f' : Ranking) (key : Addr) (e : StickEntry) (counts : Counts) (p : ℕ) → IsKept es t f
     → IsDistinct eq-value.it (keys_of es) → position (eq-value.it key) (keys_of es) ≡ Some p → e.key ≡ key
     → counts.cur ≡ e.cur → counts.cnt ≡ e.cnt → es' ≡ set_value_at es p counts
     → t' ≡ record t { order = without p t.order ++ p ∷ [] }
@@ -340,12 +340,12 @@ put es es' t t' f f' key e counts p kept once found own cur cnt written moved fr
     }
 
 -- and the entry of a key at its place, changed
-pub record IsChanged (change : StickEntry → StickEntry) (es es' : List (Addr × KeyCounts)) (t t' f' : Ranking) (key : Addr) : Type 0 where
+pub record IsChanged (change : StickEntry → StickEntry) (es es' : List (Addr × Counts)) (t t' f' : Ranking) (key : Addr) : Type 0 where
   pub kept : IsKept es' t' f'
   pub entries : ranked es' t'.order ≡ touched change key (ranked es t.order)
   pub len : length (ranked es' t'.order) ≡ length (ranked es t.order)
 
-pub change-put : (change : StickEntry → StickEntry) → ((e : StickEntry) → (change e).key ≡ e.key) → (es es' : List (Addr × KeyCounts)) (t t' f f' : Ranking) (key : Addr) (e : StickEntry) (p : ℕ)
+pub change-put : (change : StickEntry → StickEntry) → ((e : StickEntry) → (change e).key ≡ e.key) → (es es' : List (Addr × Counts)) (t t' f f' : Ranking) (key : Addr) (e : StickEntry) (p : ℕ)
     → IsKept es t f → IsDistinct eq-value.it (keys_of es) → position (eq-value.it key) (keys_of es) ≡ Some p → e ≡ change (entry_at es p)
     → es' ≡ set_value_at es p (record { cur = e.cur; cnt = e.cnt })
     → t' ≡ record t { order = without p t.order ++ p ∷ [] }
@@ -364,19 +364,19 @@ change-put change keeps es es' t t' f f' key e p kept once found is written move
     }
 
 -- where the order of the free places has a place
-pub free-has : (es : List (Addr × KeyCounts)) (t f : Ranking) (p : ℕ) → IsKept es t f → p < length es → free_at es p ≡ true → Has p f.order
+pub free-has : (es : List (Addr × Counts)) (t f : Ranking) (p : ℕ) → IsKept es t f → p < length es → free_at es p ≡ true → Has p f.order
 free-has es t f p kept less is = rw kept.free_ones (has-filter (free_at es) p is t.order (kept.each p less))
 
-pub free-lacks : (es : List (Addr × KeyCounts)) (t f : Ranking) (p : ℕ) → IsKept es t f → free_at es p ≡ false → Lacks p f.order
+pub free-lacks : (es : List (Addr × Counts)) (t f : Ranking) (p : ℕ) → IsKept es t f → free_at es p ≡ false → Lacks p f.order
 free-lacks es t f p kept is = rw kept.free_ones (lacks-filter (free_at es) p is t.order)
 
 -- A key is added.
 
 -- the next place is not in the order
-pub new-lacks : (es : List (Addr × KeyCounts)) (t f : Ranking) (n : ℕ) (order : List ℕ) → IsKept es t f → n ≡ t.places → order ≡ t.order → Lacks n order
+pub new-lacks : (es : List (Addr × Counts)) (t f : Ranking) (n : ℕ) (order : List ℕ) → IsKept es t f → n ≡ t.places → order ≡ t.order → Lacks n order
 new-lacks es t f n order kept is same = rw (is ∙ kept.touched_places, same) (below-lacks (length es) (length es) t.order kept.below (omega arith))
 
-entry-before : (es : List (Addr × KeyCounts)) (x : Addr × KeyCounts) (q : ℕ) → q < length es → entry_at (es ++ x ∷ []) q ≡ entry_at es q
+entry-before : (es : List (Addr × Counts)) (x : Addr × Counts) (q : ℕ) → q < length es → entry_at (es ++ x ∷ []) q ≡ entry_at es q
 entry-before es x q less = ap entry_of_pair (get_or_append_left es (x ∷ []) nothing q less)
 
 map-below : (f g : ℕ → StickEntry) (n : ℕ) → ((q : ℕ) → q < n → g q ≡ f q) → (xs : List ℕ) → Below n xs → map g xs ≡ map f xs
@@ -391,15 +391,15 @@ filter-below f g n same (x ∷ xs) below =
     let here : g x ≡ f x = same x below.0 in
     rw here (ap (λ l. cond (f x) (x ∷ l) l) (filter-below f g n same xs below.1))
 
-entry-last : (es : List (Addr × KeyCounts)) (x : Addr × KeyCounts) → entry_at (es ++ x ∷ []) (length es) ≡ entry_of_pair x
+entry-last : (es : List (Addr × Counts)) (x : Addr × Counts) → entry_at (es ++ x ∷ []) (length es) ≡ entry_of_pair x
 entry-last [] x = refl
 entry-last (e ∷ es) x = entry-last es x
 
-pub record IsAdded (es es' : List (Addr × KeyCounts)) (t t' f' : Ranking) (e : StickEntry) : Type 0 where
+pub record IsAdded (es es' : List (Addr × Counts)) (t t' f' : Ranking) (e : StickEntry) : Type 0 where
   pub kept : IsKept es' t' f'
   pub entries : ranked es' t'.order ≡ ranked es t.order ++ e ∷ []
 
-pub add : (es es' : List (Addr × KeyCounts)) (t t' f f' : Ranking) (x : Addr × KeyCounts) → IsKept es t f → is_free (entry_of_pair x) ≡ false → es' ≡ es ++ x ∷ []
+pub add : (es es' : List (Addr × Counts)) (t t' f f' : Ranking) (x : Addr × Counts) → IsKept es t f → is_free (entry_of_pair x) ≡ false → es' ≡ es ++ x ∷ []
     → t'.order ≡ t.order ++ t.places ∷ [] → t'.places ≡ t.places + 1 → f'.order ≡ f.order → f'.places ≡ f.places + 1
     → IsAdded es es' t t' f' (entry_of_pair x)
 add es es' t t' f f' x kept busy pushed to tp fo fp =
@@ -442,7 +442,7 @@ add es es' t t' f f' x kept busy pushed to tp fo fp =
 -- A key is put in place of the first free one.
 
 -- some entry is free exactly where there is a first free place
-pub any-free : (es : List (Addr × KeyCounts)) (xs : List ℕ) → is_some (slice_get (filter (free_at es) xs) 0) ≡ list_any is_free (ranked es xs)
+pub any-free : (es : List (Addr × Counts)) (xs : List ℕ) → is_some (slice_get (filter (free_at es) xs) 0) ≡ list_any is_free (ranked es xs)
 any-free es [] = refl
 any-free es (x ∷ xs) = by (free_at es x) refl (any-free es xs)
   where
@@ -462,7 +462,7 @@ first-passes f (x ∷ xs) p first = by (f x) refl first (first-passes f xs p)
     by false is first more = more (simp is at first)
 
 -- the first free one is gone: the list without its place
-pub gone-first : (es : List (Addr × KeyCounts)) (xs : List ℕ) (p : ℕ) → Distinct xs → slice_get (filter (free_at es) xs) 0 ≡ Some p → without_first_free (ranked es xs) ≡ ranked es (without p xs)
+pub gone-first : (es : List (Addr × Counts)) (xs : List ℕ) (p : ℕ) → Distinct xs → slice_get (filter (free_at es) xs) 0 ≡ Some p → without_first_free (ranked es xs) ≡ ranked es (without p xs)
 gone-first es [] p once first = absurd (cc)
 gone-first es (x ∷ xs) p once first = by (free_at es x) refl first (gone-first es xs p once.1)
   where
@@ -509,22 +509,22 @@ swapped xs x d p less =
     ∙ take-push (set xs p x) x
 
 -- what the index has after its last entry took the place of one
-pub taken-over : (es mid new : List (Addr × KeyCounts)) (x : Addr × KeyCounts) (p : ℕ) (result : Option (Addr × KeyCounts)) → p < length es → mid ≡ es ++ x ∷ []
+pub taken-over : (es mid new : List (Addr × Counts)) (x : Addr × Counts) (p : ℕ) (result : Option (Addr × Counts)) → p < length es → mid ≡ es ++ x ∷ []
     → result ≡ slice_get mid p → IfSome result (λ d. new ≡ swap_remove mid p d) → new ≡ set es p x
 taken-over es mid new x p result less pushed answer left = by result answer left
   where
-    by : (o : Option (Addr × KeyCounts)) → o ≡ slice_get mid p → IfSome o (λ d. new ≡ swap_remove mid p d) → new ≡ set es p x
+    by : (o : Option (Addr × Counts)) → o ≡ slice_get mid p → IfSome o (λ d. new ≡ swap_remove mid p d) → new ≡ set es p x
     by None is left =
         let within : p < length mid = omega (arith, less, ap length pushed ∙ length-append es (x ∷ [])) in
         absurd (let wrong : None ≡ Some (get_or mid p x) = is ∙ slice_get-get_or mid p x within in cc)
     by (Some d) is left = left ∙ ap (λ l. swap_remove l p d) pushed ∙ swapped es x d p less
 
-at-replaced : (es : List (Addr × KeyCounts)) (p : ℕ) (x : Addr × KeyCounts) → p < length es → get_or (set es p x) p nothing ≡ x
+at-replaced : (es : List (Addr × Counts)) (p : ℕ) (x : Addr × Counts) → p < length es → get_or (set es p x) p nothing ≡ x
 at-replaced [] p x less = absurd (omega (arith, less))
 at-replaced (e ∷ es) zero x less = refl
 at-replaced (e ∷ es) (suc p) x less = at-replaced es p x (omega (arith, less))
 
-at-replaced-apart : (es : List (Addr × KeyCounts)) (p : ℕ) (x : Addr × KeyCounts) (q : ℕ) → q ≢ p → get_or (set es p x) q nothing ≡ get_or es q nothing
+at-replaced-apart : (es : List (Addr × Counts)) (p : ℕ) (x : Addr × Counts) (q : ℕ) → q ≢ p → get_or (set es p x) q nothing ≡ get_or es q nothing
 at-replaced-apart [] p x q apart = refl
 at-replaced-apart (e ∷ es) zero x zero apart = absurd (apart refl)
 at-replaced-apart (e ∷ es) zero x (suc q) apart = refl
@@ -539,7 +539,7 @@ has-first f xs p first = by (filter f xs) first
     by (y ∷ ys) first = inl (let found : Some y ≡ Some p = first in cc)
 
 -- the first of the free places
-pub free-first : (es : List (Addr × KeyCounts)) (t f : Ranking) (p : ℕ) → IsKept es t f → slice_get f.order 0 ≡ Some p → Has p f.order
+pub free-first : (es : List (Addr × Counts)) (t f : Ranking) (p : ℕ) → IsKept es t f → slice_get f.order 0 ≡ Some p → Has p f.order
 free-first es t f p kept first = rw kept.free_ones (has-first (free_at es) t.order p (rw kept.free_ones at first))
 
 place-below : (p n : ℕ) (xs : List ℕ) (f : ℕ → Bool) → Has p (filter f xs) → Below n xs → p < n
@@ -554,14 +554,14 @@ place-below p n (x ∷ xs) f has below = by (f x) refl has (λ more. place-below
     by true is has rest = here rest (rw is at has)
     by false is has rest = rest (rw is at has)
 
-pub free-below : (es : List (Addr × KeyCounts)) (t f : Ranking) (p : ℕ) → IsKept es t f → slice_get f.order 0 ≡ Some p → p < length es
+pub free-below : (es : List (Addr × Counts)) (t f : Ranking) (p : ℕ) → IsKept es t f → slice_get f.order 0 ≡ Some p → p < length es
 free-below es t f p kept first = place-below p (length es) t.order (free_at es) (rw kept.free_ones at (free-first es t f p kept first)) kept.below
 
-pub record IsReplaced (es es' : List (Addr × KeyCounts)) (t t' f' : Ranking) (e : StickEntry) : Type 0 where
+pub record IsReplaced (es es' : List (Addr × Counts)) (t t' f' : Ranking) (e : StickEntry) : Type 0 where
   pub kept : IsKept es' t' f'
   pub entries : ranked es' t'.order ≡ without_first_free (ranked es t.order) ++ e ∷ []
 
-pub replace : (es es' : List (Addr × KeyCounts)) (t t' f f' : Ranking) (x : Addr × KeyCounts) (p : ℕ) → IsKept es t f → is_free (entry_of_pair x) ≡ false
+pub replace : (es es' : List (Addr × Counts)) (t t' f f' : Ranking) (x : Addr × Counts) (p : ℕ) → IsKept es t f → is_free (entry_of_pair x) ≡ false
     → slice_get f.order 0 ≡ Some p → es' ≡ set es p x
     → t' ≡ record t { order = without p t.order ++ p ∷ [] } → f' ≡ record f { order = without p f.order }
     → IsReplaced es es' t t' f' (entry_of_pair x)
@@ -619,22 +619,22 @@ plain-push [] e = refl
 plain-push (x ∷ es) e = ap (λ l. plain_entry x ∷ l) (plain-push es e)
 
 -- the place after the one that is reached
-pub step-next : (es : List (Addr × KeyCounts)) (t f : Ranking) (n p : ℕ) → IsKept es t f → slice_get t.order n ≡ Some p → next_of p t.order ≡ slice_get t.order (n + 1)
+pub step-next : (es : List (Addr × Counts)) (t f : Ranking) (n p : ℕ) → IsKept es t f → slice_get t.order n ≡ Some p → next_of p t.order ≡ slice_get t.order (n + 1)
 step-next es t f n p kept at = next-at t.order n p kept.once at ∙ ap (slice_get t.order) (let one : suc n ≡ n + 1 = omega arith in one)
 
 -- the entries that were passed then
-pub step-list : (es : List (Addr × KeyCounts)) (t : Ranking) (n p : ℕ) → slice_get t.order n ≡ Some p
+pub step-list : (es : List (Addr × Counts)) (t : Ranking) (n p : ℕ) → slice_get t.order n ≡ Some p
     → plain (ranked es (take n t.order)) ++ plain_entry (entry_at es p) ∷ [] ≡ plain (ranked es (take (n + 1) t.order))
 step-list es t n p at =
     let one : suc n ≡ n + 1 = omega arith in
     sym (plain-push (ranked es (take n t.order)) (entry_at es p)) ∙ ap plain (sym (map-push (entry_at es) (take n t.order) p))
     ∙ ap (λ l. plain (ranked es l)) (sym (take-at t.order n p at)) ∙ ap (λ k. plain (ranked es (take k t.order))) one
 
-pub step-below : (es : List (Addr × KeyCounts)) (t f : Ranking) (n p : ℕ) → IsKept es t f → slice_get t.order n ≡ Some p → p < length es
+pub step-below : (es : List (Addr × Counts)) (t f : Ranking) (n p : ℕ) → IsKept es t f → slice_get t.order n ≡ Some p → p < length es
 step-below es t f n p kept at = has-below p (length es) t.order (has-at t.order n p at) kept.below
 
 -- the walk does not end before the last entry
-pub step-missing : (es : List (Addr × KeyCounts)) (t f : Ranking) (n : ℕ) → IsKept es t f → n < length es → slice_get t.order n ≡ None → ⊥
+pub step-missing : (es : List (Addr × Counts)) (t f : Ranking) (n : ℕ) → IsKept es t f → n < length es → slice_get t.order n ≡ None → ⊥
 step-missing es t f n kept less none =
     let within : n < length t.order = omega (arith, less, kept.count) in
     absurd (let wrong : None ≡ Some (get_or t.order n 0) = sym none ∙ slice_get-get_or t.order n 0 within in cc)

@@ -3,7 +3,7 @@ use Rattle.std.specs.Prelude.{◌≡◌, ◌<◌, ℕ, Bool, List, map, length, 
 use Rattle.addr_core.specs.declared.addr.Addr.{Addr}
 use Rattle.addr_core.specs.declared.addr.Addr.TheVariants.{V4}
 use Rattle.stick_core.specs.declared.entries.StickEntry.{StickEntry}
-use Rattle.stick_core.specs.declared.touch_list.KeyCounts.{KeyCounts}
+use Rattle.stick_core.specs.declared.touch_list.Counts.{Counts}
 use Rattle.stick_core.specs.Entries.{is_free}
 use Rattle.stick_core.specs.Ring.{Ranking, Has, Distinct, Below}
 
@@ -14,25 +14,25 @@ pub record Touches : Type 0 where
   -- for how many more entries there is memory
   pub spare : ℕ
 
-abbrev pub entry_of_pair : Addr × KeyCounts → StickEntry
+abbrev pub entry_of_pair : Addr × Counts → StickEntry
 entry_of_pair pair = record { key = pair.0; cur = pair.1.cur; cnt = pair.1.cnt }
 
-abbrev pub nothing : Addr × KeyCounts
+abbrev pub nothing : Addr × Counts
 nothing = (V4 0, record { cur = 0; cnt = 0 })
 
 -- the entry at a place
-abbrev pub entry_at : List (Addr × KeyCounts) → ℕ → StickEntry
+abbrev pub entry_at : List (Addr × Counts) → ℕ → StickEntry
 entry_at index place = entry_of_pair (get_or index place nothing)
 
-abbrev pub free_at : List (Addr × KeyCounts) → ℕ → Bool
+abbrev pub free_at : List (Addr × Counts) → ℕ → Bool
 free_at index place = is_free (entry_at index place)
 
 -- the entries in an order of their places
-abbrev pub ranked : List (Addr × KeyCounts) → List ℕ → List StickEntry
+abbrev pub ranked : List (Addr × Counts) → List ℕ → List StickEntry
 ranked index order = map (entry_at index) order
 
 -- each place is once in the order of touch, and those of the free entries are, in that order, the order of the free ones
-pub record IsKept (index : List (Addr × KeyCounts)) (touched free : Ranking) : Type 0 where
+pub record IsKept (index : List (Addr × Counts)) (touched free : Ranking) : Type 0 where
   pub touched_places : touched.places ≡ length index
   pub free_places : free.places ≡ length index
   pub count : length touched.order ≡ length index

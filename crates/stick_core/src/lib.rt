@@ -5,8 +5,7 @@
 pub use entries::{PlainEntry, StickEntry};
 pub use key::key_of;
 pub use proxy_types::{KeyType, Stores};
-pub use table::{StickTable, TrackToken};
-pub use touch_list::KeyCounts;
+pub use table::{KeyCounts, StickTable, TrackToken};
 
 mod entries;
 mod key;

@@ -7,7 +7,7 @@ ghost use Rattle.stick_core.specs.PlainEntries.{plain, AreTrackers, count_at, tr
 
 use crate::entries::{PlainEntry, cnt_in, cur_in};
 use crate::key::key_of;
-use crate::touch_list::{KeyCounts, TouchList};
+use crate::touch_list::TouchList;
 use addr_core::Addr;
 use list_core::Seq;
 use proxy_types::{KeyType, Stores};
@@ -39,6 +39,15 @@ impl TrackToken {
     {
         self.key
     }
+}
+
+/// What is counted of a key.
+#[derive(Clone, Copy, Debug, PartialEq, Eq)]
+pub struct KeyCounts {
+    /// How many counters of open connections track it.
+    pub cur: u64,
+    /// How often it was tracked, 2^64 - 1 for more.
+    pub cnt: u64,
 }
 
 /// A table of tracked sources, whose entries contracts see in the order of their last touch.

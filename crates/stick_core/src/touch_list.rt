@@ -17,28 +17,26 @@ use std::marker::Model;
 
 /// What is counted of a key.
 #[derive(Clone, Copy, Debug, PartialEq, Eq)]
-pub struct KeyCounts {
-    /// How many counters of open connections track it.
-    pub cur: u64,
-    /// How often it was tracked, 2^64 - 1 for more.
-    pub cnt: u64,
+pub(crate) struct Counts {
+    pub(crate) cur: u64,
+    pub(crate) cnt: u64,
 }
 
 /// A key that is tracked for the first time.
-const FIRST: KeyCounts = KeyCounts { cur: 1, cnt: 1 };
+const FIRST: Counts = Counts { cur: 1, cnt: 1 };
 
-fn counts_of(entry: StickEntry) -> KeyCounts
+fn counts_of(entry: StickEntry) -> Counts
     ensures cur { result.cur ≡ entry.cur }
     ensures cnt { result.cnt ≡ entry.cnt }
 {
-    KeyCounts {
+    Counts {
         cur: entry.cur,
         cnt: entry.cnt,
     }
 }
 
 /// The entry at a place.
-fn entry_at_place(index: &IndexMap<Addr, KeyCounts>, place: usize) -> StickEntry
+fn entry_at_place(index: &IndexMap<Addr, Counts>, place: usize) -> StickEntry
     requires { place < index_map_len index.now }
     ensures { result ≡ entry_at index.now.entries place }
 {
@@ -53,7 +51,7 @@ fn entry_at_place(index: &IndexMap<Addr, KeyCounts>, place: usize) -> StickEntry
 }
 
 /// Puts other counts at a place.
-fn set_counts(index: &mut IndexMap<Addr, KeyCounts>, place: usize, counts: KeyCounts)
+fn set_counts(index: &mut IndexMap<Addr, Counts>, place: usize, counts: Counts)
     requires { place < index_map_len index.old }
     ensures { index.new ≡ with_value_at index.old place counts }
 {
@@ -97,7 +95,7 @@ fn join(order: &mut Order, place: usize, belongs: bool)
 
 /// Puts an entry at a place, as the last one touched.
 fn put_last(
-    index: &mut IndexMap<Addr, KeyCounts>,
+    index: &mut IndexMap<Addr, Counts>,
     touched: &mut Order,
     free: &mut Order,
     place: usize,
@@ -120,7 +118,7 @@ fn put_last(
 /// their number; only `listed` goes through them.
 #[derive(Debug, Drop)]
 pub(crate) struct TouchList {
-    index: IndexMap<Addr, KeyCounts>,
+    index: IndexMap<Addr, Counts>,
     touched: Order,
     free: Order,
 }

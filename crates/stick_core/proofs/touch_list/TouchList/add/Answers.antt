@@ -1,5 +1,5 @@
 use Rattle.std.proofs.Common.{◌≡◌, ◌++◌, ◌∷◌, [], None, find, refl, ap, ◌∙◌}
-use Rattle.stick_core.specs.declared.touch_list.KeyCounts.{KeyCounts}
+use Rattle.stick_core.specs.declared.touch_list.Counts.{Counts}
 use Rattle.stick_core.specs.Entries.{is_of, added}
 use Rattle.stick_core.proofs.PlaceLemmas.{IsAdded, add, inserted, new-lacks}
 use Rattle.stick_core.proofs.touch_list.TouchList.add.Goals as goal
@@ -9,7 +9,7 @@ push_back-requires-clause-lacks c =
     new-lacks c.self.inside.index.entries c.self.inside.touched c.self.inside.free c.add_place-place.result c.add_place-place.new.self.order c.self.invariant
     c.add_place-place.ensures.place c.add_place-place.ensures.order
 
-abbrev first : KeyCounts
+abbrev first : Counts
 first = record { cur = 1; cnt = 1 }
 
 -- what the index and both orders are then

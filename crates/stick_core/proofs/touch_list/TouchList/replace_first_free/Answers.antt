@@ -2,7 +2,7 @@ use Rattle.std.proofs.Common.{◌≡◌, ◌<◌, ◌++◌, ◌∷◌, [], None,
 use Rattle.std.specs.Prelude.{slice_get}
 use Rattle.std.specs.List.{list_any}
 use Rattle.std.specs.Option.{is_some}
-use Rattle.stick_core.specs.declared.touch_list.KeyCounts.{KeyCounts}
+use Rattle.stick_core.specs.declared.touch_list.Counts.{Counts}
 use Rattle.stick_core.specs.Entries.{is_of, is_free, added, without_first_free}
 use Rattle.stick_core.proofs.PlaceLemmas.{IsReplaced, any-free, free-below, free-first, inserted, replace, taken-over}
 use Rattle.stick_core.proofs.touch_list.TouchList.replace_first_free.Goals as goal
@@ -25,7 +25,7 @@ move_last-requires-clause-has c =
     c.self.invariant.each c.in-Some.place
     (free-below c.self.inside.index.entries c.self.inside.touched c.self.inside.free c.in-Some.place c.self.invariant (sym c.in-Some.ensures))
 
-abbrev first : KeyCounts
+abbrev first : Counts
 first = record { cur = 1; cnt = 1 }
 
 -- what the index and both orders are then
