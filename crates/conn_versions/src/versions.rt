@@ -29,6 +29,7 @@ use plan_types::{Backend, Plan, Server};
 use proxy_types::Place;
 use slot_core::{NamedPlaces, Slot, Slots};
 use std::alloc::{AllocError, Global};
+use std::fmt::{self, Debug, Formatter};
 use std::marker::Model;
 use std::mem;
 
@@ -43,7 +44,7 @@ pub struct VersionPicks {
 /// The versions that are kept, with what picks of their servers need. Of each server the open connections are counted,
 /// by the name of its backend, its own name and its address, through all versions; and of each version those that it
 /// judges.
-#[derive(Debug, Drop)]
+#[derive(Drop)]
 pub struct Versions {
     alloc: Global,
     versions: Vec<Version>,
@@ -63,6 +64,18 @@ impl Model for Versions {
     ghost view = { λ v. record { versions = v.versions.items; counts = v.slots; judged = connections_of v.picks.items } };
 
     ghost invariant = { λ v. AreVersions v.slots v.versions.items v.picks.items v.settled };
+}
+
+/// Without what is known of them, which only spares a look at each.
+impl Debug for Versions {
+    fn fmt<W: fmt::Write>(&self, f: &mut Formatter<W>) -> fmt::Result {
+        f.debug_struct("Versions")
+            .field("alloc", &self.alloc)
+            .field("versions", &self.versions)
+            .field("picks", &self.picks)
+            .field("slots", &self.slots)
+            .finish()
+    }
 }
 
 impl Versions {

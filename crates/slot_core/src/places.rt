@@ -4,11 +4,12 @@ ghost use Rattle.slot_core.specs.Counts.{named_at, open_at};
 
 use crate::slots::{Count, SlotIx};
 use std::alloc::{AllocError, Global};
+use std::fmt::{self, Debug, Formatter};
 use std::marker::Model;
 
 /// Which places the kept versions name, and where the next search for a free place begins. A contract sees of each place
 /// whether it is named.
-#[derive(Debug, Drop)]
+#[derive(Drop)]
 pub struct NamedPlaces {
     pub(crate) named: Vec<bool>,
     /// Each place before it is named, or has an open connection.
@@ -23,6 +24,16 @@ impl Model for NamedPlaces {
     ghost Value = { List Bool };
 
     ghost view = { λ p. p.named.items };
+}
+
+/// Without the place that was marked last, from which only a search begins.
+impl Debug for NamedPlaces {
+    fn fmt<W: fmt::Write>(&self, f: &mut Formatter<W>) -> fmt::Result {
+        f.debug_struct("NamedPlaces")
+            .field("named", &self.named)
+            .field("next", &self.next)
+            .finish()
+    }
 }
 
 impl NamedPlaces {

@@ -12,6 +12,7 @@ use addr_core::Endpoint;
 use list_core::Duplicate;
 use proxy_types::ServerIdentity;
 use std::alloc::{AllocError, Global};
+use std::fmt::{self, Debug, Formatter};
 use std::marker::Model;
 use text_core::is_same_name;
 
@@ -51,7 +52,7 @@ impl Slot {
 }
 
 /// Counts by identity, with a running total for the name of each backend. Contracts see the counts, each at its place.
-#[derive(Debug, Drop)]
+#[derive(Drop)]
 pub struct Slots {
     alloc: Global,
     counts: Vec<Count>,
@@ -71,6 +72,18 @@ impl Model for Slots {
     ghost view = { λ s. s.counts.items };
 
     ghost invariant = { λ s. AreCounts s.counts.items s.backends.items s.totals.items };
+}
+
+/// Without the guesses, from which only searches begin.
+impl Debug for Slots {
+    fn fmt<W: fmt::Write>(&self, f: &mut Formatter<W>) -> fmt::Result {
+        f.debug_struct("Slots")
+            .field("alloc", &self.alloc)
+            .field("counts", &self.counts)
+            .field("backends", &self.backends)
+            .field("totals", &self.totals)
+            .finish()
+    }
 }
 
 impl Slots {

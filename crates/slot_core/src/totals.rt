@@ -25,7 +25,7 @@ const LAST_BYTES: usize = 16;
 
 /// Where the totals of names most likely are. Names of one number share a guess, which is right for the one that was
 /// noted last, and each guess is checked.
-#[derive(Debug, Drop)]
+#[derive(Drop)]
 pub struct Guesses {
     places: [u16; GUESSES],
 }
