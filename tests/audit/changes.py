@@ -46,6 +46,8 @@ conn 0.1 real 192.0.2.5:4000 src 192.0.2.5:4000 line 9 closed done
 conn 0.4 real 192.0.2.5:4002 src 192.0.2.5:4002 line 9 closed failed
 checked 7 open 0
 """
+EVENTS = (b'0 accept 0 0.0.0.0:0 0.0.0.0:0', b'0 accept 0 [::]:0 [::]:0', b'0 piece 0.1 00', b'0 connected 0.1', b'0 failed 0.1',
+          b'0 expire 0.1', b'0 close 0.1 done', b'0 close 0.1 fault', b'0 close 0.1 stopped', b'0 close 0.1 failed', b'0 reload 1')
 FAULT = re.compile(rb'line (\d+): (?:Format|WrongReply)\n')
 DECIMAL = re.compile(rb'0|[1-9][0-9]*')
 FAR = ipaddress.ip_network('198.51.100.0/24')
@@ -145,8 +147,16 @@ class Balancer:
         return answers[verb](*words) if verb in answers else None
 
 
+def begins_event(line, expected):
+    """Whether a line has an ending with which it is an event under the expected number: one of those of each form."""
+    reload = re.compile(rb'%d (?:0|[1-9][0-9]*) reload [1-9][0-9]*' % expected)
+    wholes = [b'%d %s' % (expected, sample) for sample in EVENTS]
+    ended = (line + whole[at:] for whole in wholes for at in range(len(whole)))
+    return any(event(it, expected) or reload.fullmatch(it) for it in ended)
+
+
 def audit(text):
-    """What `audit` writes of a text, and its exit status."""
+    """What `audit` writes of a text, its exit status, and whether the line of the fault begins one that is due there."""
     balancer, awaited = Balancer(), None
     lines = text.split(b'\n')
     lines = lines[:-1] if lines[-1] == b'' else lines
@@ -154,22 +164,21 @@ def audit(text):
         if at % 2 == 1:
             found = event(line, at // 2 + 1)
             if found is None:
-                return b'line %d: Format\n' % at, 1
+                return b'line %d: Format\n' % at, 1, begins_event(line, at // 2 + 1)
             awaited = balancer.answer(*found)
-        elif not line.startswith(b'= '):
-            return b'line %d: Format\n' % at, 1
         elif awaited is None or line != b'= ' + awaited:
-            return b'line %d: WrongReply\n' % at, 1
+            kind = b'WrongReply' if line.startswith(b'= ') else b'Format'
+            return b'line %d: %s\n' % (at, kind), 1, awaited is not None and (b'= ' + awaited).startswith(line)
     if len(lines) % 2 == 1:
-        return b'line %d: Format\n' % (len(lines) + 1), 1
+        return b'line %d: Format\n' % (len(lines) + 1), 1, True
     ends = b''.join(line + b'\n' for line in balancer.lines)
-    return ends + b'checked %d open %d\n' % (len(lines) // 2, len(balancer.open)), 0
+    return ends + b'checked %d open %d\n' % (len(lines) // 2, len(balancer.open)), 0, False
 
 
-def broken_off(name, text, out):
-    """What `audit` says of a text that ends before the line of its fault does, or nothing."""
+def broken_off(name, text, out, is_begun):
+    """What `audit` says of a text that ends before the line of its fault does, where that line is begun, or nothing."""
     fault = FAULT.fullmatch(out)
-    if not fault or int(fault.group(1)) <= text.count(b'\n'):
+    if not is_begun or not fault or int(fault.group(1)) <= text.count(b'\n'):
         return b''
     line = int(fault.group(1))
     whole = sum(part.startswith(b'= ') for part in text.split(b'\n')[:line - 1])
@@ -178,10 +187,12 @@ def broken_off(name, text, out):
 
 
 def texts(record):
-    """Each front of a record, and each text that differs from it in one byte: by its lowest bit, by a line feed (or
-    else a space), and by a byte that no text has."""
+    """Each front of a record, and each of them with another last byte; and each text that differs from the record in one
+    byte: by its lowest bit, by a line feed (or else a space), and by a byte that no text has."""
     for end in range(len(record) + 1):
         yield f'the first {end} bytes', record[:end]
+        if end:
+            yield f'the first {end} bytes, the last one changed', record[:end - 1] + bytes([record[end - 1] ^ 1])
     for at, byte in enumerate(record):
         for other in byte ^ 1, 32 if byte == 10 else 10, 255:
             yield f'byte {at} is {other}', record[:at] + bytes([other]) + record[at + 1:]
@@ -200,14 +211,14 @@ def compare(program, config, record, audit, whole):
             file.write_bytes(text)
             done = subprocess.run([program, 'audit', opening, file], stdin=subprocess.DEVNULL, capture_output=True)
             file.unlink()
-            out, status = audit(text)
-            expected = out, status, broken_off(str(file).encode(), text, out)
+            out, status, is_begun = audit(text)
+            expected = out, status, broken_off(str(file).encode(), text, out, is_begun)
             got = done.stdout, done.returncode, done.stderr
             return status, None if got == expected else f'{title}: {got!r}, not {expected!r}'
 
         results = list(pool.map(tried, enumerate(texts(record))))
     wrong = [what for _, what in results if what]
-    if audit(record) != (whole, 0):
+    if audit(record) != (whole, 0, False):
         wrong.append('the record itself is wrong')
     right = sum(status == 0 for status, _ in results)
     print('\n'.join(wrong) or f'{len(results)} texts, of which {right} are right')

@@ -76,7 +76,7 @@ checked 13 open 1
 
 
 class Wrong(Exception):
-    """The line of a record that is wrong, and how."""
+    """The line of a record that is wrong, how, and whether it begins one that is due there."""
 
 
 def reload_of(line, expected):
@@ -89,13 +89,15 @@ def reload_of(line, expected):
 
 def bar_text(lines, at):
     """The text of the line of that number after its bar."""
-    line = lines[at - 1] if at <= len(lines) else b''
+    if at > len(lines):
+        raise Wrong(at, 'Format', True)
+    line = lines[at - 1]
     try:
         if line[:1] == b'|' and line.decode():
             return line[1:]
-    except UnicodeDecodeError:
-        pass
-    raise Wrong(at, 'Format')
+    except UnicodeDecodeError as fault:
+        raise Wrong(at, 'Format', fault.reason == 'unexpected end of data') from fault
+    raise Wrong(at, 'Format', False)
 
 
 def answer(balancer, line, texts):
@@ -112,29 +114,32 @@ def follow(lines, balancer):
         line = lines[at - 1]
         missing = reload_of(line, count)
         if missing is None and changes.event(line, count) is None:
-            raise Wrong(at, 'Format')
+            raise Wrong(at, 'Format', changes.begins_event(line, count))
         texts = []
         while len(texts) < (missing or 0):
             at += 1
             texts.append(bar_text(lines, at))
         said = answer(balancer, line, texts)
         at += 1
-        if at > len(lines) or not lines[at - 1].startswith(b'= '):
-            raise Wrong(at, 'Format')
-        if said.startswith(b'fault ') or lines[at - 1] != b'= ' + said:
-            raise Wrong(at, 'WrongReply')
+        if at > len(lines):
+            raise Wrong(at, 'Format', True)
+        given, is_refused = lines[at - 1], said.startswith(b'fault ')
+        if is_refused or given != b'= ' + said:
+            kind = 'WrongReply' if given.startswith(b'= ') else 'Format'
+            raise Wrong(at, kind, not is_refused and (b'= ' + said).startswith(given))
     return count
 
 
 def audit(text):
-    """What `audit` writes of a text, and its exit status."""
+    """What `audit` writes of a text, its exit status, and whether the line of the fault begins one that is due there."""
     lines, balancer = text.split(b'\n'), plain.Balancer(CONFIG.encode())
     try:
         count = follow(lines[:-1] if lines[-1] == b'' else lines, balancer)
     except Wrong as wrong:
-        return b'line %d: %s\n' % (wrong.args[0], wrong.args[1].encode()), 1
+        at, kind, is_begun = wrong.args
+        return b'line %d: %s\n' % (at, kind.encode()), 1, is_begun
     ends = ''.join(line + '\n' for line in balancer.ended).encode()
-    return ends + b'checked %d open %d\n' % (count, len(balancer.open)), 0
+    return ends + b'checked %d open %d\n' % (count, len(balancer.open)), 0, False
 
 
 if __name__ == '__main__':

@@ -1,10 +1,10 @@
 //! `l4proxy audit`: a record is checked, and its connections are listed.
+use crate::broken_off::entries_before;
 use crate::files::{DONE, REFUSED, USAGE, explain_refusal, open_script, unreadable};
 use crate::progress::{Terminals, Watched};
 use audit_core::{CheckFault, CheckKind, run_audit};
 use clap::ArgMatches;
-use device_core::{FromRead, Input, ToWrite};
-use line_reader::{LineReader, Next, ReadFault};
+use device_core::{FromRead, ToWrite};
 use replay_core::PrintFault;
 use std::rt::Files;
 use std::{fs, io, rt};
@@ -18,42 +18,20 @@ fn place<'a>(fault: &PrintFault, file: &'a str, record: &'a str) -> &'a str {
     }
 }
 
-/// Whether a whole line came, unless the record cannot be read.
-fn is_whole(next: Result<Next, ReadFault>) -> Option<bool> {
-    match next {
-        Ok(Next::Line) => Some(true),
-        Ok(Next::LastLine | Next::End) => Some(false),
-        Err(ReadFault::TooLong | ReadFault::Read | ReadFault::NoMemory) => None,
-    }
-}
-
-/// How many whole entries come before the line of that number, if the record ends before that line does.
-fn entries_before<I: Input>(lines: &mut LineReader, reader: &mut I, line: u64) -> Option<u64> {
-    let mut entries = 0u64;
-    for _before in 1..line {
-        if !is_whole(lines.advance(reader))? {
-            return Some(entries);
-        }
-        if lines.line().starts_with(b"= ") {
-            entries = entries.saturating_add(1);
-        }
-    }
-    if is_whole(lines.advance(reader))? {
-        return None;
-    }
-    Some(entries)
-}
-
-/// The same of a record that is read once more, by a reader of its own.
-fn whole_entries<R: Files + AllocGlobal>(rt: &R, record: &str, line: u64) -> Option<u64> {
+/// How many whole entries a record has before the line of that number, if it breaks off there. It is read once more.
+fn whole_entries<R: Files + AllocGlobal>(
+    rt: &R,
+    text: &str,
+    record: &str,
+    line: u64,
+) -> Option<u64> {
     let mut reader = FromRead::of(open_script(rt, record)?);
-    let mut lines = LineReader::new(rt.alloc()).ok()?;
-    entries_before(&mut lines, &mut reader, line)
+    entries_before(rt.alloc(), text, &mut reader, line)
 }
 
 /// Says how far a record is right that breaks off at the line of that number, which is the first wrong one.
-fn say_broken_off<R: Files + AllocGlobal + Eprint>(rt: &R, record: &str, line: u64) {
-    let Some(whole) = whole_entries(rt, record, line) else {
+fn say_broken_off<R: Files + AllocGlobal + Eprint>(rt: &R, text: &str, record: &str, line: u64) {
+    let Some(whole) = whole_entries(rt, text, record, line) else {
         return;
     };
     let entries = if whole == 1 {
@@ -76,7 +54,7 @@ pub fn say_wrong<R: Files + AllocGlobal + Eprint>(
 ) {
     match &fault.kind {
         CheckKind::Config(refused) => explain_refusal(rt, file, text, refused),
-        CheckKind::Format | CheckKind::WrongReply => say_broken_off(rt, record, fault.line),
+        CheckKind::Format | CheckKind::WrongReply => say_broken_off(rt, text, record, fault.line),
         CheckKind::NoMemory | CheckKind::Read | CheckKind::TooLong => {}
     }
 }

@@ -7,6 +7,7 @@ pub use progress::Terminals;
 pub use warnings::warn_of_plan;
 
 mod audit;
+mod broken_off;
 mod check;
 mod command;
 mod explain;
