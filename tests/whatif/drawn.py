@@ -88,13 +88,13 @@ class Twin:
         if verb != 'reload':
             answer = self.balancer.step(moment, verb, *words)
             self.compare(f'conn {name} at {moment} real {real}', decision, Decision.of(answer, self.balancer))
+            self.let_in += said.startswith('refuse ') and name in self.balancer.open
         if said.startswith(('refuse ', 'closed ')):
             self.balancer.step(moment, 'close', name, 'done')
 
     def compare(self, front, was, would):
         if was is None or would is None:
             return
-        self.let_in += was.kind == 'refuse' and would.kind != 'refuse'
         if was.is_alike(would):
             self.other_server += was.server != would.server
             return

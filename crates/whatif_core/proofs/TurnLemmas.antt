@@ -22,7 +22,7 @@ use Rattle.audit_core.specs.Verdict.{fault_at, is_too_long}
 use Rattle.audit_core.specs.declared.due.Due.{Due}
 use Rattle.audit_core.specs.declared.due.Due.TheVariants as dues
 use Rattle.audit_core.specs.declared.fault.CheckKind.TheVariants.{Format, TooLong}
-use Rattle.whatif_core.specs.Deciding.{decided_by}
+use Rattle.whatif_core.specs.Deciding.{decided_by, is_let_in}
 use Rattle.whatif_core.specs.Lines.{both_on, entry_at, entry_by, event_at, event_due, handed_after, trial_with, turn_after, turn_at, whole_in, Both}
 use Rattle.whatif_core.specs.Reporting.{turn_of}
 use Rattle.whatif_core.proofs.ReportLemmas.{both_right}
@@ -99,6 +99,7 @@ answered_turn p trial moment event (Ok reply) other is =
       peer = event_peer event;
       was = decided_by (plain_after p moment event a) a;
       would = decided_by (plain_after trial moment event (answer_in trial moment event)) (answer_in trial moment event);
+      let_in = is_let_in (plain_after trial moment event (answer_in trial moment event)) reply.said;
     }))
     (sym is))
 

@@ -1,5 +1,5 @@
 -- What a balancer decides of a connection, when two decisions differ, and how events are handed to the trial.
-use Rattle.std.specs.Prelude.{ℕ, Bool, true, false, not, List, [], ◌++◌, codes, ◌&&◌, Option, Some, None, option_map, option_and_then, Result, Ok, Err, if◌then◌else◌}
+use Rattle.std.specs.Prelude.{ℕ, Bool, true, false, not, List, [], ◌++◌, codes, ◌&&◌, Option, Some, None, is_some, option_map, option_and_then, Result, Ok, Err, if◌then◌else◌}
 use Rattle.std.specs.Str.{bytes_eq}
 use Rattle.text_core.specs.Decimal.{decimal}
 use Rattle.conn_model.specs.declared.event.ConnId.{ConnId}
@@ -98,19 +98,26 @@ is_other_server (Offer backend server line) (Offer backend2 server2 line2) = byt
 is_other_server (Offer backend server line) other = false
 is_other_server (Refuse cause) other = false
 
--- the first refuses what the second does not
-abbrev pub is_let_in : ComparedDecision → ComparedDecision → Bool
-is_let_in Wait other = false
-is_let_in (Offer backend server line) other = false
-is_let_in (Refuse cause) Wait = true
-is_let_in (Refuse cause) (Offer backend server line) = true
-is_let_in (Refuse cause) (Refuse cause2) = false
-
 -- both are decisions, and the test holds of them
 abbrev pub of_both : (ComparedDecision → ComparedDecision → Bool) → Option ComparedDecision → Option ComparedDecision → Bool
 of_both test None would = false
 of_both test (Some was) None = false
 of_both test (Some was) (Some would) = test was would
+
+-- ---- who is let in
+
+-- a balancer let a connection in: it waits for its header there, or was offered a server, and has not ended
+abbrev pub has_let_in : Plain → ConnId → Bool
+has_let_in p id = is_some (row_at p.frontends id)
+
+-- a reply of the record refuses a connection that the trial has let in, at the same event or before
+abbrev pub is_let_in : Plain → Said → Bool
+is_let_in trial (saids.Wait id used) = false
+is_let_in trial (saids.Offer id used line server to judged send) = false
+is_let_in trial (saids.Refuse id used cause) = has_let_in trial id
+is_let_in trial (saids.Up id) = false
+is_let_in trial (saids.Closed id why) = false
+is_let_in trial (saids.Reloaded version) = false
 
 -- ---- events of the record, handed to the trial
 

@@ -16,7 +16,7 @@ use Rattle.audit_core.specs.declared.due.Due.{Due}
 use Rattle.audit_core.specs.declared.due.Due.TheVariants as dues
 use Rattle.audit_core.specs.declared.fault.CheckFault.{CheckFault}
 use Rattle.whatif_core.specs.declared.turn.Turn.{Turn}
-use Rattle.whatif_core.specs.Deciding.{decided, decision_of, handed, played}
+use Rattle.whatif_core.specs.Deciding.{decided, decision_of, handed, is_let_in, played, stepped}
 use Rattle.whatif_core.specs.Reporting.{empty_report, report_with, turn_of, Report}
 
 -- how far the balancer of the record is checked, and the state of the trial
@@ -72,6 +72,7 @@ turn_after p trial moment event answered = record {
   peer = answered.0;
   was = decision_of p answered.1.said;
   would = decided trial moment event;
+  let_in = is_let_in (stepped trial moment event) answered.1.said;
 }
 
 -- the trial after an event that was answered so

@@ -18,7 +18,7 @@ use Rattle.replay_core.specs.Turns.{plain_after}
 use Rattle.whatif_core.specs.declared.decision.ComparedDecision.{ComparedDecision}
 use Rattle.whatif_core.specs.declared.decision.ComparedDecision.TheVariants.{Wait, Offer, Refuse}
 use Rattle.whatif_core.specs.declared.turn.Turn.{Turn}
-use Rattle.whatif_core.specs.Deciding.{decided, decision_text, difference, played}
+use Rattle.whatif_core.specs.Deciding.{decided, decision_text, difference, is_let_in, played, stepped}
 use Rattle.whatif_core.specs.Sums.{no_sums, sums_text, sums_with, Sums}
 
 -- ---- one entry
@@ -31,6 +31,7 @@ turn_with p trial e = record {
   peer = event_peer e.event;
   was = decided p e.moment e.event;
   would = decided trial e.moment e.event;
+  let_in = is_let_in (stepped trial e.moment e.event) e.reply.said;
 }
 
 -- a reload decides nothing of a connection

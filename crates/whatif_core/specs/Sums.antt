@@ -6,7 +6,7 @@ use Rattle.text_core.specs.Decimal.{decimal}
 use Rattle.whatif_core.specs.declared.decision.ComparedDecision.{ComparedDecision}
 use Rattle.whatif_core.specs.declared.tally.PairCount.{PairCount}
 use Rattle.whatif_core.specs.declared.turn.Turn.{Turn}
-use Rattle.whatif_core.specs.Deciding.{difference, is_let_in, is_other_server, of_both, pair_text}
+use Rattle.whatif_core.specs.Deciding.{difference, is_other_server, of_both, pair_text}
 
 -- how often each two decisions differ, in the order in which they came up first; how many connections differ, of how many
 -- that were accepted; how many got another server of their backend; and how many are let in that were refused
@@ -53,7 +53,7 @@ sums_with sums turn = record {
   changed = more sums.changed (is_some (difference turn.was turn.would));
   accepted = more sums.accepted (is_some turn.peer);
   other_server = more sums.other_server (of_both is_other_server turn.was turn.would);
-  let_in = more sums.let_in (of_both is_let_in turn.was turn.would);
+  let_in = more sums.let_in turn.let_in;
 }
 
 abbrev pub pair_line : PairCount → List ℕ

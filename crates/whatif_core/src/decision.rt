@@ -1,6 +1,6 @@
 //! What a balancer decides of a connection.
 ghost use Rattle.std.specs.Prelude.{◌≡◌, Some, IfOk, option_map};
-ghost use Rattle.whatif_core.specs.Deciding.{alike, decision_with, is_let_in, is_other_server, offer_of, same_kind};
+ghost use Rattle.whatif_core.specs.Deciding.{alike, decision_with, is_other_server, offer_of, same_kind};
 ghost use Rattle.conn_model.specs.History.{id_of};
 ghost use Rattle.conn_rows.specs.Summaries.{names_in};
 
@@ -136,18 +136,5 @@ pub fn is_other_server(was: &ComparedDecision, would: &ComparedDecision) -> bool
             ComparedDecision::Wait | ComparedDecision::Refuse(_) => false,
         },
         ComparedDecision::Wait | ComparedDecision::Refuse(_) => false,
-    }
-}
-
-/// Whether the first refuses what the second does not.
-pub fn is_let_in(was: &ComparedDecision, would: &ComparedDecision) -> bool
-    ensures { result ≡ is_let_in was.now would.now }
-{
-    match was {
-        ComparedDecision::Refuse(_) => match would {
-            ComparedDecision::Wait | ComparedDecision::Offer { .. } => true,
-            ComparedDecision::Refuse(_) => false,
-        },
-        ComparedDecision::Wait | ComparedDecision::Offer { .. } => false,
     }
 }

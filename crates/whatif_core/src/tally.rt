@@ -168,7 +168,7 @@ impl DecisionTally {
         self.changed = more(self.changed, turn.difference().is_some());
         self.accepted = more(self.accepted, turn.peer.is_some());
         self.other_server = more(self.other_server, turn.has_other_server());
-        self.let_in = more(self.let_in, turn.lets_in());
+        self.let_in = more(self.let_in, turn.let_in);
         Ok(())
     }
 

@@ -1,8 +1,8 @@
 //! What both balancers decide of an entry.
 ghost use Rattle.std.specs.Prelude.{◌≡◌, option_map};
-ghost use Rattle.whatif_core.specs.Deciding.{difference, is_let_in, is_other_server, of_both};
+ghost use Rattle.whatif_core.specs.Deciding.{difference, is_other_server, of_both};
 
-use crate::decision::{ComparedDecision, alike, is_let_in, is_other_server};
+use crate::decision::{ComparedDecision, alike, is_other_server};
 use addr_core::Endpoint;
 use conn_model::event::ConnId;
 
@@ -19,6 +19,8 @@ pub struct Turn {
     pub was: Option<ComparedDecision>,
     /// What the trial decides.
     pub would: Option<ComparedDecision>,
+    /// Whether the connection was refused, and the trial has let it in, now or before.
+    pub let_in: bool,
 }
 
 impl Turn {
@@ -49,18 +51,5 @@ impl Turn {
             return false;
         };
         is_other_server(was, would)
-    }
-
-    /// Whether it was refused, and would not be.
-    pub fn lets_in(&self) -> bool
-        ensures { result ≡ of_both is_let_in self.now.was self.now.would }
-    {
-        let Some(was) = &self.was else {
-            return false;
-        };
-        let Some(would) = &self.would else {
-            return false;
-        };
-        is_let_in(was, would)
     }
 }

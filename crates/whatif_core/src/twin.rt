@@ -11,14 +11,15 @@ ghost use Rattle.audit_core.specs.declared.due.Due.TheVariants as dues;
 ghost use Rattle.audit_core.specs.Standing.{at_end, on_line};
 ghost use Rattle.audit_core.specs.declared.fault.CheckFault.{CheckFault as Fault};
 ghost use Rattle.audit_core.specs.declared.fault.TheConstants.{MOST_RECORD_LINES};
-ghost use Rattle.whatif_core.specs.Deciding.{closed, decided, decision_of, decision_with, stepped};
+ghost use Rattle.conn_model.specs.declared.event.OwnedEvent.{OwnedEvent};
+ghost use Rattle.whatif_core.specs.Deciding.{closed, decided, decision_of, decision_with, has_let_in, is_let_in, stepped};
 ghost use Rattle.whatif_core.specs.Lines.{both_on, handed_after, turn_after, turn_at};
 
 use crate::decision::{ComparedDecision, decision_in, named};
 use crate::turn::Turn;
 use audit_core::{Auditor, CheckFault, again, answer};
 use conn_core::{Core, ServerNames};
-use conn_model::event::{Event, PIECE_LIMIT, Why};
+use conn_model::event::{ConnId, Event, PIECE_LIMIT, Why};
 use conn_model::reply::Said;
 use event_text::FirstLine;
 use replay_core::PrintFault;
@@ -91,16 +92,29 @@ fn hand_in(
     }
 }
 
-/// Closes the connection that a reply of the record ends. This changes nothing if it is not open.
-fn close_ended(trial: &mut Core, moment: u64, said: &Said) -> Result<(), AllocError>
-    ensures { OnOk result (trial.new ≡ closed moment said.now trial.old) }
+/// Closes a connection, and says whether it was open. This changes nothing if it was not.
+fn close(trial: &mut Core, moment: u64, id: ConnId) -> Result<bool, AllocError>
+    ensures stepped { OnOk result (trial.new ≡ stepped trial.old moment (OwnedEvent.Close id Why.Done)) }
+    ensures open { IfOk result (λ is. is ≡ has_let_in trial.old id) }
+{
+    let answered = answer(trial, moment, &Event::Close(id, Why::Done))?;
+    Ok(answered.is_ok())
+}
+
+/// Closes the connection that a reply of the record ends, and says whether that refuses one that the trial has let in.
+fn close_ended(trial: &mut Core, moment: u64, said: &Said) -> Result<bool, AllocError>
+    ensures closed { OnOk result (trial.new ≡ closed moment said.now trial.old) }
+    ensures let_in { IfOk result (λ is. is ≡ is_let_in trial.old said.now) }
 {
     match said {
-        Said::Refuse { id, .. } | Said::Closed { id, .. } => {
-            let _answered = answer(trial, moment, &Event::Close(*id, Why::Done))?;
-            Ok(())
+        Said::Refuse { id, .. } => close(trial, moment, *id),
+        Said::Closed { id, .. } => {
+            close(trial, moment, *id)?;
+            Ok(false)
         }
-        Said::Wait { .. } | Said::Offer { .. } | Said::Up { .. } | Said::Reloaded { .. } => Ok(()),
+        Said::Wait { .. } | Said::Offer { .. } | Said::Up { .. } | Said::Reloaded { .. } => {
+            Ok(false)
+        }
     }
 }
 
@@ -120,13 +134,14 @@ fn play(
         Some((peer, reply)) => {
             let was = decision_in(alloc, &reply.said, recorded_names(auditor, &reply.said))?;
             let would = hand_in(alloc, trial, moment, event)?;
-            close_ended(trial, moment, &reply.said)?;
+            let let_in = close_ended(trial, moment, &reply.said)?;
             Ok(Some(Turn {
                 moment,
                 id: named(&reply.said),
                 peer,
                 was,
                 would,
+                let_in,
             }))
         }
     }
