@@ -1,8 +1,5 @@
 //! Whether a record breaks off: it ends in the midst of an entry, and what is there of its last line is the beginning of
 //! a line that is due there.
-ghost use Rattle.std.specs.Prelude.{◌≡◌, length};
-ghost use Rattle.conn_model.specs.declared.event.TheConstants.{PIECE_LIMIT};
-
 use audit_core::{Auditor, open_auditor, read_numbered};
 use conn_model::event::PIECE_LIMIT;
 use conn_model::reply::Reply;
@@ -47,22 +44,20 @@ fn begins_reply(alloc: Global, reply: &Reply, line: &[u8]) -> Result<bool, Alloc
     Ok(line.len() < whole.len() && whole.starts_with(line))
 }
 
+/// Whether a line is an event with that number.
+fn is_event(alloc: Global, number: u64, line: &[u8]) -> Result<bool, AllocError> {
+    let mut piece = vec![in alloc; 0; PIECE_LIMIT]?;
+    Ok(read_numbered(number, line, &mut piece).is_some())
+}
+
 /// Whether a line is an event with that number, once an ending of this event is there.
-fn is_ended_by(
-    number: u64,
-    line: &[u8],
-    event: &[u8],
-    tried: &mut Vec<u8>,
-    piece: &mut [u8],
-) -> Result<bool, AllocError>
-    requires { length piece.old ≡ PIECE_LIMIT }
-    ensures { length piece.new ≡ length piece.old }
-{
+fn is_ended_by(alloc: Global, number: u64, line: &[u8], event: &[u8]) -> Result<bool, AllocError> {
+    let mut tried = Vec::new(alloc);
     for at in 0..event.len() {
         tried.clear();
         tried.extend_from_slice(line)?;
         tried.extend_from_slice(&event[at..])?;
-        if read_numbered(number, tried.as_slice(), piece).is_some() {
+        if is_event(alloc, number, tried.as_slice())? {
             return Ok(true);
         }
     }
@@ -71,15 +66,13 @@ fn is_ended_by(
 
 /// Whether a line is the beginning of an event with that number.
 fn begins_event(alloc: Global, number: u64, line: &[u8]) -> Result<bool, AllocError> {
-    let mut piece = vec![in alloc; 0; PIECE_LIMIT]?;
-    let mut tried = Vec::new(alloc);
     let mut event = Vec::new(alloc);
     for sample in EVENTS {
         event.clear();
         append_decimal(&mut event, number)?;
         event.extend_from_slice(b" ")?;
         event.extend_from_slice(sample)?;
-        if is_ended_by(number, line, event.as_slice(), &mut tried, &mut piece)? {
+        if is_ended_by(alloc, number, line, event.as_slice())? {
             return Ok(true);
         }
     }

@@ -1,0 +1,64 @@
+"""The gate, which `.ci/run` starts: `rt ci` at the top of the repository, and then whole runs of the program that it built.
+
+It stops at the first part that fails. The wall time and the time of processors of each part, the most expensive first, are
+written to `out/costs.txt`. The last line is `N passed, M failed`, and the exit status is that of the part that failed.
+"""
+import pathlib
+import re
+import resource
+import subprocess
+import sys
+import time
+
+ROOT = pathlib.Path(__file__).resolve().parent.parent
+COSTS = ROOT / 'out' / 'costs.txt'
+PARTS = ('rt ci', 'tests/texts', 'tests/names', 'must-not-compile/run', 'tests/run', 'tests/pipe/run', 'tests/serve',
+         'tests/memory', 'tests/terminal', 'tests/hostile --random 1000')
+
+
+def processor_seconds():
+    """The seconds of processors of all commands that have ended."""
+    used = resource.getrusage(resource.RUSAGE_CHILDREN)
+    return used.ru_utime + used.ru_stime
+
+
+def run_part(part):
+    """Runs a command that ends in 'N passed, M failed': how many passed and failed, and its status."""
+    last = ''
+    with subprocess.Popen(part.split(), cwd=ROOT, stdout=subprocess.PIPE, text=True, errors='replace') as process:
+        for line in process.stdout:
+            print(line, end='', flush=True)
+            last = line.strip() or last
+    counted = re.match(r'(\d+) passed, (\d+) failed', last)
+    passed, failed = map(int, counted.groups()) if counted else (0, 0)
+    is_well = counted and process.returncode == 0 and failed == 0
+    return passed, 0 if is_well else failed or 1, process.returncode
+
+
+def show_costs(costs):
+    """Writes and prints the minutes of wall time and of processors of each part, the most expensive first."""
+    rows = sorted(costs.items(), key=lambda it: it[1][::-1], reverse=True)
+    whole = [sum(times) for times in zip(*costs.values())]
+    lines = [f'{wall / 60:6.1f} minutes, {used / 60:6.1f} of processors: {part}' for part, (wall, used) in [('all', whole), *rows]]
+    COSTS.parent.mkdir(exist_ok=True)
+    COSTS.write_text('\n'.join([*lines, '']))
+    print('\n'.join(lines))
+
+
+def main():
+    passed, costs = 0, {}
+    for part in PARTS:
+        begun, before = time.monotonic(), processor_seconds()
+        count, failed, status = run_part(part)
+        costs[part] = time.monotonic() - begun, processor_seconds() - before
+        passed += count
+        if failed:
+            print(f'{part} failed')
+            break
+    show_costs(costs)
+    print(f'{passed} passed, {failed} failed')
+    return (status or 1) if failed else 0
+
+
+if __name__ == '__main__':
+    sys.exit(main())
