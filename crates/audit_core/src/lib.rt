@@ -8,7 +8,7 @@ pub use fault::{CheckFault, CheckKind, Checked, MOST_RECORD_LINES};
 pub use journal::Name;
 pub use line::audit_line;
 pub use printing::{again, write_bytes};
-pub use recording::{RecordFault, write_journal};
+pub use recording::{RECORD_BUFFER, RecordFault, write_journal, write_through};
 pub use writing::write_record;
 
 mod audit;

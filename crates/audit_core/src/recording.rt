@@ -16,6 +16,10 @@ use thiserror::Error;
 /// From how many bytes on what was made of the record is written, in one block.
 const BLOCK: usize = 65_536;
 
+/// For how many bytes a buffer of `write_through` has room, so that no memory is asked for where no record's text is longer
+/// than 983,040 bytes. Only that of a reload can be.
+pub const RECORD_BUFFER: usize = 1_048_576;
+
 /// Why a record is not written, or not whole.
 #[derive(Clone, Copy, Debug, PartialEq, Eq, Error)]
 pub enum RecordFault {
@@ -92,4 +96,30 @@ pub fn write_journal<W: Output>(
         }
     }
     end_block(block, writer)
+}
+
+/// Writes the records as `write_journal` does, through a buffer that the caller keeps. What is in it before the call is
+/// dropped, and what is in it afterwards says nothing. More memory is asked for only where a record's text does not fit
+/// into it beside 65,535 bytes.
+pub fn write_through<W: Output>(
+    buffer: &mut Vec<u8>,
+    records: &[Record],
+    writer: &mut W,
+) -> Result<(), RecordFault>
+    ensures ok { OnOk result (Appends (W.held writer.old) (W.held writer.new) (records_text records.now)) }
+
+    // After a fault the writer has the front of that text.
+    ensures front { OnErr result (AppendsFront (W.held writer.old) (W.held writer.new) (records_text records.now)) }
+
+    // The device gives up before the call does.
+    ensures gave_up { result ≡ Err RecordFault.Write → GaveUp (W.failures writer.old) (W.failures writer.new) (W.stalls writer.old) (W.stalls writer.new) }
+{
+    buffer.clear();
+    for record in records {
+        match write_record(buffer, record) {
+            Ok(()) => send_block(buffer, writer)?,
+            Err(_) => return Err(RecordFault::NoMemory),
+        }
+    }
+    write_block(buffer.as_slice(), writer)
 }
