@@ -16,9 +16,10 @@ use thiserror::Error;
 /// From how many bytes on what was made of the record is written, in one block.
 const BLOCK: usize = 65_536;
 
-/// For how many bytes a buffer of `write_through` has room, so that no memory is asked for where no record's text is longer
-/// than 983,040 bytes. Only that of a reload can be.
-pub const RECORD_BUFFER: usize = 1_048_576;
+/// For how many bytes a buffer of `write_through` has room, so that no memory is asked for: those of a block, and the
+/// longest text that a record of sockets has. That is one of a reload, whose configuration has 1,048,576 bytes on 65,535
+/// lines at the most, with a bar before each.
+pub const RECORD_BUFFER: usize = 1_310_720;
 
 /// Why a record is not written, or not whole.
 #[derive(Clone, Copy, Debug, PartialEq, Eq, Error)]
