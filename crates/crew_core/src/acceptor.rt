@@ -14,13 +14,13 @@ use std::sync::ledger::Ledger;
 /// How many connections wait for a worker at the most.
 pub(crate) const LANE: usize = 64;
 
-/// How often the acceptor rests at the most while it waits for the workers to begin.
+/// How often the acceptor rests at the most while it waits for the workers and the recorder to begin.
 const MOST_RESTS: u64 = 2_000;
 
 /// What came of the acceptor's work.
 #[derive(Clone, Copy, Drop)]
 pub(crate) struct Came {
-    /// Whether all workers began. If not, the door was not asked.
+    /// Whether all workers began, and the recorder. If not, the door was not asked.
     pub(crate) began: bool,
     /// How many connections came.
     pub(crate) accepted: u64,
@@ -50,8 +50,8 @@ fn reply_to(answer: Result<Receipt, StepFault>) -> Result<Reply, StepFault>
 
 impl<'a, M: Ledger, K: Link, D: Door<Link = K>> Acceptor<'a, M, K, D> {
     /// Takes what comes until the door is closed or the turns are used up. The lanes are given up then, by which the
-    /// workers learn of it. The door is asked once all workers began; if one does not within some seconds, the system has
-    /// no thread for it, and nothing is taken.
+    /// workers learn of it. The door is asked once all workers began, and the recorder; if one does not within some seconds,
+    /// the system has no thread for it, and nothing is taken.
     pub(crate) fn accept_all<O: Ledger, B: Opening, G: Gate, C: Clock, R: Wait>(
         self,
         rt: &R,
@@ -109,13 +109,13 @@ impl<'a, M: Ledger, K: Link, D: Door<Link = K>> Acceptor<'a, M, K, D> {
     }
 }
 
-/// Waits for so many workers to begin; whether they did.
+/// Waits for so many workers to begin, and for the recorder; whether they did.
 fn have_begun<M: Ledger, O: Ledger, B: Opening, G: Gate, C: Clock>(
     context: &WorkerContext<'_, M, O, B, G, C>,
     workers: u64,
 ) -> bool {
     for _rest in 0..MOST_RESTS {
-        if context.alert.began() >= workers {
+        if context.alert.began() > workers {
             return true;
         }
         context.clock.rest();

@@ -62,7 +62,7 @@ pub struct Summary {
     pub recorded: u64,
     /// The segments that the sink refused. They are lost to it.
     pub sink_failed: u64,
-    /// Whether all workers began. If the system had no thread for one of them, the door was not asked.
+    /// Whether all workers began, and the recorder. If the system had no thread for one of them, the door was not asked.
     pub began: bool,
 }
 
@@ -163,8 +163,8 @@ fn make_rooms<M: Ledger, O: Ledger, K: Link, L: Dial<Link = K> + Drop>(
     }
 }
 
-/// Whether so many threads can be started at one time. If the system refuses one later all the same, a worker does not
-/// begin, and the acceptor takes nothing.
+/// Whether so many threads can be started at one time. If the system refuses one later all the same, a worker or the
+/// recorder does not begin, and the acceptor takes nothing.
 fn can_spawn<R: Threads>(rt: &R, alloc: Global, workers: usize) -> Result<(), CrewFault> {
     let Ok(mut handles) = Vec::with_capacity(alloc, workers) else {
         return Err(CrewFault::NoMemory);

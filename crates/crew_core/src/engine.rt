@@ -11,7 +11,7 @@ ghost use Rattle.crew_core.specs.Writers.{RecordsAll, RecordsFront};
 use crate::crew::{Crew, CrewFault, Setup, Summary, run_crew};
 use crate::outlet::{Outlet, RING, Sink};
 use crate::record_sink::RecordSink;
-use audit_core::RecordFault;
+use audit_core::{RECORD_BUFFER, RecordFault};
 use book_core::Book;
 use book_core::laws::open_connections_change;
 use conn_core::{Core, OpenFault};
@@ -111,6 +111,7 @@ fn run<
     dials: Vec<L>,
     clock: &C,
     workers: u16,
+    buffer: Vec<u8>,
     writer: W,
 ) -> Result<Served<W>, CrewFault>
     requires fresh { (book.made ≡ 0) × (open_connections book.state ≡ 0) × (open_connections book.base ≡ 0) }
@@ -131,7 +132,7 @@ fn run<
     };
     let outlet = Outlet {
         segments,
-        sink: RecordSink::new(alloc, writer),
+        sink: RecordSink::new(buffer, writer),
     };
     let ran = run_crew::<R, M, O, B, K, L, D, NoGate, C, RecordSink<W>>(
         rt, alloc, book, made, leases, door, dials, outlet, &NoGate, clock, setup,
@@ -167,7 +168,8 @@ fn run<
 
 /// Serves what comes to the door with a worker for each dial, 1 to 64, until the door is closed. The record is written by
 /// segments while it does; then what is open is closed, and the rest is written. The segments are the reading end of
-/// the ring of the book. After a fault nothing was served.
+/// the ring of the book. After a fault nothing was served. The buffer that the record is written through is made first, so
+/// that memory that runs out later does not end the record.
 pub fn serve<
     R: Threads + Wait + Sync,
     K: Link + Send,
@@ -194,6 +196,10 @@ pub fn serve<
     // If the writer fails, it has a front of such a record.
     ensures front { IfOk result (λ served. OnErr served.written (RecordsFront book.base served.summary.recorded (W.held writer) (W.held served.writer))) }
 {
+    let Ok(buffer) = Vec::with_capacity(alloc, RECORD_BUFFER) else {
+        book.end();
+        return Err(CrewFault::NoMemory);
+    };
     run::<Brand, Brand, Brand, R, K, L, D, C, W>(
         rt,
         alloc,
@@ -205,6 +211,7 @@ pub fn serve<
         dials,
         clock,
         workers,
+        buffer,
         writer,
     )
 }

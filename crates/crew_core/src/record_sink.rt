@@ -5,28 +5,29 @@ ghost use Rattle.audit_core.specs.Recording.{records_text, AppendsFront};
 ghost use Rattle.book_core.specs.Book.{IsBook};
 
 use crate::outlet::{Sink, SinkFault};
-use audit_core::{RecordFault, write_journal};
+use audit_core::{RecordFault, write_through};
 use book_core::Book;
 use device_core::Output;
 use record_core::Segment;
-use std::alloc::Global;
 
 /// Writes segments as text, up to the first that the writer does not take whole. A record with a gap could not be checked,
 /// so all after that one are refused.
 #[derive(Drop)]
 pub(crate) struct RecordSink<W: Output> {
-    alloc: Global,
+    /// What each segment is written through. It is kept, so that a moment out of memory does not end the record.
+    buffer: Vec<u8>,
     writer: W,
     fault: Option<RecordFault>,
 }
 
 impl<W: Output + Drop> RecordSink<W> {
-    pub(crate) fn new(alloc: Global, writer: W) -> RecordSink<W>
+    /// With room for `RECORD_BUFFER` bytes in the buffer no memory is asked for later.
+    pub(crate) fn new(buffer: Vec<u8>, writer: W) -> RecordSink<W>
         ensures writer { result.writer ≡ writer }
         ensures fault { result.fault ≡ None }
     {
         RecordSink {
-            alloc,
+            buffer,
             writer,
             fault: None,
         }
@@ -40,14 +41,14 @@ impl<W: Output + Drop> RecordSink<W> {
         ensures legal { IsBook book.now }
     {
         let RecordSink {
-            alloc,
+            mut buffer,
             mut writer,
             fault,
         } = self;
         let journal = book.journal();
         let written = match fault {
             Some(fault) => Err(fault),
-            None => write_journal(alloc, journal, &mut writer),
+            None => write_through(&mut buffer, journal, &mut writer),
         };
         (written, writer)
     }
@@ -64,7 +65,8 @@ impl<W: Output + Drop> Sink for RecordSink<W> {
         if self.fault.is_some() {
             return Err(SinkFault);
         }
-        match write_journal(self.alloc, segment.records.as_slice(), &mut self.writer) {
+        let records = segment.records.as_slice();
+        match write_through(&mut self.buffer, records, &mut self.writer) {
             Ok(()) => Ok(()),
             Err(fault) => {
                 self.fault = Some(fault);

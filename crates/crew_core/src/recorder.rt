@@ -19,16 +19,19 @@ const LONGEST: u64 = 1_000;
 /// A record whose number is a multiple of this one ends a segment.
 const SEGMENT: u64 = 256;
 
-/// What wakes the recorder, what ends it, what it has to report, and how many workers began.
+/// What wakes the recorder, what ends it, what it has to report, and how many threads began.
 #[derive(Drop)]
 pub(crate) struct Alert {
     parker: Parker,
     is_over: AtomicBool,
     /// How many segments the sink refused so far.
     refused: AtomicU64,
-    /// How many records at least are in memory because the ring has no room.
+    /// Whether some thread cuts the records in memory.
+    is_cutting: AtomicBool,
+    /// How many records at least are in memory because the ring had no room at the latest cut. Only the thread that cuts
+    /// changes it.
     waiting: AtomicU64,
-    /// How many workers began their work.
+    /// How many workers began their work, and the recorder.
     began: AtomicU64,
 }
 
@@ -38,17 +41,18 @@ impl Alert {
             parker: Parker::new(),
             is_over: AtomicBool::new(false),
             refused: AtomicU64::new(0),
+            is_cutting: AtomicBool::new(false),
             waiting: AtomicU64::new(0),
             began: AtomicU64::new(0),
         }
     }
 
-    /// A worker begins its work.
+    /// A worker or the recorder begins its work.
     pub(crate) fn begin(&self) {
         let _before = self.began.fetch_add(1, Ordering::SeqCst);
     }
 
-    /// How many workers began their work.
+    /// How many workers began their work, and the recorder.
     pub(crate) fn began(&self) -> u64 {
         self.began.load(Ordering::SeqCst)
     }
@@ -82,8 +86,12 @@ impl<'a, M: Ledger, O: Ledger, B: Opening, G: Gate, C: Clock> WorkerContext<'a, 
     }
 
     /// Hands the records in memory to the recorder. If the ring has no room they stay in memory, so many more than
-    /// before, and are handed on with a later segment.
+    /// before, and are handed on with a later segment. While another thread cuts, this one leaves them to the next cut and
+    /// does not wait: two cuts at once could be counted in another order than they were made in.
     fn cut<R: Wait>(&self, rt: &R, more: u64) {
+        if self.alert.is_cutting.swap(true, Ordering::SeqCst) {
+            return;
+        }
         match self.desk.cut(rt) {
             Ok(()) => {
                 self.alert.waiting.store(0, Ordering::SeqCst);
@@ -94,6 +102,7 @@ impl<'a, M: Ledger, O: Ledger, B: Opening, G: Gate, C: Clock> WorkerContext<'a, 
             }
             Err(CutFault::Nothing) => self.alert.waiting.store(0, Ordering::SeqCst),
         }
+        self.alert.is_cutting.store(false, Ordering::SeqCst);
     }
 
     /// Waits for a segment, and cuts the records in memory if few of them come. It is handed, and gives back, the moment
@@ -114,6 +123,7 @@ impl<'a, M: Ledger, O: Ledger, B: Opening, G: Gate, C: Clock> WorkerContext<'a, 
     pub(crate) fn hand_on<S: Sink, R: Wait>(&self, rt: &R, outlet: Outlet<S>) -> (Outlet<S>, u64)
         ensures { HasHandedOn S.takes S.refuses 0 outlet result.1 result.0 }
     {
+        self.alert.begin();
         let mut outlet = outlet;
         let mut refused = 0u64;
         let mut latest = self.clock.now();
