@@ -10,7 +10,7 @@ use command_line::ServeWords;
 use conn_core::OpenFault;
 use conn_model::reply::{Reply, StepFault};
 use crew_core::{Backlog, Clock, CrewFault, Dial, Door, DoorEvent, Served, open_book, serve};
-use desk_core::SettleFault;
+use desk_core::{SettleFault, Settled};
 use device_core::ToWrite;
 use file_commands::{DEVICE, DONE, REFUSED, explain_refusal, unreadable, warn_of_plan};
 use log::Log;
@@ -193,25 +193,29 @@ pub fn open<'a, R: Files + Net + Log + rt::Clock + AllocGlobal + Eprint>(
     }
 }
 
-/// Says what was served.
+/// Says what was served. What is open then could not be closed, since memory ran out, and the record lacks its end.
 fn say_served<W>(rt: &impl Eprint, served: &Served<W>) -> u8 {
     if let Err(fault) = &served.written {
         let _written = eprintln!(rt; "l4proxy: standard output: {fault}");
     }
     match &served.settled {
-        Ok(settled) => {
-            let accepted = served.summary.accepted;
-            let _written = eprintln!(rt;
-                "l4proxy: {accepted} connections, {} records, {} open",
-                settled.made, settled.live
-            );
-        }
+        Ok(settled) => say_settled(rt, served.summary.accepted, settled),
         Err(fault) => say_unsettled(rt, fault),
     }
     match (&served.written, &served.settled) {
         (Err(_), _) => DEVICE,
         (Ok(()), Err(_)) => REFUSED,
+        (Ok(()), Ok(settled)) if settled.live > 0 => DEVICE,
         (Ok(()), Ok(_)) => DONE,
+    }
+}
+
+/// Says how many connections came, how many records they have, and which of them the record leaves open.
+fn say_settled(rt: &impl Eprint, accepted: u64, settled: &Settled) {
+    let (made, live) = (settled.made, settled.live);
+    let _written = eprintln!(rt; "l4proxy: {accepted} connections, {made} records, {live} open");
+    if live > 0 {
+        let _written = eprintln!(rt; "l4proxy: no memory for the end of those that are open");
     }
 }
 
