@@ -1,11 +1,12 @@
 //! The engine of `serve`: a crew, from the configuration's text to the record.
-ghost use Rattle.std.specs.Prelude.{◌≡◌, ◌⊎◌, ◌≤◌, ◌-◌, ◌^◌, [], Err, IfOk, IfErr, OnErr, OnOk, Some, vec_len};
+ghost use Rattle.std.specs.Prelude.{◌≡◌, ◌⊎◌, ◌≤◌, ◌-◌, ◌^◌, [], Err, IfOk, IfErr, OnErr, OnOk, Some, vec_capacity, vec_len};
 ghost use Rattle.rtrb.specs.Ring.{received, IsPair};
 ghost use Rattle.proxy_types.specs.declared.limits.TheConstants.{MOST_WORKERS};
 ghost use Rattle.config_core.specs.Meaning.{meaning};
 ghost use Rattle.conn_core.specs.Machine.{IsOpened};
 ghost use Rattle.book_core.specs.Book.{new_book};
 ghost use Rattle.conn_model.specs.Counts.{open_connections};
+ghost use Rattle.audit_core.specs.declared.recording.TheConstants.{RECORD_BUFFER};
 ghost use Rattle.crew_core.specs.Writers.{RecordsAll, RecordsFront};
 
 use crate::crew::{Crew, CrewFault, Setup, Summary, run_crew};
@@ -121,6 +122,7 @@ fn run<
     requires leases_name { leases.name ≡ O.name }
     requires leases_parts { (leases.parts ≡ O.parts) × (leases.parts ≡ 2 ^ 64 - 1) }
     requires opened { B.opening ≡ Some book }
+    requires room { RECORD_BUFFER ≤ vec_capacity buffer }
     requires workers { (vec_len dials ≡ workers) × (1 ≤ workers) × (workers ≤ MOST_WORKERS) }
     ensures record { IfOk result (λ served. OnOk served.written (RecordsAll book.base served.summary.recorded (W.held writer) (W.held served.writer))) }
     ensures front { IfOk result (λ served. OnErr served.written (RecordsFront book.base served.summary.recorded (W.held writer) (W.held served.writer))) }

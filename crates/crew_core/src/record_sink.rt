@@ -1,7 +1,8 @@
 //! A writer of the record.
-ghost use Rattle.std.specs.Prelude.{◌≡◌, IsSome, None, OnErr, OnOk};
+ghost use Rattle.std.specs.Prelude.{◌≡◌, ◌≤◌, IsSome, None, OnErr, OnOk, vec_capacity};
 ghost use Rattle.std.specs.Io.KnownBytes.{Appends};
 ghost use Rattle.audit_core.specs.Recording.{records_text, AppendsFront};
+ghost use Rattle.audit_core.specs.declared.recording.TheConstants.{RECORD_BUFFER};
 ghost use Rattle.book_core.specs.Book.{IsBook};
 
 use crate::outlet::{Sink, SinkFault};
@@ -21,8 +22,9 @@ pub(crate) struct RecordSink<W: Output> {
 }
 
 impl<W: Output + Drop> RecordSink<W> {
-    /// With room for `RECORD_BUFFER` bytes in the buffer no memory is asked for later.
+    /// A sink that asks for no memory later, since any record of `serve` has room in the buffer.
     pub(crate) fn new(buffer: Vec<u8>, writer: W) -> RecordSink<W>
+        requires room { RECORD_BUFFER ≤ vec_capacity buffer }
         ensures writer { result.writer ≡ writer }
         ensures fault { result.fault ≡ None }
     {
