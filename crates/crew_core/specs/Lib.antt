@@ -4,3 +4,5 @@ pub mod Conns
 pub mod Outlets
 pub mod Writers
 pub mod Idle
+pub mod Dues
+pub mod Places

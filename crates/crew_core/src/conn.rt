@@ -2,8 +2,12 @@
 ghost use Rattle.std.specs.Prelude.{◌≡◌, ◌++◌, [], Some, None, IsTrue, IfOk, OnOk, OnErr, IsSomeAnd};
 ghost use Rattle.relay_core.specs.Relay.{IsBegun};
 ghost use Rattle.crew_core.specs.Conns.{HasFlows, PassesOn};
+ghost use Rattle.crew_core.specs.Dues.{client_side, dial_begun, dialled_side, due_in, server_side};
+ghost use Rattle.crew_core.specs.Idle.{time_begun, waited_for};
 
-use crate::idle::{Side, is_overdue, overdue, retry_pause};
+use crate::idle::{
+    Side, Times, WaitedFor, is_overdue, overdue, retry_pause, time_begun, waited_for_by,
+};
 use addr_core::Endpoint;
 use conn_model::event::Why;
 use conn_model::settings::Settings;
@@ -41,10 +45,10 @@ pub(crate) struct Conn<K: Link> {
     settings: Settings,
     /// How often its server was dialled again.
     retries: u64,
-    /// When the client last sent or took a byte, in ms.
-    client_seen: u64,
-    /// The same of the server. While it is dialled, when that began, and in a pause, when the pause began.
-    server_seen: u64,
+    /// When the times of the sides began. That of the server is also the time of its dial, and of a pause.
+    times: Times,
+    /// Of which sides something was expected when that was last noted.
+    waited_for: WaitedFor,
 }
 
 /// What is due of a connection.
@@ -82,23 +86,41 @@ impl<K: Link> Conn<K> {
                 retries: 0,
             },
             retries: 0,
-            client_seen: 0,
-            server_seen: 0,
+            times: Times {
+                client: 0,
+                server: 0,
+            },
+            waited_for: WaitedFor {
+                client: false,
+                server: false,
+            },
         }
     }
 
-    /// From now on its server is dialled, and it is served so.
-    pub(crate) fn begin_dial(&mut self, settings: Settings, now: u64) {
+    /// How it is served from now on.
+    pub(crate) fn set_settings(&mut self, settings: Settings)
+        ensures { self.new ≡ record self.old { settings = settings } }
+    {
         self.settings = settings;
-        self.server_seen = now;
+    }
+
+    /// Its server was dialled. The time of the dial begins, unless it is over already.
+    pub(crate) fn begin_dial(&mut self, now: u64)
+        ensures { self.new.times ≡ dial_begun self.old.stage self.old.times now }
+    {
+        if let Stage::Server(_) = self.stage {
+            self.times.server = now;
+        }
     }
 
     /// Begins the pause before its server is dialled again; whether it may be.
-    pub(crate) fn begin_pause(&mut self, now: u64) -> bool {
+    pub(crate) fn begin_pause(&mut self, now: u64) -> bool
+        ensures { IsTrue result → self.new.times.server ≡ now }
+    {
         match self.stage {
             Stage::Server(to) if self.retries < self.settings.retries => {
                 self.retries += 1;
-                self.server_seen = now;
+                self.times.server = now;
                 self.stage = Stage::Retry(to);
                 true
             }
@@ -107,58 +129,97 @@ impl<K: Link> Conn<K> {
     }
 
     /// The pause is over, and its server is dialled again.
-    pub(crate) fn end_pause(&mut self, to: Endpoint, now: u64) {
+    pub(crate) fn end_pause(&mut self, to: Endpoint)
+        ensures { self.new.stage ≡ Stage.Server to }
+    {
         self.stage = Stage::Server(to);
         self.server_flags = Flags::of_server();
-        self.server_seen = now;
     }
 
-    /// Both links are read at the next turn, whether they were reported or not.
+    /// Both links are read and written at the next turn, whether they were reported or not.
     pub(crate) fn expect_bytes(&mut self) {
         self.client_flags.reads = true;
+        self.client_flags.writes = true;
         self.server_flags.reads = true;
+        self.server_flags.writes = true;
     }
 
-    /// Notes which of the links moved bytes.
-    pub(crate) fn note_activity(&mut self, now: u64) {
-        if self.client_flags.take_activity() {
-            self.client_seen = now;
+    /// Of which sides something is expected.
+    fn waited_for(&self) -> WaitedFor
+        ensures { result ≡ waited_for self.now.relay }
+    {
+        match &self.relay {
+            Some(relay) => waited_for_by(relay),
+            None => WaitedFor {
+                client: true,
+                server: true,
+            },
         }
-        if self.server_flags.take_activity() {
-            self.server_seen = now;
-        }
+    }
+
+    /// Notes which of the links moved bytes, and of which sides something is expected now.
+    pub(crate) fn note_activity(&mut self, now: u64)
+        ensures client { self.new.times.client ≡ time_begun self.old.times.client self.old.waited_for.client self.old.client_flags.is_active now }
+        ensures server { self.new.times.server ≡ time_begun self.old.times.server self.old.waited_for.server self.old.server_flags.is_active now }
+        ensures waited_for { self.new.waited_for ≡ waited_for self.old.relay }
+        ensures relay { self.new.relay ≡ self.old.relay }
+    {
+        let was = self.waited_for;
+        let client_is_active = self.client_flags.take_activity();
+        let server_is_active = self.server_flags.take_activity();
+        self.times = Times {
+            client: time_begun(self.times.client, was.client, client_is_active, now),
+            server: time_begun(self.times.server, was.server, server_is_active, now),
+        };
+        self.waited_for = self.waited_for();
     }
 
     /// What is due, if anything is.
-    pub(crate) fn due(&self, now: u64) -> Option<Due> {
-        let server = self.settings.server;
+    pub(crate) fn due(&self, now: u64) -> Option<Due>
+        ensures { result ≡ due_in self.now.stage self.now.settings self.now.times (waited_for self.now.relay) now }
+    {
         match self.stage {
             Stage::Header => None,
             Stage::Server(to) => {
                 let connect = self.settings.connect;
-                is_overdue(now, self.server_side(connect)).then_some(Due::DialTimeout(to))
+                is_overdue(now, self.dialled_side(connect)).then_some(Due::DialTimeout(to))
             }
             Stage::Retry(to) => {
                 let pause = retry_pause(self.settings.connect);
-                is_overdue(now, self.server_side(pause)).then_some(Due::Retry(to))
+                is_overdue(now, self.dialled_side(pause)).then_some(Due::Retry(to))
             }
-            Stage::Bytes => overdue(now, self.client_side(), self.server_side(server)).map(
-                Due::End,
-            ),
+            Stage::Bytes => overdue(now, self.client_side(), self.server_side()).map(Due::End),
         }
     }
 
-    fn client_side(&self) -> Side {
+    /// Its server, until it accepts the connection or is dialled again.
+    fn dialled_side(&self, limit: u64) -> Side
+        ensures { result ≡ dialled_side self.now.times limit }
+    {
         Side {
-            seen: self.client_seen,
+            is_waited_for: true,
+            since: self.times.server,
+            limit,
+        }
+    }
+
+    fn client_side(&self) -> Side
+        ensures { result ≡ client_side self.now.settings self.now.times (waited_for self.now.relay) }
+    {
+        Side {
+            is_waited_for: self.waited_for().client,
+            since: self.times.client,
             limit: self.settings.client,
         }
     }
 
-    fn server_side(&self, limit: u64) -> Side {
+    fn server_side(&self) -> Side
+        ensures { result ≡ server_side self.now.settings self.now.times (waited_for self.now.relay) }
+    {
         Side {
-            seen: self.server_seen,
-            limit,
+            is_waited_for: self.waited_for().server,
+            since: self.times.server,
+            limit: self.settings.server,
         }
     }
 
@@ -198,12 +259,19 @@ impl<K: Link> Conn<K> {
         Ok(())
     }
 
-    /// There is a link to its server. Both sides count as silent from now on.
-    pub(crate) fn connect(&mut self, server: K, now: u64) {
+    /// There is a link to its server. The times of both sides begin.
+    pub(crate) fn connect(&mut self, server: K, now: u64)
+        ensures stage { self.new.stage ≡ Stage.Bytes }
+        ensures times { self.new.times ≡ record { client = now; server = now } }
+        ensures waited_for { self.new.waited_for ≡ waited_for self.old.relay }
+    {
         self.server = Some(server);
         self.stage = Stage::Bytes;
-        self.client_seen = now;
-        self.server_seen = now;
+        self.times = Times {
+            client: now,
+            server: now,
+        };
+        self.waited_for = self.waited_for();
     }
 
     /// The relay of the connection, or a new one.

@@ -342,12 +342,7 @@ fn take_apart<M: Ledger, O: Ledger, K: Link, L: Dial<Link = K>>(
     let mut closed = 0u64;
     let mut waiting = 0u64;
     while let Some(worker) = workers.pop() {
-        let Worker {
-            calls,
-            state,
-            dial,
-            now: _,
-        } = worker;
+        let Worker { calls, state, dial } = worker;
         let WorkerState { mut arrivals, .. } = state;
         let (pass, leases, replies) = calls.into_parts();
         closed = closed.saturating_add(replies);

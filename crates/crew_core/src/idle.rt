@@ -1,27 +1,72 @@
-//! When a side of a connection has been silent for too long (HAProxy manual, `timeout client`, `timeout server`), and the
-//! pause before a server is dialled again (`retries`).
+//! Which sides of a connection are waited for, when one of them has been silent for too long (HAProxy manual, `timeout
+//! client`, `timeout server`), and the pause before a server is dialled again (`retries`).
 ghost use Rattle.std.specs.Prelude.{◌≡◌};
-ghost use Rattle.crew_core.specs.Idle.{due_of, is_overdue, overdue, retry_pause};
+ghost use Rattle.relay_core.specs.Relay.{flow_of};
+ghost use Rattle.crew_core.specs.Idle.{due_of, is_overdue, is_waited_for, overdue, retry_pause, time_begun, waited_for_by};
 
 use conn_model::event::Why;
+use relay_core::{Relay, Way};
 
-/// When a side last sent or took a byte, and how long it may be silent, both in ms; a limit of 0 is none.
+/// Of which sides something is expected.
+#[derive(Clone, Copy, Debug, PartialEq, Eq)]
+pub(crate) struct WaitedFor {
+    pub(crate) client: bool,
+    pub(crate) server: bool,
+}
+
+/// When the time of each side began, in ms.
+#[derive(Clone, Copy, Debug, PartialEq, Eq)]
+pub(crate) struct Times {
+    pub(crate) client: u64,
+    pub(crate) server: u64,
+}
+
+/// A side whose time began at a moment, and how long it may be silent, both in ms; a limit of 0 is none.
 #[derive(Clone, Copy, Debug)]
 pub(crate) struct Side {
-    pub(crate) seen: u64,
+    pub(crate) is_waited_for: bool,
+    pub(crate) since: u64,
     pub(crate) limit: u64,
+}
+
+/// Whether something is expected of the side whose bytes go the one way, and which gets those of the other way.
+fn is_waited_for(relay: &Relay, sends: Way, takes: Way) -> bool
+    ensures { result ≡ is_waited_for (flow_of sends relay.now) (flow_of takes relay.now) }
+{
+    relay.asks(sends) || relay.holds(takes)
+}
+
+/// Of which sides something is expected, by the relay between them.
+pub(crate) fn waited_for_by(relay: &Relay) -> WaitedFor
+    ensures { result ≡ waited_for_by relay.now }
+{
+    WaitedFor {
+        client: is_waited_for(relay, Way::Forth, Way::Back),
+        server: is_waited_for(relay, Way::Back, Way::Forth),
+    }
+}
+
+/// When the time of a side that had begun before begins, by what is noted now.
+pub(crate) fn time_begun(before: u64, was_waited_for: bool, is_active: bool, now: u64) -> u64
+    ensures { result ≡ time_begun before was_waited_for is_active now }
+{
+    if is_active || !was_waited_for {
+        now
+    } else {
+        before
+    }
 }
 
 fn due_of(side: Side) -> u64
     ensures { result ≡ due_of side }
 {
-    side.seen.saturating_add(side.limit)
+    side.since.saturating_add(side.limit)
 }
 
 pub(crate) fn is_overdue(now: u64, side: Side) -> bool
     ensures { result ≡ is_overdue now side }
 {
-    side.limit != 0 && due_of(side) <= now
+    side.is_waited_for && side.limit != 0 && due_of(side) <= now
 }
 
 /// Which side was silent for too long. Of two the one that was overdue first, and the client if both are level.

@@ -3,25 +3,33 @@
 use std::alloc::{AllocError, Global};
 use std::collections::VecDeque;
 
-/// The keys of the connections of one listener that are to be served, in the order in which they came.
+/// A connection that is to be served.
+#[derive(Clone, Copy, Debug)]
+pub(crate) struct Queued {
+    pub(crate) key: usize,
+    /// The serial of the connection. Once that has ended, its key may be another one's.
+    pub(crate) serial: u64,
+}
+
+/// The connections of one listener that are to be served, in the order in which they came. Some may have ended since.
 #[derive(Drop)]
 struct Line {
-    keys: VecDeque<usize>,
+    conns: VecDeque<Queued>,
     /// How many connections of the listener are open.
     open: usize,
 }
 
-/// Keys that are to be served, those of each listener in a line of their own. The listeners have their turns one after the
-/// other, a connection at a time: however many connections of one listener are ready, one of another waits for few of
+/// Connections that are to be served, those of each listener in a line of their own. The listeners have their turns one after
+/// the other, a connection at a time: however many connections of one listener are ready, one of another waits for few of
 /// them.
 #[derive(Drop)]
 pub(crate) struct Queue {
     alloc: Global,
     /// By the number of the listener.
     lines: Vec<Line>,
-    /// The listeners that have keys, each once, first the one whose turn is next.
+    /// The listeners that have connections here, each once, first the one whose turn is next.
     turns: VecDeque<usize>,
-    /// How many keys there are.
+    /// How many connections are in the lines.
     len: usize,
 }
 
@@ -35,22 +43,20 @@ impl Queue {
         }
     }
 
-    /// Makes room for the key of one connection more of a listener.
+    /// Makes room for one connection more of a listener: for each of its open connections there is room beside those in its
+    /// line, of which some may have ended.
     pub(crate) fn make_room(&mut self, listener: u16) -> Result<(), AllocError> {
         let number = usize::from(listener);
         for _line in self.lines.len()..number + 1 {
             self.lines.push(Line {
-                keys: VecDeque::new(self.alloc),
+                conns: VecDeque::new(self.alloc),
                 open: 0,
             })?;
         }
         let idle = self.lines.len().saturating_sub(self.turns.len());
         self.turns.reserve(idle)?;
         match self.lines.get_mut(number) {
-            Some(line) => {
-                let unqueued = line.open.saturating_sub(line.keys.len());
-                line.keys.reserve(unqueued.saturating_add(1))
-            }
+            Some(line) => line.conns.reserve(line.open.saturating_add(1)),
             None => Ok(()),
         }
     }
@@ -69,40 +75,40 @@ impl Queue {
         }
     }
 
-    /// How many keys there are.
+    /// How many connections are in it.
     pub(crate) fn len(&self) -> usize {
         self.len
     }
 
-    /// Adds the key of a connection of a listener; whether there was room for it.
-    pub(crate) fn push(&mut self, listener: u16, key: usize) -> bool {
+    /// Adds a connection of a listener; whether there was room for it.
+    pub(crate) fn push(&mut self, listener: u16, conn: Queued) -> bool {
         let number = usize::from(listener);
         let Some(line) = self.lines.get_mut(number) else {
             return false;
         };
-        if line.keys.is_empty() && self.turns.push_back(number).is_err() {
+        if line.conns.is_empty() && self.turns.push_back(number).is_err() {
             return false;
         }
-        let is_added = line.keys.push_back(key).is_ok();
+        let is_added = line.conns.push_back(conn).is_ok();
         if is_added {
             self.len = self.len.saturating_add(1);
         }
         is_added
     }
 
-    /// Takes the next key out: the first one of the listener whose turn it is.
-    pub(crate) fn pop(&mut self) -> Option<usize> {
+    /// Takes the next connection out: the first one of the listener whose turn it is.
+    pub(crate) fn pop(&mut self) -> Option<Queued> {
         let number = self.turns.pop_front()?;
         let line = self.lines.get_mut(number)?;
-        let key = line.keys.pop_front()?;
+        let conn = line.conns.pop_front()?;
         self.len = self.len.saturating_sub(1);
-        if !line.keys.is_empty() {
+        if !line.conns.is_empty() {
             let _ = self.turns.push_back(number);
         }
-        Some(key)
+        Some(conn)
     }
 
-    /// Takes all keys out. No connection is open any more.
+    /// Takes all of them out. No connection is open any more.
     pub(crate) fn clear(&mut self) {
         self.lines.clear();
         self.turns.clear();

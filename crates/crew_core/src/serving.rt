@@ -44,8 +44,24 @@ fn read_piece<K: Link>(link: &mut K, buffer: &mut [u8]) -> Result<Got, Failed> {
 }
 
 impl<M: Ledger, O: Ledger, K: Link, L: Dial<Link = K>> Worker<M, O, K, L> {
-    /// The next connection of the queue has its turn.
-    pub(crate) fn serve<B: Opening, G: Gate, C: Clock, R: Wait>(
+    /// The connections of the queue have their turns: `SERVED` of them at the most.
+    pub(crate) fn serve_queue<B: Opening, G: Gate, C: Clock, R: Wait>(
+        &mut self,
+        rt: &R,
+        context: &WorkerContext<'_, M, O, B, G, C>,
+    ) {
+        for _turn in 0..self.state.table.queued().min(SERVED) {
+            if self.calls.is_stopped {
+                return;
+            }
+            if let Some(queued) = self.state.table.dequeue() {
+                self.serve(rt, context, queued.key);
+            }
+        }
+    }
+
+    /// A connection has its turn.
+    fn serve<B: Opening, G: Gate, C: Clock, R: Wait>(
         &mut self,
         rt: &R,
         context: &WorkerContext<'_, M, O, B, G, C>,
@@ -142,11 +158,25 @@ impl<M: Ledger, O: Ledger, K: Link, L: Dial<Link = K>> Worker<M, O, K, L> {
         match conn.offer(spares, to, send, rest) {
             Ok(()) => {
                 if let Some(settings) = settings {
-                    conn.begin_dial(settings, self.now);
+                    conn.set_settings(settings);
                 }
-                self.dial_server(rt, context, key, &to);
+                self.begin_dial(rt, context, key, &to);
             }
             Err(_) => self.close(rt, context, key, Why::Fault),
+        }
+    }
+
+    /// Dials the server of a connection. The time of the dial begins after that, however long the call took.
+    fn begin_dial<B: Opening, G: Gate, C: Clock, R: Wait>(
+        &mut self,
+        rt: &R,
+        context: &WorkerContext<'_, M, O, B, G, C>,
+        key: usize,
+        to: &Endpoint,
+    ) {
+        self.dial_server(rt, context, key, to);
+        if let Some(conn) = self.state.table.conn(key) {
+            conn.begin_dial(context.clock.now());
         }
     }
 
@@ -176,7 +206,7 @@ impl<M: Ledger, O: Ledger, K: Link, L: Dial<Link = K>> Worker<M, O, K, L> {
         match self.calls.drive(rt, context, key, &Drive::Connected) {
             CallOutcome::Open(_) => {
                 if let Some(conn) = self.state.table.conn(key) {
-                    conn.connect(server, self.now);
+                    conn.connect(server, context.clock.now());
                     self.state.table.enqueue(key);
                 }
             }
@@ -210,7 +240,7 @@ impl<M: Ledger, O: Ledger, K: Link, L: Dial<Link = K>> Worker<M, O, K, L> {
         key: usize,
     ) {
         let has_pause = match self.state.table.conn(key) {
-            Some(conn) => conn.begin_pause(self.now),
+            Some(conn) => conn.begin_pause(context.clock.now()),
             None => false,
         };
         if has_pause {
@@ -233,64 +263,68 @@ impl<M: Ledger, O: Ledger, K: Link, L: Dial<Link = K>> Worker<M, O, K, L> {
         to: &Endpoint,
     ) {
         if let Some(conn) = self.state.table.conn(key) {
-            conn.end_pause(*to, self.now);
+            conn.end_pause(*to);
         }
-        self.dial_server(rt, context, key, to);
+        self.begin_dial(rt, context, key, to);
     }
 
-    /// What is due of a connection.
-    fn due(&mut self, key: usize) -> Option<Due> {
-        self.state.table.conn(key)?.due(self.now)
+    /// What is due of a connection at a moment.
+    fn due(&mut self, key: usize, now: u64) -> Option<Due> {
+        self.state.table.conn(key)?.due(now)
     }
 
-    /// Does what is due of the connections that are looked at in this turn.
+    /// Does what is due of the connections that are looked at in a turn, which began at that moment.
     pub(crate) fn do_due<B: Opening, G: Gate, C: Clock, R: Wait>(
         &mut self,
         rt: &R,
         context: &WorkerContext<'_, M, O, B, G, C>,
+        now: u64,
     ) {
         let places = self.calls.leases.len();
-        for _look in 0..self.state.table.looks(self.now, places) {
+        for _look in 0..self.state.table.looks(now, places) {
             if self.calls.is_stopped {
                 return;
             }
             let key = self.state.table.next_place(places);
-            match self.due(key) {
+            match self.due(key, now) {
                 None => {}
-                Some(Due::DialTimeout(to)) => self.end_dial(rt, context, key, &to),
+                Some(Due::DialTimeout(to)) => self.end_dial(rt, context, key, &to, now),
                 Some(Due::Retry(to)) => self.dial_again(rt, context, key, &to),
-                Some(Due::End(_)) => self.end_silent(rt, context, key),
+                Some(Due::End(_)) => self.end_silent(rt, context, key, now),
             }
         }
     }
 
-    /// Gives up a dial that took too long. All threads may have been stopped since the dial was last asked, so it is asked once
-    /// more.
+    /// Gives up a dial that had taken too long by that moment. All threads may have been stopped since the dial was last
+    /// asked, so it is asked once more.
     fn end_dial<B: Opening, G: Gate, C: Clock, R: Wait>(
         &mut self,
         rt: &R,
         context: &WorkerContext<'_, M, O, B, G, C>,
         key: usize,
         to: &Endpoint,
+        now: u64,
     ) {
         self.dial_server(rt, context, key, to);
-        if let Some(Due::DialTimeout(_)) = self.due(key) {
+        if let Some(Due::DialTimeout(_)) = self.due(key, now) {
             self.try_again(rt, context, key);
         }
     }
 
-    /// Ends a connection that was silent for too long. For the same reason its links are read once more.
+    /// Ends a connection of which a side had been silent for too long by that moment. For the same reason its links are
+    /// read and written once more. What comes of that later than that moment counts too.
     fn end_silent<B: Opening, G: Gate, C: Clock, R: Wait>(
         &mut self,
         rt: &R,
         context: &WorkerContext<'_, M, O, B, G, C>,
         key: usize,
+        now: u64,
     ) {
         if let Some(conn) = self.state.table.conn(key) {
             conn.expect_bytes();
         }
         self.relay(rt, context, key);
-        if let Some(Due::End(why)) = self.due(key) {
+        if let Some(Due::End(why)) = self.due(key, now) {
             self.close(rt, context, key, why);
         }
     }
@@ -302,7 +336,6 @@ impl<M: Ledger, O: Ledger, K: Link, L: Dial<Link = K>> Worker<M, O, K, L> {
         context: &WorkerContext<'_, M, O, B, G, C>,
         key: usize,
     ) {
-        let now = self.now;
         let WorkerState {
             table,
             buffer,
@@ -313,7 +346,7 @@ impl<M: Ledger, O: Ledger, K: Link, L: Dial<Link = K>> Worker<M, O, K, L> {
             return;
         };
         let progress = conn.relay(spares, buffer.as_mut_slice());
-        conn.note_activity(now);
+        conn.note_activity(context.clock.now());
         match progress {
             None => self.close(rt, context, key, Why::Done),
             Some(Progress::Fault) => self.close(rt, context, key, Why::Fault),
@@ -324,13 +357,13 @@ impl<M: Ledger, O: Ledger, K: Link, L: Dial<Link = K>> Worker<M, O, K, L> {
         }
     }
 
-    /// Connections that have waited for their header for too long: as many of them as are served in one turn.
+    /// Connections that had waited for their header for too long by that moment: as many of them as are served in one turn.
     pub(crate) fn expire<B: Opening, G: Gate, C: Clock, R: Wait>(
         &mut self,
         rt: &R,
         context: &WorkerContext<'_, M, O, B, G, C>,
+        now: u64,
     ) {
-        let now = context.clock.now();
         for _wait in 0..self.state.table.waiting().min(SERVED) {
             if self.calls.is_stopped {
                 return;

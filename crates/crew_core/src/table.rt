@@ -1,7 +1,9 @@
 //! The connections of one worker.
+ghost use Rattle.std.specs.Prelude.{IfSome};
+ghost use Rattle.crew_core.specs.Places.{HasSerial};
 
 use crate::conn::{Conn, Stage};
-use crate::queue::Queue;
+use crate::queue::{Queue, Queued};
 use conn_model::event::Why;
 use link_core::{Link, Ready};
 use slab::Slab;
@@ -24,7 +26,7 @@ pub(crate) enum Entry<K: Link> {
 struct Place<K: Link> {
     entry: Entry<K>,
     listener: u16,
-    /// Whether its key is in the queue.
+    /// Whether it is in the queue.
     is_queued: bool,
     /// The number of the accept among those of this worker.
     serial: u64,
@@ -43,7 +45,7 @@ pub(crate) struct HeaderWait {
 #[derive(Drop)]
 pub(crate) struct Table<K: Link> {
     places: Slab<Place<K>>,
-    /// Each key once.
+    /// Each open connection once at the most.
     queue: Queue,
     /// In the order of accepts, which is that of the moments.
     waits: VecDeque<HeaderWait>,
@@ -110,13 +112,14 @@ impl<K: Link> Table<K> {
         }
     }
 
-    /// Puts a key into the queue, unless it is there.
+    /// Puts the connection of a key into the queue, unless it is there.
     pub(crate) fn enqueue(&mut self, key: usize) {
         let Some(place) = self.places.get_mut(key) else {
             return;
         };
         if !place.is_queued {
-            place.is_queued = self.queue.push(place.listener, key);
+            let serial = place.serial;
+            place.is_queued = self.queue.push(place.listener, Queued { key, serial });
         }
     }
 
@@ -128,20 +131,25 @@ impl<K: Link> Table<K> {
         }
     }
 
-    /// How many keys are in the queue.
+    /// How many connections are in the queue.
     pub(crate) fn queued(&self) -> usize {
         self.queue.len()
     }
 
-    /// The next key of the queue.
-    pub(crate) fn dequeue(&mut self) -> Option<usize> {
-        let key = self.queue.pop()?;
-        let place = self.places.get_mut(key)?;
+    /// The next connection of the queue, unless it has ended since: then its key may be another one's.
+    pub(crate) fn dequeue(&mut self) -> Option<Queued>
+        ensures { IfSome result (λ queued. HasSerial self.new.places queued.key queued.serial) }
+    {
+        let queued = self.queue.pop()?;
+        let place = self.places.get_mut(queued.key)?;
+        if place.serial != queued.serial {
+            return None;
+        }
         place.is_queued = false;
         if matches!(place.entry, Entry::Ended(_)) {
             self.ended = self.ended.saturating_sub(1);
         }
-        Some(key)
+        Some(queued)
     }
 
     pub(crate) fn remove(&mut self, key: usize) {

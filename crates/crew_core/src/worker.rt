@@ -51,8 +51,6 @@ pub(crate) struct Worker<M: Ledger, O: Ledger, K: Link, L: Dial<Link = K>> {
     pub(crate) calls: Calls<M, O>,
     pub(crate) state: WorkerState<K>,
     pub(crate) dial: L,
-    /// The moment of this turn, in ms.
-    pub(crate) now: u64,
 }
 
 impl<M: Ledger, O: Ledger, K: Link, L: Dial<Link = K>> Worker<M, O, K, L> {
@@ -69,7 +67,6 @@ impl<M: Ledger, O: Ledger, K: Link, L: Dial<Link = K>> Worker<M, O, K, L> {
             calls: Calls::new(alloc, number, pass),
             state,
             dial,
-            now: 0,
         }
     }
 
@@ -90,7 +87,8 @@ impl<M: Ledger, O: Ledger, K: Link, L: Dial<Link = K>> Worker<M, O, K, L> {
         self.stop(rt, context);
     }
 
-    /// One turn. It costs what is ready, and not what is open.
+    /// One turn. It costs what is ready, and not what is open. What is due is looked at after what has come was read, and by
+    /// the moment before that: where all threads are stopped in between, nobody's time is over for it.
     fn turn<B: Opening, G: Gate, C: Clock, R: Wait>(
         &mut self,
         rt: &R,
@@ -98,18 +96,11 @@ impl<M: Ledger, O: Ledger, K: Link, L: Dial<Link = K>> Worker<M, O, K, L> {
     ) {
         let limit = self.state.table.limit(context.clock.now(), LONGEST_WAIT);
         self.gather(limit);
-        self.now = context.clock.now();
+        let now = context.clock.now();
         self.take_arrivals(rt, context);
-        self.expire(rt, context);
-        self.do_due(rt, context);
-        for _key in 0..self.state.table.queued().min(SERVED) {
-            if self.calls.is_stopped {
-                return;
-            }
-            if let Some(key) = self.state.table.dequeue() {
-                self.serve(rt, context, key);
-            }
-        }
+        self.serve_queue(rt, context);
+        self.expire(rt, context, now);
+        self.do_due(rt, context, now);
     }
 
     /// Takes all that the dial has to report, so that nobody is served before another connection is known to be ready. It

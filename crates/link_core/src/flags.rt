@@ -1,4 +1,5 @@
 //! What is known of a link's readiness.
+ghost use Rattle.std.specs.Prelude.{◌≡◌, false};
 
 use crate::traits::Ready;
 
@@ -39,7 +40,10 @@ impl Flags {
     }
 
     /// Whether bytes came or went since it was asked last.
-    pub fn take_activity(&mut self) -> bool {
+    pub fn take_activity(&mut self) -> bool
+        ensures answer { result ≡ self.old.is_active }
+        ensures flags { self.new ≡ record self.old { is_active = false } }
+    {
         let was_active = self.is_active;
         self.is_active = false;
         was_active

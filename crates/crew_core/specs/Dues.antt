@@ -1,0 +1,36 @@
+-- What is due of a connection.
+use Rattle.std.specs.Prelude.{ℕ, true, Option, Some, None, option_map, if◌then◌else◌}
+use Rattle.conn_model.specs.declared.settings.Settings.{Settings}
+use Rattle.crew_core.specs.Idle.{is_overdue, overdue, retry_pause}
+use Rattle.crew_core.specs.declared.conn.Due.{Due}
+use Rattle.crew_core.specs.declared.conn.Due.TheVariants as dues
+use Rattle.crew_core.specs.declared.conn.Stage.{Stage}
+use Rattle.crew_core.specs.declared.conn.Stage.TheVariants as stages
+use Rattle.crew_core.specs.declared.idle.Side.{Side}
+use Rattle.crew_core.specs.declared.idle.Times.{Times}
+use Rattle.crew_core.specs.declared.idle.WaitedFor.{WaitedFor}
+
+-- The time of a dial begins where it is under way.
+abbrev pub dial_begun : Stage → Times → ℕ → Times
+dial_begun stages.Header times now = times
+dial_begun (stages.Server to) times now = record times { server = now }
+dial_begun (stages.Retry to) times now = times
+dial_begun stages.Bytes times now = times
+
+-- the server while it is dialled, and in the pause before it is dialled again
+abbrev pub dialled_side : Times → ℕ → Side
+dialled_side times limit = record { is_waited_for = true; since = times.server; limit = limit }
+
+abbrev pub client_side : Settings → Times → WaitedFor → Side
+client_side settings times waited_for = record { is_waited_for = waited_for.client; since = times.client; limit = settings.client }
+
+abbrev pub server_side : Settings → Times → WaitedFor → Side
+server_side settings times waited_for = record { is_waited_for = waited_for.server; since = times.server; limit = settings.server }
+
+-- Nothing is due while a header is awaited. A dial is over after `timeout connect`, and a pause after its own time. Once there is a
+-- link to the server, the side that was silent for too long while it was waited for ends the connection.
+abbrev pub due_in : Stage → Settings → Times → WaitedFor → ℕ → Option Due
+due_in stages.Header settings times waited_for now = None
+due_in (stages.Server to) settings times waited_for now = if is_overdue now (dialled_side times settings.connect) then Some (dues.DialTimeout to) else None
+due_in (stages.Retry to) settings times waited_for now = if is_overdue now (dialled_side times (retry_pause settings.connect)) then Some (dues.Retry to) else None
+due_in stages.Bytes settings times waited_for now = option_map dues.End (overdue now (client_side settings times waited_for) (server_side settings times waited_for))
