@@ -1,4 +1,5 @@
 pub mod ConnLemmas
+pub mod IdleLemmas
 pub mod RecordLemmas
 pub mod OutletLemmas
 pub mod SinkLemmas

@@ -1,5 +1,8 @@
 -- What a connection passes on.
-use Rattle.std.specs.Prelude.{◌≡◌, ℕ, List, [], Option, Some, None}
+use Rattle.std.specs.Prelude.{◌≡◌, ◌⊎◌, ℕ, ◌<◌, Bool, false, IsTrue, List, [], Option, Some, None}
+use Rattle.crew_core.specs.declared.idle.WaitedFor.{WaitedFor}
+use Rattle.link_core.specs.declared.stream.Progress.{Progress}
+use Rattle.relay_core.specs.Flow.{IsDone}
 use Rattle.relay_core.specs.Law.{HasCarried, Stream}
 use Rattle.relay_core.specs.Relay.{Ways}
 
@@ -22,6 +25,35 @@ pub record PassesOn {K : Type 0} (left held : K → Option (List ℕ)) (client s
   pub forth : HasCarried (between (left client) (forth_bytes old) (held server)) (between (left client_between) (forth_bytes new') (held server_between))
   pub back : HasCarried (between (left server_between) (back_bytes old) (held client_between)) (between (left new_server) (back_bytes new') (held new_client))
 
--- the relay holds what was on its way
-abbrev pub HasFlows : Option Ways → Ways → Type 0
-HasFlows old relay = (relay.forth.bytes ≡ forth_bytes old) × (relay.back.bytes ≡ back_bytes old)
+-- whether the end of the client came, and that of the server: not if there is no relay
+abbrev pub forth_ended : Option Ways → Bool
+forth_ended None = false
+forth_ended (Some ways) = ways.forth.ended
+
+abbrev pub back_ended : Option Ways → Bool
+back_ended None = false
+back_ended (Some ways) = ways.back.ended
+
+-- The relay holds what was on its way, and knows which ends came.
+pub record HasFlows (old : Option Ways) (relay : Ways) : Type 0 where
+  pub forth : relay.forth.bytes ≡ forth_bytes old
+  pub back : relay.back.bytes ≡ back_bytes old
+  pub forth_end : relay.forth.ended ≡ forth_ended old
+  pub back_end : relay.back.ended ≡ back_ended old
+
+-- Both ends came, and all that came before them was written.
+abbrev pub AreOver : Ways → Type 0
+AreOver relay = IsDone relay.forth × IsDone relay.back
+
+-- Something is expected of a side at least, where both flows have room at all, unless both directions are over.
+abbrev pub SomeoneIsWaitedFor : Ways → WaitedFor → Type 0
+SomeoneIsWaitedFor relay waited_for = 0 < relay.forth.capacity → 0 < relay.back.capacity → IsTrue waited_for.client ⊎ (IsTrue waited_for.server ⊎ AreOver relay)
+
+-- The relay is kept with its flows, unless both directions are over, which is answered.
+abbrev pub IsKept : Option Progress → Ways → Option Ways → Type 0
+IsKept None relay new = AreOver relay × (new ≡ None)
+IsKept (Some progress) relay new = HasFlows new relay
+
+-- Bytes were passed on by a relay, which is kept.
+abbrev pub IsRelayed : {K : Type 0} → (K → Option (List ℕ)) → (K → Option (List ℕ)) → K → K → Option Ways → K → K → Option Progress → Option Ways → Type 0
+IsRelayed left held client server old new_client new_server answer new' = (relay : Ways) × PassesOn left held client server old new_client new_server (Some relay) × IsKept answer relay new'

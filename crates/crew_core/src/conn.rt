@@ -1,7 +1,7 @@
 //! A connection of a worker.
-ghost use Rattle.std.specs.Prelude.{◌≡◌, ◌++◌, [], Some, None, IsTrue, IfOk, OnOk, OnErr, IsSomeAnd};
+ghost use Rattle.std.specs.Prelude.{◌≡◌, ◌++◌, ◌↔◌, Some, None, IsTrue, IfOk, OnOk, OnErr, IsSomeAnd};
 ghost use Rattle.relay_core.specs.Relay.{IsBegun};
-ghost use Rattle.crew_core.specs.Conns.{HasFlows, PassesOn};
+ghost use Rattle.crew_core.specs.Conns.{AreOver, HasFlows, IsRelayed, PassesOn};
 ghost use Rattle.crew_core.specs.Dues.{client_side, dial_begun, dialled_side, due_in, server_side};
 ghost use Rattle.crew_core.specs.Idle.{time_begun, waited_for};
 
@@ -64,7 +64,7 @@ pub(crate) enum Due {
 
 /// Whether both directions are over.
 fn is_over(relay: &Relay) -> bool
-    ensures { IsTrue result → (relay.now.forth.bytes ≡ []) × (relay.now.back.bytes ≡ []) }
+    ensures { IsTrue result ↔ AreOver relay.now }
 {
     relay.forth_done() && relay.back_done()
 }
@@ -286,15 +286,15 @@ impl<K: Link> Conn<K> {
         }
     }
 
-    /// Keeps the relay, unless it holds nothing that is still to be written.
+    /// Keeps the relay, unless it holds nothing and neither end came.
     fn keep_relay(&mut self, spares: &mut Spares, relay: Relay)
+        requires { self.old.relay ≡ None }
         ensures relay { HasFlows self.new.relay relay }
         ensures client { self.new.client ≡ self.old.client }
         ensures server { self.new.server ≡ self.old.server }
     {
-        if is_over(&relay) || relay.is_idle() {
+        if relay.is_idle() {
             spares.give_back(relay);
-            self.relay = None;
         } else {
             self.relay = Some(relay);
         }
@@ -303,7 +303,7 @@ impl<K: Link> Conn<K> {
     /// Passes bytes on in both directions, as far as its links are ready. `None` says that both directions are over.
     pub(crate) fn relay(&mut self, spares: &mut Spares, buffer: &mut [u8]) -> Option<Progress>
         ensures { (server : K) → self.old.server ≡ Some server → IsSomeAnd self.new.server (λ new_server.
-            PassesOn K.left K.held self.old.client server self.old.relay self.new.client new_server self.new.relay) }
+            IsRelayed K.left K.held self.old.client server self.old.relay self.new.client new_server result self.new.relay) }
     {
         match self.take_relay(spares) {
             Ok(relay) => self.relay_by(spares, relay, buffer),
@@ -317,13 +317,17 @@ impl<K: Link> Conn<K> {
         mut relay: Relay,
         buffer: &mut [u8],
     ) -> Option<Progress>
+        requires { self.old.relay ≡ None }
         ensures { (server : K) → self.old.server ≡ Some server → IsSomeAnd self.new.server (λ new_server.
-            PassesOn K.left K.held self.old.client server (Some relay) self.new.client new_server self.new.relay) }
+            IsRelayed K.left K.held self.old.client server (Some relay) self.new.client new_server result self.new.relay) }
     {
         let progress = self.pump_both(&mut relay, buffer);
-        let is_over = is_over(&relay);
+        if is_over(&relay) {
+            spares.give_back(relay);
+            return None;
+        }
         self.keep_relay(spares, relay);
-        if is_over { None } else { Some(progress) }
+        Some(progress)
     }
 
     fn pump_both(&mut self, relay: &mut Relay, buffer: &mut [u8]) -> Progress

@@ -2,6 +2,7 @@
 //! client`, `timeout server`), and the pause before a server is dialled again (`retries`).
 ghost use Rattle.std.specs.Prelude.{◌≡◌};
 ghost use Rattle.relay_core.specs.Relay.{flow_of};
+ghost use Rattle.crew_core.specs.Conns.{SomeoneIsWaitedFor};
 ghost use Rattle.crew_core.specs.Idle.{due_of, is_overdue, is_waited_for, overdue, retry_pause, time_begun, waited_for_by};
 
 use conn_model::event::Why;
@@ -38,7 +39,8 @@ fn is_waited_for(relay: &Relay, sends: Way, takes: Way) -> bool
 
 /// Of which sides something is expected, by the relay between them.
 pub(crate) fn waited_for_by(relay: &Relay) -> WaitedFor
-    ensures { result ≡ waited_for_by relay.now }
+    ensures sides { result ≡ waited_for_by relay.now }
+    ensures some { SomeoneIsWaitedFor relay.now result }
 {
     WaitedFor {
         client: is_waited_for(relay, Way::Forth, Way::Back),

@@ -19,6 +19,8 @@ mod segments;
 #[cfg(test)]
 mod shelf;
 #[cfg(test)]
+mod silence;
+#[cfg(test)]
 mod stage;
 #[cfg(test)]
 mod stops;

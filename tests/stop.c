@@ -1,0 +1,58 @@
+/* Stops a program in the middle of its work, for LD_PRELOAD, as SIGSTOP does:
+ *
+ *     STOP_AT_READ=FILE     before it next reads from a socket, once FILE is there
+ *     STOP_AT_CONNECT=FILE  before it next connects
+ *
+ * FILE is removed first, so that the program is stopped once. It goes on when it gets SIGCONT.
+ */
+#define _GNU_SOURCE
+#include <dlfcn.h>
+#include <signal.h>
+#include <stdlib.h>
+#include <sys/socket.h>
+#include <sys/uio.h>
+#include <unistd.h>
+
+typedef int connect_function(int, const struct sockaddr *, socklen_t);
+typedef ssize_t read_function(int, void *, size_t);
+typedef ssize_t readv_function(int, const struct iovec *, int);
+typedef ssize_t recv_function(int, void *, size_t, int);
+typedef ssize_t recvfrom_function(int, void *, size_t, int, struct sockaddr *, socklen_t *);
+
+static void stop_at(const char *name) {
+    const char *file = getenv(name);
+    if (file && unlink(file) == 0)
+        raise(SIGSTOP);
+}
+
+static void stop_at_read(int link) {
+    int kind;
+    socklen_t size = sizeof kind;
+    if (getsockopt(link, SOL_SOCKET, SO_TYPE, &kind, &size) == 0)
+        stop_at("STOP_AT_READ");
+}
+
+int connect(int link, const struct sockaddr *to, socklen_t size) {
+    stop_at("STOP_AT_CONNECT");
+    return ((connect_function *) dlsym(RTLD_NEXT, "connect"))(link, to, size);
+}
+
+ssize_t read(int link, void *bytes, size_t most) {
+    stop_at_read(link);
+    return ((read_function *) dlsym(RTLD_NEXT, "read"))(link, bytes, most);
+}
+
+ssize_t readv(int link, const struct iovec *parts, int count) {
+    stop_at_read(link);
+    return ((readv_function *) dlsym(RTLD_NEXT, "readv"))(link, parts, count);
+}
+
+ssize_t recv(int link, void *bytes, size_t most, int flags) {
+    stop_at_read(link);
+    return ((recv_function *) dlsym(RTLD_NEXT, "recv"))(link, bytes, most, flags);
+}
+
+ssize_t recvfrom(int link, void *bytes, size_t most, int flags, struct sockaddr *from, socklen_t *size) {
+    stop_at_read(link);
+    return ((recvfrom_function *) dlsym(RTLD_NEXT, "recvfrom"))(link, bytes, most, flags, from, size);
+}
