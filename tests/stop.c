@@ -10,14 +10,11 @@
 #include <signal.h>
 #include <stdlib.h>
 #include <sys/socket.h>
-#include <sys/uio.h>
 #include <unistd.h>
 
 typedef int connect_function(int, const struct sockaddr *, socklen_t);
 typedef ssize_t read_function(int, void *, size_t);
-typedef ssize_t readv_function(int, const struct iovec *, int);
 typedef ssize_t recv_function(int, void *, size_t, int);
-typedef ssize_t recvfrom_function(int, void *, size_t, int, struct sockaddr *, socklen_t *);
 
 static void stop_at(const char *name) {
     const char *file = getenv(name);
@@ -42,17 +39,7 @@ ssize_t read(int link, void *bytes, size_t most) {
     return ((read_function *) dlsym(RTLD_NEXT, "read"))(link, bytes, most);
 }
 
-ssize_t readv(int link, const struct iovec *parts, int count) {
-    stop_at_read(link);
-    return ((readv_function *) dlsym(RTLD_NEXT, "readv"))(link, parts, count);
-}
-
 ssize_t recv(int link, void *bytes, size_t most, int flags) {
     stop_at_read(link);
     return ((recv_function *) dlsym(RTLD_NEXT, "recv"))(link, bytes, most, flags);
-}
-
-ssize_t recvfrom(int link, void *bytes, size_t most, int flags, struct sockaddr *from, socklen_t *size) {
-    stop_at_read(link);
-    return ((recvfrom_function *) dlsym(RTLD_NEXT, "recvfrom"))(link, bytes, most, flags, from, size);
 }
