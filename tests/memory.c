@@ -5,6 +5,7 @@
  *     REFUSED_EVERY=K     and each Kth call after it: with 1 all of them
  *     REFUSED_NOTE=FILE   where it was refused, FILE is made, and has the name of that call and its size
  *     REFUSED_WHILE=FILE  in place of these: each call is refused while FILE is there
+ *     REFUSED_FROM=TEXT   and FILE is made when the program first reads bytes that begin with TEXT
  */
 #define _GNU_SOURCE
 #include <dlfcn.h>
@@ -12,8 +13,12 @@
 #include <fcntl.h>
 #include <stdio.h>
 #include <stdlib.h>
+#include <string.h>
+#include <sys/socket.h>
 #include <unistd.h>
 
+typedef ssize_t read_function(int, void *, size_t);
+typedef ssize_t recv_function(int, void *, size_t, int);
 typedef int main_function(int, char **, char **);
 typedef int start_function(main_function *, int, char **, void (*)(void), void (*)(void), void (*)(void), void *);
 
@@ -21,9 +26,9 @@ extern void *__libc_malloc(size_t), *__libc_calloc(size_t, size_t), *__libc_real
 extern void *__libc_memalign(size_t, size_t);
 
 static main_function *program;
-static const char *note, *wall;
+static const char *note, *wall, *from;
 static long first, every, calls;
-static int has_begun;
+static int has_begun, has_come;
 
 static long number(const char *name) {
     const char *text = getenv(name);
@@ -35,6 +40,7 @@ static int begin(int count, char **words, char **variables) {
     every = number("REFUSED_EVERY");
     note = getenv("REFUSED_NOTE");
     wall = getenv("REFUSED_WHILE");
+    from = getenv("REFUSED_FROM");
     has_begun = 1;
     return program(count, words, variables);
 }
@@ -97,4 +103,31 @@ int posix_memalign(void **to, size_t alignment, size_t size) {
         return ENOMEM;
     *to = __libc_memalign(alignment, size);
     return *to ? 0 : ENOMEM;
+}
+
+static void note_read(const void *bytes, ssize_t count) {
+    int before = errno;
+    size_t size = from ? strlen(from) : 0;
+    if (wall && from && count >= (ssize_t) size && memcmp(bytes, from, size) == 0
+        && !__atomic_exchange_n(&has_come, 1, __ATOMIC_SEQ_CST))
+        close(open(wall, O_WRONLY | O_CREAT, 0644));
+    errno = before;
+}
+
+ssize_t read(int link, void *bytes, size_t most) {
+    static read_function *next;
+    if (!next)
+        next = (read_function *) dlsym(RTLD_NEXT, "read");
+    ssize_t count = next(link, bytes, most);
+    note_read(bytes, count);
+    return count;
+}
+
+ssize_t recv(int link, void *bytes, size_t most, int flags) {
+    static recv_function *next;
+    if (!next)
+        next = (recv_function *) dlsym(RTLD_NEXT, "recv");
+    ssize_t count = next(link, bytes, most, flags);
+    note_read(bytes, count);
+    return count;
 }
