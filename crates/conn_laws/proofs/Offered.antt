@@ -1,5 +1,5 @@
 -- When a connection is offered a server.
-use Rattle.std.specs.Prelude.{ℕ, Bool, true, false, List, length, max, slice_get, Option, Some, None, Result, Ok, Err, refl, nat_le, nat_lt, ◌+◌, ◌-◌, ◌^◌, ◌<◌, ◌++◌, ◌≡◌, ◌↔◌, if◌then◌else◌}
+use Rattle.std.specs.Prelude.{ℕ, Bool, true, false, List, [], length, max, slice_get, Option, Some, None, Result, Ok, Err, refl, nat_le, nat_lt, ◌+◌, ◌-◌, ◌^◌, ◌<◌, ◌++◌, ◌≡◌, ◌↔◌, if◌then◌else◌}
 use Rattle.std.proofs.Common.{sym, ap, ◌∙◌, arith}
 use Rattle.std.proofs.lemmas.Bool.{false≢true}
 use Rattle.std.proofs.lemmas.Bool.Decides.{nat_tests}
@@ -15,6 +15,7 @@ use Rattle.rule_engine.specs.Judging.{no_tracks, TrackSlots}
 use Rattle.rule_engine.specs.declared.judging.Judged.{Judged}
 use Rattle.plan_types.specs.declared.plan.Backend.{Backend}
 use Rattle.plan_types.specs.declared.plan.Plan.{Plan}
+use Rattle.plan_types.specs.declared.track.Track.{Track}
 use Rattle.conn_model.specs.declared.event.ConnId.{ConnId}
 use Rattle.conn_model.specs.declared.event.OwnedEvent.{OwnedEvent}
 use Rattle.conn_model.specs.declared.event.OwnedEvent.TheVariants.{Accept, Piece, Connected, ConnectFailed, Close, Expire, Reload}
@@ -31,11 +32,11 @@ use Rattle.conn_model.specs.declared.plain.Plain.{Plain}
 use Rattle.conn_model.specs.Words.{or_fault, row_at}
 use Rattle.conn_model.specs.Servers.{cursor_at, pick_in}
 use Rattle.conn_model.specs.Rules.{backend_for, rejection, scene_of, view_of, worth, Candidate, RuleView}
-use Rattle.conn_model.specs.Answer.{admission, answer_in, decision, demands_header, entry_reply, entry_rules, header_reply, judged_pair, numbered_server, reply_of, reply_with, rest_in, said_of, server_for, server_unless, NumberedServer}
+use Rattle.conn_model.specs.Answer.{admission, answer_in, decision, demands_header, entry_reply, entry_rules, header_reply, judged_pair, numbered_server, reply_of, rest_in, said_of, server_for, server_unless, NumberedServer}
 use Rattle.conn_model.specs.History.{after, answer, joined, opening, Entry, IsLegal}
 use Rattle.conn_model.proofs.Joined.{decides_joined}
 use Rattle.conn_model.proofs.Replies.{accepted, bind-ok, expired, followed, or_fault-ok, received, server_answered, Accepted, Received}
-use Rattle.conn_laws.specs.Deciding.{choice_view, is_offer, is_wait, may_offer, newcomer, session_rules, waiting, Arrival, HasServer, IsAdmitted, IsGiven, IsLetWait, IsOfferedAtAccept, IsOfferedAtPiece, Says, Waiter}
+use Rattle.conn_laws.specs.Deciding.{choice_view, entry_tracks, is_offer, is_wait, may_offer, newcomer, reply_saying, session_rules, session_tracks, waiting, Arrival, HasServer, IsAdmitted, IsGiven, IsLeftWaiting, IsLetWait, IsOfferedAtAccept, IsOfferedAtPiece, Says, Waiter}
 use Rattle.conn_laws.proofs.Rules.{no_rejection, not_rejected}
 
 -- A server that is picked.
@@ -96,13 +97,13 @@ decided candidate used judged made said offers is = by (rejection says) refl
     by None none = chosen none (server_for view) refl
     by (Some line) some = absurd (refuses_none said candidate.id used (Line line) offers (sym (ap (λ o. said_of candidate.id used judged (server_unless view o)) some) ∙ is))
 
--- the slots that a decision leaves
+-- what a decision tracks
 decision_is : (candidate : Candidate) (used : ℕ) (judged : PairValue) (made : TrackSlots) (given : NumberedServer) → IsGiven candidate judged made given →
-    decision candidate used judged made ≡ reply_with (said_of candidate.id used judged (Ok given)) (session_rules candidate judged made).tracks
+    decision candidate used judged made ≡ reply_saying (said_of candidate.id used judged (Ok given)) (session_tracks candidate judged made)
 decision_is candidate used judged made given is =
     let found : server_unless (choice_view candidate judged made) (rejection (session_rules candidate judged made)) ≡ Ok given =
     ap (server_unless (choice_view candidate judged made)) (no_rejection (scene_of (view_of candidate judged.source.addr)) made candidate.frontend.session_rules is.rules) ∙ server_found (choice_view candidate judged made) given is.server in
-    ap (λ r. reply_with (said_of candidate.id used judged r) (session_rules candidate judged made).tracks) found
+    ap (λ r. reply_saying (said_of candidate.id used judged r) (session_tracks candidate judged made)) found
 
 -- The client or the connection that an answer is for.
 
@@ -184,12 +185,20 @@ let_in candidate accept_proxy real others said offers is = by (nat_le candidate.
     by true over = absurd (refuses_none said candidate.id 0 (Line candidate.frontend.limit_line) offers (sym (ap (λ b. (limited b).said) over) ∙ is))
     by false within = ruled within (rejection says) refl (sym (ap (λ b. (limited b).said) within) ∙ is)
 
-said_by_accept : (q : Plain) (moment listener : ℕ) (real : PairValue) (said : Said) → is_offer said ≡ true → Says (answer_in q moment (Accept listener real)) said →
-    (arrival : Arrival q listener) × IsOfferedAtAccept q moment real listener arrival said
-said_by_accept q moment listener real said offers says =
-    let got = accepted q (max q.clock moment) listener real (reply_with said says.0) says.1 in
-    let arrival : Arrival q listener = arrival_of q (max q.clock moment) listener real (reply_with said says.0) got in
-    let lets = let_in (newcomer q moment real listener arrival) arrival.at.accept_proxy real (length arrival.own.rows) said offers (ap (λ (r : Reply). r.said) got.reply_is) in (
+-- where it is let in, it is decided of by what the connection rules track
+let_in_is : (candidate : Candidate) (accept_proxy : Bool) (real : PairValue) (others : ℕ) → demands_header candidate accept_proxy real ≡ false → IsAdmitted candidate real others →
+    admission candidate accept_proxy real others ≡ decision candidate 0 real (entry_rules candidate real).tracks
+let_in_is candidate accept_proxy real others no_header admitted =
+    let within : nat_le candidate.frontend.limit others ≡ false = below_limit candidate.frontend.limit others admitted.limit in
+    rw (within, no_rejection (scene_of (view_of candidate real.source.addr)) no_tracks candidate.frontend.connection_rules admitted.rules, no_header) refl
+
+said_by_accept : (q : Plain) (moment listener : ℕ) (real : PairValue) (said : Said) (tracks : List Track) → is_offer said ≡ true → Says (answer_in q moment (Accept listener real)) said tracks →
+    (arrival : Arrival q listener) × IsOfferedAtAccept q moment real listener arrival said tracks
+said_by_accept q moment listener real said tracks offers says =
+    let got = accepted q (max q.clock moment) listener real (reply_saying said tracks) says in
+    let arrival : Arrival q listener = arrival_of q (max q.clock moment) listener real (reply_saying said tracks) got in
+    let candidate : Candidate = newcomer q moment real listener arrival in
+    let lets = let_in candidate arrival.at.accept_proxy real (length arrival.own.rows) said offers (ap (λ (r : Reply). r.said) got.reply_is) in (
       arrival,
       record {
         given = lets.is_decided.given;
@@ -198,24 +207,22 @@ said_by_accept q moment listener real said offers says =
         admitted = lets.admitted;
         is_given = lets.is_decided.is_given;
         said_is = lets.is_decided.said_is;
+        tracks_are = ap (λ (r : Reply). r.tracks.items) (sym got.reply_is ∙ let_in_is candidate arrival.at.accept_proxy real (length arrival.own.rows) lets.no_header lets.admitted);
       },
     )
 
-accept_says : (q : Plain) (moment listener : ℕ) (real : PairValue) (said : Said) (arrival : Arrival q listener) → IsOfferedAtAccept q moment real listener arrival said →
-    Says (answer_in q moment (Accept listener real)) said
-accept_says q moment listener real said arrival offered =
+accept_says : (q : Plain) (moment listener : ℕ) (real : PairValue) (said : Said) (tracks : List Track) (arrival : Arrival q listener) → IsOfferedAtAccept q moment real listener arrival said tracks →
+    Says (answer_in q moment (Accept listener real)) said tracks
+accept_says q moment listener real said tracks arrival offered =
     let candidate : Candidate = newcomer q moment real listener arrival in
-    let within : nat_le candidate.frontend.limit (length arrival.own.rows) ≡ false = below_limit candidate.frontend.limit (length arrival.own.rows) offered.admitted.limit in
-    let admitted : admission candidate arrival.at.accept_proxy real (length arrival.own.rows) ≡ decision candidate 0 real (entry_rules candidate real).tracks = rw (within, no_rejection (scene_of (view_of candidate real.source.addr)) no_tracks candidate.frontend.connection_rules offered.admitted.rules, offered.no_header) refl in (
-      (session_rules candidate real (entry_rules candidate real).tracks).tracks,
-      accept_is q moment listener real arrival offered.serial_left
-          ∙ ap Ok (admitted ∙ decision_is candidate 0 real (entry_rules candidate real).tracks offered.given offered.is_given)
-          ∙ ap (λ s. Ok (reply_with s (session_rules candidate real (entry_rules candidate real).tracks).tracks)) (sym offered.said_is),
-    )
+    accept_is q moment listener real arrival offered.serial_left
+    ∙ ap Ok (let_in_is candidate arrival.at.accept_proxy real (length arrival.own.rows) offered.no_header offered.admitted ∙ decision_is candidate 0 real (entry_rules candidate real).tracks offered.given offered.is_given)
+    ∙ ap (λ s. Ok (reply_saying s (session_tracks candidate real (entry_rules candidate real).tracks))) (sym offered.said_is)
+    ∙ ap (λ t. Ok (reply_saying said t)) (sym offered.tracks_are)
 
-pub at_accept : (p : Plain) (h : List Entry) (moment listener : ℕ) (real : PairValue) (said : Said) → is_offer said ≡ true →
-    Says (answer p h moment (Accept listener real)) said ↔ ((arrival : Arrival (after p h) listener) × IsOfferedAtAccept (after p h) moment real listener arrival said)
-at_accept p h moment listener real said offers = (said_by_accept (after p h) moment listener real said offers, λ is. accept_says (after p h) moment listener real said is.0 is.1)
+pub at_accept : (p : Plain) (h : List Entry) (moment listener : ℕ) (real : PairValue) (said : Said) (tracks : List Track) → is_offer said ≡ true →
+    Says (answer p h moment (Accept listener real)) said tracks ↔ ((arrival : Arrival (after p h) listener) × IsOfferedAtAccept (after p h) moment real listener arrival said tracks)
+at_accept p h moment listener real said tracks offers = (said_by_accept (after p h) moment listener real said tracks offers, λ is. accept_says (after p h) moment listener real said tracks is.0 is.1)
 
 -- It waits.
 
@@ -251,40 +258,41 @@ let_wait candidate accept_proxy real others waits = by (nat_le candidate.fronten
 
 -- it says so of the connection that came
 wait_said : (candidate : Candidate) (accept_proxy : Bool) (real : PairValue) (others : ℕ) → demands_header candidate accept_proxy real ≡ true → IsAdmitted candidate real others →
-    admission candidate accept_proxy real others ≡ reply_with (saids.Wait candidate.id 0) (entry_rules candidate real).tracks
+    admission candidate accept_proxy real others ≡ reply_saying (saids.Wait candidate.id 0) (entry_tracks candidate real)
 wait_said candidate accept_proxy real others demanded admitted =
     let within : nat_le candidate.frontend.limit others ≡ false = below_limit candidate.frontend.limit others admitted.limit in
     rw (within, no_rejection (scene_of (view_of candidate real.source.addr)) no_tracks candidate.frontend.connection_rules admitted.rules, demanded) refl
 
-waits_by_accept : (q : Plain) (moment listener : ℕ) (real : PairValue) (said : Said) → is_wait said ≡ true → Says (answer_in q moment (Accept listener real)) said →
-    (arrival : Arrival q listener) × IsLetWait q moment real listener arrival said
-waits_by_accept q moment listener real said waits says =
-    let got = accepted q (max q.clock moment) listener real (reply_with said says.0) says.1 in
-    let arrival : Arrival q listener = arrival_of q (max q.clock moment) listener real (reply_with said says.0) got in
+waits_by_accept : (q : Plain) (moment listener : ℕ) (real : PairValue) (said : Said) (tracks : List Track) → is_wait said ≡ true → Says (answer_in q moment (Accept listener real)) said tracks →
+    (arrival : Arrival q listener) × IsLetWait q moment real listener arrival said tracks
+waits_by_accept q moment listener real said tracks waits says =
+    let got = accepted q (max q.clock moment) listener real (reply_saying said tracks) says in
+    let arrival : Arrival q listener = arrival_of q (max q.clock moment) listener real (reply_saying said tracks) got in
     let candidate : Candidate = newcomer q moment real listener arrival in
-    let lets = let_wait candidate arrival.at.accept_proxy real (length arrival.own.rows) (ap (λ (r : Reply). is_wait r.said) got.reply_is ∙ waits) in (
+    let lets = let_wait candidate arrival.at.accept_proxy real (length arrival.own.rows) (ap (λ (r : Reply). is_wait r.said) got.reply_is ∙ waits) in
+    let is : reply_saying said tracks ≡ reply_saying (saids.Wait candidate.id 0) (entry_tracks candidate real) = sym got.reply_is ∙ wait_said candidate arrival.at.accept_proxy real (length arrival.own.rows) lets.0 lets.1 in (
       arrival,
       record {
         serial_left = has_serial arrival.own.serial got.fits;
         demanded = lets.0;
         admitted = lets.1;
-        said_is = sym (ap (λ (r : Reply). r.said) got.reply_is) ∙ ap (λ (r : Reply). r.said) (wait_said candidate arrival.at.accept_proxy real (length arrival.own.rows) lets.0 lets.1);
+        said_is = ap (λ (r : Reply). r.said) is;
+        tracks_are = ap (λ (r : Reply). r.tracks.items) is;
       },
     )
 
-accept_waits : (q : Plain) (moment listener : ℕ) (real : PairValue) (said : Said) (arrival : Arrival q listener) → IsLetWait q moment real listener arrival said →
-    Says (answer_in q moment (Accept listener real)) said
-accept_waits q moment listener real said arrival lets =
-    let candidate : Candidate = newcomer q moment real listener arrival in (
-      (entry_rules candidate real).tracks,
-      accept_is q moment listener real arrival lets.serial_left
-          ∙ ap Ok (wait_said candidate arrival.at.accept_proxy real (length arrival.own.rows) lets.demanded lets.admitted)
-          ∙ ap (λ s. Ok (reply_with s (entry_rules candidate real).tracks)) (sym lets.said_is),
-    )
+accept_waits : (q : Plain) (moment listener : ℕ) (real : PairValue) (said : Said) (tracks : List Track) (arrival : Arrival q listener) → IsLetWait q moment real listener arrival said tracks →
+    Says (answer_in q moment (Accept listener real)) said tracks
+accept_waits q moment listener real said tracks arrival lets =
+    let candidate : Candidate = newcomer q moment real listener arrival in
+    accept_is q moment listener real arrival lets.serial_left
+    ∙ ap Ok (wait_said candidate arrival.at.accept_proxy real (length arrival.own.rows) lets.demanded lets.admitted)
+    ∙ ap (λ s. Ok (reply_saying s (entry_tracks candidate real))) (sym lets.said_is)
+    ∙ ap (λ t. Ok (reply_saying said t)) (sym lets.tracks_are)
 
-pub waits : (p : Plain) (h : List Entry) (moment listener : ℕ) (real : PairValue) (said : Said) → is_wait said ≡ true →
-    Says (answer p h moment (Accept listener real)) said ↔ ((arrival : Arrival (after p h) listener) × IsLetWait (after p h) moment real listener arrival said)
-waits p h moment listener real said is_one = (waits_by_accept (after p h) moment listener real said is_one, λ is. accept_waits (after p h) moment listener real said is.0 is.1)
+pub waits : (p : Plain) (h : List Entry) (moment listener : ℕ) (real : PairValue) (said : Said) (tracks : List Track) → is_wait said ≡ true →
+    Says (answer p h moment (Accept listener real)) said tracks ↔ ((arrival : Arrival (after p h) listener) × IsLetWait (after p h) moment real listener arrival said tracks)
+waits p h moment listener real said tracks is_one = (waits_by_accept (after p h) moment listener real said tracks is_one, λ is. accept_waits (after p h) moment listener real said tracks is.0 is.1)
 
 -- At a piece.
 
@@ -297,13 +305,13 @@ phase_waits (Waiting held) rest is = let same : held ≡ rest = cc in ap Waiting
 phase_waits (Offered assignment) rest is = absurd (let wrong : None ≡ Some rest = is in cc)
 phase_waits (Up assignment) rest is = absurd (let wrong : None ≡ Some rest = is in cc)
 
-said_by_piece : (q : Plain) (id : ConnId) (waiter : Waiter q id) (bytes piece : List ℕ) (before : ℕ) (said : Said) → is_offer said ≡ true → (state : Status) → status bytes ≡ shifted before state →
-    (header_reply (waiting q id waiter) waiter.row.real (length piece) state).said ≡ said → IsOfferedAtPiece q id waiter bytes before said
-said_by_piece q id waiter bytes piece before said offers statuses.Wait state_is is = absurd (waits_none said id (length piece) offers is)
-said_by_piece q id waiter bytes piece before said offers (statuses.Fault fault count) state_is is = absurd (false≢true (ap is_offer is ∙ offers))
-said_by_piece q id waiter bytes piece before said offers (statuses.Whole count meaning) state_is is =
-    let got = decided (waiting q id waiter) count (judged_pair waiter.row.real meaning) no_tracks said offers is in
-    record { meaning = meaning; used = count; given = got.given; header = state_is; is_given = got.is_given; said_is = got.said_is }
+said_by_piece : (q : Plain) (id : ConnId) (waiter : Waiter q id) (bytes piece : List ℕ) (before : ℕ) (said : Said) (tracks : List Track) → is_offer said ≡ true → (state : Status) → status bytes ≡ shifted before state →
+    header_reply (waiting q id waiter) waiter.row.real (length piece) state ≡ reply_saying said tracks → IsOfferedAtPiece q id waiter bytes before said tracks
+said_by_piece q id waiter bytes piece before said tracks offers statuses.Wait state_is is = absurd (waits_none said id (length piece) offers (ap (λ (r : Reply). r.said) is))
+said_by_piece q id waiter bytes piece before said tracks offers (statuses.Fault fault count) state_is is = absurd (false≢true (ap (λ (r : Reply). is_offer r.said) is ∙ offers))
+said_by_piece q id waiter bytes piece before said tracks offers (statuses.Whole count meaning) state_is is =
+    let got = decided (waiting q id waiter) count (judged_pair waiter.row.real meaning) no_tracks said offers (ap (λ (r : Reply). r.said) is) in
+    record { meaning = meaning; used = count; given = got.given; header = state_is; is_given = got.is_given; said_is = got.said_is; tracks_are = ap (λ (r : Reply). r.tracks.items) (sym is) }
 
 -- the status of the piece by that of all bytes
 whole_on : (before used : ℕ) (meaning : Meaning) (state : Status) → shifted before state ≡ statuses.Whole (used + before) meaning → state ≡ statuses.Whole used meaning
@@ -315,44 +323,84 @@ whole_on before used meaning (statuses.Whole count found) is =
 whole_on before used meaning (statuses.Fault fault count) is = absurd (let wrong : statuses.Fault fault (count + before) ≡ statuses.Whole (used + before) meaning = is in cc)
 whole_on before used meaning statuses.Wait is = absurd (let wrong : statuses.Wait ≡ statuses.Whole (used + before) meaning = is in cc)
 
-piece_says : (q : Plain) (moment : ℕ) (id : ConnId) (piece bytes : List ℕ) (before : ℕ) (waiter : Waiter q id) (said : Said) → status bytes ≡ shifted before (status_on waiter.rest piece) →
-    IsOfferedAtPiece q id waiter bytes before said → Says (answer_in q moment (Piece id piece)) said
-piece_says q moment id piece bytes before waiter said state_is offered =
+piece_says : (q : Plain) (moment : ℕ) (id : ConnId) (piece bytes : List ℕ) (before : ℕ) (waiter : Waiter q id) (said : Said) (tracks : List Track) → status bytes ≡ shifted before (status_on waiter.rest piece) →
+    IsOfferedAtPiece q id waiter bytes before said tracks → Says (answer_in q moment (Piece id piece)) said tracks
+piece_says q moment id piece bytes before waiter said tracks state_is offered =
     let candidate : Candidate = waiting q id waiter in
     let judged : PairValue = judged_pair waiter.row.real offered.meaning in
-    let whole : status_on waiter.rest piece ≡ statuses.Whole offered.used offered.meaning = whole_on before offered.used offered.meaning (status_on waiter.rest piece) (sym state_is ∙ offered.header) in (
-      (session_rules candidate judged no_tracks).tracks,
-      piece_is q moment id piece waiter
-          ∙ ap (λ s. Ok (header_reply candidate waiter.row.real (length piece) s)) whole
-          ∙ ap Ok (decision_is candidate offered.used judged no_tracks offered.given offered.is_given)
-          ∙ ap (λ s. Ok (reply_with s (session_rules candidate judged no_tracks).tracks)) (sym offered.said_is),
-    )
+    let whole : status_on waiter.rest piece ≡ statuses.Whole offered.used offered.meaning = whole_on before offered.used offered.meaning (status_on waiter.rest piece) (sym state_is ∙ offered.header) in
+    piece_is q moment id piece waiter
+    ∙ ap (λ s. Ok (header_reply candidate waiter.row.real (length piece) s)) whole
+    ∙ ap Ok (decision_is candidate offered.used judged no_tracks offered.given offered.is_given)
+    ∙ ap (λ s. Ok (reply_saying s (session_tracks candidate judged no_tracks))) (sym offered.said_is)
+    ∙ ap (λ t. Ok (reply_saying said t)) (sym offered.tracks_are)
 
 -- what came before, and the piece, decide what the piece decides on what is held
 pub piece_status : (plan : Plan) (last : ℕ) (h : List Entry) → IsLegal (opening plan last) h → (id : ConnId) (piece : List ℕ) (waiter : Waiter (after (opening plan last) h) id) →
     status (joined id h ++ piece) ≡ shifted (length (joined id h)) (status_on waiter.rest piece)
 piece_status plan last h legal id piece waiter = decides_joined plan last h legal id waiter.row waiter.rest waiter.row_is (phase_waits waiter.row.phase waiter.rest waiter.waits) piece
 
-said_at_piece : (plan : Plan) (last : ℕ) (h : List Entry) → IsLegal (opening plan last) h → (moment : ℕ) (id : ConnId) (piece : List ℕ) (said : Said) → is_offer said ≡ true →
-    Says (answer (opening plan last) h moment (Piece id piece)) said →
-    (waiter : Waiter (after (opening plan last) h) id) × IsOfferedAtPiece (after (opening plan last) h) id waiter (joined id h ++ piece) (length (joined id h)) said
-said_at_piece plan last h legal moment id piece said offers says =
+said_at_piece : (plan : Plan) (last : ℕ) (h : List Entry) → IsLegal (opening plan last) h → (moment : ℕ) (id : ConnId) (piece : List ℕ) (said : Said) (tracks : List Track) → is_offer said ≡ true →
+    Says (answer (opening plan last) h moment (Piece id piece)) said tracks →
+    (waiter : Waiter (after (opening plan last) h) id) × IsOfferedAtPiece (after (opening plan last) h) id waiter (joined id h ++ piece) (length (joined id h)) said tracks
+said_at_piece plan last h legal moment id piece said tracks offers says =
     let q : Plain = after (opening plan last) h in
-    let got = received q id piece (reply_with said says.0) says.1 in
-    let waiter : Waiter q id = waiter_of q id piece (reply_with said says.0) got in (
+    let got = received q id piece (reply_saying said tracks) says in
+    let waiter : Waiter q id = waiter_of q id piece (reply_saying said tracks) got in (
       waiter,
-      said_by_piece q id waiter (joined id h ++ piece) piece (length (joined id h)) said offers (status_on waiter.rest piece) (piece_status plan last h legal id piece waiter) (ap (λ (r : Reply). r.said) got.reply_is),
+      said_by_piece q id waiter (joined id h ++ piece) piece (length (joined id h)) said tracks offers (status_on waiter.rest piece) (piece_status plan last h legal id piece waiter) got.reply_is,
     )
 
-pub at_piece : (plan : Plan) (last : ℕ) (h : List Entry) → IsLegal (opening plan last) h → (moment : ℕ) (id : ConnId) (piece : List ℕ) (said : Said) → is_offer said ≡ true →
-    Says (answer (opening plan last) h moment (Piece id piece)) said
-    ↔ ((waiter : Waiter (after (opening plan last) h) id) × IsOfferedAtPiece (after (opening plan last) h) id waiter (joined id h ++ piece) (length (joined id h)) said)
-at_piece plan last h legal moment id piece said offers = (
-  said_at_piece plan last h legal moment id piece said offers,
-  λ is. piece_says (after (opening plan last) h) moment id piece (joined id h ++ piece) (length (joined id h)) is.0 said (piece_status plan last h legal id piece is.0) is.1,
+pub at_piece : (plan : Plan) (last : ℕ) (h : List Entry) → IsLegal (opening plan last) h → (moment : ℕ) (id : ConnId) (piece : List ℕ) (said : Said) (tracks : List Track) → is_offer said ≡ true →
+    Says (answer (opening plan last) h moment (Piece id piece)) said tracks
+    ↔ ((waiter : Waiter (after (opening plan last) h) id) × IsOfferedAtPiece (after (opening plan last) h) id waiter (joined id h ++ piece) (length (joined id h)) said tracks)
+at_piece plan last h legal moment id piece said tracks offers = (
+  said_at_piece plan last h legal moment id piece said tracks offers,
+  λ is. piece_says (after (opening plan last) h) moment id piece (joined id h ++ piece) (length (joined id h)) is.0 said tracks (piece_status plan last h legal id piece is.0) is.1,
 )
 
--- Nothing else offers.
+-- It waits on.
+
+left_waiting : (q : Plain) (id : ConnId) (waiter : Waiter q id) (bytes piece : List ℕ) (before : ℕ) (said : Said) (tracks : List Track) → is_wait said ≡ true → (state : Status) → status bytes ≡ shifted before state →
+    header_reply (waiting q id waiter) waiter.row.real (length piece) state ≡ reply_saying said tracks → IsLeftWaiting id bytes (length piece) said tracks
+left_waiting q id waiter bytes piece before said tracks waits statuses.Wait state_is is = record { header = state_is; said_is = ap (λ (r : Reply). r.said) (sym is); tracks_are = ap (λ (r : Reply). r.tracks.items) (sym is) }
+left_waiting q id waiter bytes piece before said tracks waits (statuses.Fault fault count) state_is is = absurd (false≢true (ap (λ (r : Reply). is_wait r.said) is ∙ waits))
+left_waiting q id waiter bytes piece before said tracks waits (statuses.Whole count meaning) state_is is =
+    let candidate : Candidate = waiting q id waiter in
+    let judged : PairValue = judged_pair waiter.row.real meaning in
+    absurd (false≢true (sym (decides_no_wait id count judged (server_unless (choice_view candidate judged no_tracks) (rejection (session_rules candidate judged no_tracks)))) ∙ ap (λ (r : Reply). is_wait r.said) is ∙ waits))
+
+wait_on : (before : ℕ) (state : Status) → shifted before state ≡ statuses.Wait → state ≡ statuses.Wait
+wait_on before statuses.Wait is = refl
+wait_on before (statuses.Fault fault count) is = absurd (let wrong : statuses.Fault fault (count + before) ≡ statuses.Wait = is in cc)
+wait_on before (statuses.Whole count meaning) is = absurd (let wrong : statuses.Whole (count + before) meaning ≡ statuses.Wait = is in cc)
+
+waits_says : (q : Plain) (moment : ℕ) (id : ConnId) (piece bytes : List ℕ) (before : ℕ) (waiter : Waiter q id) (said : Said) (tracks : List Track) → status bytes ≡ shifted before (status_on waiter.rest piece) →
+    IsLeftWaiting id bytes (length piece) said tracks → Says (answer_in q moment (Piece id piece)) said tracks
+waits_says q moment id piece bytes before waiter said tracks state_is left =
+    piece_is q moment id piece waiter
+    ∙ ap (λ s. Ok (header_reply (waiting q id waiter) waiter.row.real (length piece) s)) (wait_on before (status_on waiter.rest piece) (sym state_is ∙ left.header))
+    ∙ ap (λ s. Ok (reply_saying s [])) (sym left.said_is)
+    ∙ ap (λ t. Ok (reply_saying said t)) (sym left.tracks_are)
+
+waits_at_piece : (plan : Plan) (last : ℕ) (h : List Entry) → IsLegal (opening plan last) h → (moment : ℕ) (id : ConnId) (piece : List ℕ) (said : Said) (tracks : List Track) → is_wait said ≡ true →
+    Says (answer (opening plan last) h moment (Piece id piece)) said tracks → Waiter (after (opening plan last) h) id × IsLeftWaiting id (joined id h ++ piece) (length piece) said tracks
+waits_at_piece plan last h legal moment id piece said tracks waits says =
+    let q : Plain = after (opening plan last) h in
+    let got = received q id piece (reply_saying said tracks) says in
+    let waiter : Waiter q id = waiter_of q id piece (reply_saying said tracks) got in (
+      waiter,
+      left_waiting q id waiter (joined id h ++ piece) piece (length (joined id h)) said tracks waits (status_on waiter.rest piece) (piece_status plan last h legal id piece waiter) got.reply_is,
+    )
+
+pub waits_on : (plan : Plan) (last : ℕ) (h : List Entry) → IsLegal (opening plan last) h → (moment : ℕ) (id : ConnId) (piece : List ℕ) (said : Said) (tracks : List Track) → is_wait said ≡ true →
+    Says (answer (opening plan last) h moment (Piece id piece)) said tracks ↔ (Waiter (after (opening plan last) h) id × IsLeftWaiting id (joined id h ++ piece) (length piece) said tracks)
+waits_on plan last h legal moment id piece said tracks waits = (
+  waits_at_piece plan last h legal moment id piece said tracks waits,
+  λ is. waits_says (after (opening plan last) h) moment id piece (joined id h ++ piece) (length (joined id h)) is.0 said tracks (piece_status plan last h legal id piece is.0) is.1,
+)
+
+-- Nothing else offers, or tracks.
 
 offers_not : (reply : Reply) (said : Said) → reply_of said ≡ reply → is_offer said ≡ false → is_offer reply.said ≡ true → false ≡ true
 offers_not reply said is none offers = sym none ∙ ap (λ (r : Reply). is_offer r.said) is ∙ offers
@@ -367,3 +415,17 @@ nothing_else q moment (Close id why) reply is offers =
     offers_not reply (saids.Closed id why) (let it : Ok (reply_of (saids.Closed id why)) ≡ Ok reply = one.2 in cc) refl offers
 nothing_else q moment (Expire id) reply is offers = let got = expired q (max q.clock moment) id reply is in offers_not reply _ got.reply_is refl offers
 nothing_else q moment (Reload text) reply is offers = let got = followed q text reply is in offers_not reply _ got.reply_is refl offers
+
+no_track : (reply : Reply) (said : Said) → reply_of said ≡ reply → reply.tracks.items ≡ []
+no_track reply said is = ap (λ (r : Reply). r.tracks.items) (sym is)
+
+pub tracks_nothing : (q : Plain) (moment : ℕ) (event : OwnedEvent) (reply : Reply) → answer_in q moment event ≡ Ok reply → may_offer event ≡ false → reply.tracks.items ≡ []
+tracks_nothing q moment (Accept listener real) reply is other = absurd (false≢true (sym other))
+tracks_nothing q moment (Piece id bytes) reply is other = absurd (false≢true (sym other))
+tracks_nothing q moment (Connected id) reply is other = no_track reply (saids.Up id) (server_answered q id (saids.Up id) reply is).reply_is
+tracks_nothing q moment (ConnectFailed id) reply is other = no_track reply (saids.Closed id Failed) (server_answered q id (saids.Closed id Failed) reply is).reply_is
+tracks_nothing q moment (Close id why) reply is other =
+    let one = bind-ok (or_fault NoSuch (row_at q.frontends id)) _ reply is in
+    no_track reply (saids.Closed id why) (let it : Ok (reply_of (saids.Closed id why)) ≡ Ok reply = one.2 in cc)
+tracks_nothing q moment (Expire id) reply is other = let got = expired q (max q.clock moment) id reply is in no_track reply _ got.reply_is
+tracks_nothing q moment (Reload text) reply is other = let got = followed q text reply is in no_track reply _ got.reply_is

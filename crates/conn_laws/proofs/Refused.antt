@@ -1,5 +1,5 @@
 -- Why a connection is refused.
-use Rattle.std.specs.Prelude.{ℕ, Bool, true, false, List, length, max, Option, Some, None, Result, Ok, Err, refl, nat_le, ◌+◌, ◌<◌, ◌++◌, ◌≡◌, if◌then◌else◌}
+use Rattle.std.specs.Prelude.{ℕ, Bool, true, false, List, [], length, max, Option, Some, None, Result, Ok, Err, refl, nat_le, ◌+◌, ◌<◌, ◌++◌, ◌≡◌, if◌then◌else◌}
 use Rattle.std.proofs.Common.{sym, ap, ◌∙◌, subst, arith, inl, inr}
 use Rattle.std.proofs.lemmas.Bool.Decides.{nat_tests}
 use Rattle.addr_core.specs.PairValue.{PairValue}
@@ -11,6 +11,7 @@ use Rattle.pp_any.specs.Status.{Status, status}
 use Rattle.rule_engine.specs.Judging.{no_tracks, TrackSlots}
 use Rattle.rule_engine.specs.declared.judging.Judged.{Judged}
 use Rattle.plan_types.specs.declared.plan.Plan.{Plan}
+use Rattle.plan_types.specs.declared.track.Track.{Track}
 use Rattle.config_core.specs.Meaning.{meaning}
 use Rattle.conn_model.specs.declared.event.ConnId.{ConnId}
 use Rattle.conn_model.specs.declared.event.OwnedEvent.{OwnedEvent}
@@ -27,9 +28,9 @@ use Rattle.conn_model.specs.declared.plain.Plain.{Plain}
 use Rattle.conn_model.specs.Words.{or_fault, row_at}
 use Rattle.conn_model.specs.Rules.{rejection, scene_of, view_of, Candidate, RuleView}
 use Rattle.conn_model.specs.Answer.{admission, decision, demands_header, entry_reply, entry_rules, header_reply, judged_pair, reply_of, said_of, server_for, server_unless, NumberedServer}
-use Rattle.conn_model.specs.History.{after, answer, joined, opening, Entry, IsLegal}
-use Rattle.conn_model.proofs.Replies.{accepted, bind-ok, expired, followed, received, server_answered}
-use Rattle.conn_laws.specs.Deciding.{choice_view, newcomer, session_rules, waiting, Arrival, IsCause, IsNotRejected, IsRefusedAtAccept, IsRefusedAtPiece, IsWithheld, Waiter}
+use Rattle.conn_model.specs.History.{after, answer, id_of, joined, opening, Entry, IsLegal}
+use Rattle.conn_model.proofs.Replies.{accepted, admission-id, bind-ok, expired, followed, header_reply-id, received, server_answered}
+use Rattle.conn_laws.specs.Deciding.{choice_view, newcomer, session_rules, session_tracks, waiting, Arrival, IsCause, IsNotRejected, IsRefusedAtAccept, IsRefusedAtPiece, IsWithheld, Waiter}
 use Rattle.conn_laws.proofs.Rules.{not_rejected, rejected}
 use Rattle.conn_laws.proofs.Named.{arrival_names, waiter_names, NamesBackends}
 use Rattle.conn_laws.proofs.Unserved.{lacks, Lacks}
@@ -43,6 +44,10 @@ record Refuses (candidate : Candidate) (judged : PairValue) (made : TrackSlots) 
 
 same_cause : (id other : ConnId) (used count : ℕ) (cause found : Cause) → Refuse id used cause ≡ Refuse other count found → (used ≡ count) × (cause ≡ found)
 same_cause id other used count cause found is = (cc, cc)
+
+-- a refusal names the connection that the reply speaks to
+named : (said : Said) (id own : ConnId) (used : ℕ) (cause : Cause) → id_of said ≡ Some own → said ≡ Refuse id used cause → id ≡ own
+named said id own used cause speaks is = let same : Some id ≡ Some own = ap id_of (sym is) ∙ speaks in cc
 
 withheld_for : (candidate : Candidate) (judged : PairValue) (made : TrackSlots) (cause : Cause) → IsNotRejected (scene_of (view_of candidate judged.source.addr)) made candidate.frontend.session_rules → Lacks (choice_view candidate judged made) cause → IsWithheld candidate judged made cause
 withheld_for candidate judged made (Line line) none has = absurd has
@@ -83,7 +88,7 @@ refuses candidate used judged made id count cause names is = by (rejection says)
 -- At an accept.
 
 refused_at_accept : (candidate : Candidate) (accept_proxy : Bool) (real : PairValue) (others : ℕ) (id : ConnId) (used : ℕ) (cause : Cause) → NamesBackends (length candidate.version.plan.backends) candidate.frontend → (admission candidate accept_proxy real others).said ≡ Refuse id used cause →
-    (used ≡ 0) × IsRefusedAtAccept candidate accept_proxy real others cause
+    (used ≡ 0) × IsRefusedAtAccept candidate accept_proxy real others cause (admission candidate accept_proxy real others).tracks.items
 refused_at_accept candidate accept_proxy real others id used cause names is = by (nat_le candidate.frontend.limit others) refl
   where
     says : Judged
@@ -92,53 +97,83 @@ refused_at_accept candidate accept_proxy real others id used cause names is = by
     demanded : Bool
     demanded = demands_header candidate accept_proxy real
 
-    less : nat_le candidate.frontend.limit others ≡ false → others < candidate.frontend.limit
-    less within = grind (arith, nat_tests)
-
-    expects : nat_le candidate.frontend.limit others ≡ false → rejection says ≡ None → (b : Bool) → demanded ≡ b → (entry_reply candidate demanded real says.tracks None).said ≡ Refuse id used cause →
-        (used ≡ 0) × IsRefusedAtAccept candidate accept_proxy real others cause
-    expects within none true proxied now = absurd (let wrong : saids.Wait candidate.id 0 ≡ Refuse id used cause = sym (ap (λ b. (entry_reply candidate b real says.tracks None).said) proxied) ∙ now in cc)
-    expects within none false proxied now =
-        let got = refuses candidate 0 real says.tracks id used cause names (sym (ap (λ b. (entry_reply candidate b real says.tracks None).said) proxied) ∙ now) in
-        (sym got.used_is, inr (inr (record { no_header = proxied; admitted = record { limit = less within; rules = not_rejected (scene_of (view_of candidate real.source.addr)) no_tracks candidate.frontend.connection_rules none }; withheld = got.withheld })))
-
-    ruled : nat_le candidate.frontend.limit others ≡ false → (o : Option ℕ) → rejection says ≡ o → (entry_reply candidate demanded real says.tracks (rejection says)).said ≡ Refuse id used cause →
-        (used ≡ 0) × IsRefusedAtAccept candidate accept_proxy real others cause
-    ruled within None none now = expects within none demanded refl (sym (ap (λ o. (entry_reply candidate demanded real says.tracks o).said) none) ∙ now)
-    ruled within (Some line) some now =
-        let refusal : Refuse candidate.id 0 (Line line) ≡ Refuse id used cause = sym (ap (λ o. (entry_reply candidate demanded real says.tracks o).said) some) ∙ now in
-        let both = same_cause candidate.id id 0 used (Line line) cause refusal in
-        (sym both.0, inr (inl (record { limit = less within; line = line; cause_is = sym both.1; rejected = rejected (scene_of (view_of candidate real.source.addr)) no_tracks candidate.frontend.connection_rules line some })))
-
     limited : Bool → Reply
     limited b = if b then reply_of (Refuse candidate.id 0 (Line candidate.frontend.limit_line)) else entry_reply candidate demanded real says.tracks (rejection says)
 
-    by : (b : Bool) → nat_le candidate.frontend.limit others ≡ b → (used ≡ 0) × IsRefusedAtAccept candidate accept_proxy real others cause
+    tracks : List Track
+    tracks = (admission candidate accept_proxy real others).tracks.items
+
+    less : nat_le candidate.frontend.limit others ≡ false → others < candidate.frontend.limit
+    less within = grind (arith, nat_tests)
+
+    ruled_by : nat_le candidate.frontend.limit others ≡ false → (o : Option ℕ) → rejection says ≡ o → tracks ≡ (entry_reply candidate demanded real says.tracks o).tracks.items
+    ruled_by within o is_o = ap (λ b. (limited b).tracks.items) within ∙ ap (λ o. (entry_reply candidate demanded real says.tracks o).tracks.items) is_o
+
+    expects : nat_le candidate.frontend.limit others ≡ false → rejection says ≡ None → (b : Bool) → demanded ≡ b → (entry_reply candidate demanded real says.tracks None).said ≡ Refuse id used cause →
+        (used ≡ 0) × IsRefusedAtAccept candidate accept_proxy real others cause tracks
+    expects within none true proxied now = absurd (let wrong : saids.Wait candidate.id 0 ≡ Refuse id used cause = sym (ap (λ b. (entry_reply candidate b real says.tracks None).said) proxied) ∙ now in cc)
+    expects within none false proxied now =
+        let got = refuses candidate 0 real says.tracks id used cause names (sym (ap (λ b. (entry_reply candidate b real says.tracks None).said) proxied) ∙ now) in (
+          sym got.used_is,
+          inr (
+              inr (
+              record {
+                no_header = proxied;
+                admitted = record { limit = less within; rules = not_rejected (scene_of (view_of candidate real.source.addr)) no_tracks candidate.frontend.connection_rules none };
+                withheld = got.withheld;
+                tracks_are = ruled_by within None none ∙ ap (λ b. (entry_reply candidate b real says.tracks None).tracks.items) proxied;
+              }
+              )
+              ),
+        )
+
+    ruled : nat_le candidate.frontend.limit others ≡ false → (o : Option ℕ) → rejection says ≡ o → (entry_reply candidate demanded real says.tracks (rejection says)).said ≡ Refuse id used cause →
+        (used ≡ 0) × IsRefusedAtAccept candidate accept_proxy real others cause tracks
+    ruled within None none now = expects within none demanded refl (sym (ap (λ o. (entry_reply candidate demanded real says.tracks o).said) none) ∙ now)
+    ruled within (Some line) some now =
+        let refusal : Refuse candidate.id 0 (Line line) ≡ Refuse id used cause = sym (ap (λ o. (entry_reply candidate demanded real says.tracks o).said) some) ∙ now in
+        let both = same_cause candidate.id id 0 used (Line line) cause refusal in (
+          sym both.0,
+          inr (
+              inl (
+              record {
+                limit = less within;
+                line = line;
+                cause_is = sym both.1;
+                rejected = rejected (scene_of (view_of candidate real.source.addr)) no_tracks candidate.frontend.connection_rules line some;
+                tracks_are = ruled_by within (Some line) some;
+              }
+              )
+              ),
+        )
+
+    by : (b : Bool) → nat_le candidate.frontend.limit others ≡ b → (used ≡ 0) × IsRefusedAtAccept candidate accept_proxy real others cause tracks
     by true over =
         let refusal : Refuse candidate.id 0 (Line candidate.frontend.limit_line) ≡ Refuse id used cause = sym (ap (λ b. (limited b).said) over) ∙ is in
         let both = same_cause candidate.id id 0 used (Line candidate.frontend.limit_line) cause refusal in
-        (sym both.0, inl (record { limit = grind (arith, nat_tests, over); cause_is = sym both.1 }))
+        (sym both.0, inl (record { limit = grind (arith, nat_tests, over); cause_is = sym both.1; tracks_are = ap (λ b. (limited b).tracks.items) over }))
     by false within = ruled within (rejection says) refl (sym (ap (λ b. (limited b).said) within) ∙ is)
 
 -- At a piece.
 
-whole_refused : (q : Plain) (id : ConnId) (waiter : Waiter q id) (bytes : List ℕ) (count : ℕ) (meaning : Meaning) (cause : Cause) → status bytes ≡ statuses.Whole count meaning →
-    IsWithheld (waiting q id waiter) (judged_pair waiter.row.real meaning) no_tracks cause → IsRefusedAtPiece q id waiter bytes count cause
-whole_refused q id waiter bytes count meaning (Line line) is withheld = (meaning, is, withheld)
-whole_refused q id waiter bytes count meaning (Header fault) is withheld = absurd withheld
-whole_refused q id waiter bytes count meaning Expired is withheld = absurd withheld
-whole_refused q id waiter bytes count meaning (NoBackend line) is withheld = (meaning, is, withheld)
-whole_refused q id waiter bytes count meaning (NoServer line) is withheld = (meaning, is, withheld)
+whole_refused : (q : Plain) (id : ConnId) (waiter : Waiter q id) (bytes : List ℕ) (count : ℕ) (meaning : Meaning) (cause : Cause) (tracks : List Track) → status bytes ≡ statuses.Whole count meaning →
+    IsWithheld (waiting q id waiter) (judged_pair waiter.row.real meaning) no_tracks cause → tracks ≡ session_tracks (waiting q id waiter) (judged_pair waiter.row.real meaning) no_tracks → IsRefusedAtPiece q id waiter bytes count cause tracks
+whole_refused q id waiter bytes count meaning (Line line) tracks is withheld made = record { meaning = meaning; header = is; withheld = withheld; tracks_are = made }
+whole_refused q id waiter bytes count meaning (Header fault) tracks is withheld made = absurd withheld
+whole_refused q id waiter bytes count meaning Expired tracks is withheld made = absurd withheld
+whole_refused q id waiter bytes count meaning (NoBackend line) tracks is withheld made = record { meaning = meaning; header = is; withheld = withheld; tracks_are = made }
+whole_refused q id waiter bytes count meaning (NoServer line) tracks is withheld made = record { meaning = meaning; header = is; withheld = withheld; tracks_are = made }
 
 refused_at_piece : (q : Plain) (id : ConnId) (waiter : Waiter q id) (bytes piece : List ℕ) (before : ℕ) (other : ConnId) (used : ℕ) (cause : Cause) (state : Status) → NamesBackends (length waiter.version.plan.backends) waiter.frontend → status bytes ≡ shifted before state →
-    (header_reply (waiting q id waiter) waiter.row.real (length piece) state).said ≡ Refuse other used cause → IsRefusedAtPiece q id waiter bytes (used + before) cause
+    (header_reply (waiting q id waiter) waiter.row.real (length piece) state).said ≡ Refuse other used cause →
+    IsRefusedAtPiece q id waiter bytes (used + before) cause (header_reply (waiting q id waiter) waiter.row.real (length piece) state).tracks.items
 refused_at_piece q id waiter bytes piece before other used cause statuses.Wait names state_is is = absurd (let wrong : saids.Wait id (length piece) ≡ Refuse other used cause = is in cc)
 refused_at_piece q id waiter bytes piece before other used cause (statuses.Fault fault count) names state_is is =
     let both = same_cause id other count used (Header fault) cause is in
-    subst (IsRefusedAtPiece q id waiter bytes (used + before)) both.1 (state_is ∙ ap (λ n. statuses.Fault fault (n + before)) both.0)
+    subst (λ c. IsRefusedAtPiece q id waiter bytes (used + before) c []) both.1 (state_is ∙ ap (λ n. statuses.Fault fault (n + before)) both.0, refl)
 refused_at_piece q id waiter bytes piece before other used cause (statuses.Whole count meaning) names state_is is =
     let got = refuses (waiting q id waiter) count (judged_pair waiter.row.real meaning) no_tracks other used cause names is in
-    whole_refused q id waiter bytes (used + before) meaning cause (state_is ∙ ap (λ n. statuses.Whole (n + before) meaning) got.used_is) got.withheld
+    whole_refused q id waiter bytes (used + before) meaning cause (session_tracks (waiting q id waiter) (judged_pair waiter.row.real meaning) no_tracks) (state_is ∙ ap (λ n. statuses.Whole (n + before) meaning) got.used_is) got.withheld refl
 
 -- Whole histories.
 
@@ -146,18 +181,34 @@ no_refusal : (reply : Reply) (said : Said) (id : ConnId) (used : ℕ) (cause : C
 no_refusal reply said id used cause is refused = ap (λ (r : Reply). r.said) is ∙ refused
 
 pub refused_for_cause : (text : List ℕ) (plan : Plan) (last : ℕ) (h : List Entry) → meaning text ≡ Ok plan → IsLegal (opening plan last) h → (moment : ℕ) (event : OwnedEvent) (reply : Reply) (id : ConnId) (used : ℕ) (cause : Cause) →
-    answer (opening plan last) h moment event ≡ Ok reply → reply.said ≡ Refuse id used cause → IsCause (after (opening plan last) h) (λ id. joined id h) moment event used cause
+    answer (opening plan last) h moment event ≡ Ok reply → reply.said ≡ Refuse id used cause → IsCause (after (opening plan last) h) (λ id. joined id h) moment event id used cause reply.tracks.items
 refused_for_cause text plan last h meant legal moment (Accept listener real) reply id used cause is said_is =
     let q : Plain = after (opening plan last) h in
     let got = accepted q (max q.clock moment) listener real reply is in
     let arrival : Arrival q listener = arrival_of q (max q.clock moment) listener real reply got in
-    let refused = refused_at_accept (newcomer q moment real listener arrival) got.at.accept_proxy real (length got.own.rows) id used cause (arrival_names text plan last h meant legal listener arrival) (ap (λ (r : Reply). r.said) got.reply_is ∙ said_is) in
-    (refused.0, (arrival, refused.1))
+    let candidate : Candidate = newcomer q moment real listener arrival in
+    let now : (admission candidate got.at.accept_proxy real (length got.own.rows)).said ≡ Refuse id used cause = ap (λ (r : Reply). r.said) got.reply_is ∙ said_is in
+    let refused = refused_at_accept candidate got.at.accept_proxy real (length got.own.rows) id used cause (arrival_names text plan last h meant legal listener arrival) now in (
+      refused.0,
+      (
+        arrival,
+        named (admission candidate got.at.accept_proxy real (length got.own.rows)).said id candidate.id used cause (admission-id candidate got.at.accept_proxy real (length got.own.rows)) now,
+        subst (λ t. IsRefusedAtAccept candidate got.at.accept_proxy real (length got.own.rows) cause t) (ap (λ (r : Reply). r.tracks.items) got.reply_is) refused.1,
+      ),
+    )
 refused_for_cause text plan last h meant legal moment (Piece own piece) reply id used cause is said_is =
     let q : Plain = after (opening plan last) h in
     let got = received q own piece reply is in
     let waiter : Waiter q own = waiter_of q own piece reply got in
-    (waiter, refused_at_piece q own waiter (joined own h ++ piece) piece (length (joined own h)) id used cause (status_on waiter.rest piece) (waiter_names text plan last h meant legal own waiter) (piece_status plan last h legal own piece waiter) (ap (λ (r : Reply). r.said) got.reply_is ∙ said_is))
+    let whole : Reply = header_reply (waiting q own waiter) waiter.row.real (length piece) (status_on waiter.rest piece) in
+    let now : whole.said ≡ Refuse id used cause = ap (λ (r : Reply). r.said) got.reply_is ∙ said_is in
+    let refused = refused_at_piece q own waiter (joined own h ++ piece) piece (length (joined own h)) id used cause (status_on waiter.rest piece) (waiter_names text plan last h meant legal own waiter) (piece_status plan last h legal own piece waiter) now in (
+      named whole.said id own used cause (header_reply-id (waiting q own waiter) waiter.row.real (length piece) (status_on waiter.rest piece)) now,
+      (
+        waiter,
+        subst (λ t. IsRefusedAtPiece q own waiter (joined own h ++ piece) (used + length (joined own h)) cause t) (ap (λ (r : Reply). r.tracks.items) got.reply_is) refused,
+      ),
+    )
 refused_for_cause text plan last h meant legal moment (Connected own) reply id used cause is said_is =
     let q : Plain = after (opening plan last) h in
     absurd (let wrong : saids.Up own ≡ Refuse id used cause = no_refusal reply (saids.Up own) id used cause (server_answered q own (saids.Up own) reply is).reply_is said_is in cc)
@@ -172,9 +223,13 @@ refused_for_cause text plan last h meant legal moment (Close own why) reply id u
 refused_for_cause text plan last h meant legal moment (Expire own) reply id used cause is said_is =
     let q : Plain = after (opening plan last) h in
     let got = expired q (max q.clock moment) own reply is in
-    let both = same_cause own id 0 used Expired cause (no_refusal reply (Refuse own 0 Expired) id used cause got.reply_is said_is) in
-    let due = got.due in
-    (sym both.0, record { waiter_row = got.row; row_is = got.row_is; rest = got.rest; waits = got.waits; late = grind (arith, nat_tests, due); cause_is = sym both.1 })
+    let now : Refuse own 0 Expired ≡ Refuse id used cause = no_refusal reply (Refuse own 0 Expired) id used cause got.reply_is said_is in
+    let both = same_cause own id 0 used Expired cause now in
+    let due = got.due in (
+      named (Refuse own 0 Expired) id own used cause refl now,
+      sym both.0,
+      record { waiter_row = got.row; row_is = got.row_is; rest = got.rest; waits = got.waits; late = grind (arith, nat_tests, due); cause_is = sym both.1; tracks_are = ap (λ (r : Reply). r.tracks.items) (sym got.reply_is) },
+    )
 refused_for_cause text plan last h meant legal moment (Reload config) reply id used cause is said_is =
     let q : Plain = after (opening plan last) h in
     let got = followed q config reply is in

@@ -1,10 +1,11 @@
--- Why a connection is offered a server, or refused.
-use Rattle.std.specs.Prelude.{ℕ, Bool, true, false, List, length, max, slice_get, Some, None, IfSome, Result, Ok, ◌+◌, ◌-◌, ◌^◌, ◌%◌, ◌++◌, ◌≤◌, ◌<◌, ◌≡◌, ◌≢◌, ◌⊎◌}
+-- Why a connection is offered a server, waits or is refused, and what the step tracks.
+use Rattle.std.specs.Prelude.{ℕ, Bool, true, false, List, [], length, max, slice_get, Some, None, IfSome, Result, Ok, ◌+◌, ◌-◌, ◌^◌, ◌%◌, ◌++◌, ◌≤◌, ◌<◌, ◌≡◌, ◌≢◌, ◌⊎◌}
 use Rattle.std.specs.List.{AllByRecursion}
 use Rattle.addr_core.specs.declared.addr.Addr.{Addr}
 use Rattle.addr_core.specs.PairValue.{PairValue}
 use Rattle.pp_v1.specs.declared.meaning.Meaning.{Meaning}
 use Rattle.pp_any.specs.declared.rest.Rest.{Rest}
+use Rattle.pp_any.specs.Status as statuses
 use Rattle.pp_any.specs.Status.{status, Whole, Fault}
 use Rattle.proxy_types.specs.declared.balance.Method.{Method}
 use Rattle.proxy_types.specs.declared.balance.Method.TheVariants.{RoundRobin, LeastConn, Source}
@@ -21,6 +22,7 @@ use Rattle.plan_types.specs.declared.plan.Backend.{Backend}
 use Rattle.plan_types.specs.declared.plan.Frontend.{Frontend}
 use Rattle.plan_types.specs.declared.plan.Rule.{Rule}
 use Rattle.plan_types.specs.declared.plan.Server.{Server}
+use Rattle.plan_types.specs.declared.track.Track.{Track}
 use Rattle.conn_model.specs.declared.event.ConnId.{ConnId}
 use Rattle.conn_model.specs.declared.event.OwnedEvent.{OwnedEvent}
 use Rattle.conn_model.specs.declared.event.OwnedEvent.TheVariants.{Accept, Piece, Connected, ConnectFailed, Close, Expire, Reload}
@@ -39,7 +41,7 @@ use Rattle.conn_model.specs.declared.plain.Version.{Version}
 use Rattle.conn_model.specs.Words.{newest, row_at}
 use Rattle.conn_model.specs.Servers.{cursor_at, identity_in, loads_of, pick_in}
 use Rattle.conn_model.specs.Rules.{backend_for, scene_of, view_of, worth, Candidate, RuleView}
-use Rattle.conn_model.specs.Answer.{candidate_at, candidate_of, demands_header, entry_rules, frontend_in, judged_pair, numbered_server, reply_with, rest_in, said_of, version_at, NumberedServer}
+use Rattle.conn_model.specs.Answer.{candidate_at, candidate_of, demands_header, entry_rules, frontend_in, judged_pair, numbered_server, rest_in, said_of, version_at, NumberedServer}
 
 -- What judges a connection.
 
@@ -89,9 +91,21 @@ pub record IsAdmitted (candidate : Candidate) (real : PairValue) (others : ℕ) 
 abbrev pub session_rules : Candidate → PairValue → TrackSlots → Judged
 session_rules candidate judged made = judged_after (scene_of (view_of candidate judged.source.addr)) made candidate.frontend.session_rules
 
--- what the choice of a server sees: what they tracked is tracked
+-- Tracks, in the order of their counters.
+
+-- what the connection rules track of a connection that comes, up to the one that decides
+abbrev pub entry_tracks : Candidate → PairValue → List Track
+entry_tracks candidate real = present (entry_rules candidate real).tracks
+
+-- that of the session rules as well, where the step tracked those before
+abbrev pub session_tracks : Candidate → PairValue → TrackSlots → List Track
+session_tracks candidate judged made = present (session_rules candidate judged made).tracks
+
+-- The choice of a server.
+
+-- what it sees: what the rules tracked is tracked
 abbrev pub choice_view : Candidate → PairValue → TrackSlots → RuleView
-choice_view candidate judged made = view_of candidate judged.source.addr (present (session_rules candidate judged made).tracks)
+choice_view candidate judged made = view_of candidate judged.source.addr (session_tracks candidate judged made)
 
 -- the backend that the lines choose has that server for it, by the counts of the open connections
 pub record HasServer (view : RuleView) (given : NumberedServer) : Type 0 where
@@ -110,37 +124,50 @@ pub record IsGiven (candidate : Candidate) (judged : PairValue) (made : TrackSlo
 
 -- Offers.
 
--- the answer says that
-abbrev pub Says : Result Reply StepFault → Said → Type 0
-Says answer said = (made : TrackSlots) × (answer ≡ Ok (reply_with said made))
+abbrev pub reply_saying : Said → List Track → Reply
+reply_saying said tracks = record { said = said; tracks = record { items = tracks } }
+
+-- the answer says that, and the step tracks those
+abbrev pub Says : Result Reply StepFault → Said → List Track → Type 0
+Says answer said tracks = answer ≡ Ok (reply_saying said tracks)
 
 -- A connection is offered a server at its accept: its frontend has a serial left, and no header is demanded: neither by
--- its listener nor by a connection rule that was tried.
--- What is sent first states the judged pair, which is the real one.
-pub record IsOfferedAtAccept (p : Plain) (moment : ℕ) (real : PairValue) (listener : ℕ) (arrival : Arrival p listener) (said : Said) : Type 0 where
+-- its listener nor by a connection rule that was tried. The newcomer is named, and what is sent first states the judged
+-- pair, which is the real one. What both lists of rules track is tracked.
+pub record IsOfferedAtAccept (p : Plain) (moment : ℕ) (real : PairValue) (listener : ℕ) (arrival : Arrival p listener) (said : Said) (tracks : List Track) : Type 0 where
   pub given : NumberedServer
   pub serial_left : arrival.own.serial < 2 ^ 64 - 1
   pub no_header : demands_header (newcomer p moment real listener arrival) arrival.at.accept_proxy real ≡ false
   pub admitted : IsAdmitted (newcomer p moment real listener arrival) real (length arrival.own.rows)
   pub is_given : IsGiven (newcomer p moment real listener arrival) real (entry_rules (newcomer p moment real listener arrival) real).tracks given
   pub said_is : said ≡ said_of (newcomer p moment real listener arrival).id 0 real (Ok given)
+  pub tracks_are : tracks ≡ session_tracks (newcomer p moment real listener arrival) real (entry_rules (newcomer p moment real listener arrival) real).tracks
 
--- It is let in to wait for its header: one is demanded.
-pub record IsLetWait (p : Plain) (moment : ℕ) (real : PairValue) (listener : ℕ) (arrival : Arrival p listener) (said : Said) : Type 0 where
+-- It is let in to wait for its header: one is demanded. The newcomer is named, and what the connection rules track is
+-- tracked.
+pub record IsLetWait (p : Plain) (moment : ℕ) (real : PairValue) (listener : ℕ) (arrival : Arrival p listener) (said : Said) (tracks : List Track) : Type 0 where
   pub serial_left : arrival.own.serial < 2 ^ 64 - 1
   pub demanded : demands_header (newcomer p moment real listener arrival) arrival.at.accept_proxy real ≡ true
   pub admitted : IsAdmitted (newcomer p moment real listener arrival) real (length arrival.own.rows)
   pub said_is : said ≡ saids.Wait (newcomer p moment real listener arrival).id 0
+  pub tracks_are : tracks ≡ entry_tracks (newcomer p moment real listener arrival) real
 
 -- At a piece, where so many of the bytes came before: they are a header, and maybe more bytes follow it. What is sent
--- first states the judged pair, which is the one that the header declares.
-pub record IsOfferedAtPiece (p : Plain) (id : ConnId) (waiter : Waiter p id) (bytes : List ℕ) (before : ℕ) (said : Said) : Type 0 where
+-- first states the judged pair, which is the one that the header declares. What the session rules track is tracked.
+pub record IsOfferedAtPiece (p : Plain) (id : ConnId) (waiter : Waiter p id) (bytes : List ℕ) (before : ℕ) (said : Said) (tracks : List Track) : Type 0 where
   pub meaning : Meaning
   pub used : ℕ
   pub given : NumberedServer
   pub header : status bytes ≡ Whole (used + before) meaning
   pub is_given : IsGiven (waiting p id waiter) (judged_pair waiter.row.real meaning) no_tracks given
   pub said_is : said ≡ said_of id used (judged_pair waiter.row.real meaning) (Ok given)
+  pub tracks_are : tracks ≡ session_tracks (waiting p id waiter) (judged_pair waiter.row.real meaning) no_tracks
+
+-- It waits on after a piece of so many bytes: with it, the bytes are the beginning of a header. Nothing is tracked.
+pub record IsLeftWaiting (id : ConnId) (bytes : List ℕ) (count : ℕ) (said : Said) (tracks : List Track) : Type 0 where
+  pub header : status bytes ≡ statuses.Wait
+  pub said_is : said ≡ saids.Wait id count
+  pub tracks_are : tracks ≡ []
 
 abbrev pub is_wait : Said → Bool
 is_wait (saids.Wait id used) = true
@@ -248,56 +275,69 @@ IsWithheld candidate judged made (NoBackend line) =
 IsWithheld candidate judged made (NoServer line) =
     IsNotRejected (scene_of (view_of candidate judged.source.addr)) made candidate.frontend.session_rules × LacksServer (choice_view candidate judged made) line
 
--- at its accept the limit of its frontend is reached, or a connection rule rejects it; or it is admitted, no header is
--- demanded, and it gets no server
-pub record IsOverLimit (candidate : Candidate) (others : ℕ) (cause : Cause) : Type 0 where
+-- at its accept the limit of its frontend is reached, and nothing is tracked
+pub record IsOverLimit (candidate : Candidate) (others : ℕ) (cause : Cause) (tracks : List Track) : Type 0 where
   pub limit : candidate.frontend.limit ≤ others
   pub cause_is : cause ≡ Line candidate.frontend.limit_line
+  pub tracks_are : tracks ≡ []
 
-pub record IsTurnedAway (candidate : Candidate) (real : PairValue) (others : ℕ) (cause : Cause) : Type 0 where
+-- or a connection rule rejects it, and what they track up to that one is tracked
+pub record IsTurnedAway (candidate : Candidate) (real : PairValue) (others : ℕ) (cause : Cause) (tracks : List Track) : Type 0 where
   pub limit : others < candidate.frontend.limit
   pub line : ℕ
   pub cause_is : cause ≡ Line line
   pub rejected : IsRejected (scene_of (view_of candidate real.source.addr)) no_tracks candidate.frontend.connection_rules line
+  pub tracks_are : tracks ≡ entry_tracks candidate real
 
-pub record IsWithheldAtAccept (candidate : Candidate) (accept_proxy : Bool) (real : PairValue) (others : ℕ) (cause : Cause) : Type 0 where
+-- or it is admitted, no header is demanded, and it gets no server: what both lists track is tracked
+pub record IsWithheldAtAccept (candidate : Candidate) (accept_proxy : Bool) (real : PairValue) (others : ℕ) (cause : Cause) (tracks : List Track) : Type 0 where
   pub no_header : demands_header candidate accept_proxy real ≡ false
   pub admitted : IsAdmitted candidate real others
   pub withheld : IsWithheld candidate real (entry_rules candidate real).tracks cause
+  pub tracks_are : tracks ≡ session_tracks candidate real (entry_rules candidate real).tracks
 
-abbrev pub IsRefusedAtAccept : Candidate → Bool → PairValue → ℕ → Cause → Type 0
-IsRefusedAtAccept candidate accept_proxy real others cause =
-    IsOverLimit candidate others cause ⊎ (IsTurnedAway candidate real others cause ⊎ IsWithheldAtAccept candidate accept_proxy real others cause)
+abbrev pub IsRefusedAtAccept : Candidate → Bool → PairValue → ℕ → Cause → List Track → Type 0
+IsRefusedAtAccept candidate accept_proxy real others cause tracks =
+    IsOverLimit candidate others cause tracks ⊎ (IsTurnedAway candidate real others cause tracks ⊎ IsWithheldAtAccept candidate accept_proxy real others cause tracks)
 
--- at a piece, where so many bytes came before: with it, the bytes have that fault; or they are a header, and it gets no
--- server
-abbrev pub IsRefusedAtPiece : (p : Plain) (id : ConnId) → Waiter p id → List ℕ → ℕ → Cause → Type 0
-IsRefusedAtPiece p id waiter bytes count (Header fault) = status bytes ≡ Fault fault count
-IsRefusedAtPiece p id waiter bytes count (Line line) =
-    (meaning : Meaning) × (status bytes ≡ Whole count meaning) × IsWithheld (waiting p id waiter) (judged_pair waiter.row.real meaning) no_tracks (Line line)
-IsRefusedAtPiece p id waiter bytes count Expired = ⊥
-IsRefusedAtPiece p id waiter bytes count (NoBackend line) =
-    (meaning : Meaning) × (status bytes ≡ Whole count meaning) × IsWithheld (waiting p id waiter) (judged_pair waiter.row.real meaning) no_tracks (NoBackend line)
-IsRefusedAtPiece p id waiter bytes count (NoServer line) =
-    (meaning : Meaning) × (status bytes ≡ Whole count meaning) × IsWithheld (waiting p id waiter) (judged_pair waiter.row.real meaning) no_tracks (NoServer line)
+-- at a piece the bytes are a header, which ends after so many of them, and it gets no server: what the session rules
+-- track is tracked
+pub record IsWithheldAtPiece (p : Plain) (id : ConnId) (waiter : Waiter p id) (bytes : List ℕ) (count : ℕ) (cause : Cause) (tracks : List Track) : Type 0 where
+  pub meaning : Meaning
+  pub header : status bytes ≡ Whole count meaning
+  pub withheld : IsWithheld (waiting p id waiter) (judged_pair waiter.row.real meaning) no_tracks cause
+  pub tracks_are : tracks ≡ session_tracks (waiting p id waiter) (judged_pair waiter.row.real meaning) no_tracks
 
--- no whole header came in time
-pub record IsLate (p : Plain) (moment : ℕ) (id : ConnId) (cause : Cause) : Type 0 where
+-- or the bytes have that fault, which so many of them show, and nothing is tracked
+abbrev pub IsRefusedAtPiece : (p : Plain) (id : ConnId) → Waiter p id → List ℕ → ℕ → Cause → List Track → Type 0
+IsRefusedAtPiece p id waiter bytes count (Line line) tracks = IsWithheldAtPiece p id waiter bytes count (Line line) tracks
+IsRefusedAtPiece p id waiter bytes count (Header fault) tracks = (status bytes ≡ Fault fault count) × (tracks ≡ [])
+IsRefusedAtPiece p id waiter bytes count Expired tracks = ⊥
+IsRefusedAtPiece p id waiter bytes count (NoBackend line) tracks = IsWithheldAtPiece p id waiter bytes count (NoBackend line) tracks
+IsRefusedAtPiece p id waiter bytes count (NoServer line) tracks = IsWithheldAtPiece p id waiter bytes count (NoServer line) tracks
+
+-- no whole header came in time, and nothing is tracked
+pub record IsLate (p : Plain) (moment : ℕ) (id : ConnId) (cause : Cause) (tracks : List Track) : Type 0 where
   pub waiter_row : Row
   pub row_is : row_at p.frontends id ≡ Some waiter_row
   pub rest : Rest
   pub waits : rest_in waiter_row.phase ≡ Some rest
   pub late : waiter_row.accepted + HEADER_WAIT ≤ max p.clock moment
   pub cause_is : cause ≡ Expired
+  pub tracks_are : tracks ≡ []
 
--- the cause of a refusal at an event, where those bytes of the header came before, and so many bytes of the piece belong
--- to it
-abbrev pub IsCause : Plain → (ConnId → List ℕ) → ℕ → OwnedEvent → ℕ → Cause → Type 0
-IsCause p before moment (Accept listener real) used cause =
-    (used ≡ 0) × ((arrival : Arrival p listener) × IsRefusedAtAccept (newcomer p moment real listener arrival) arrival.at.accept_proxy real (length arrival.own.rows) cause)
-IsCause p before moment (Piece id bytes) used cause = (waiter : Waiter p id) × IsRefusedAtPiece p id waiter (before id ++ bytes) (used + length (before id)) cause
-IsCause p before moment (Connected id) used cause = ⊥
-IsCause p before moment (ConnectFailed id) used cause = ⊥
-IsCause p before moment (Close id why) used cause = ⊥
-IsCause p before moment (Expire id) used cause = (used ≡ 0) × IsLate p moment id cause
-IsCause p before moment (Reload text) used cause = ⊥
+-- Whom a refusal at an event names and why, and what the step tracks, where those bytes of the header came before, and
+-- so many bytes of the piece belong to it. It names the newcomer at an accept, and otherwise the event's own connection.
+abbrev pub IsCause : Plain → (ConnId → List ℕ) → ℕ → OwnedEvent → ConnId → ℕ → Cause → List Track → Type 0
+IsCause p before moment (Accept listener real) id used cause tracks =
+    (used ≡ 0)
+    × ((arrival : Arrival p listener)
+    × (id ≡ (newcomer p moment real listener arrival).id)
+    × IsRefusedAtAccept (newcomer p moment real listener arrival) arrival.at.accept_proxy real (length arrival.own.rows) cause tracks)
+IsCause p before moment (Piece own bytes) id used cause tracks =
+    (id ≡ own) × ((waiter : Waiter p own) × IsRefusedAtPiece p own waiter (before own ++ bytes) (used + length (before own)) cause tracks)
+IsCause p before moment (Connected own) id used cause tracks = ⊥
+IsCause p before moment (ConnectFailed own) id used cause tracks = ⊥
+IsCause p before moment (Close own why) id used cause tracks = ⊥
+IsCause p before moment (Expire own) id used cause tracks = (id ≡ own) × (used ≡ 0) × IsLate p moment own cause tracks
+IsCause p before moment (Reload text) id used cause tracks = ⊥
