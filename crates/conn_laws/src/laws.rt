@@ -39,29 +39,45 @@ pub fn each_is_judged()
 /// and the connection rules let it in there to wait for its header, and the piece that ends the header decides the rest.
 /// Each of these answers names its connection, and tracks what the rules that were tried track.
 pub fn offered_exactly_when()
-    ensures at_accept { (p : Plain) (h : List Entry) (moment listener : ℕ) (real : PairValue) (said : Said) (tracks : List Track) → is_offer said ≡ true →
+    ensures at_accept { (p : Plain) (h : List Entry) (moment listener : ℕ) (real : PairValue)
+        (said : Said) (tracks : List Track) → is_offer said ≡ true →
         Says (answer p h moment (Accept listener real)) said tracks
-        ↔ ((arrival : Arrival (after p h) listener) × IsOfferedAtAccept (after p h) moment real listener arrival said tracks) }
-    ensures waits { (p : Plain) (h : List Entry) (moment listener : ℕ) (real : PairValue) (said : Said) (tracks : List Track) → is_wait said ≡ true →
+        ↔ ((arrival : Arrival (after p h) listener)
+        × IsOfferedAtAccept (after p h) moment real listener arrival said tracks) }
+    ensures waits { (p : Plain) (h : List Entry) (moment listener : ℕ) (real : PairValue)
+        (said : Said) (tracks : List Track) → is_wait said ≡ true →
         Says (answer p h moment (Accept listener real)) said tracks
-        ↔ ((arrival : Arrival (after p h) listener) × IsLetWait (after p h) moment real listener arrival said tracks) }
+        ↔ ((arrival : Arrival (after p h) listener)
+        × IsLetWait (after p h) moment real listener arrival said tracks) }
     ensures at_piece { (plan : Plan) (last : ℕ) (h : List Entry) → IsLegal (opening plan last) h →
-        (moment : ℕ) (id : ConnId) (piece : List ℕ) (said : Said) (tracks : List Track) → is_offer said ≡ true →
+        (moment : ℕ) (id : ConnId) (piece : List ℕ)
+        (said : Said) (tracks : List Track) → is_offer said ≡ true →
         Says (answer (opening plan last) h moment (Piece id piece)) said tracks
-        ↔ ((waiter : Waiter (after (opening plan last) h) id) × IsOfferedAtPiece (after (opening plan last) h) id waiter (joined id h ++ piece) (length (joined id h)) said tracks) }
+        ↔ ((waiter : Waiter (after (opening plan last) h) id)
+        × IsOfferedAtPiece (after (opening plan last) h) id waiter
+        (joined id h ++ piece) (length (joined id h)) said tracks) }
     ensures waits_on { (plan : Plan) (last : ℕ) (h : List Entry) → IsLegal (opening plan last) h →
-        (moment : ℕ) (id : ConnId) (piece : List ℕ) (said : Said) (tracks : List Track) → is_wait said ≡ true →
+        (moment : ℕ) (id : ConnId) (piece : List ℕ)
+        (said : Said) (tracks : List Track) → is_wait said ≡ true →
         Says (answer (opening plan last) h moment (Piece id piece)) said tracks
-        ↔ (Waiter (after (opening plan last) h) id × IsLeftWaiting id (joined id h ++ piece) (length piece) said tracks) }
-    ensures nothing_else { (p : Plain) (h : List Entry) (moment : ℕ) (event : OwnedEvent) (reply : Reply) → answer p h moment event ≡ Ok reply → is_offer reply.said ≡ true → may_offer event ≡ true }
-    ensures tracks_nothing { (p : Plain) (h : List Entry) (moment : ℕ) (event : OwnedEvent) (reply : Reply) → answer p h moment event ≡ Ok reply → may_offer event ≡ false → reply.tracks.items ≡ [] }
+        ↔ (Waiter (after (opening plan last) h) id
+        × IsLeftWaiting id (joined id h ++ piece) (length piece) said tracks) }
+    ensures nothing_else { (p : Plain) (h : List Entry) (moment : ℕ) (event : OwnedEvent)
+        (reply : Reply) → answer p h moment event ≡ Ok reply →
+        is_offer reply.said ≡ true → may_offer event ≡ true }
+    ensures tracks_nothing { (p : Plain) (h : List Entry) (moment : ℕ) (event : OwnedEvent)
+        (reply : Reply) → answer p h moment event ≡ Ok reply →
+        may_offer event ≡ false → reply.tracks.items ≡ [] }
 {}
 
 /// Each refusal names the connection that it is of, and the line that decided, or the fault of the header, or that no
 /// whole header came in time. It names a frontend for its backends only where its lines choose none, and a backend only
 /// where by its method no server is left. It tracks what the rules that were tried track.
 pub fn refused_for_its_cause()
-    ensures { (text : List ℕ) (plan : Plan) (last : ℕ) (h : List Entry) → meaning text ≡ Ok plan → IsLegal (opening plan last) h →
+    ensures { (text : List ℕ) (plan : Plan) (last : ℕ) (h : List Entry) →
+        meaning text ≡ Ok plan → IsLegal (opening plan last) h →
         (moment : ℕ) (event : OwnedEvent) (reply : Reply) (id : ConnId) (used : ℕ) (cause : Cause) →
-        answer (opening plan last) h moment event ≡ Ok reply → reply.said ≡ Refuse id used cause → IsCause (after (opening plan last) h) (λ id. joined id h) moment event id used cause reply.tracks.items }
+        answer (opening plan last) h moment event ≡ Ok reply → reply.said ≡ Refuse id used cause →
+        IsCause (after (opening plan last) h) (λ id. joined id h) moment event
+        id used cause reply.tracks.items }
 {}
