@@ -1,8 +1,10 @@
 -- What a writer of the record does with a segment.
-use Rattle.std.specs.Prelude.{◌≡◌, ℕ, List, length, Option, None, IsSome}
+use Rattle.std.specs.Prelude.{◌≡◌, ◌⊎◌, ℕ, List, length, Option, None, IsSome}
 use Rattle.std.specs.Io.KnownBytes.{Appends}
 use Rattle.record_core.specs.declared.segment.Segment.{Segment}
 use Rattle.conn_model.specs.declared.plain.Plain.{Plain}
+use Rattle.device_core.specs.Device.{raised}
+use Rattle.device_core.specs.Patience.{IsWornOut}
 use Rattle.audit_core.specs.Recording.{records_text, AppendsFront, IsCutOff, IsRecorded}
 use Rattle.crew_core.specs.declared.record_sink.RecordSink.{RecordSink}
 
@@ -23,3 +25,7 @@ RecordsAll base count old new = (written : IsRecorded base old new) × (length w
 -- what was written is a front of such a record
 abbrev pub RecordsFront : Plain → ℕ → Option (List ℕ) → Option (List ℕ) → Type 0
 RecordsFront base count old new = (written : IsCutOff base old new) × (length written.history ≡ count)
+
+-- the writer gave up between the two: it failed once, or it did not and its patience ran out
+abbrev pub HasGivenUp : {W : Type 0} → (W → ℕ) → (W → ℕ) → W → W → Type 0
+HasGivenUp failures stalls old new = (failures new ≡ raised (failures old)) ⊎ ((failures new ≡ failures old) × IsWornOut (stalls old) (stalls new))

@@ -1,5 +1,5 @@
 //! The acceptor: what comes to the door goes to the workers in turn, and reloads to the desk.
-ghost use Rattle.std.specs.Prelude.{◌≡◌, Err, IfErr, IfOk, Ok};
+ghost use Rattle.std.specs.Prelude.{◌≡◌, false, Err, IfErr, IfOk, Ok};
 
 use crate::calls::WorkerContext;
 use crate::worker::NewConn;
@@ -56,7 +56,9 @@ impl<'a, M: Ledger, K: Link, D: Door<Link = K>> Acceptor<'a, M, K, D> {
         self,
         rt: &R,
         context: &WorkerContext<'_, M, O, B, G, C>,
-    ) -> Came {
+    ) -> Came
+        ensures unbegun { result.began ≡ false → result.accepted ≡ 0 }
+    {
         let Acceptor { door, lanes, pass } = self;
         let mut lanes = lanes;
         let mut accepted = 0u64;

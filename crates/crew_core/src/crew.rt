@@ -1,5 +1,5 @@
 //! The crew: the workers, each in a thread of its own, and the acceptor in the caller's.
-ghost use Rattle.std.specs.Prelude.{◌≡◌, ◌<◌, ◌≤◌, ◌+◌, ◌-◌, ◌^◌, [], Some, IfErr, IfOk, sum_by, vec_capacity, vec_len};
+ghost use Rattle.std.specs.Prelude.{◌≡◌, ◌<◌, ◌≤◌, ◌+◌, ◌-◌, ◌^◌, false, [], Some, IfErr, IfOk, sum_by, vec_capacity, vec_len};
 ghost use Rattle.std.specs.Thread.{IsSend};
 ghost use Rattle.rtrb.specs.Ring.{received, sent, IsPair};
 ghost use Rattle.proxy_types.specs.declared.limits.TheConstants.{MOST_WORKERS};
@@ -9,7 +9,7 @@ ghost use Rattle.desk_core.specs.declared.desk.TheConstants.{CALL_PARTS};
 ghost use Rattle.desk_core.specs.Books.{IsOf};
 ghost use Rattle.desk_core.specs.Calls.{calls_of};
 ghost use Rattle.desk_core.specs.Leased.{leases_in};
-ghost use Rattle.crew_core.specs.Crew.{IsIdle};
+ghost use Rattle.crew_core.specs.Crew.{IsIdle, IsUnbegun};
 ghost use Rattle.crew_core.specs.Outlets.{HasHandedOn};
 
 use crate::acceptor::{Acceptor, Came, LANE};
@@ -223,7 +223,9 @@ fn work_beside<
     G: Gate + Sync,
     C: Clock + Sync,
     R: Threads + Wait + Sync,
->(rt: &R, context: &WorkerContext<'_, M, O, B, G, C>, team: Team<'_, M, O, K, L, D>) -> Came {
+>(rt: &R, context: &WorkerContext<'_, M, O, B, G, C>, team: Team<'_, M, O, K, L, D>) -> Came
+    ensures unbegun { result.began ≡ false → result.accepted ≡ 0 }
+{
     let Team { workers, acceptor } = team;
     let (_all, came) = thread::join(
         rt,
@@ -253,7 +255,8 @@ fn work_and_record<
     team: Team<'_, M, O, K, L, D>,
     outlet: Outlet<S>,
 ) -> (Came, (Outlet<S>, u64))
-    ensures { HasHandedOn S.takes S.refuses 0 outlet result.1.1 result.1.0 }
+    ensures handed { HasHandedOn S.takes S.refuses 0 outlet result.1.1 result.1.0 }
+    ensures unbegun { result.0.began ≡ false → result.0.accepted ≡ 0 }
 {
     let (handed, came) = thread::join(
         rt,
@@ -433,6 +436,8 @@ pub fn run_crew<
     ensures recorded { IfOk result (λ crew. (crew.summary.recorded ≡ calls_of crew.passes.items) × (crew.summary.recorded ≡ crew.shut.book.made)) }
     ensures closed { IfOk result (λ crew. crew.summary.closed ≤ crew.summary.recorded) }
     ensures taken { IfOk result (λ crew. crew.summary.taken ≤ crew.summary.accepted) }
+    // If not all threads began, nothing was accepted.
+    ensures unbegun { IfOk result (λ crew. IsUnbegun crew.summary) }
     // The book is over the base of the one that went in.
     ensures base { IfOk result (λ crew. crew.shut.book.base ≡ book.base) }
     // Each segment that was cut came out of the ring and went to the sink, in their order, and those that it refused are

@@ -7,6 +7,7 @@ ghost use Rattle.conn_core.specs.Machine.{IsOpened};
 ghost use Rattle.book_core.specs.Book.{new_book};
 ghost use Rattle.conn_model.specs.Counts.{open_connections};
 ghost use Rattle.audit_core.specs.declared.recording.TheConstants.{RECORD_BUFFER};
+ghost use Rattle.crew_core.specs.Crew.{IsUnbegun};
 ghost use Rattle.crew_core.specs.Writers.{RecordsAll, RecordsFront};
 
 use crate::crew::{Crew, CrewFault, Setup, Summary, run_crew};
@@ -126,6 +127,9 @@ fn run<
     requires workers { (vec_len dials ≡ workers) × (1 ≤ workers) × (workers ≤ MOST_WORKERS) }
     ensures record { IfOk result (λ served. OnOk served.written (RecordsAll book.base served.summary.recorded (W.held writer) (W.held served.writer))) }
     ensures front { IfOk result (λ served. OnErr served.written (RecordsFront book.base served.summary.recorded (W.held writer) (W.held served.writer))) }
+    ensures settled { IfOk result (λ served.
+        IfOk served.settled (λ settled. settled.made ≡ served.summary.recorded)) }
+    ensures unbegun { IfOk result (λ served. IsUnbegun served.summary) }
 {
     let setup = Setup {
         workers,
@@ -197,6 +201,11 @@ pub fn serve<
     ensures record { IfOk result (λ served. OnOk served.written (RecordsAll book.base served.summary.recorded (W.held writer) (W.held served.writer))) }
     // If the writer fails, it has a front of such a record.
     ensures front { IfOk result (λ served. OnErr served.written (RecordsFront book.base served.summary.recorded (W.held writer) (W.held served.writer))) }
+    // Where the accounts are settled, they are those of as many decisions.
+    ensures settled { IfOk result (λ served.
+        IfOk served.settled (λ settled. settled.made ≡ served.summary.recorded)) }
+    // If not all threads began, nothing was accepted.
+    ensures unbegun { IfOk result (λ served. IsUnbegun served.summary) }
 {
     let Ok(buffer) = Vec::with_capacity(alloc, RECORD_BUFFER) else {
         book.end();

@@ -1,9 +1,10 @@
 //! A writer of the record.
-ghost use Rattle.std.specs.Prelude.{◌≡◌, ◌≤◌, IsSome, None, OnErr, OnOk, vec_capacity};
+ghost use Rattle.std.specs.Prelude.{◌≡◌, ◌≤◌, Err, IsSome, None, OnErr, OnOk, Some, vec_capacity};
 ghost use Rattle.std.specs.Io.KnownBytes.{Appends};
 ghost use Rattle.audit_core.specs.Recording.{records_text, AppendsFront};
 ghost use Rattle.audit_core.specs.declared.recording.TheConstants.{RECORD_BUFFER};
 ghost use Rattle.book_core.specs.Book.{IsBook};
+ghost use Rattle.crew_core.specs.Writers.{HasGivenUp, Refuses, Writes};
 
 use crate::outlet::{Sink, SinkFault};
 use audit_core::{RecordFault, write_through};
@@ -35,10 +36,14 @@ impl<W: Output + Drop> RecordSink<W> {
         }
     }
 
-    /// Writes what the book has in memory, unless a segment was refused.
+    /// Writes what the book has in memory, unless a segment was refused: then that is the fault. It cannot be written
+    /// only if the writer gave up.
     pub(crate) fn finish(self, book: &Book) -> (Result<(), RecordFault>, W)
         ensures ok { OnOk result.0 ((self.fault ≡ None) × Appends (W.held self.writer) (W.held result.1) (records_text book.now.journal)) }
         ensures refused { IsSome self.fault → result.1 ≡ self.writer }
+        ensures stays { (fault : RecordFault) → self.fault ≡ Some fault → result.0 ≡ Err fault }
+        ensures gave_up { self.fault ≡ None → result.0 ≡ Err RecordFault.Write →
+            HasGivenUp W.failures W.stalls self.writer result.1 }
         ensures front { OnErr result.0 (self.fault ≡ None → AppendsFront (W.held self.writer) (W.held result.1) (records_text book.now.journal)) }
         ensures legal { IsBook book.now }
     {
@@ -63,7 +68,14 @@ impl<W: Output + Drop> Sink for RecordSink<W> {
 
     ghost refuses = { Refuses W.held };
 
-    fn take(&mut self, segment: Segment) -> Result<(), SinkFault> {
+    /// What cannot be written is refused only after the writer gave up, and the first fault stays.
+    fn take(&mut self, segment: Segment) -> Result<(), SinkFault>
+        ensures ok { OnOk result (Writes W.held self.old segment self.new) }
+        ensures err { OnErr result (Refuses W.held self.old segment self.new) }
+        ensures gave_up { self.old.fault ≡ None → self.new.fault ≡ Some RecordFault.Write →
+            HasGivenUp W.failures W.stalls self.old.writer self.new.writer }
+        ensures stays { IsSome self.old.fault → self.new ≡ self.old }
+    {
         if self.fault.is_some() {
             return Err(SinkFault);
         }

@@ -10,7 +10,7 @@ empty-sink_failed-requires g c =
     let same : c.hand_back-left.new.shut.book ≡ c.into_book-shut.result.book = c.hand_back-left.ensures.same.0 ∙ c.count_calls-recorded.ensures.same.0 in
     let of : (c.hand_back-left.new.shut.book.base ≡ c.args.book.base) × SameProducer c.args.book.segments c.hand_back-left.new.shut.book.segments =
     of_opening g.B.Opening.opening c.args.book c.hand_back-left.new.shut.book c.requires.opened (subst (λ b. IsOf g.B.Opening.opening b) (sym same) c.into_book-shut.ensures.opened) in
-    still_pair c.args.book c.hand_back-left.new.shut.book c.args.outlet c.work_and_record-handed.result.1.0 c.requires.ring of.1 c.work_and_record-handed.ensures.ring
+    still_pair c.args.book c.hand_back-left.new.shut.book c.args.outlet c.work_and_record-handed.result.1.0 c.requires.ring of.1 c.work_and_record-handed.ensures.handed.ring
 
 pub returns-clause-base : goal.returns-clause-base
 returns-clause-base g c =
@@ -20,4 +20,4 @@ returns-clause-base g c =
 
 pub returns-clause-handed : goal.returns-clause-handed
 returns-clause-handed g c =
-    both g.S.Sink.takes g.S.Sink.refuses _ _ _ c.work_and_record-handed.result.1.0 _ c.empty-sink_failed.new.outlet c.work_and_record-handed.ensures c.empty-sink_failed.ensures.handed
+    both g.S.Sink.takes g.S.Sink.refuses _ _ _ c.work_and_record-handed.result.1.0 _ c.empty-sink_failed.new.outlet c.work_and_record-handed.ensures.handed c.empty-sink_failed.ensures.handed
