@@ -1,5 +1,5 @@
 -- Each client that comes to a listener, and each connection that waits, has its frontend in the version that judges it.
-use Rattle.std.specs.Prelude.{ℕ, zero, suc, Bool, true, false, not, List, [], ◌∷◌, ◌++◌, map, filter, find, flat_map, length, max, slice_get, Option, Some, None, Ok, refl, ◌+◌, ◌≡◌, ◌⊎◌, ◌==◌, ◌&&◌, if◌then◌else◌}
+use Rattle.std.specs.Prelude.{ℕ, zero, suc, Bool, true, false, not, List, [], ◌∷◌, ◌++◌, map, filter, find, flat_map, is_some, length, max, slice_get, Option, Some, None, Ok, refl, ◌+◌, ◌≡◌, ◌⊎◌, ◌==◌, ◌&&◌, if◌then◌else◌}
 use Rattle.std.specs.List.{list_any, list_all, enumerate_from}
 use Rattle.std.specs.Str.{bytes_eq}
 use Rattle.std.proofs.Common.{sym, ap, ◌∙◌, arith, inl, inr}
@@ -276,3 +276,12 @@ waiters plan last h legal id row rest row_is waits = by (slice_get q.frontends i
           of_accept = of_accept;
           found = kept.1;
         }
+
+-- the same of one whose phase is known to be that
+pub waits_there : (plan : Plan) (last : ℕ) (h : List Entry) → IsLegal (opening plan last) h → (id : ConnId) (row : Row) →
+    row_at (after (opening plan last) h).frontends id ≡ Some row → is_some (rest_in row.phase) ≡ true → Waiter (after (opening plan last) h) id
+waits_there plan last h legal id row row_is waits = by (rest_in row.phase) refl waits
+  where
+    by : (o : Option Rest) → rest_in row.phase ≡ o → is_some o ≡ true → Waiter (after (opening plan last) h) id
+    by None is now = absurd (let wrong : false ≡ true = now in cc)
+    by (Some rest) is now = waiters plan last h legal id row rest row_is is

@@ -20,7 +20,7 @@ use Rattle.conn_model.specs.declared.reply.Said.TheVariants as saids
 use Rattle.conn_model.specs.declared.reply.StepFault.{StepFault}
 use Rattle.conn_model.specs.declared.reply.StepFault.TheVariants.{NoSuch}
 use Rattle.conn_model.specs.Answer.{admission, answer_in, candidate_at, new_row, reply_of, row_at, row_in}
-use Rattle.conn_model.specs.History.{Entry, IsLegal, after, arrival, arrival_of, arrivals, entry, frontend_after, has_ended, id_of, is_accept_at, is_last, leaves_open, opening, row_after, speaks_to}
+use Rattle.conn_model.specs.History.{Entry, IsLegal, after, answer, arrival, arrival_of, arrivals, entry, frontend_after, has_ended, id_of, is_accept_at, is_last, leaves_open, opening, row_after, speaks_to}
 use Rattle.conn_model.specs.Words.{is_conn, map_from, or_fault}
 use Rattle.conn_model.proofs.Goes.{whole_in_parts}
 use Rattle.conn_model.proofs.Lists.{and_true, get-from_zero, or_left, or_right, or_true}
@@ -38,7 +38,7 @@ use Rattle.whatif_core.specs.declared.turn.Turn.{Turn}
 -- ---- rows
 
 -- there is a row of that serial
-abbrev has : ℕ → List Row → Bool
+abbrev pub has : ℕ → List Row → Bool
 has serial rows = list_any (λ row. row.serial == serial) rows
 
 has_mapped : (serial : ℕ) (change : Row → Row) → ((row : Row) → (change row).serial ≡ row.serial) → (rows : List Row) → has serial (map change rows) ≡ has serial rows
@@ -49,7 +49,7 @@ has_mapped serial change keeps (row ∷ rows) =
 number_same : (a b : ℕ) → (a == b) ≡ true → a ≡ b
 number_same a b is = grind (arith, nat_tests, is)
 
-and_no : (a : Bool) → (a && false) ≡ false
+pub and_no : (a : Bool) → (a && false) ≡ false
 and_no true = refl
 and_no false = refl
 
@@ -76,18 +76,18 @@ or_assoc : (a b c : Bool) → (a || (b || c)) ≡ ((a || b) || c)
 or_assoc true b c = refl
 or_assoc false b c = refl
 
-has_appended : (serial : ℕ) (xs ys : List Row) → has serial (xs ++ ys) ≡ (has serial xs || has serial ys)
+pub has_appended : (serial : ℕ) (xs ys : List Row) → has serial (xs ++ ys) ≡ (has serial xs || has serial ys)
 has_appended serial [] ys = refl
 has_appended serial (row ∷ xs) ys = ap (λ b. (row.serial == serial) || b) (has_appended serial xs ys) ∙ or_assoc (row.serial == serial) (has serial xs) (has serial ys)
 
 -- ---- one frontend after one entry
 
 -- the reply ends that connection
-abbrev ends : Said → ℕ → ℕ → Bool
+abbrev pub ends : Said → ℕ → ℕ → Bool
 ends said number serial = is_last said && speaks_to number serial said
 
 -- the event opens that connection
-abbrev arrived : ℕ → ℕ → OwnedEvent → Said → Bool
+abbrev pub arrived : ℕ → ℕ → OwnedEvent → Said → Bool
 arrived number serial (Accept listener real) said = leaves_open said && speaks_to number serial said
 arrived number serial (Piece id bytes) said = false
 arrived number serial (Connected id) said = false
@@ -106,7 +106,7 @@ has_new serial number clock version real said (Some id) = by (leaves_open said) 
     by true false = refl
     by false b = refl
 
-has_arrived : (serial number clock version : ℕ) (event : OwnedEvent) (said : Said) → has serial (arrival number clock version event said) ≡ arrived number serial event said
+pub has_arrived : (serial number clock version : ℕ) (event : OwnedEvent) (said : Said) → has serial (arrival number clock version event said) ≡ arrived number serial event said
 has_arrived serial number clock version (Accept listener real) said = has_new serial number clock version real said (id_of said)
 has_arrived serial number clock version (Piece id bytes) said = refl
 has_arrived serial number clock version (Connected id) said = refl
@@ -148,16 +148,16 @@ from_there change k [] i y is = absurd (let wrong : None ≡ Some y = is in cc)
 from_there change k (own ∷ owns) zero y is = (own, refl)
 from_there change k (own ∷ owns) (suc i) y is = from_there change (k + 1) owns i y is
 
-one_item : {X : Type 0} (o : Option X) (x y : X) → o ≡ Some x → o ≡ Some y → x ≡ y
+pub one_item : {X : Type 0} (o : Option X) (x y : X) → o ≡ Some x → o ≡ Some y → x ≡ y
 one_item o x y left right = let same : Some x ≡ Some y = sym left ∙ right in cc
 
 -- a frontend after an entry was there before
-record Before (p : Plain) (e : Entry) (number : ℕ) (next : FrontendRows) : Type 0 where
-  own : FrontendRows
-  there : slice_get p.frontends number ≡ Some own
-  is : next ≡ frontend_after p (e ∷ []) number own
+pub record Before (p : Plain) (e : Entry) (number : ℕ) (next : FrontendRows) : Type 0 where
+  pub own : FrontendRows
+  pub there : slice_get p.frontends number ≡ Some own
+  pub is : next ≡ frontend_after p (e ∷ []) number own
 
-before : (p : Plain) (e : Entry) (number : ℕ) (next : FrontendRows) → slice_get (after p (e ∷ [])).frontends number ≡ Some next → Before p e number next
+pub before : (p : Plain) (e : Entry) (number : ℕ) (next : FrontendRows) → slice_get (after p (e ∷ [])).frontends number ≡ Some next → Before p e number next
 before p e number next there =
     let own = from_there (frontend_after p (e ∷ [])) 0 p.frontends number next there in
     record {
@@ -170,19 +170,19 @@ before p e number next there =
 -- ---- two states
 
 -- of each frontend of the first the second gave out as many serials, and has each connection open that the test does not end
-record Below (n p : Plain) (ended : ℕ → ℕ → Bool) (number : ℕ) (own : FrontendRows) : Type 0 where
-  mine : FrontendRows
-  there : slice_get p.frontends number ≡ Some mine
-  serial : own.serial ≡ mine.serial
-  rows : (s : ℕ) → has s own.rows ≡ true → (has s mine.rows ≡ true) ⊎ (ended number s ≡ true)
+pub record Below (n p : Plain) (ended : ℕ → ℕ → Bool) (number : ℕ) (own : FrontendRows) : Type 0 where
+  pub mine : FrontendRows
+  pub there : slice_get p.frontends number ≡ Some mine
+  pub serial : own.serial ≡ mine.serial
+  pub rows : (s : ℕ) → has s own.rows ≡ true → (has s mine.rows ≡ true) ⊎ (ended number s ≡ true)
 
-abbrev IsBelow : Plain → Plain → (ℕ → ℕ → Bool) → Type 0
+abbrev pub IsBelow : Plain → Plain → (ℕ → ℕ → Bool) → Type 0
 IsBelow n p ended = (number : ℕ) (own : FrontendRows) → slice_get n.frontends number ≡ Some own → Below n p ended number own
 
-abbrev nothing_ended : ℕ → ℕ → Bool
+abbrev pub nothing_ended : ℕ → ℕ → Bool
 nothing_ended number serial = false
 
-abbrev is_accept : OwnedEvent → Bool
+abbrev pub is_accept : OwnedEvent → Bool
 is_accept (Accept listener real) = true
 is_accept (Piece id bytes) = false
 is_accept (Connected id) = false
@@ -192,8 +192,8 @@ is_accept (Expire id) = false
 is_accept (Reload text) = false
 
 -- the second balancer answers as the first does to whom it speaks, where that is an accept
-abbrev Agree : OwnedEvent → Said → Said → Type 0
-Agree (Accept listener real) theirs said = (id_of theirs ≡ id_of said) × (is_judgement said ≡ true)
+abbrev pub Agree : OwnedEvent → Said → Said → Type 0
+Agree (Accept listener real) theirs said = (id_of theirs ≡ id_of said) × (is_judgement said ≡ true) × (is_judgement theirs ≡ true)
 Agree (Piece id bytes) theirs said = Unit {0}
 Agree (Connected id) theirs said = Unit {0}
 Agree (ConnectFailed id) theirs said = Unit {0}
@@ -355,7 +355,7 @@ not_shut n said lasts number next there = record {
   rows = λ s is. (is, ap (λ b. b && speaks_to number s said) lasts);
 }
 
-contrary : (b : Bool) (A : Type 0) → b ≡ true → b ≡ false → A
+pub contrary : (b : Bool) (A : Type 0) → b ≡ true → b ≡ false → A
 contrary b A is not_is = absurd (let wrong : true ≡ false = sym is ∙ not_is in cc)
 
 plus_none : (a : ℕ) → a + (0 + 0) ≡ a
@@ -418,12 +418,12 @@ shut_below n p m said below is_shut number next there =
 -- ---- along a history
 
 -- the states of both balancers after a history
-record Tied (plan : Plan) (p n : Plain) : Type 0 where
-  listeners : n.listeners ≡ p.listeners
-  below : IsBelow n p nothing_ended
-  past : List Entry
-  legal : IsLegal (opening plan 0) past
-  is : n ≡ after (opening plan 0) past
+pub record Tied (plan : Plan) (p n : Plain) : Type 0 where
+  pub listeners : n.listeners ≡ p.listeners
+  pub below : IsBelow n p nothing_ended
+  pub past : List Entry
+  pub legal : IsLegal (opening plan 0) past
+  pub is : n ≡ after (opening plan 0) past
 
 -- a state after a legal history of its own
 record HasPast (plan : Plan) (n : Plain) : Type 0 where
@@ -465,7 +465,7 @@ listeners_closed n moment (saids.Closed id why) = listeners_after n moment (Clos
 listeners_closed n moment (saids.Reloaded version) = refl
 
 -- how the trial answers an event that the balancer of the record answered so
-abbrev Outcome : Plain → ℕ → OwnedEvent → Said → Type 0
+abbrev pub Outcome : Plain → ℕ → OwnedEvent → Said → Type 0
 Outcome n moment event said =
     ((fault : StepFault) × (answer_in n moment event ≡ Err fault) × (is_accept event ≡ false))
     ⊎ ((theirs : Reply) × (answer_in n moment event ≡ Ok theirs) × Agree event theirs.said said)
@@ -491,7 +491,7 @@ fits_less a b same fits = let less : b < 0xFFFF_FFFF_FFFF_FFFF = grind (arith, n
 judged_by : (answered : Result Reply StepFault) (reply : Reply) → answered ≡ Ok reply → IsJudged answered → is_judgement reply.said ≡ true
 judged_by answered reply is judged = let both = sym judged.1 ∙ is in let same : judged.0 ≡ reply = cc in ap (λ (r : Reply). is_judgement r.said) (sym same) ∙ judged.2
 
-accept_outcome : (plan : Plan) (h : List Entry) (n : Plain) (moment listener : ℕ) (real : PairValue) (reply : Reply) → IsLegal (opening plan 0) h
+pub accept_outcome : (plan : Plan) (h : List Entry) (n : Plain) (moment listener : ℕ) (real : PairValue) (reply : Reply) → IsLegal (opening plan 0) h
     → answer_in (after (opening plan 0) h) moment (Accept listener real) ≡ Ok reply → Tied plan (after (opening plan 0) h) n → Outcome n moment (Accept listener real) reply.said
 accept_outcome plan h n moment listener real reply legal is tied =
     let p : Plain = after (opening plan 0) h in
@@ -518,6 +518,8 @@ accept_outcome plan h n moment listener real reply legal is tied =
             ∙ sym whom,
         judged_by (answer_in p moment (Accept listener real)) reply is
             (accept_judged p moment listener real first (fits_less first.own.serial a.own.serial (arrival_is p listener first 0 0 reply (max p.clock moment) real a) a.fits)),
+        judged_by (answer_in n moment (Accept listener real)) theirs (accept_is n moment listener real arrival (fits_less arrival.own.serial a.own.serial serial a.fits))
+            (accept_judged n moment listener real arrival (fits_less arrival.own.serial a.own.serial serial a.fits)),
       ),
     )
 
@@ -599,11 +601,11 @@ brought_tied plan text trial (Ok reply) is opens =
       is = refl;
     }))
 
-turn_trial : (summary : Bool) (next : Plain) (t : Report) (turn : Option Turn) → (report_of_turn summary next t turn).trial ≡ next
+pub turn_trial : (summary : Bool) (next : Plain) (t : Report) (turn : Option Turn) → (report_of_turn summary next t turn).trial ≡ next
 turn_trial summary next t None = refl
 turn_trial summary next t (Some turn) = refl
 
-all_tied : (summary : Bool) (plan : Plan) (text : List ℕ) (trial : Plain) (h : List Entry) → trial_opening plan text ≡ Ok trial → IsLegal (opening plan 0) h
+pub all_tied : (summary : Bool) (plan : Plan) (text : List ℕ) (trial : Plain) (h : List Entry) → trial_opening plan text ≡ Ok trial → IsLegal (opening plan 0) h
     → Tied plan (after (opening plan 0) h) (history_report summary (opening plan 0) trial h).trial
 all_tied summary plan text trial [] opens legal = brought_tied plan text trial (answer_in (opening plan 0) 0 (Reload text)) refl opens
 all_tied summary plan text trial (e ∷ h) opens legal =
@@ -615,7 +617,7 @@ all_tied summary plan text trial (e ∷ h) opens legal =
 
 -- ---- what is open
 
-found_has : (serial : ℕ) (rows : List Row) → is_some (find (λ row. row.serial == serial) rows) ≡ has serial rows
+pub found_has : (serial : ℕ) (rows : List Row) → is_some (find (λ row. row.serial == serial) rows) ≡ has serial rows
 found_has serial [] = refl
 found_has serial (row ∷ rows) = by (row.serial == serial) refl (found_has serial rows)
   where
@@ -641,3 +643,14 @@ pub open_in_both : (summary : Bool) (plan : Plan) (text : List ℕ) (trial : Pla
     → (id : ConnId) → IsSome (row_at (history_report summary (opening plan 0) trial h).trial.frontends id) → IsSome (row_at (after (opening plan 0) h).frontends id)
 open_in_both summary plan text trial h opens legal id is =
     open_below (history_report summary (opening plan 0) trial h).trial (after (opening plan 0) h) id (all_tied summary plan text trial h opens legal).below is
+
+pub same_names : (summary : Bool) (plan : Plan) (text : List ℕ) (trial : Plain) (h : List Entry) → trial_opening plan text ≡ Ok trial → IsLegal (opening plan 0) h
+    → (moment listener : ℕ) (real : PairValue) (reply : Reply) → answer (opening plan 0) h moment (Accept listener real) ≡ Ok reply
+    → (theirs : Reply) × (answer_in (history_report summary (opening plan 0) trial h).trial moment (Accept listener real) ≡ Ok theirs) × (id_of theirs.said ≡ id_of reply.said)
+same_names summary plan text trial h opens legal moment listener real reply is =
+    by (accept_outcome plan h (history_report summary (opening plan 0) trial h).trial moment listener real reply legal is (all_tied summary plan text trial h opens legal))
+  where
+    by : Outcome (history_report summary (opening plan 0) trial h).trial moment (Accept listener real) reply.said
+        → (theirs : Reply) × (answer_in (history_report summary (opening plan 0) trial h).trial moment (Accept listener real) ≡ Ok theirs) × (id_of theirs.said ≡ id_of reply.said)
+    by (inl (fault, is, none)) = absurd (cc)
+    by (inr (theirs, is, agree)) = (theirs, is, agree.0)

@@ -6,3 +6,5 @@ pub mod WriteLemmas
 pub mod HistoryLemmas
 pub mod OutcomeLemmas
 pub mod LawLemmas
+pub mod OnceLemmas
+pub mod SeenLemmas

@@ -1,5 +1,5 @@
 -- The report of a history: a line for each decision that differs, and the counts.
-use Rattle.std.specs.Prelude.{ℕ, Bool, false, List, [], ◌∷◌, ◌++◌, codes, Option, Some, None, Result, Ok, Err, if◌then◌else◌}
+use Rattle.std.specs.Prelude.{◌≡◌, ◌⊎◌, ℕ, Bool, true, false, List, [], ◌∷◌, ◌++◌, codes, Option, Some, None, is_some, Result, Ok, Err, if◌then◌else◌}
 use Rattle.text_core.specs.Decimal.{decimal}
 use Rattle.addr_core.specs.Text.{endpoint_text}
 use Rattle.addr_core.specs.declared.addr.Endpoint.{Endpoint}
@@ -9,6 +9,7 @@ use Rattle.conn_model.specs.declared.event.OwnedEvent.TheVariants.{Reload}
 use Rattle.conn_model.specs.declared.plain.Plain.{Plain}
 use Rattle.conn_model.specs.declared.reply.Reply.{Reply}
 use Rattle.conn_model.specs.declared.reply.StepFault.{StepFault}
+use Rattle.conn_model.specs.declared.reply.StepFault.TheVariants.{NotDue}
 use Rattle.conn_model.specs.Answer.{answer_in}
 use Rattle.conn_model.specs.History.{Entry, after, id_of, is_reload, opening}
 use Rattle.conn_model.specs.Words.{is_conn}
@@ -128,6 +129,28 @@ history_report summary p trial (e ∷ h) = report_with summary (after p h) (hist
 -- the differences along a history, in the order of the record
 abbrev pub differences_text : Plain → Plain → List Entry → List ℕ
 differences_text p trial h = (history_report false p trial h).text
+
+-- the connection on which both decided otherwise
+abbrev pub differs_of : Option Turn → Option ConnId
+differs_of None = None
+differs_of (Some turn) = if is_some (difference turn.was turn.would) then turn.id else None
+
+-- the connection that has a difference at the last entry of a history
+abbrev pub differs_at : Plain → Plain → List Entry → Option ConnId
+differs_at p trial [] = None
+differs_at p trial (e ∷ h) = differs_of (turn_of (after p h) (history_report false p trial h).trial e)
+
+-- and one that had a difference in the history
+abbrev pub HasDiffered : Plain → Plain → ConnId → List Entry → Type 0
+HasDiffered p trial id [] = ⊥
+HasDiffered p trial id (e ∷ h) = (differs_at p trial (e ∷ h) ≡ Some id) ⊎ HasDiffered p trial id h
+
+-- An entry on a connection is seen in the report: the trial decides too, or the connection has had a difference before, or
+-- the time for its header is not over there.
+abbrev pub IsSeen : Plain → Plain → ConnId → Entry → List Entry → Type 0
+IsSeen p trial id e h =
+    (is_some (decided (history_report false p trial h).trial e.moment e.event) ≡ true)
+    ⊎ (HasDiffered p trial id h ⊎ (answer_in (history_report false p trial h).trial e.moment e.event ≡ Err NotDue))
 
 -- what is written: the lines, and then the counts
 abbrev pub written_of : Report → List ℕ

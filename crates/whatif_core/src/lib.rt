@@ -4,7 +4,7 @@
 
 pub use comparison::Comparison;
 pub use decision::ComparedDecision;
-pub use laws::open_in_both;
+pub use laws::{differences_are_seen_once, open_in_both};
 pub use run::run_whatif;
 
 mod comparison;

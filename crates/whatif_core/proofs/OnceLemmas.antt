@@ -1,0 +1,508 @@
+-- A connection has one difference at the most.
+use Rattle.std.proofs.Common.{◌≡◌, ◌⊎◌, inl, inr, ℕ, ◌+◌, ◌≤◌, Bool, true, false, List, [], ◌∷◌, ◌++◌, Option, Some, None, Result, Ok, Err, refl, ap, sym, subst, ◌∙◌, max, arith}
+use Rattle.std.specs.Prelude.{◌==◌, ◌&&◌, ◌||◌, not, map, filter, find, slice_get, is_some, option_map, if◌then◌else◌}
+use Rattle.std.specs.Option.{option_map_or}
+use Rattle.std.specs.List.{AllByRecursion}
+use Rattle.std.proofs.lemmas.Bool.{eq-eqb, eqb-true}
+use Rattle.std.proofs.lemmas.Bool.Decides.{nat_tests}
+use Rattle.addr_core.specs.PairValue.{PairValue}
+use Rattle.plan_types.specs.declared.plan.Plan.{Plan}
+use Rattle.conn_model.specs.declared.event.ConnId.{ConnId}
+use Rattle.conn_model.specs.declared.event.OwnedEvent.{OwnedEvent}
+use Rattle.conn_model.specs.declared.event.OwnedEvent.TheVariants.{Accept, Piece, Connected, ConnectFailed, Close, Expire, Reload}
+use Rattle.conn_model.specs.declared.event.Why.TheVariants.{Done, Failed}
+use Rattle.conn_model.specs.declared.plain.FrontendRows.{FrontendRows}
+use Rattle.conn_model.specs.declared.plain.Phase.{Phase}
+use Rattle.conn_model.specs.declared.plain.Phase.TheVariants.{Waiting, Offered, Up}
+use Rattle.conn_model.specs.declared.plain.Plain.{Plain}
+use Rattle.conn_model.specs.declared.plain.Row.{Row}
+use Rattle.conn_model.specs.declared.reply.Reply.{Reply}
+use Rattle.conn_model.specs.declared.reply.Said.{Said}
+use Rattle.conn_model.specs.declared.reply.Said.TheVariants as saids
+use Rattle.conn_model.specs.declared.reply.StepFault.{StepFault}
+use Rattle.conn_model.specs.declared.reply.StepFault.TheVariants.{NoSuch}
+use Rattle.conn_model.specs.Answer.{answer_in, reply_of, rest_in, row_at, row_in}
+use Rattle.conn_model.specs.History.{Entry, IsFrontendWell, IsLegal, IsWell, accepts, after, arrivals, entry, frontend_after, has_ended, id_of, is_last, is_reload, leaves_open, opening, phase_by, phase_up, phase_on, plan_of, row_after, speaks_to}
+use Rattle.conn_model.specs.Words.{is_conn, or_fault}
+use Rattle.conn_model.proofs.Goes.{whole_in_parts}
+use Rattle.conn_model.proofs.Lists.{all-at, all-found, and_true, get-from_zero}
+use Rattle.conn_model.proofs.Replies.{answered, bind-ok, expired, received, server_answered, IsNew, IsOld}
+use Rattle.conn_model.proofs.Well.{opening_well, well_after}
+use Rattle.conn_laws.specs.Deciding.{is_judgement, is_offer, is_wait}
+use Rattle.replay_core.specs.Turns.{plain_after}
+use Rattle.whatif_core.specs.declared.decision.ComparedDecision.{ComparedDecision}
+use Rattle.whatif_core.specs.declared.decision.ComparedDecision.TheVariants as decisions
+use Rattle.whatif_core.specs.Deciding.{closed, decided, decided_by, decision_of, decision_with, difference, handed, played, stepped}
+use Rattle.whatif_core.specs.Reporting.{differs_at, differs_of, history_report, report_of_turn, trial_opening, turn_of, turn_with, HasDiffered, Report}
+use Rattle.whatif_core.proofs.LawLemmas.{accept_outcome, all_tied, and_no, arrived, before, contrary, ends, found_has, has, has_arrived, nothing_ended, one_item, turn_trial, Before, IsBelow, Outcome, Tied}
+
+-- ---- rows by their serials
+
+abbrev pub found : ℕ → List Row → Option Row
+found serial rows = find (λ row. row.serial == serial) rows
+
+abbrev pub is_waiting : Phase → Bool
+is_waiting phase = is_some (rest_in phase)
+
+abbrev pub waits_in : Option Row → Bool
+waits_in row = option_map_or (λ (r : Row). is_waiting r.phase) row false
+
+abbrev pub waits_at : Plain → ConnId → Bool
+waits_at q id = waits_in (row_at q.frontends id)
+
+pub found_mapped : (serial : ℕ) (change : Row → Row) → ((row : Row) → (change row).serial ≡ row.serial) → (rows : List Row) → found serial (map change rows) ≡ option_map change (found serial rows)
+found_mapped serial change keeps [] = refl
+found_mapped serial change keeps (row ∷ rows) = by (row.serial == serial) refl (found_mapped serial change keeps rows)
+  where
+    by : (b : Bool) → (row.serial == serial) ≡ b → found serial (map change rows) ≡ option_map change (found serial rows) → found serial (map change (row ∷ rows)) ≡ option_map change (found serial (row ∷ rows))
+    by true is rest = let here : ((change row).serial == serial) ≡ true = ap (λ n. n == serial) (keeps row) ∙ is in rw (here, is) refl
+    by false is rest = let there : ((change row).serial == serial) ≡ false = ap (λ n. n == serial) (keeps row) ∙ is in rw (there, is) rest
+
+pub found_serial : (serial : ℕ) (rows : List Row) (row : Row) → found serial rows ≡ Some row → row.serial ≡ serial
+found_serial serial [] row is = absurd (let wrong : None ≡ Some row = is in cc)
+found_serial serial (other ∷ rows) row is = by (other.serial == serial) refl is (found_serial serial rows row)
+  where
+    by : (b : Bool) → (other.serial == serial) ≡ b → found serial (other ∷ rows) ≡ Some row → (found serial rows ≡ Some row → row.serial ≡ serial) → row.serial ≡ serial
+    by true here there later = let same : Some other ≡ Some row = rw here at there in let one : other ≡ row = cc in ap (λ (r : Row). r.serial) (sym one) ∙ eqb-true other.serial serial here
+    by false here there later = later (rw here at there)
+
+found_filtered : (serial : ℕ) (test : ℕ → Bool) (rows : List Row) (row : Row) → found serial (filter (λ r. test r.serial) rows) ≡ Some row → (test serial ≡ true) × (found serial rows ≡ Some row)
+found_filtered serial test [] row is = absurd (let wrong : None ≡ Some row = is in cc)
+found_filtered serial test (other ∷ rows) row is = by (test other.serial) refl (other.serial == serial) refl is (found_filtered serial test rows row)
+  where
+    by : (a : Bool) → test other.serial ≡ a → (b : Bool) → (other.serial == serial) ≡ b → found serial (filter (λ r. test r.serial) (other ∷ rows)) ≡ Some row →
+        (found serial (filter (λ r. test r.serial) rows) ≡ Some row → (test serial ≡ true) × (found serial rows ≡ Some row)) → (test serial ≡ true) × (found serial (other ∷ rows) ≡ Some row)
+    by true keeps true here there later = (ap test (sym (eqb-true other.serial serial here)) ∙ keeps, let same : Some other ≡ Some row = rw (keeps, here) at there in rw here same)
+    by true keeps false here there later = let rest = later (rw (keeps, here) at there) in (rest.0, rw here rest.1)
+    by false drops true here there later =
+        let rest = later (rw drops at there) in
+        let not_kept : test serial ≡ false = ap test (sym (eqb-true other.serial serial here)) ∙ drops in
+        contrary (test serial) ((test serial ≡ true) × (found serial (other ∷ rows) ≡ Some row)) rest.0 not_kept
+    by false drops false here there later = let rest = later (rw drops at there) in (rest.0, rw here rest.1)
+
+found_appended : (serial : ℕ) (xs ys : List Row) (row : Row) → found serial (xs ++ ys) ≡ Some row → (found serial xs ≡ Some row) ⊎ (found serial ys ≡ Some row)
+found_appended serial [] ys row is = inr is
+found_appended serial (other ∷ xs) ys row is = by (other.serial == serial) refl is (found_appended serial xs ys row)
+  where
+    by : (b : Bool) → (other.serial == serial) ≡ b → found serial (other ∷ xs ++ ys) ≡ Some row → (found serial (xs ++ ys) ≡ Some row → (found serial xs ≡ Some row) ⊎ (found serial ys ≡ Some row)) → (found serial (other ∷ xs) ≡ Some row) ⊎ (found serial ys ≡ Some row)
+    by true here there later = inl (let same : Some other ≡ Some row = rw here at there in rw here same)
+    by false here there later = elim (later (rw here at there)) [
+      | inl before_it ↦ inl (rw here before_it)
+      | inr after_it ↦ inr after_it
+    ]
+
+-- ---- who waits after an entry
+
+-- the reply offers that connection a server
+abbrev pub offers : Said → ℕ → ℕ → Bool
+offers said number serial = is_offer said && speaks_to number serial said
+
+pub on_piece : (piece : List ℕ) (phase : Phase) → is_waiting (phase_on piece phase) ≡ is_waiting phase
+on_piece piece (Waiting rest) = refl
+on_piece piece (Offered assignment) = refl
+on_piece piece (Up assignment) = refl
+
+pub once_up : (phase : Phase) → is_waiting (phase_up phase) ≡ is_waiting phase
+once_up (Waiting rest) = refl
+once_up (Offered assignment) = refl
+once_up (Up assignment) = refl
+
+waited : (plan : Option Plan) (event : OwnedEvent) (said : Said) (phase : Phase) → is_waiting (phase_by plan event said phase) ≡ true → (is_waiting phase ≡ true) × (is_offer said ≡ false)
+waited plan event (saids.Wait id used) phase is = (sym (on_piece _ phase) ∙ is, refl)
+waited plan event (saids.Offer id used line server to judged send) phase is = absurd (cc)
+waited plan event (saids.Refuse id used cause) phase is = (is, refl)
+waited plan event (saids.Up id) phase is = (sym (once_up phase) ∙ is, refl)
+waited plan event (saids.Closed id why) phase is = (is, refl)
+waited plan event (saids.Reloaded version) phase is = (is, refl)
+
+waited_if : (plan : Option Plan) (event : OwnedEvent) (said : Said) (phase : Phase) (b : Bool) → is_waiting (if b then phase_by plan event said phase else phase) ≡ true → (is_waiting phase ≡ true) × ((is_offer said && b) ≡ false)
+waited_if plan event said phase true is = let both = waited plan event said phase is in (both.0, ap (λ o. o && true) both.1)
+waited_if plan event said phase false is = (is, and_no (is_offer said))
+
+found_waits : (row : Row) (o : Option Row) → o ≡ Some row → is_waiting row.phase ≡ true → waits_in o ≡ true
+found_waits row o is waits = ap waits_in is ∙ waits
+
+-- of a connection that waits after an entry: it waited before, or came, and the reply neither ends it nor offers it a server
+pub record Waited (before came : Bool) (said : Said) (number serial : ℕ) : Type 0 where
+  pub first : (before ≡ true) ⊎ (came ≡ true)
+  pub lasts : ends said number serial ≡ false
+  pub unoffered : offers said number serial ≡ false
+
+not_false : (a b : Bool) → not ((a && b) || false) ≡ true → (a && b) ≡ false
+not_false true true is = absurd (cc)
+not_false true false is = refl
+not_false false b is = refl
+
+waits_in_rows : (q : Plain) (e : Entry) (number serial : ℕ) (own : FrontendRows) → waits_in (found serial (frontend_after q (e ∷ []) number own).rows) ≡ true →
+    Waited (waits_in (found serial own.rows)) (arrived number serial e.event e.reply.said) e.reply.said number serial
+waits_in_rows q e number serial own is = by (found serial live) refl
+  where
+    came : List Row
+    came = arrivals q number (e ∷ [])
+
+    live : List Row
+    live = filter (λ row. not (has_ended number (e ∷ []) row.serial)) (own.rows ++ came)
+
+    now : waits_in (option_map (row_after q number (e ∷ [])) (found serial live)) ≡ true
+    now = sym (ap waits_in (found_mapped serial (row_after q number (e ∷ [])) (λ row. refl) live)) ∙ is
+
+    of_row : (row : Row) → found serial live ≡ Some row → is_waiting (row_after q number (e ∷ []) row).phase ≡ true → Waited (waits_in (found serial own.rows)) (arrived number serial e.event e.reply.said) e.reply.said number serial
+    of_row row there waits =
+        let kept = found_filtered serial (λ n. not (has_ended number (e ∷ []) n)) (own.rows ++ came) row there in
+        let same : row.serial ≡ serial = found_serial serial (own.rows ++ came) row kept.1 in
+        let first = waited_if (plan_of q [] row.version) e.event e.reply.said row.phase (speaks_to number row.serial e.reply.said) waits in
+        record {
+          first = elim (found_appended serial own.rows came row kept.1) [
+            | inl old ↦ inl (found_waits row (found serial own.rows) old first.0)
+            | inr new ↦ inr (sym (has_arrived serial number _ _ e.event e.reply.said) ∙ sym (found_has serial came) ∙ ap is_some new)
+          ];
+          lasts = not_false (is_last e.reply.said) (speaks_to number serial e.reply.said) kept.0;
+          unoffered = ap (λ n. is_offer e.reply.said && speaks_to number n e.reply.said) (sym same) ∙ first.1;
+        }
+
+    by : (o : Option Row) → found serial live ≡ o → Waited (waits_in (found serial own.rows)) (arrived number serial e.event e.reply.said) e.reply.said number serial
+    by None none = absurd (let wrong : false ≡ true = sym (ap (λ o. waits_in (option_map (row_after q number (e ∷ [])) o)) none) ∙ now in cc)
+    by (Some row) there = of_row row there (sym (ap (λ o. waits_in (option_map (row_after q number (e ∷ [])) o)) there) ∙ now)
+
+pub waits_after : (q : Plain) (e : Entry) (id : ConnId) → waits_at (after q (e ∷ [])) id ≡ true → Waited (waits_at q id) (arrived id.frontend id.serial e.event e.reply.said) e.reply.said id.frontend id.serial
+waits_after q e id is = by (slice_get (after q (e ∷ [])).frontends id.frontend) refl
+  where
+    of : (next : FrontendRows) → slice_get (after q (e ∷ [])).frontends id.frontend ≡ Some next → Waited (waits_at q id) (arrived id.frontend id.serial e.event e.reply.said) e.reply.said id.frontend id.serial
+    of next there =
+        let was = before q e id.frontend next there in
+        let now : waits_in (found id.serial (frontend_after q (e ∷ []) id.frontend was.own).rows) ≡ true =
+        ap (λ (f : FrontendRows). waits_in (found id.serial f.rows)) (sym was.is) ∙ sym (ap (λ (o : Option FrontendRows). waits_in (row_in id.serial o)) there) ∙ is in
+        let got = waits_in_rows q e id.frontend id.serial was.own now in
+        subst (λ b. Waited b (arrived id.frontend id.serial e.event e.reply.said) e.reply.said id.frontend id.serial) (sym (ap (λ (o : Option FrontendRows). waits_in (row_in id.serial o)) was.there)) got
+
+    by : (o : Option FrontendRows) → slice_get (after q (e ∷ [])).frontends id.frontend ≡ o → Waited (waits_at q id) (arrived id.frontend id.serial e.event e.reply.said) e.reply.said id.frontend id.serial
+    by None none = absurd (let wrong : false ≡ true = sym (ap (λ (o : Option FrontendRows). waits_in (row_in id.serial o)) none) ∙ is in cc)
+    by (Some next) there = of next there
+
+-- ---- whom a reply speaks to
+
+pub spoken : (id : ConnId) (o : Option ConnId) → option_map_or (is_conn id.frontend id.serial) o false ≡ true → o ≡ Some id
+spoken id None is = absurd (cc)
+spoken id (Some other) is =
+    let both = and_true (other.frontend == id.frontend) (other.serial == id.serial) is in
+    let frontend : other.frontend ≡ id.frontend = eqb-true other.frontend id.frontend both.0 in
+    let serial : other.serial ≡ id.serial = eqb-true other.serial id.serial both.1 in
+    let same : other ≡ id = ap (λ f. record { frontend = f; serial = other.serial }) frontend ∙ ap (λ s. record { frontend = id.frontend; serial = s }) serial in
+    ap Some same
+
+pub speaks : (id : ConnId) (said : Said) → id_of said ≡ Some id → speaks_to id.frontend id.serial said ≡ true
+speaks id said whom = rw (whom, eq-eqb id.frontend id.frontend refl, eq-eqb id.serial id.serial refl) refl
+
+pub same_conn : (a b : ConnId) (o : Option ConnId) → o ≡ Some a → o ≡ Some b → a ≡ b
+same_conn a b o left right = one_item o a b left right
+
+pub same_reply : (answer : Result Reply StepFault) (a b : Reply) → answer ≡ Ok a → answer ≡ Ok b → a ≡ b
+same_reply answer a b left right = let same : Ok a ≡ Ok b = sym left ∙ right in cc
+
+-- a connection that was let in before does not come again
+pub not_new : (n p : Plain) → IsBelow n p nothing_ended → (id : ConnId) (own : FrontendRows) → slice_get p.frontends id.frontend ≡ Some own → id.serial ≤ own.serial → (said : Said) → IsNew n said → id_of said ≡ Some id → ⊥
+not_new n p below id own there given said new whom =
+    let same : new.id ≡ id = same_conn new.id id (id_of said) new.speaks whom in
+    let old = below id.frontend new.own (ap (λ (i : ConnId). slice_get n.frontends i.frontend) (sym same) ∙ new.there) in
+    let mine : old.mine ≡ own = one_item (slice_get p.frontends id.frontend) old.mine own old.there there in
+    let next : id.serial ≡ own.serial + 1 = ap (λ (i : ConnId). i.serial) (sym same) ∙ new.next ∙ ap (λ s. s + 1) (old.serial ∙ ap (λ (f : FrontendRows). f.serial) mine) in
+    omega (arith, next, given)
+
+not_come : (n p : Plain) → IsBelow n p nothing_ended → (id : ConnId) (own : FrontendRows) → slice_get p.frontends id.frontend ≡ Some own → id.serial ≤ own.serial → (moment : ℕ) (event : OwnedEvent) (theirs : Reply) →
+    answer_in n moment event ≡ Ok theirs → arrived id.frontend id.serial event theirs.said ≡ true → ⊥
+not_come n p below id own there given moment (Accept listener real) theirs is came =
+    not_new n p below id own there given theirs.said (answered n moment (Accept listener real) theirs is) (spoken id (id_of theirs.said) (and_true (leaves_open theirs.said) (speaks_to id.frontend id.serial theirs.said) came).1)
+not_come n p below id own there given moment (Piece other bytes) theirs is came = absurd (cc)
+not_come n p below id own there given moment (Connected other) theirs is came = absurd (cc)
+not_come n p below id own there given moment (ConnectFailed other) theirs is came = absurd (cc)
+not_come n p below id own there given moment (Close other why) theirs is came = absurd (cc)
+not_come n p below id own there given moment (Expire other) theirs is came = absurd (cc)
+not_come n p below id own there given moment (Reload text) theirs is came = absurd (cc)
+
+-- each state is below itself
+pub below_itself : (p : Plain) → IsBelow p p nothing_ended
+below_itself p number own there = record { mine = own; there = there; serial = refl; rows = λ s is. inl is }
+
+-- ---- who waits in the trial
+
+waits_stepped : (n : Plain) (moment : ℕ) (event : OwnedEvent) (id : ConnId) → ((theirs : Reply) → answer_in n moment event ≡ Ok theirs → arrived id.frontend id.serial event theirs.said ≡ true → ⊥) →
+    waits_at (stepped n moment event) id ≡ true → waits_at n id ≡ true
+waits_stepped n moment event id old is = by (answer_in n moment event) refl is
+  where
+    by : (answer : Result Reply StepFault) → answer_in n moment event ≡ answer → waits_at (plain_after n moment event answer) id ≡ true → waits_at n id ≡ true
+    by (Err fault) answers now = now
+    by (Ok theirs) answers now = elim (waits_after n (entry moment event theirs) id now).first [
+      | inl waits ↦ waits
+      | inr came ↦ absurd (old theirs answers came)
+    ]
+
+waits_closed : (n : Plain) (moment : ℕ) (said : Said) (id : ConnId) → waits_at (closed moment said n) id ≡ true → waits_at n id ≡ true
+waits_closed n moment (saids.Wait other used) id is = is
+waits_closed n moment (saids.Offer other used line server to judged send) id is = is
+waits_closed n moment (saids.Refuse other used cause) id is = waits_stepped n moment (Close other Done) id (λ theirs answers came. absurd (cc)) is
+waits_closed n moment (saids.Up other) id is = is
+waits_closed n moment (saids.Closed other why) id is = waits_stepped n moment (Close other Done) id (λ theirs answers came. absurd (cc)) is
+waits_closed n moment (saids.Reloaded version) id is = is
+
+waits_played : (n : Plain) (moment : ℕ) (event : OwnedEvent) (said : Said) (id : ConnId) → ((theirs : Reply) → answer_in n moment event ≡ Ok theirs → arrived id.frontend id.serial event theirs.said ≡ true → ⊥) →
+    waits_at (played n moment event said) id ≡ true → waits_at n id ≡ true
+waits_played n moment event said id old is = by (is_reload event) is
+  where
+    by : (b : Bool) → waits_at (if b then n else handed n moment event said) id ≡ true → waits_at n id ≡ true
+    by true now = now
+    by false now = waits_stepped n moment event id old (waits_closed (stepped n moment event) moment said id now)
+
+-- ---- a connection that both do not decide of any more
+
+-- it was let in or refused before, and does not wait in both
+record IsPast (p n : Plain) (id : ConnId) : Type 0 where
+  own : FrontendRows
+  there : slice_get p.frontends id.frontend ≡ Some own
+  given : id.serial ≤ own.serial
+  once : waits_at p id ≡ true → waits_at n id ≡ true → ⊥
+
+given_on : (a b c : ℕ) → a ≤ b → a ≤ b + c
+given_on a b c le = omega (arith, le)
+
+past_on : (plan : Plan) (p n : Plain) (moment : ℕ) (event : OwnedEvent) (reply : Reply) (id : ConnId) → Tied plan p n → answer_in p moment event ≡ Ok reply → IsPast p n id →
+    IsPast (after p (entry moment event reply ∷ [])) (played n moment event reply.said) id
+past_on plan p n moment event reply id tied is past =
+    let e : Entry = entry moment event reply in
+    record {
+      own = frontend_after p (e ∷ []) id.frontend past.own;
+      there = get-from_zero (frontend_after p (e ∷ [])) p.frontends id.frontend past.own past.there;
+      given = given_on id.serial past.own.serial _ past.given;
+      once = λ first second. past.once
+          (elim (waits_after p e id first).first [
+            | inl waits ↦ waits
+            | inr came ↦ absurd (not_come p p (below_itself p) id past.own past.there past.given moment event reply is came)
+          ])
+          (waits_played n moment event reply.said id (not_come n p tied.below id past.own past.there past.given moment event) second);
+    }
+
+-- ---- what a difference says
+
+pub decides : (q : Plain) (said : Said) → is_some (decision_of q said) ≡ is_judgement said
+decides q (saids.Wait id used) = refl
+decides q (saids.Offer id used line server to judged send) = refl
+decides q (saids.Refuse id used cause) = refl
+decides q (saids.Up id) = refl
+decides q (saids.Closed id why) = refl
+decides q (saids.Reloaded version) = refl
+
+pub record IsJudgedSo (q : Plain) (moment : ℕ) (event : OwnedEvent) : Type 0 where
+  pub reply : Reply
+  pub answers : answer_in q moment event ≡ Ok reply
+  pub judged : is_judgement reply.said ≡ true
+
+pub judged_so : (q : Plain) (moment : ℕ) (event : OwnedEvent) → is_some (decided q moment event) ≡ true → IsJudgedSo q moment event
+judged_so q moment event is = by (answer_in q moment event) refl is
+  where
+    by : (answer : Result Reply StepFault) → answer_in q moment event ≡ answer → is_some (decided_by (stepped q moment event) answer) ≡ true → IsJudgedSo q moment event
+    by (Err fault) answers now = absurd (let wrong : false ≡ true = now in cc)
+    by (Ok reply) answers now = record { reply = reply; answers = answers; judged = sym (decides (stepped q moment event) reply.said) ∙ now }
+
+pub both_decide : (was would : Option ComparedDecision) → is_some (difference was would) ≡ true → (is_some was ≡ true) × (is_some would ≡ true)
+both_decide None would is = absurd (let wrong : false ≡ true = is in cc)
+both_decide (Some was) None is = absurd (let wrong : false ≡ true = is in cc)
+both_decide (Some was) (Some would) is = (refl, refl)
+
+pub wait_decision : (q : Plain) (said : Said) → is_wait said ≡ true → decision_of q said ≡ Some decisions.Wait
+wait_decision q (saids.Wait id used) is = refl
+wait_decision q (saids.Offer id used line server to judged send) is = absurd (cc)
+wait_decision q (saids.Refuse id used cause) is = absurd (cc)
+wait_decision q (saids.Up id) is = absurd (cc)
+wait_decision q (saids.Closed id why) is = absurd (cc)
+wait_decision q (saids.Reloaded version) is = absurd (cc)
+
+pub decided_wait : (q : Plain) (moment : ℕ) (event : OwnedEvent) (reply : Reply) → answer_in q moment event ≡ Ok reply → is_wait reply.said ≡ true → decided q moment event ≡ Some decisions.Wait
+decided_wait q moment event reply is waits = ap (decided_by (stepped q moment event)) is ∙ wait_decision (stepped q moment event) reply.said waits
+
+pub then_waits : (said : Said) → is_judgement said ≡ true → is_last said ≡ false → is_offer said ≡ false → is_wait said ≡ true
+then_waits (saids.Wait id used) judged lasts unoffered = refl
+then_waits (saids.Offer id used line server to judged2 send) judged lasts unoffered = absurd (cc)
+then_waits (saids.Refuse id used cause) judged lasts unoffered = absurd (cc)
+then_waits (saids.Up id) judged lasts unoffered = absurd (cc)
+then_waits (saids.Closed id why) judged lasts unoffered = absurd (cc)
+then_waits (saids.Reloaded version) judged lasts unoffered = absurd (cc)
+
+pub and_left : (a b : Bool) → (a && b) ≡ false → b ≡ true → a ≡ false
+and_left true b is one = absurd (let wrong : true ≡ false = sym one ∙ is in cc)
+and_left false b is one = refl
+
+-- of a connection that waits after a judgement that speaks to it: it is let wait
+pub is_let_wait : (before came : Bool) (said : Said) (id : ConnId) → id_of said ≡ Some id → is_judgement said ≡ true → Waited before came said id.frontend id.serial → is_wait said ≡ true
+is_let_wait before came said id whom judged w =
+    then_waits said judged (and_left (is_last said) (speaks_to id.frontend id.serial said) w.lasts (speaks id said whom)) (and_left (is_offer said) (speaks_to id.frontend id.serial said) w.unoffered (speaks id said whom))
+
+-- the two decisions of an entry differ, on that connection
+record Differs (p n : Plain) (moment : ℕ) (event : OwnedEvent) (reply : Reply) (id : ConnId) : Type 0 where
+  no_reload : is_reload event ≡ false
+  some : is_some (difference (decided p moment event) (decided n moment event)) ≡ true
+  whom : id_of reply.said ≡ Some id
+
+chosen_some : (b : Bool) (o : Option ConnId) (id : ConnId) → (if b then o else None) ≡ Some id → (b ≡ true) × (o ≡ Some id)
+chosen_some true o id is = (refl, is)
+chosen_some false o id is = absurd (let wrong : None ≡ Some id = is in cc)
+
+differs : (p n : Plain) (moment : ℕ) (event : OwnedEvent) (reply : Reply) (id : ConnId) → differs_of (turn_of p n (entry moment event reply)) ≡ Some id → Differs p n moment event reply id
+differs p n moment event reply id is = by (is_reload event) refl is
+  where
+    by : (b : Bool) → is_reload event ≡ b → differs_of (if b then None else Some (turn_with p n (entry moment event reply))) ≡ Some id → Differs p n moment event reply id
+    by true reload now = absurd (let wrong : None ≡ Some id = now in cc)
+    by false other now =
+        let both = chosen_some (is_some (difference (decided p moment event) (decided n moment event))) (id_of reply.said) id now in
+        record { no_reload = other; some = both.0; whom = both.1 }
+
+-- both answers to an event that is judged speak to one connection
+pub same_whom : (plan : Plan) (h : List Entry) (n : Plain) (moment : ℕ) (event : OwnedEvent) (reply theirs : Reply) → IsLegal (opening plan 0) h → answer_in (after (opening plan 0) h) moment event ≡ Ok reply →
+    Tied plan (after (opening plan 0) h) n → answer_in n moment event ≡ Ok theirs → is_reload event ≡ false → id_of theirs.said ≡ id_of reply.said
+same_whom plan h n moment (Accept listener real) reply theirs legal is tied answers other = by (accept_outcome plan h n moment listener real reply legal is tied)
+  where
+    by : Outcome n moment (Accept listener real) reply.said → id_of theirs.said ≡ id_of reply.said
+    by (inl (fault, refused, none)) = absurd (cc)
+    by (inr (found, found_is, agree)) = ap (λ (r : Reply). id_of r.said) (same_reply (answer_in n moment (Accept listener real)) theirs found answers found_is) ∙ agree.0
+same_whom plan h n moment (Piece id bytes) reply theirs legal is tied answers other = (answered n moment (Piece id bytes) theirs answers).speaks ∙ sym (answered (after (opening plan 0) h) moment (Piece id bytes) reply is).speaks
+same_whom plan h n moment (Connected id) reply theirs legal is tied answers other = (answered n moment (Connected id) theirs answers).speaks ∙ sym (answered (after (opening plan 0) h) moment (Connected id) reply is).speaks
+same_whom plan h n moment (ConnectFailed id) reply theirs legal is tied answers other = (answered n moment (ConnectFailed id) theirs answers).speaks ∙ sym (answered (after (opening plan 0) h) moment (ConnectFailed id) reply is).speaks
+same_whom plan h n moment (Close id why) reply theirs legal is tied answers other = (answered n moment (Close id why) theirs answers).speaks ∙ sym (answered (after (opening plan 0) h) moment (Close id why) reply is).speaks
+same_whom plan h n moment (Expire id) reply theirs legal is tied answers other = (answered n moment (Expire id) theirs answers).speaks ∙ sym (answered (after (opening plan 0) h) moment (Expire id) reply is).speaks
+same_whom plan h n moment (Reload text) reply theirs legal is tied answers other = absurd (cc)
+
+-- the connection of an answer has a serial that was given out once it is answered
+pub record IsGiven (p : Plain) (id : ConnId) : Type 0 where
+  pub own : FrontendRows
+  pub there : slice_get p.frontends id.frontend ≡ Some own
+  pub given : id.serial ≤ own.serial
+
+pub old_given : (q : Plain) → IsWell q → (id : ConnId) (row : Row) → row_at q.frontends id ≡ Some row → IsGiven q id
+old_given q well id row is = by (slice_get q.frontends id.frontend) refl
+  where
+    by : (o : Option FrontendRows) → slice_get q.frontends id.frontend ≡ o → IsGiven q id
+    by None none = absurd (let wrong : None ≡ Some row = sym (ap (row_in id.serial) none) ∙ is in cc)
+    by (Some own) there =
+        let fine = all-at (IsFrontendWell q.versions) q.frontends id.frontend own well.frontends there in
+        let here = all-found (λ row. row.serial ≤ own.serial) (λ r. r.serial == id.serial) own.rows row fine.given (sym (ap (row_in id.serial) there) ∙ is) in
+        record { own = own; there = there; given = subst (λ s. s ≤ own.serial) (eqb-true row.serial id.serial here.1) here.0 }
+
+given_after : (p : Plain) (moment : ℕ) (event : OwnedEvent) (reply : Reply) (id : ConnId) → IsGiven p id → IsGiven (after p (entry moment event reply ∷ [])) id
+given_after p moment event reply id is =
+    let e : Entry = entry moment event reply in
+    record {
+      own = frontend_after p (e ∷ []) id.frontend is.own;
+      there = get-from_zero (frontend_after p (e ∷ [])) p.frontends id.frontend is.own is.there;
+      given = given_on id.serial is.own.serial _ is.given;
+    }
+
+new_given : (p : Plain) (moment listener : ℕ) (real : PairValue) (reply : Reply) (id : ConnId) → IsNew p reply.said → id_of reply.said ≡ Some id → IsGiven (after p (entry moment (Accept listener real) reply ∷ [])) id
+new_given p moment listener real reply id new whom =
+    let e : Entry = entry moment (Accept listener real) reply in
+    let same : new.id ≡ id = same_conn new.id id (id_of reply.said) new.speaks whom in
+    let there : slice_get p.frontends id.frontend ≡ Some new.own = ap (λ (i : ConnId). slice_get p.frontends i.frontend) (sym same) ∙ new.there in
+    let next : id.serial ≡ new.own.serial + 1 = ap (λ (i : ConnId). i.serial) (sym same) ∙ new.next in
+    let counts : accepts id.frontend (e ∷ []) ≡ 1 = rw (whom, eq-eqb id.frontend id.frontend refl) refl in
+    record {
+      own = frontend_after p (e ∷ []) id.frontend new.own;
+      there = get-from_zero (frontend_after p (e ∷ [])) p.frontends id.frontend new.own there;
+      given = omega (arith, next, counts);
+    }
+
+old_here : (p : Plain) → IsWell p → (moment : ℕ) (event : OwnedEvent) (reply : Reply) (own id : ConnId) → id_of reply.said ≡ Some id → IsOld p own reply.said → IsGiven (after p (entry moment event reply ∷ [])) id
+old_here p well moment event reply own id whom old =
+    given_after p moment event reply id (subst (IsGiven p) (same_conn own id (id_of reply.said) old.speaks whom) (old_given p well own old.row old.there))
+
+given_on_answer : (p : Plain) → IsWell p → (moment : ℕ) (event : OwnedEvent) (reply : Reply) (id : ConnId) → answer_in p moment event ≡ Ok reply → is_reload event ≡ false → id_of reply.said ≡ Some id →
+    IsGiven (after p (entry moment event reply ∷ [])) id
+given_on_answer p well moment (Accept listener real) reply id is other whom = new_given p moment listener real reply id (answered p moment (Accept listener real) reply is) whom
+given_on_answer p well moment (Piece own bytes) reply id is other whom = old_here p well moment (Piece own bytes) reply own id whom (answered p moment (Piece own bytes) reply is)
+given_on_answer p well moment (Connected own) reply id is other whom = old_here p well moment (Connected own) reply own id whom (answered p moment (Connected own) reply is)
+given_on_answer p well moment (ConnectFailed own) reply id is other whom = old_here p well moment (ConnectFailed own) reply own id whom (answered p moment (ConnectFailed own) reply is)
+given_on_answer p well moment (Close own why) reply id is other whom = old_here p well moment (Close own why) reply own id whom (answered p moment (Close own why) reply is)
+given_on_answer p well moment (Expire own) reply id is other whom = old_here p well moment (Expire own) reply own id whom (answered p moment (Expire own) reply is)
+given_on_answer p well moment (Reload text) reply id is other whom = absurd (cc)
+
+-- ---- a difference is the last of its connection
+
+past_by : (plan : Plan) (h : List Entry) (n : Plain) (moment : ℕ) (event : OwnedEvent) (reply : Reply) (id : ConnId) → IsLegal (opening plan 0) h → answer_in (after (opening plan 0) h) moment event ≡ Ok reply →
+    Tied plan (after (opening plan 0) h) n → Differs (after (opening plan 0) h) n moment event reply id → IsPast (after (after (opening plan 0) h) (entry moment event reply ∷ [])) (played n moment event reply.said) id
+past_by plan h n moment event reply id legal is tied has =
+    let p : Plain = after (opening plan 0) h in
+    let e : Entry = entry moment event reply in
+    let sides = both_decide (decided p moment event) (decided n moment event) has.some in
+    let ours = judged_so p moment event sides.0 in
+    let other = judged_so n moment event sides.1 in
+    let theirs : Reply = other.reply in
+    let judged : is_judgement reply.said ≡ true = ap (λ (r : Reply). is_judgement r.said) (same_reply (answer_in p moment event) reply ours.reply is ours.answers) ∙ ours.judged in
+    let whom : id_of theirs.said ≡ Some id = same_whom plan h n moment event reply theirs legal is tied other.answers has.no_reload ∙ has.whom in
+    let given = given_on_answer p (well_after (opening plan 0) (opening_well plan 0) h legal) moment event reply id is has.no_reload has.whom in
+    record {
+      own = given.own;
+      there = given.there;
+      given = given.given;
+      once = λ first second.
+          let we_wait : is_wait reply.said ≡ true = is_let_wait (waits_at p id) _ reply.said id has.whom judged (waits_after p e id first) in
+          let handed_on : waits_at (handed n moment event reply.said) id ≡ true = sym (ap (λ b. waits_at (if b then n else handed n moment event reply.said) id) has.no_reload) ∙ second in
+          let stepped_on : waits_at (stepped n moment event) id ≡ true = waits_closed (stepped n moment event) moment reply.said id handed_on in
+          let theirs_on : waits_at (after n (entry moment event theirs ∷ [])) id ≡ true = sym (ap (λ a. waits_at (plain_after n moment event a) id) other.answers) ∙ stepped_on in
+          let they_wait : is_wait theirs.said ≡ true = is_let_wait (waits_at n id) _ theirs.said id whom other.judged (waits_after n (entry moment event theirs) id theirs_on) in
+          let none : is_some (difference (decided p moment event) (decided n moment event)) ≡ false =
+          ap (λ d. is_some (difference d (decided n moment event))) (decided_wait p moment event reply is we_wait) ∙ ap (λ d. is_some (difference (Some decisions.Wait) d)) (decided_wait n moment event theirs other.answers they_wait) in
+          contrary (is_some (difference (decided p moment event) (decided n moment event))) ⊥ has.some none;
+    }
+
+pub waits_here : (q : Plain) (id : ConnId) (row : Row) → row_at q.frontends id ≡ Some row → is_waiting row.phase ≡ true → waits_at q id ≡ true
+waits_here q id row row_is waits = ap waits_in row_is ∙ waits
+
+not_judged : (said other : Said) → said ≡ other → is_judgement other ≡ false → is_judgement said ≡ true → ⊥
+not_judged said other is none judged = contrary (is_judgement said) ⊥ judged (ap is_judgement is ∙ none)
+
+-- two decisions of one event on a connection that waits in neither, or in one
+not_again : (plan : Plan) (p n : Plain) (moment : ℕ) (event : OwnedEvent) (reply theirs : Reply) (id : ConnId) → answer_in p moment event ≡ Ok reply → is_judgement reply.said ≡ true → id_of reply.said ≡ Some id →
+    answer_in n moment event ≡ Ok theirs → IsPast p n id → ⊥
+not_again plan p n moment (Accept listener real) reply theirs id is judged whom answers past =
+    not_new p p (below_itself p) id past.own past.there past.given reply.said (answered p moment (Accept listener real) reply is) whom
+not_again plan p n moment (Piece own bytes) reply theirs id is judged whom answers past =
+    let same : own ≡ id = same_conn own id (id_of reply.said) (answered p moment (Piece own bytes) reply is).speaks whom in
+    let a = received p own bytes reply is in
+    let b = received n own bytes theirs answers in
+    past.once (ap (waits_at p) (sym same) ∙ waits_here p own a.row a.row_is (ap is_some a.waits)) (ap (waits_at n) (sym same) ∙ waits_here n own b.row b.row_is (ap is_some b.waits))
+not_again plan p n moment (Connected own) reply theirs id is judged whom answers past = not_judged reply.said (saids.Up own) (ap (λ (r : Reply). r.said) (sym (server_answered p own (saids.Up own) reply is).reply_is)) refl judged
+not_again plan p n moment (ConnectFailed own) reply theirs id is judged whom answers past =
+    not_judged reply.said (saids.Closed own Failed) (ap (λ (r : Reply). r.said) (sym (server_answered p own (saids.Closed own Failed) reply is).reply_is)) refl judged
+not_again plan p n moment (Close own why) reply theirs id is judged whom answers past =
+    let one = bind-ok (or_fault NoSuch (row_at p.frontends own)) _ reply is in
+    let same : reply_of (saids.Closed own why) ≡ reply = let it : Ok (reply_of (saids.Closed own why)) ≡ Ok reply = one.2 in cc in
+    not_judged reply.said (saids.Closed own why) (ap (λ (r : Reply). r.said) (sym same)) refl judged
+not_again plan p n moment (Expire own) reply theirs id is judged whom answers past =
+    let same : own ≡ id = same_conn own id (id_of reply.said) (answered p moment (Expire own) reply is).speaks whom in
+    let a = expired p (max p.clock moment) own reply is in
+    let b = expired n (max n.clock moment) own theirs answers in
+    past.once (ap (waits_at p) (sym same) ∙ waits_here p own a.row a.row_is (ap is_some a.waits)) (ap (waits_at n) (sym same) ∙ waits_here n own b.row b.row_is (ap is_some b.waits))
+not_again plan p n moment (Reload text) reply theirs id is judged whom answers past = not_judged reply.said _ (answered p moment (Reload text) reply is).says refl judged
+
+-- ---- along a history
+
+past_at : (plan : Plan) (text : List ℕ) (trial : Plain) (h : List Entry) (id : ConnId) → trial_opening plan text ≡ Ok trial → IsLegal (opening plan 0) h → HasDiffered (opening plan 0) trial id h →
+    IsPast (after (opening plan 0) h) (history_report false (opening plan 0) trial h).trial id
+past_at plan text trial [] id opens legal has = absurd has
+past_at plan text trial (e ∷ h) id opens legal has =
+    let o : Plain = opening plan 0 in
+    let t : Report = history_report false o trial h in
+    subst (λ p. IsPast p (history_report false o trial (e ∷ h)).trial id) (whole_in_parts o (opening_well plan 0) (e ∷ []) h legal)
+    (subst (λ n. IsPast (after (after o h) (e ∷ [])) n id) (sym (turn_trial false (played t.trial e.moment e.event e.reply.said) t (turn_of (after o h) t.trial e)))
+    (elim has [
+      | inl now ↦ past_by plan h t.trial e.moment e.event e.reply id legal.0 legal.1 (all_tied false plan text trial h opens legal.0) (differs (after o h) t.trial e.moment e.event e.reply id now)
+      | inr before_it ↦ past_on plan (after o h) t.trial e.moment e.event e.reply id (all_tied false plan text trial h opens legal.0) legal.1 (past_at plan text trial h id opens legal.0 before_it)
+    ]))
+
+pub one_difference : (plan : Plan) (text : List ℕ) (trial : Plain) (h : List Entry) (e : Entry) (id : ConnId) → trial_opening plan text ≡ Ok trial → IsLegal (opening plan 0) (e ∷ h) →
+    HasDiffered (opening plan 0) trial id h → differs_at (opening plan 0) trial (e ∷ h) ≡ Some id → ⊥
+one_difference plan text trial h e id opens legal first second =
+    let p : Plain = after (opening plan 0) h in
+    let n : Plain = (history_report false (opening plan 0) trial h).trial in
+    let has = differs p n e.moment e.event e.reply id second in
+    let sides = both_decide (decided p e.moment e.event) (decided n e.moment e.event) has.some in
+    let ours = judged_so p e.moment e.event sides.0 in
+    let other = judged_so n e.moment e.event sides.1 in
+    not_again plan p n e.moment e.event e.reply other.reply id legal.1 (ap (λ (r : Reply). is_judgement r.said) (same_reply (answer_in p e.moment e.event) e.reply ours.reply legal.1 ours.answers) ∙ ours.judged) has.whom other.answers
+    (past_at plan text trial h id opens legal.0 first)
