@@ -1,5 +1,5 @@
 -- What is tried for one connection, and what it is answered.
-use Rattle.std.specs.Prelude.{◌≡◌, ℕ, Bool, true, false, not, ◌&&◌, ◌||◌, nat_lt, List, [], ◌∷◌, Option, Some, None, is_none, slice_get, Ok, if◌then◌else◌}
+use Rattle.std.specs.Prelude.{◌≡◌, ℕ, Bool, true, false, not, ◌&&◌, ◌||◌, nat_lt, List, [], ◌∷◌, ◌++◌, Option, Some, None, is_none, slice_get, Ok, if◌then◌else◌}
 use Rattle.addr_core.specs.PairValue.{PairValue}
 use Rattle.pp_any.specs.declared.rest.Rest.TheVariants.{Read}
 use Rattle.pp_any.specs.NextPiece.{status_on}
@@ -17,6 +17,7 @@ use Rattle.conn_model.specs.declared.reply.Said.TheVariants as saids
 use Rattle.conn_model.specs.Answer.{answer_in, judged_pair}
 use Rattle.conn_model.specs.Rules.{rejection, scene_of, worth}
 use Rattle.conn_model.specs.History.{after, entry}
+use Rattle.event_text.specs.Replies.{reply_line}
 use Rattle.conn_core.specs.declared.facts.RuleFacts.{RuleFacts}
 use Rattle.conn_core.specs.Judging.{facts_view}
 use Rattle.conn_core.specs.Seeing.{SeesNext, SeesWaiting}
@@ -111,7 +112,11 @@ IsDecided p real first at_accept (Some id) (Some header) trials reply = AreTried
 IsDecided p real first at_accept None header trials reply = (trials ≡ at_accept) × (reply ≡ first)
 IsDecided p real first at_accept (Some id) None trials reply = (trials ≡ at_accept) × (reply ≡ first)
 
--- what is tried for the connection of that pair, and its last reply, in a balancer of that state
+-- a text ends with that line
+abbrev pub EndsWith : List ℕ → List ℕ → Type 0
+EndsWith text line = (front : List ℕ) × (text ≡ front ++ line)
+
+-- what is tried for the connection of that pair, and its last reply, with which the text ends, in a balancer of that state
 pub record IsExplained (p : Plain) (real : PairValue) (header : Option (List ℕ)) (e : Explanation) : Type 0 where
   pub at : Listener
   pub at_accept : Option Trials
@@ -120,3 +125,4 @@ pub record IsExplained (p : Plain) (real : PairValue) (header : Option (List ℕ
   pub next : IsTriedNext p e.listener real at.accept_proxy e.entry.items at_accept
   pub answers : answer_in p 0 (Accept e.listener real) ≡ Ok first
   pub decided : IsDecided (after p (entry 0 (Accept e.listener real) first ∷ [])) real first at_accept (waiting_in first.said) header e.trials e.reply
+  pub ends : EndsWith e.text.items (reply_line e.reply)

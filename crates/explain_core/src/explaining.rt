@@ -7,6 +7,7 @@ ghost use Rattle.conn_model.specs.Answer.{answer_in, judged_pair};
 ghost use Rattle.conn_model.specs.Rules.{rejection};
 ghost use Rattle.conn_model.specs.History.{after, entry, opening, owned_event};
 ghost use Rattle.conn_core.specs.Machine.{IsOpened};
+ghost use Rattle.explain_core.specs.Listeners.{Takes};
 ghost use Rattle.explain_core.specs.Explained.{choices_unless, entry_tried, goes_on, header_status, is_full, waiting_in, AreTried, AreTriedAt, AreTriedLater, IsDecided, IsExplained, IsTriedNext};
 
 use crate::listeners::{frontend_number, listener_number};
@@ -340,7 +341,8 @@ impl Shower<'_, '_> {
         header: Option<&[u8]>,
     ) -> Result<Explanation, Unexplained>
         requires { slice_get core.old.listeners number ≡ Some at.now }
-        ensures { IfOk result (λ e. IsExplained core.old real (option_copied header.entry) e) }
+        ensures explained { IfOk result (λ e. IsExplained core.old real (option_copied header.entry) e) }
+        ensures listener { IfOk result (λ e. e.listener ≡ number) }
     {
         let mut text = Vec::new(self.alloc);
         let (entry, at_accept) = self.explain_accept(core, number, at, real, &mut text)?;
@@ -359,7 +361,8 @@ impl Shower<'_, '_> {
 
 /// The listener of the frontend of that name that takes the connection, with its number.
 fn find_listener(core: &Core, name: &[u8], real: Pair) -> Result<(u16, Listener), Unexplained>
-    ensures { IfOk result (λ found. slice_get core.now.listeners found.0 ≡ Some found.1) }
+    ensures listens { IfOk result (λ found. slice_get core.now.listeners found.0 ≡ Some found.1) }
+    ensures takes { IfOk result (λ found. Takes core.now name.now real found.0) }
 {
     let Ok(plain) = core.plain() else {
         return Err(Unexplained::NoMemory);
@@ -405,7 +408,8 @@ fn explain_in(
     real: Pair,
     header: Option<&[u8]>,
 ) -> Result<Explanation, Unexplained>
-    ensures { IfOk result (λ e. IsExplained core.old real (option_copied header.entry) e) }
+    ensures explained { IfOk result (λ e. IsExplained core.old real (option_copied header.entry) e) }
+    ensures takes { IfOk result (λ e. Takes core.old name.now real e.listener) }
 {
     let lines = lines_of(alloc, config)?;
     let (number, at) = find_listener(core, name, real)?;
@@ -427,7 +431,9 @@ pub fn explain(
     real: Pair,
     header: Option<&[u8]>,
 ) -> Result<Explanation, ExplainFault>
-    ensures ok { IfOk result (λ e. (plan : Plan) × (meaning config.now ≡ Ok plan) × IsExplained (opening plan 0) real (option_copied header.entry) e) }
+    ensures ok { IfOk result (λ e. (plan : Plan) × (meaning config.now ≡ Ok plan)
+        × Takes (opening plan 0) name.now real e.listener
+        × IsExplained (opening plan 0) real (option_copied header.entry) e) }
     ensures refused { (fault : OpenFault) → result ≡ Err (ExplainFault.Config fault) → meaning config.now ≡ Err fault }
 {
     let mut core = open_core(alloc, config)?;

@@ -1,24 +1,39 @@
 //! Where a connection comes in.
+ghost use Rattle.std.specs.Prelude.{◌≡◌, ◌<◌, ◌+◌, true, IfSome, Some, length, slice_get};
+ghost use Rattle.std.specs.Str.{bytes_eq};
+ghost use Rattle.conn_model.specs.declared.plain.FrontendRows.{FrontendRows};
+ghost use Rattle.conn_model.specs.declared.plain.Listener.{Listener};
+ghost use Rattle.explain_core.specs.Listeners.{fit, is_any, is_same_family, IsBest, IsBestOf};
+
 use addr_core::{Addr, Endpoint};
 use conn_model::plain::{FrontendRows, Listener};
 
 /// The number of the frontend of that name.
-pub fn frontend_number(frontends: &[FrontendRows], name: &[u8]) -> Option<u16> {
-    let place = frontends
-        .iter()
-        .position(|own| own.name.as_slice() == name)?;
-    u16::try_from(place).ok()
+pub fn frontend_number(frontends: &[FrontendRows], name: &[u8]) -> Option<u16>
+    ensures { IfSome result (λ number. (own : FrontendRows) × (slice_get frontends.now number ≡ Some own)
+        × (bytes_eq own.name name.now ≡ true)) }
+{
+    for place in 0..frontends.len() {
+        if frontends[place].name.as_slice() == name {
+            return u16::try_from(place).ok();
+        }
+    }
+    None
 }
 
 /// Whether the address is all addresses of its family.
-fn is_any(addr: &Addr) -> bool {
+fn is_any(addr: &Addr) -> bool
+    ensures { result ≡ is_any addr.now }
+{
     match *addr {
         Addr::V4(number) => number == 0,
         Addr::V6(number) => number == 0,
     }
 }
 
-fn is_same_family(one: &Addr, other: &Addr) -> bool {
+fn is_same_family(one: &Addr, other: &Addr) -> bool
+    ensures { result ≡ is_same_family one.now other.now }
+{
     match (one, other) {
         (Addr::V4(_), Addr::V4(_)) | (Addr::V6(_), Addr::V6(_)) => true,
         (Addr::V4(_), Addr::V6(_)) | (Addr::V6(_), Addr::V4(_)) => false,
@@ -27,7 +42,9 @@ fn is_same_family(one: &Addr, other: &Addr) -> bool {
 
 /// How well a listener takes connections to an address: 2 where it is bound to that one, 1 where it is bound to all of
 /// the family with that port, and else 0.
-fn fit(at: &Endpoint, local: &Endpoint) -> u8 {
+fn fit(at: &Endpoint, local: &Endpoint) -> u8
+    ensures { result ≡ fit at.now local.now }
+{
     if *at == *local {
         2
     } else if at.port == local.port && is_any(&at.addr) && is_same_family(&at.addr, &local.addr) {
@@ -37,22 +54,39 @@ fn fit(at: &Endpoint, local: &Endpoint) -> u8 {
     }
 }
 
-/// The number of the listener of a frontend that takes connections to an address: the first one that fits best.
-pub fn listener_number(listeners: &[Listener], frontend: u16, local: &Endpoint) -> Option<u16> {
-    let mut best: Option<(u16, u8)> = None;
-    for (place, listener) in listeners.iter().enumerate() {
-        if listener.frontend != frontend {
-            continue;
-        }
-        let Ok(number) = u16::try_from(place) else {
-            continue;
-        };
-        let fits = fit(&listener.at, local);
-        match best {
-            Some((_, so_far)) if so_far >= fits => {}
-            Some(_) | None => best = Some((number, fits)),
-        }
+/// The best listener of a frontend before a place, with that at the place.
+fn better(
+    listeners: &[Listener],
+    frontend: u16,
+    local: &Endpoint,
+    best: Option<usize>,
+    place: usize,
+) -> Option<usize>
+    requires place { place < length listeners.now }
+    requires best { IsBestOf listeners.now frontend local.now place best }
+    ensures { IsBestOf listeners.now frontend local.now (place + 1) result }
+{
+    let listener = &listeners[place];
+    if listener.frontend != frontend {
+        return best;
     }
-    let (number, _) = best?;
-    Some(number)
+    let Some(so_far) = best else {
+        return Some(place);
+    };
+    if fit(&listeners[so_far].at, local) < fit(&listener.at, local) {
+        Some(place)
+    } else {
+        best
+    }
+}
+
+/// The number of the listener of a frontend that takes connections to an address: the first one that fits best.
+pub fn listener_number(listeners: &[Listener], frontend: u16, local: &Endpoint) -> Option<u16>
+    ensures { IfSome result (λ number. (at : Listener) × IsBest listeners.now frontend local.now number at) }
+{
+    let mut best = None;
+    for place in 0..listeners.len() {
+        best = better(listeners, frontend, local, best, place);
+    }
+    u16::try_from(best?).ok()
 }
