@@ -8,7 +8,7 @@ use Rattle.conn_model.specs.declared.plain.FrontendRows.{FrontendRows}
 use Rattle.conn_model.specs.declared.plain.Listener.{Listener}
 use Rattle.conn_model.specs.declared.plain.Plain.{Plain}
 use Rattle.conn_model.specs.declared.plain.Row.{Row}
-use Rattle.conn_model.specs.Answer.{candidate_at, candidate_of, frontend_in, waiting_row}
+use Rattle.conn_model.specs.Answer.{candidate_at, candidate_of, frontend_in, version_at, waiting_row}
 use Rattle.conn_model.specs.Rules.{view_of}
 use Rattle.conn_model.specs.Tables.{tracks_at}
 use Rattle.conn_model.specs.Words.{newest}
@@ -17,6 +17,10 @@ use Rattle.conn_core.specs.declared.facts.RuleFacts.{RuleFacts}
 use Rattle.conn_core.specs.Changes.{Judge}
 use Rattle.conn_core.specs.Counts.{IsSeen}
 use Rattle.conn_core.specs.Judging.{facts_view}
+
+-- the version that judges is one of those that are kept
+abbrev pub IsKept : RuleFacts → Type 0
+IsKept facts = version_at facts.rows.now.versions facts.version.now.number ≡ Some facts.version.now
 
 -- The connection of that pair comes to that listener next, and rules see of it what its accept is judged by.
 pub record SeesNext (p : Plain) (listener : ℕ) (real : PairValue) (facts : RuleFacts) : Type 0 where

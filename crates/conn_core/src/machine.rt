@@ -1,5 +1,5 @@
 //! The decision core.
-ghost use Rattle.std.specs.Prelude.{◌≡◌, ◌≢◌, ◌⊎◌, ◌+◌, ◌-◌, ◌^◌, ◌<◌, ◌≤◌, true, List, [], ◌∷◌, option_and_then, option_map, Option, Some, IfSome, IfNone, IfOk, IfErr, OnOk, OnErr, nat_le, Ok, Err};
+ghost use Rattle.std.specs.Prelude.{◌≡◌, ◌≢◌, ◌⊎◌, ◌+◌, ◌-◌, ◌^◌, ◌<◌, ◌≤◌, ℕ, true, List, [], ◌∷◌, option_and_then, option_map, Option, Some, IfSome, IfNone, IfOk, IfErr, IsErr, OnOk, OnErr, nat_le, Ok, Err};
 ghost use Rattle.std.specs.Option.{option_copied};
 ghost use Rattle.plan_types.specs.Sound.{IsSoundPlan};
 ghost use Rattle.pp_any.specs.declared.rest.Rest.{Rest};
@@ -22,7 +22,7 @@ ghost use Rattle.conn_core.specs.Changes.{forgotten, CanOffer};
 ghost use Rattle.conn_core.specs.Outcome.{reply_by};
 ghost use Rattle.conn_core.specs.Tracking.{ArePossible};
 ghost use Rattle.conn_core.specs.Machine.{AreSound, IsOpened, IsNext, IsNextVersion};
-ghost use Rattle.conn_core.specs.Seeing.{SeesNext, SeesWaiting};
+ghost use Rattle.conn_core.specs.Seeing.{IsKept, SeesNext, SeesWaiting};
 
 use crate::entering::{SessionStart, enter};
 use crate::facts::RuleFacts;
@@ -180,10 +180,13 @@ impl Core {
         self.rows.settings(id)
     }
 
-    /// What rules see of the connection of that pair, if it comes to that listener next. None where there is no such
-    /// listener.
+    /// What rules see of the connection of that pair, if it comes to that listener next. None exactly where its accept
+    /// has no listener.
     pub fn arriving(&self, listener: u16, real: Pair) -> Option<RuleFacts<'_>>
-        ensures { IfSome result (λ facts. SeesNext self.now listener real facts) }
+        ensures some { IfSome result (λ facts. SeesNext self.now listener real facts) }
+        ensures kept { IfSome result (λ facts. IsKept facts) }
+        ensures none { IfNone result ((clock : ℕ) →
+            accept_answer self.now clock listener real ≡ Err StepFault.NoListener) }
     {
         let Some(at) = item(self.listeners.as_slice(), listener) else {
             return None;
@@ -211,10 +214,12 @@ impl Core {
         })
     }
 
-    /// What rules see of a connection that waits for its header, once that states the pair. None where no connection
-    /// of that name waits.
+    /// What rules see of a connection that waits for its header, once that states the pair. None exactly where no
+    /// connection of that name waits: each piece of it has a fault for an answer.
     pub fn waiting(&self, id: ConnId, judged: Pair) -> Option<RuleFacts<'_>>
-        ensures { IfSome result (λ facts. SeesWaiting self.now id judged facts) }
+        ensures some { IfSome result (λ facts. SeesWaiting self.now id judged facts) }
+        ensures kept { IfSome result (λ facts. IsKept facts) }
+        ensures none { IfNone result ((piece : List ℕ) → IsErr (piece_answer self.now id piece)) }
     {
         let Ok(row) = self.waiting_row(id) else {
             return None;

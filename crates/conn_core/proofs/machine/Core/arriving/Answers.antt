@@ -7,6 +7,7 @@ use Rattle.conn_model.specs.Words.{newest}
 use Rattle.plan_types.specs.Sound.{IsSoundPlan}
 use Rattle.conn_model.proofs.Goes.{well_at}
 use Rattle.conn_model.proofs.TableSteps.{newest-all}
+use Rattle.conn_model.proofs.Versions.{newest-at}
 use Rattle.conn_core.specs.Machine.{state_of}
 use Rattle.conn_core.proofs.SeenLemmas.{sees_next}
 use Rattle.conn_core.proofs.machine.Core.arriving.Goals as goal
@@ -14,8 +15,11 @@ use Rattle.conn_core.proofs.machine.Core.arriving.Goals as goal
 pub frontend_near-requires : goal.frontend_near-requires
 frontend_near-requires c = newest-all (λ version. IsSoundPlan version.plan) c.self.inside.rows.versions c.in-Some-newest.version.now c.in-Some-newest.ensures.sound (sym c.in-Some-newest.ensures.newest)
 
-pub returns : goal.returns
-returns c =
+pub returns-clause-kept : goal.returns-clause-kept
+returns-clause-kept c = newest-at c.self.inside.rows.versions c.in-Some-newest.version.now c.self.invariant.well.rise (sym c.in-Some-newest.ensures.newest)
+
+pub returns-clause-some : goal.returns-clause-some
+returns-clause-some c =
     let q : Plain = state_of c.self.inside.clock c.self.inside.listeners c.self.inside.rows in
     let own : FrontendRows = c.in-Some-frontend.ensures.some.0 in
     let there : slice_get q.frontends c.in-Some.at.now.frontend ≡ Some own = c.in-Some-frontend.ensures.some.1 in
