@@ -13,3 +13,4 @@ pub mod WriteLemmas
 pub mod OutputLemmas
 pub mod RecordingLemmas
 pub mod SpentLemmas
+pub mod CutLemmas

@@ -12,12 +12,13 @@ use Rattle.conn_model.specs.declared.event.OwnedEvent.{OwnedEvent}
 use Rattle.conn_model.specs.declared.event.OwnedEvent.TheVariants.{Accept, Piece, Connected, ConnectFailed, Close, Expire, Reload}
 use Rattle.conn_model.specs.declared.reply.Reply.{Reply}
 use Rattle.conn_model.specs.History.{Entry}
-use Rattle.event_text.specs.Script.{◌>>=◌, ended_lines, event_line, event_with, is_mark, lines_after, text_lines, words_of, IsHandedIn}
+use Rattle.conn_model.specs.HandedIn.{AreHandedIn, IsHandedIn}
+use Rattle.event_text.specs.Script.{◌>>=◌, ended_lines, event_line, event_with, is_mark, lines_after, text_lines, words_of}
 use Rattle.event_text.specs.Replies.{reply_text}
 use Rattle.event_text.proofs.EventLemmas.{event_of-lines}
 use Rattle.event_text.proofs.LackLemmas.{decimal_lacks}
 use Rattle.event_text.proofs.LineLemmas.{event_on_line, reply_on_line}
-use Rattle.audit_core.specs.Record.{entry_lines, entry_text, history_text, numbered_event, numbered_head, numbered_lines, recorded_reply, reply_mark, AreHandedIn, IsRecord}
+use Rattle.audit_core.specs.Record.{entry_lines, entry_text, history_text, numbered_event, numbered_head, numbered_lines, recorded_reply, reply_mark, IsRecord}
 
 abbrev IsPlain : List ℕ → Type 0
 IsPlain line = All (λ b. is_line_feed b ≡ false) line

@@ -1,11 +1,11 @@
 -- Records: a history as the lines of a text.
-use Rattle.std.specs.Prelude.{◌≡◌, ℕ, ◌+◌, ◌<◌, ◌^◌, List, [], ◌∷◌, ◌++◌, length, codes, Option, Some, None, if◌then◌else◌}
+use Rattle.std.specs.Prelude.{◌≡◌, ℕ, ◌+◌, List, [], ◌∷◌, ◌++◌, length, codes, Option, Some, None, if◌then◌else◌}
 use Rattle.std.specs.Str.{bytes_eq}
 use Rattle.text_core.specs.Decimal.{decimal}
 use Rattle.conn_model.specs.declared.event.OwnedEvent.{OwnedEvent}
 use Rattle.conn_model.specs.declared.reply.Reply.{Reply}
 use Rattle.conn_model.specs.History.{Entry}
-use Rattle.event_text.specs.Script.{◌>>=◌, ended_lines, event_line, event_with, head_of, lines_after, words_of, EventHead, IsHandedIn}
+use Rattle.event_text.specs.Script.{◌>>=◌, ended_lines, event_line, event_with, head_of, lines_after, words_of, EventHead}
 use Rattle.event_text.specs.Replies.{reply_text}
 
 -- what the first line of an event says, which has the event after that number
@@ -41,11 +41,6 @@ entry_text number e = ended_lines (entry_lines number e)
 abbrev pub history_text : List Entry → List ℕ
 history_text [] = []
 history_text (e ∷ h) = history_text h ++ entry_text (length h + 1) e
-
--- each event is one that lines can hand in
-abbrev pub AreHandedIn : List Entry → Type 0
-AreHandedIn [] = Unit {0}
-AreHandedIn (e ∷ h) = (e.moment < 2 ^ 64) × IsHandedIn e.event × AreHandedIn h
 
 -- The lines record the history: of each entry, the oldest first, the lines of its event under its number, from 1, and
 -- then its reply.

@@ -7,6 +7,7 @@ ghost use Rattle.conn_model.specs.declared.event.TheConstants.{PIECE_LIMIT};
 ghost use Rattle.conn_model.specs.Answer.{answer_in, row_at};
 ghost use Rattle.conn_model.specs.Counts.{server_of, total, open_connections};
 ghost use Rattle.conn_rows.specs.Summaries.{names_in, names_of};
+ghost use Rattle.conn_model.specs.HandedIn.{HasPieceInLimit};
 ghost use Rattle.conn_model.specs.History.{owned_event};
 ghost use Rattle.event_text.specs.Script.{event_read, head_read, with_text, words_of, HasLines};
 ghost use Rattle.replay_core.specs.Turns.{plain_after};
@@ -134,6 +135,7 @@ fn step(
     event: &Event<'_>,
     answered: &mut Result<Reply, StepFault>,
 ) -> Result<(), AllocError>
+    requires piece { HasPieceInLimit (owned_event event.now) }
     ensures answered { OnOk result
         (answered.new ≡ answer_in core.old moment (owned_event event.now)) }
     ensures plain { OnOk result (core.new ≡ plain_after core.old moment (owned_event event.now) (answer_in core.old moment (owned_event event.now))) }
@@ -153,6 +155,7 @@ fn answer_into(
     event: &Event<'_>,
     answered: &mut Result<Reply, StepFault>,
 ) -> Result<(), AllocError>
+    requires piece { HasPieceInLimit (owned_event event.now) }
     ensures answered { OnOk result
         (answered.new ≡ answer_in core.old moment (owned_event event.now)) }
     ensures plain { OnOk result (core.new ≡ plain_after core.old moment (owned_event event.now) (answer_in core.old moment (owned_event event.now))) }
@@ -168,6 +171,7 @@ pub fn answer(
     moment: u64,
     event: &Event<'_>,
 ) -> Result<Result<Reply, StepFault>, AllocError>
+    requires piece { HasPieceInLimit (owned_event event.now) }
     ensures answered { IfOk result (λ answered. answered ≡ answer_in core.old moment (owned_event event.now)) }
     ensures plain { OnOk result (core.new ≡ plain_after core.old moment (owned_event event.now) (answer_in core.old moment (owned_event event.now))) }
     ensures few { OnOk result (open_connections core.new ≤ open_connections core.old + 1) }
@@ -189,6 +193,7 @@ fn answer_first(
 ) -> Result<(), AllocError>
     requires lines { HasLines first.now }
     requires due { IsDue (due_of due.old) }
+    requires room { length piece.now ≡ PIECE_LIMIT }
     ensures after { OnOk result ((s : Standing) → s.plain ≡ core.old → after_head s (head_read piece.now first.now)
         ≡ record {
           plain = core.new;

@@ -1,11 +1,12 @@
 //! A record is checked.
-ghost use Rattle.std.specs.Prelude.{◌≡◌, ◌≤◌, ◌⊎◌, ℕ, List, length, Some, Ok, Err, IfOk, IfErr, OnOk};
+ghost use Rattle.std.specs.Prelude.{◌≡◌, ◌≤◌, ◌⊎◌, ℕ, List, length, take, Some, Ok, Err, IfOk, IfErr, OnOk};
 ghost use Rattle.device_core.specs.Device.{raised_by};
 ghost use Rattle.device_core.specs.declared.patience.TheConstants.{MOST_READS};
 ghost use Rattle.plan_types.specs.declared.plan.Plan.{Plan};
 ghost use Rattle.config_core.specs.Meaning.{meaning};
 ghost use Rattle.config_core.specs.declared.fault.OpenFault.{OpenFault};
 ghost use Rattle.conn_core.specs.Machine.{IsOpened};
+ghost use Rattle.conn_model.specs.HandedIn.{AreHandedIn};
 ghost use Rattle.conn_model.specs.History.{opening, Entry, IsLegal, IsWell};
 ghost use Rattle.conn_model.specs.declared.event.TheConstants.{PIECE_LIMIT};
 ghost use Rattle.text_core.specs.Parts.{parts, is_line_feed};
@@ -13,7 +14,7 @@ ghost use Rattle.replay_core.specs.Reading.{IsSpent};
 ghost use Rattle.audit_core.specs.Standing.{standing_counts, verdict_in, IsStarted};
 ghost use Rattle.audit_core.specs.Verdict.{fault_at, verdict, IsChecked, IsWithinLimits};
 ghost use Rattle.audit_core.specs.Check.{Stops, IsFaultOf, IsOutside, IsRead};
-ghost use Rattle.audit_core.specs.Record.{history_text, AreHandedIn, IsRecord};
+ghost use Rattle.audit_core.specs.Record.{history_text, IsRecord};
 
 use crate::auditor::Auditor;
 use crate::fault::{CheckFault, CheckKind, Checked};
@@ -115,6 +116,13 @@ pub fn check_record<I: Input>(
     // And so is the record that is written of it.
     ensures written { IfErr result (λ f. (plan : Plan) (history : List Entry) → I.left reader.old ≡ Some (history_text history) → meaning config.now ≡ Ok plan →
         IsLegal (opening plan 0) history → AreHandedIn history → IsWithinLimits (parts is_line_feed (history_text history)) → IsOutside f.kind) }
+
+    // Where such a record was cut anywhere, only its last line can be faulty, or a line that is missing after that.
+    ensures cut { IfErr result (λ f. (plan : Plan) (history : List Entry) (count : ℕ) →
+        I.left reader.old ≡ Some (take count (history_text history)) → meaning config.now ≡ Ok plan →
+        IsLegal (opening plan 0) history → AreHandedIn history →
+        IsWithinLimits (parts is_line_feed (history_text history)) →
+        IsOutside f.kind ⊎ (length (parts is_line_feed (take count (history_text history))) ≤ f.line)) }
 
     // The configuration is opened exactly if it has a meaning.
     ensures opened { IfOk result (λ _. (plan : Plan) × (meaning config.now ≡ Ok plan)) }

@@ -17,6 +17,7 @@ mod check;
 mod due;
 mod fault;
 mod journal;
+pub mod laws;
 mod line;
 mod printing;
 mod reading;

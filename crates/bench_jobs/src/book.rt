@@ -1,4 +1,7 @@
 //! A book whose record is written as it grows.
+ghost use Rattle.conn_model.specs.HandedIn.{HasPieceInLimit};
+ghost use Rattle.conn_model.specs.History.{owned_event};
+
 use crate::job::JobFault;
 use audit_core::write_journal;
 use book_core::Book;
@@ -62,7 +65,9 @@ impl Keeper {
     }
 
     /// Hands in an event. What is said is answered, unless it is a fault.
-    pub fn step(&mut self, moment: u64, event: &Event) -> Option<Said> {
+    pub fn step(&mut self, moment: u64, event: &Event) -> Option<Said>
+        requires piece { HasPieceInLimit (owned_event event.now) }
+    {
         match self.book.step(moment, event) {
             Ok(receipt) => Some(receipt.reply.said),
             Err(_) => {

@@ -1,5 +1,5 @@
 -- Books: how they begin, and how they go on.
-use Rattle.std.specs.Prelude.{◌≡◌, ◌≤◌, ℕ, ◌+◌, ◌-◌, Bool, true, false, List, [], ◌∷◌, ◌++◌, length, Ok, refl, if◌then◌else◌}
+use Rattle.std.specs.Prelude.{◌≡◌, ◌<◌, ◌≤◌, ℕ, ◌+◌, ◌-◌, ◌^◌, Bool, true, false, List, [], ◌∷◌, ◌++◌, length, Ok, refl, if◌then◌else◌}
 use Rattle.std.proofs.Common.{arith, ap, append-nil, append_assoc, subst, sym, ◌∙◌}
 use Rattle.std.proofs.lemmas.List.{length-append}
 use Rattle.conn_model.specs.declared.event.OwnedEvent.{OwnedEvent}
@@ -7,6 +7,7 @@ use Rattle.conn_model.specs.declared.plain.Plain.{Plain}
 use Rattle.conn_model.specs.declared.reply.Reply.{Reply}
 use Rattle.conn_model.specs.declared.event.OwnedEvent.TheVariants.{Accept, Piece, Connected, ConnectFailed, Close, Expire, Reload}
 use Rattle.conn_model.specs.declared.reply.Said.{Said}
+use Rattle.conn_model.specs.HandedIn.{IsHandedIn}
 use Rattle.conn_model.specs.History.{after, answer, entry, leaves_open, Entry, IsLegal, IsWell}
 use Rattle.conn_model.proofs.Goes.{legal_both, whole_in_parts}
 use Rattle.conn_model.proofs.Well.{after-nil, well_after}
@@ -29,6 +30,7 @@ book_begins p segments well none = record {
   made = refl;
   parts = rw none refl;
   chained = rw none tt;
+  handed_in = tt;
 }
 
 -- as the code makes it
@@ -41,8 +43,9 @@ records_appended b r parts = sym (append_assoc (joined (sent b.segments)) b.jour
 
 pub book_goes_on : (b : BookState) (moment : ℕ) (event : OwnedEvent) (reply : Reply) (q : Plain) → IsBook b →
     answer b.base (history_of b.records) moment event ≡ Ok reply → q ≡ after b.base (entry moment event reply ∷ history_of b.records) →
+    moment < 2 ^ 64 → IsHandedIn event →
     IsBook (state_of b.base (b.journal ++ record_of (b.made + 1) (entry moment event reply) ∷ []) b.segments q (b.made + 1))
-book_goes_on b moment event reply q book answered next =
+book_goes_on b moment event reply q book answered next short given =
     let r : Record = record_of (b.made + 1) (entry moment event reply) in
     let records : joined (sent b.segments) ++ (b.journal ++ r ∷ []) ≡ b.records ++ r ∷ [] = records_appended b r book.parts in
     let more : history_of (b.records ++ r ∷ []) ≡ entry moment event reply ∷ history_of b.records = history_on_appended [] b.records r in
@@ -54,6 +57,7 @@ book_goes_on b moment event reply q book answered next =
       made = rw records (omega (arith, book.made, length-append b.records (r ∷ [])));
       parts = refl;
       chained = book.chained;
+      handed_in = rw (records, more) (short, given, book.handed_in);
     }
 
 -- as the code makes it
@@ -88,6 +92,7 @@ book_cut b segments book more = record {
   made = book.made;
   parts = sym (records_cut b segments book more);
   chained = rw more (chained_appended 1 (sent b.segments) (segment_of b) book.chained (journal_first b book));
+  handed_in = book.handed_in;
 }
 
 -- as the code makes it
@@ -106,6 +111,7 @@ book_looked b segments book same = record {
   made = book.made;
   parts = rw same book.parts;
   chained = rw same book.chained;
+  handed_in = book.handed_in;
 }
 
 -- a history before the base

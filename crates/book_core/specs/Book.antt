@@ -5,6 +5,7 @@ use Rattle.rtrb.specs.declared.AnyItems.{AnyItems}
 use Rattle.rtrb.specs.declared.producer.Producer.{Producer}
 use Rattle.rtrb.specs.Ring.{sent}
 use Rattle.conn_model.specs.Answer.{answer_in}
+use Rattle.conn_model.specs.HandedIn.{AreHandedIn}
 use Rattle.conn_model.specs.History.{after, Entry, IsLegal, IsWell}
 use Rattle.conn_model.specs.declared.event.OwnedEvent.{OwnedEvent}
 use Rattle.conn_model.specs.declared.plain.Plain.{Plain}
@@ -35,7 +36,8 @@ state_of base journal segments state made =
     record { base = base; records = joined (sent segments) ++ journal; journal = journal; segments = segments; state = state; made = made }
 
 -- The records are a legal history from the base on, the core is the state after it, and their numbers rise by 1 from 1.
--- The first of them went out in segments, each of which follows the one before, and the others are in memory.
+-- The first of them went out in segments, each of which follows the one before, and the others are in memory. Each of their
+-- events is one that a caller can hand in.
 pub record IsBook (b : BookState) : Type 0 where
   pub well : IsWell b.base
   pub legal : IsLegal b.base (history_of b.records)
@@ -44,6 +46,7 @@ pub record IsBook (b : BookState) : Type 0 where
   pub made : b.made ≡ length b.records
   pub parts : b.records ≡ joined (sent b.segments) ++ b.journal
   pub chained : AreChained 1 (sent b.segments)
+  pub handed_in : AreHandedIn (history_of b.records)
 
 -- no record was made yet
 abbrev pub new_book : Plain → SegmentProducer → BookState

@@ -1,6 +1,7 @@
 //! A core with its records.
 ghost use Rattle.std.specs.Prelude.{◌≡◌, ◌↔◌, ◌<◌, ◌≤◌, ◌+◌, ◌^◌, [], ◌∷◌, ◌++◌, length, IfOk, IfErr, OnErr, OnOk, Err, Ok};
 ghost use Rattle.conn_model.specs.Counts.{counts_in, open_connections};
+ghost use Rattle.conn_model.specs.HandedIn.{HasPieceInLimit};
 ghost use Rattle.conn_model.specs.History.{answer, counts, entry, owned_event};
 ghost use Rattle.conn_model.specs.Settings.{settings_in};
 ghost use Rattle.record_core.specs.Records.{history_of};
@@ -89,6 +90,8 @@ impl Book {
     /// Answers one event and keeps a record of it. `Exhausted` comes first where 2^64 - 1 records were made;
     /// else room for the record is made before the core answers. After a fault nothing is changed.
     pub fn step(&mut self, moment: u64, event: &Event) -> Result<Receipt, StepFault>
+        requires piece { HasPieceInLimit (owned_event event.now) }
+
         // The reply is the answer after the history so far.
         ensures reply { IfOk result (λ receipt. answer self.old.base (history_of self.old.records) moment (owned_event event.now) ≡ Ok receipt.reply) }
 
@@ -100,7 +103,7 @@ impl Book {
         ensures fault { IfErr result (IsBookFault self.old (book_answer self.old moment (owned_event event.now))) }
         ensures err { OnErr result (self.new ≡ self.old) }
 
-        // The records are a legal history from the base on, and the core is the state after it.
+        // The records are a legal history of such events from the base on, and the core is the state after it.
         ensures legal { IsBook self.new }
 
         // The connection that the event opened is open besides, and the one that it ended is not open any longer.

@@ -7,6 +7,7 @@ ghost use Rattle.conn_model.specs.declared.event.TheConstants.{HEADER_WAIT};
 ghost use Rattle.conn_model.specs.declared.plain.Row.{Row};
 ghost use Rattle.conn_model.specs.declared.reply.Said.{Said};
 ghost use Rattle.conn_model.specs.declared.reply.Said.TheVariants.{Reloaded};
+ghost use Rattle.conn_model.specs.HandedIn.{HasPieceInLimit};
 ghost use Rattle.conn_model.specs.Answer.{answer_in, accept_answer, piece_answer, reload_answer, reply_of, row_at, server_answer, waiting_row};
 ghost use Rattle.conn_rows.specs.Needed.{versions_needed, AreTracksHeld};
 ghost use Rattle.conn_rows.specs.Summaries.{names_in, names_of, summary_of};
@@ -111,6 +112,8 @@ impl Core {
 
     /// Answers one event. After a fault nothing is changed.
     pub fn step(&mut self, moment: u64, event: &Event) -> Result<Reply, StepFault>
+        requires piece { HasPieceInLimit (owned_event event.now) }
+
         // Where the core is the state after a history, the reply is the answer after it, and the core is
         // then the state after one entry more.
         ensures reply { IfOk result (λ r. (p : Plain) (h : List Entry) → IsWell p → IsLegal p h → self.old ≡ after p h →

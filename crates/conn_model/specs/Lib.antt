@@ -7,3 +7,4 @@ pub mod Answer
 pub mod History
 pub mod Changes
 pub mod Settings
+pub mod HandedIn

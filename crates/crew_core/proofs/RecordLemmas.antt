@@ -52,6 +52,7 @@ parts_recorded b old mid new' book first then = (
   record {
     history = history_of b.records;
     legal = book.legal;
+    handed_in = book.handed_in;
     appended =
         subst (Appends old new') (ap records_text (sym book.parts) ∙ records_history b.records book.numbers)
         (wrote_both old mid new' (joined (sent b.segments)) b.journal first then);
@@ -64,6 +65,7 @@ front_recorded b old new' book part = (
   record {
     history = history_of b.records;
     legal = book.legal;
+    handed_in = book.handed_in;
     appended = subst (AppendsFront old new') (ap records_text (sym book.parts) ∙ records_history b.records book.numbers) part;
   },
   made_length b book,

@@ -6,3 +6,4 @@ pub mod Writers
 pub mod Idle
 pub mod Dues
 pub mod Places
+pub mod Pieces

@@ -1,5 +1,8 @@
 //! The calls of one worker at the desk.
 ghost use Rattle.std.specs.Prelude.{◌≡◌, ◌≤◌};
+ghost use Rattle.conn_model.specs.declared.event.ConnId.{ConnId};
+ghost use Rattle.conn_model.specs.HandedIn.{HasPieceInLimit};
+ghost use Rattle.desk_core.specs.Driving.{driven_event};
 
 use crate::leases::Leases;
 use crate::recorder::Alert;
@@ -154,7 +157,9 @@ impl<M: Ledger, O: Ledger> Calls<M, O> {
         context: &WorkerContext<'_, M, O, B, G, C>,
         key: usize,
         drive: &Drive<'_>,
-    ) -> CallOutcome {
+    ) -> CallOutcome
+        requires piece { (id : ConnId) → HasPieceInLimit (driven_event id drive.now) }
+    {
         if !self.enter(context.gate) {
             return CallOutcome::Stopped;
         }
@@ -169,7 +174,9 @@ impl<M: Ledger, O: Ledger> Calls<M, O> {
         context: &WorkerContext<'_, M, O, B, G, C>,
         key: usize,
         drive: &Drive<'_>,
-    ) -> CallOutcome {
+    ) -> CallOutcome
+        requires piece { (id : ConnId) → HasPieceInLimit (driven_event id drive.now) }
+    {
         let Some(lease) = self.leases.take(key) else {
             return CallOutcome::Ended;
         };

@@ -1,5 +1,6 @@
 //! What a worker does with one of its connections.
-ghost use Rattle.std.specs.Prelude.{◌≡◌, ◌≤◌, length, take, drop};
+ghost use Rattle.std.specs.Prelude.{◌≡◌, ◌≤◌, length, take, drop, IfOk};
+ghost use Rattle.crew_core.specs.Pieces.{IsPiece, IsShort};
 
 use crate::calls::{CallOutcome, WorkerContext};
 use crate::conn::{Due, Stage};
@@ -30,13 +31,16 @@ enum Piece {
 
 /// The bytes from the one place to the other.
 fn part(bytes: &[u8], from: usize, until: usize) -> &[u8]
-    ensures { until ≤ length bytes.now → result.now ≡ drop from (take until bytes.now) }
+    ensures bytes { until ≤ length bytes.now → result.now ≡ drop from (take until bytes.now) }
+    ensures short { length result.now ≤ until }
 {
     bytes.get(from..until).unwrap_or(&[])
 }
 
 /// Reads one piece into the front of the buffer.
-fn read_piece<K: Link>(link: &mut K, buffer: &mut [u8]) -> Result<Got, Failed> {
+fn read_piece<K: Link>(link: &mut K, buffer: &mut [u8]) -> Result<Got, Failed>
+    ensures { IfOk result IsPiece }
+{
     if buffer.len() < PIECE_BYTES {
         return Err(Failed);
     }
@@ -85,7 +89,9 @@ impl<M: Ledger, O: Ledger, K: Link, L: Dial<Link = K>> Worker<M, O, K, L> {
     }
 
     /// Reads once from a connection that waits for its header.
-    fn read(&mut self, key: usize) -> Piece {
+    fn read(&mut self, key: usize) -> Piece
+        ensures { IsShort result }
+    {
         let Some(conn) = self.state.table.conn(key) else {
             return Piece::Blocked;
         };

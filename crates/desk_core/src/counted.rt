@@ -1,5 +1,6 @@
 //! A book whose records are the calls of passes.
 ghost use Rattle.std.specs.Prelude.{◌≡◌, ◌<◌, ◌≤◌, ◌+◌, ◌^◌, IfErr, IfOk, MatchOption, Ok, OnErr, OnOk, false, true, vec_capacity, vec_len};
+ghost use Rattle.conn_model.specs.HandedIn.{HasPieceInLimit};
 ghost use Rattle.conn_model.specs.History.{owned_event};
 ghost use Rattle.conn_model.specs.declared.event.OwnedEvent.TheVariants as owned;
 ghost use Rattle.conn_model.specs.declared.reply.Said.TheVariants.{Closed};
@@ -50,7 +51,8 @@ fn copy_to_keep(
     kept: &mut Vec<Record>,
     event: &Event,
 ) -> Result<Option<OwnedEvent>, AllocError>
-    ensures copy { IfOk result (λ copy. MatchOption copy (keeps ≡ false) (λ e. (keeps ≡ true) × (e ≡ owned_event event.now) × (vec_len kept.new < vec_capacity kept.new))) }
+    ensures copy { IfOk result (λ copy. MatchOption copy (keeps ≡ false) (λ e.
+        (keeps ≡ true) × (e ≡ owned_event event.now) × (vec_len kept.new < vec_capacity kept.new))) }
     ensures kept { kept.new.items ≡ kept.old.items }
 {
     if keeps {
@@ -92,6 +94,7 @@ impl<M: Ledger, B: Opening> CountedBook<M, B> {
         moment: u64,
         event: &Event,
     ) -> Result<Receipt, StepFault>
+        requires piece { HasPieceInLimit (owned_event event.now) }
         ensures pass { IfOk result (λ r. IsAnswered B.opening pass.old pass.new moment (owned_event event.now) r) }
         ensures reply { IfOk result (λ r. book_answer self.old.book (moment_in self.old.book moment) (owned_event event.now) ≡ Ok r.reply) }
         ensures made { IfOk result (λ r. self.new.book.made ≡ self.old.book.made + 1) }

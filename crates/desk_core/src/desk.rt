@@ -4,6 +4,7 @@ ghost use Rattle.std.specs.Option.{option_map};
 ghost use Rattle.conn_model.specs.declared.event.OwnedEvent.TheVariants as owned;
 ghost use Rattle.conn_model.specs.declared.reply.Said.TheVariants.{Closed};
 ghost use Rattle.book_core.specs.Book.{after_cut, segment_of, with_ring};
+ghost use Rattle.conn_model.specs.HandedIn.{HasPieceInLimit};
 ghost use Rattle.conn_model.specs.Counts.{open_connections};
 ghost use Rattle.rtrb.specs.Ring.{known_free, known_items, received, sent, ConsumerLooked, IsPair, ProducerLooked, SameProducer};
 ghost use Rattle.desk_core.specs.declared.desk.TheConstants.{CALL_PARTS};
@@ -70,6 +71,7 @@ impl<M: Ledger, O: Ledger, B: Opening> SharedDesk<M, O, B> {
         lease: Lease<O>,
         drive: &Drive<'_>,
     ) -> DriveResult<O>
+        requires piece { HasPieceInLimit (driven_event lease.id drive.now) }
         ensures { IsDriven B.opening pass.old pass.new moment (driven_event lease.id drive.now) lease.id result }
     {
         self.desk_state.lock(rt).drive(pass, moment, lease, drive)

@@ -1,6 +1,7 @@
 //! What the lock of a desk guards.
 ghost use Rattle.std.specs.Prelude.{◌≡◌, ◌-◌, ◌+◌, ◌^◌, IfOk, IfErr, OnErr, OnOk};
 ghost use Rattle.std.specs.Option.{option_map};
+ghost use Rattle.conn_model.specs.HandedIn.{HasPieceInLimit};
 ghost use Rattle.conn_model.specs.History.{owned_event};
 ghost use Rattle.conn_model.specs.declared.event.OwnedEvent.TheVariants as owned;
 ghost use Rattle.conn_model.specs.declared.reply.Said.TheVariants.{Closed};
@@ -83,7 +84,8 @@ impl<M: Ledger, O: Ledger, B: Opening> DeskState<M, O, B> {
         lease: Lease<O>,
         event: &Event,
     ) -> DriveResult<O>
-        requires { EndsOnly (owned_event event.now) }
+        requires ends { EndsOnly (owned_event event.now) }
+        requires piece { HasPieceInLimit (owned_event event.now) }
         ensures { IsDriven B.opening pass.old pass.new moment (owned_event event.now) lease.id result }
     {
         let DeskState {
@@ -119,6 +121,7 @@ impl<M: Ledger, O: Ledger, B: Opening> DeskState<M, O, B> {
         lease: Lease<O>,
         drive: &Drive<'_>,
     ) -> DriveResult<O>
+        requires piece { HasPieceInLimit (driven_event lease.id drive.now) }
         ensures { IsDriven B.opening pass.old pass.new moment (driven_event lease.id drive.now) lease.id result }
     {
         let id = lease.id;

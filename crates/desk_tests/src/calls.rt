@@ -1,7 +1,12 @@
 //! Calls of a desk on what may be a lease, and what came of them as words.
+ghost use Rattle.std.specs.Prelude.{IsTrue};
+ghost use Rattle.conn_model.specs.declared.event.ConnId.{ConnId};
+ghost use Rattle.conn_model.specs.HandedIn.{HasPieceInLimit};
+ghost use Rattle.desk_core.specs.Driving.{driven_event};
+
 use addr_core::Pair;
 use conn_model::ask::{Ask, Counts};
-use conn_model::event::Why;
+use conn_model::event::{PIECE_LIMIT, Why};
 use conn_model::reply::{Cause, Said, StepFault};
 use desk_core::{Drive, DriveResult, Lease, Pass, SharedDesk};
 use std::sync::Wait;
@@ -68,6 +73,16 @@ pub fn accept<M: Ledger, O: Ledger, R: Wait>(
     }
 }
 
+/// Whether it can be driven on a connection.
+fn can_come(step: &Drive<'_>) -> bool
+    ensures { IsTrue result → (id : ConnId) → HasPieceInLimit (driven_event id step.now) }
+{
+    match step {
+        Drive::Piece(bytes) => bytes.len() <= PIECE_LIMIT,
+        Drive::Connected | Drive::ConnectFailed | Drive::Expire => true,
+    }
+}
+
 /// Something is driven on the connection of the lease.
 fn drive<M: Ledger, O: Ledger, R: Wait>(
     rt: &R,
@@ -77,6 +92,9 @@ fn drive<M: Ledger, O: Ledger, R: Wait>(
     lease: Lease<O>,
     step: &Drive<'_>,
 ) -> (Word, Option<Lease<O>>) {
+    if !can_come(step) {
+        return (("too long", 0, 0), Some(lease));
+    }
     match desk.drive(rt, pass, moment, lease, step) {
         DriveResult::Goes(receipt, lease) => (word_of(&receipt.reply.said), Some(lease)),
         DriveResult::Over(receipt) => (word_of(&receipt.reply.said), None),

@@ -22,9 +22,10 @@ use Rattle.hex.specs.Hex.{encode_lower, encode_with, lower_digits, decode_sized,
 use Rattle.hex.proofs.HexLemmas.{length-encode_with, decode_sized-encode_lower}
 use Rattle.conn_model.specs.declared.event.Why.{Why}
 use Rattle.conn_model.specs.declared.event.Why.TheVariants.{Done, Fault, Stopped, Failed, ClientTimeout, ServerTimeout}
-use Rattle.event_text.specs.Script.{bytes_in, bytes_of, bytes_text, ends_of, event_in_lines, event_line, event_lines, event_with, event_words, head_of, head_written, id_of, id_in, id_text, is_mark, is_upper_digit, lines_after, text_lines, why_of, why_text, wanted_of, words_of, IsHandedIn, Wanted, ◌>>=◌}
+use Rattle.conn_model.specs.HandedIn.{IsHandedIn}
+use Rattle.event_text.specs.Script.{bytes_in, bytes_of, bytes_text, ends_of, event_in_lines, event_line, event_lines, event_with, event_words, head_of, head_written, id_of, id_in, id_text, is_mark, is_upper_digit, lines_after, text_lines, why_of, why_text, wanted_of, words_of, Wanted, ◌>>=◌}
 use Rattle.event_text.proofs.LackLemmas.{bytes_lack, decimal_lacks, endpoint_lacks, id_lacks, number_lacks, text_of-bytes, why_lacks, word_lacks, IsAside, Lacks}
-use Rattle.event_text.proofs.ReloadLemmas.{bar_lines-read, lines_joined, lines_some}
+use Rattle.event_text.proofs.ReloadLemmas.{bar_lines-read, lines_few, lines_joined, lines_some}
 
 or_false : (a b : Bool) → (a || b) ≡ false → (a ≡ false) × (b ≡ false)
 or_false true b is = let wrong : true ≡ false = is in absurd cc
@@ -151,7 +152,7 @@ head_of-words moment (Expire id) short given =
 head_of-words moment (Reload text) short given =
     let at : decimal_of (decimal moment) 0xFFFF_FFFF_FFFF_FFFF ≡ Some moment = decimal_of_written (decimal moment) 0xFFFF_FFFF_FFFF_FFFF moment (omega arith) refl in
     let count = length (text_lines text) in
-    let lines : decimal_of (decimal count) 0xFFFF_FFFF_FFFF_FFFF ≡ Some count = decimal_of_written (decimal count) 0xFFFF_FFFF_FFFF_FFFF count (omega (arith, given.1)) refl in
+    let lines : decimal_of (decimal count) 0xFFFF_FFFF_FFFF_FFFF ≡ Some count = decimal_of_written (decimal count) 0xFFFF_FFFF_FFFF_FFFF count (omega (arith, given.1, lines_few text)) refl in
     let some : (count == 0) ≡ false = grind (arith, nat_tests, lines_some text) in
     rw (at, lines, some) refl
 

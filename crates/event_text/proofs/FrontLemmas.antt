@@ -18,7 +18,8 @@ use Rattle.addr_core.specs.Family.{same_family}
 use Rattle.addr_core.specs.Text.{endpoint_text, IsEndpoint}
 use Rattle.conn_model.specs.declared.event.ConnId.{ConnId}
 use Rattle.conn_model.specs.declared.event.OwnedEvent.TheVariants.{Accept}
-use Rattle.event_text.specs.Script.{accept_of, bare_event_of, close_of, event_by_verb, event_on, id_of, id_text, is_mark, piece_of, words_of, IsId, ◌>>=◌}
+use Rattle.conn_model.specs.HandedIn.{IsId}
+use Rattle.event_text.specs.Script.{accept_of, bare_event_of, close_of, event_by_verb, event_on, id_of, id_text, is_mark, piece_of, words_of, ◌>>=◌}
 use Rattle.event_text.specs.Fronts.{ends_in, event_after, head_after, id_alone, id_first, number_first}
 use Rattle.event_text.proofs.EventLemmas.{ends_of-written, id_of-written}
 use Rattle.event_text.proofs.LongLemmas.{close_long, piece_long}

@@ -8,6 +8,7 @@ use Rattle.std.proofs.lemmas.Bool.{false_from_ne_true}
 use Rattle.std.proofs.lemmas.Bool.Decides.{nat_tests}
 use Rattle.std.proofs.lemmas.List.{take_at, drop_at, get_or_at}
 use Rattle.std.proofs.lemmas.List.Splits.{join_with_byte-slice_split, length-slice_split}
+use Rattle.std.proofs.lemmas.List.Sums.{count_by-le-length}
 use Rattle.std.proofs.lemmas.Str.{is_utf8-from_IsUtf8, IsUtf8-from_is_utf8, IsUtf8-take, IsUtf8-drop, IsCharBoundary-before_ascii, IsCharBoundary-after_ascii}
 use Rattle.text_core.specs.Cut.{cut}
 use Rattle.text_core.specs.Parts.{is_line_feed}
@@ -17,6 +18,10 @@ use Rattle.event_text.specs.Script.{bar_lines, bar_text, bar_texts, text_lines}
 -- a text has a line at least
 pub lines_some : (text : List ℕ) → 0 < length (text_lines text)
 lines_some text = let is = length-slice_split is_line_feed text in omega (arith, is)
+
+-- and one more than it has bytes at the most
+pub lines_few : (text : List ℕ) → length (text_lines text) ≤ length text + 1
+lines_few text = omega (arith, length-slice_split is_line_feed text, count_by-le-length is_line_feed text)
 
 -- ---- the text after a bar
 

@@ -1,14 +1,13 @@
 -- Scripts: the lines that hand in events, and those that ask for counts.
-use Rattle.std.specs.Prelude.{◌≡◌, ℕ, Bool, true, ◌<◌, ◌≤◌, ◌/◌, ◌-◌, ◌^◌, ◌==◌, ◌&&◌, ◌||◌, nat_le, nat_lt, List, [], ◌∷◌, ◌++◌, length, map, take, codes, Option, Some, None, option_map, if◌then◌else◌}
+use Rattle.std.specs.Prelude.{ℕ, Bool, ◌<◌, ◌/◌, ◌-◌, ◌==◌, ◌&&◌, ◌||◌, nat_le, nat_lt, List, [], ◌∷◌, ◌++◌, length, map, take, codes, Option, Some, None, option_map, if◌then◌else◌}
 use Rattle.std.specs.List.{flat_map, join_with_byte, list_any, slice_split}
 use Rattle.std.specs.Result.{result_ok}
-use Rattle.std.specs.Str.{bytes_eq, is_utf8, IsUtf8}
-use Rattle.hex.specs.Hex.{decode_sized, encode_lower, IsBytes}
+use Rattle.std.specs.Str.{bytes_eq, is_utf8}
+use Rattle.hex.specs.Hex.{decode_sized, encode_lower}
 use Rattle.text_core.specs.Decimal.{decimal, decimal_of}
 use Rattle.text_core.specs.Parts.{is_line_feed}
 use Rattle.addr_core.specs.PairValue.{PairValue, pair_of}
-use Rattle.addr_core.specs.Text.{addr_of, endpoint_of, endpoint_text, IsEndpoint}
-use Rattle.addr_core.specs.Family.{same_family}
+use Rattle.addr_core.specs.Text.{addr_of, endpoint_of, endpoint_text}
 use Rattle.conn_model.specs.declared.ask.Ask.{Ask}
 use Rattle.conn_model.specs.declared.ask.Ask.TheVariants as asks
 use Rattle.conn_model.specs.declared.event.ConnId.{ConnId}
@@ -331,18 +330,3 @@ HasLines (firsts.Reload moment lines) = 0 < lines
 abbrev pub IsCounted : Request → Type 0
 IsCounted (requests.Event first) = HasLines first
 IsCounted (requests.Ask ask) = Unit {0}
-
--- the numbers of an event are in range, its pair is of one family, its piece is not too long, and its text is one in
--- UTF-8, whose lines can be counted
-abbrev pub IsId : ConnId → Type 0
-IsId id = (id.frontend < 2 ^ 16) × (id.serial < 2 ^ 64)
-
-abbrev pub IsHandedIn : OwnedEvent → Type 0
-IsHandedIn (Accept listener real) =
-    (listener < 2 ^ 16) × IsEndpoint real.source × IsEndpoint real.destination × (same_family real.source.addr real.destination.addr ≡ true)
-IsHandedIn (Piece id bytes) = IsId id × (length bytes ≤ PIECE_LIMIT) × IsBytes bytes
-IsHandedIn (Connected id) = IsId id
-IsHandedIn (ConnectFailed id) = IsId id
-IsHandedIn (Close id why) = IsId id
-IsHandedIn (Expire id) = IsId id
-IsHandedIn (Reload text) = IsUtf8 text × (length (text_lines text) < 2 ^ 64)

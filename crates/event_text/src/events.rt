@@ -1,6 +1,7 @@
 //! Events as lines.
 ghost use Rattle.std.specs.Prelude.{◌≡◌, ◌+◌, ◌<◌, ◌^◌, ◌++◌, ◌∷◌, length, codes, OnOk, Some};
-ghost use Rattle.event_text.specs.Script.{bar_lines, ended_lines, event_in_lines, event_line, event_lines, event_text, text_lines, IsHandedIn};
+ghost use Rattle.conn_model.specs.HandedIn.{IsHandedIn};
+ghost use Rattle.event_text.specs.Script.{bar_lines, ended_lines, event_in_lines, event_line, event_lines, event_text, text_lines};
 
 use crate::digits::write_piece;
 use crate::replies::{write_accept, write_byte, write_ended, write_field, write_named, write_text};

@@ -6,7 +6,8 @@ ghost use Rattle.std.specs.Str.{bytes_eq};
 ghost use Rattle.text_core.specs.Decimal.{decimal};
 ghost use Rattle.addr_core.specs.Dotted.{dotted_text};
 ghost use Rattle.addr_core.specs.Text.{endpoint_text, IsEndpoint};
-ghost use Rattle.event_text.specs.Script.{id_text, IsId};
+ghost use Rattle.conn_model.specs.HandedIn.{IsId};
+ghost use Rattle.event_text.specs.Script.{id_text};
 
 use addr_core::{Addr, Endpoint, Pair};
 use conn_model::event::ConnId;

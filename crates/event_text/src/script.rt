@@ -5,7 +5,8 @@ ghost use Rattle.conn_model.specs.declared.event.OwnedEvent.{OwnedEvent};
 ghost use Rattle.conn_model.specs.declared.event.TheConstants.{PIECE_LIMIT};
 ghost use Rattle.conn_model.specs.History.{owned_event};
 ghost use Rattle.event_text.specs.Fronts.{ends_in, event_after, head_after, id_alone, id_first, number_first};
-ghost use Rattle.event_text.specs.Script.{accept_of, ask_of, backend_asked, bare_event_of, bytes_of, close_of, ends_of, entry_asked, event_line, event_by_verb, event_on, event_read, frontend_asked, head_by_verb, head_of, head_read, head_written, id_of, piece_of, reload_of, server_asked, wanted, wanted_of, why_of, words_of, HasLines, EventHead, IsCounted, IsHandedIn, Wanted};
+ghost use Rattle.conn_model.specs.HandedIn.{HasPieceInLimit, IsHandedIn};
+ghost use Rattle.event_text.specs.Script.{accept_of, ask_of, backend_asked, bare_event_of, bytes_of, close_of, ends_of, entry_asked, event_line, event_by_verb, event_on, event_read, frontend_asked, head_by_verb, head_of, head_read, head_written, id_of, piece_of, reload_of, server_asked, wanted, wanted_of, why_of, words_of, HasLines, EventHead, IsCounted, Wanted};
 
 use crate::digits::read_hex;
 use crate::fronts::{after, id, id_before, is_word, number_before, pair};
@@ -30,7 +31,8 @@ pub enum EventRequest {
 impl EventRequest {
     /// The event, whose piece is in front of the buffer.
     pub fn event<'a>(&self, buffer: &'a [u8]) -> Event<'a>
-        ensures { owned_event result ≡ event_read buffer.now self.now }
+        ensures event { owned_event result ≡ event_read buffer.now self.now }
+        ensures piece { length buffer.now ≤ PIECE_LIMIT → HasPieceInLimit (owned_event result) }
     {
         match *self {
             EventRequest::Accept(listener, real) => Event::Accept(listener, real),

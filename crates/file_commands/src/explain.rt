@@ -1,4 +1,7 @@
 //! `l4proxy explain`: which rules are tried for one connection, what they saw, and the reply.
+ghost use Rattle.std.specs.Prelude.{◌≤◌, length, IfOk, IfSome};
+ghost use Rattle.conn_model.specs.declared.event.TheConstants.{PIECE_LIMIT};
+
 use crate::files::{DEVICE, DONE, REFUSED, USAGE, explain_refusal, unreadable};
 use crate::pipe::pair;
 use addr_core::Pair;
@@ -35,10 +38,9 @@ fn words<'a>(given: &'a ArgMatches<'_>) -> Option<ExplainWords<'a>> {
 }
 
 /// The bytes of a header that is written in hexadecimal, or the status if there are none.
-fn header_bytes(
-    rt: &(impl AllocGlobal + Eprint),
-    word: Option<&str>,
-) -> Result<Option<Vec<u8>>, u8> {
+fn header_bytes(rt: &(impl AllocGlobal + Eprint), word: Option<&str>) -> Result<Option<Vec<u8>>, u8>
+    ensures { IfOk result (λ header. IfSome header (λ bytes. length bytes.items ≤ PIECE_LIMIT)) }
+{
     let Some(word) = word else {
         return Ok(None);
     };
@@ -107,7 +109,9 @@ fn explain_file<R: Files + AllocGlobal + Print + Eprint>(
     words: &ExplainWords<'_>,
     real: Pair,
     header: Option<&[u8]>,
-) -> u8 {
+) -> u8
+    requires { IfSome header (λ bytes. length bytes.now ≤ PIECE_LIMIT) }
+{
     let Ok(text) = fs::read_to_string(rt, words.file) else {
         return unreadable(rt, words.file);
     };

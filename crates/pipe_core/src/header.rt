@@ -4,6 +4,7 @@ ghost use Rattle.device_core.specs.Device.{raised_by};
 ghost use Rattle.device_core.specs.Patience.{IsUnblocked};
 ghost use Rattle.plan_types.specs.declared.plan.Plan.{Plan};
 ghost use Rattle.conn_model.specs.declared.event.OwnedEvent.TheVariants as owned;
+ghost use Rattle.conn_model.specs.declared.event.TheConstants.{PIECE_LIMIT};
 ghost use Rattle.conn_model.specs.declared.plain.Plain.{Plain};
 ghost use Rattle.conn_model.specs.Answer.{answer_in};
 ghost use Rattle.conn_model.specs.History.{opening};
@@ -70,6 +71,7 @@ fn lack_of_memory(fault: StepFault) -> PipeFault
 /// Hands in one piece of a header.
 fn judge_piece(core: &mut Core, id: ConnId, piece: &[u8]) -> Result<Judgement, PipeFault>
     requires waits { (got : List ℕ) × Holds core.old id got }
+    requires piece { length piece.now ≤ PIECE_LIMIT }
     ensures decides { IfOk result (λ j. (first : Plain) (got : List ℕ) → Waits first id core.old got → Decides first id got piece.now core.new j) }
     ensures within { IfOk result (IsWithin piece.now) }
     ensures no_memory { IfErr result (λ f. f ≡ PipeFault.NoMemory) }

@@ -1,9 +1,13 @@
 //! Copies of what a record keeps.
-ghost use Rattle.std.specs.Prelude.{◌≡◌, IfOk};
+ghost use Rattle.std.specs.Prelude.{◌≡◌, ◌<◌, ◌^◌, length, IfOk, OnOk};
+ghost use Rattle.std.specs.Str.{IsUtf8};
+ghost use Rattle.addr_core.specs.Text.{IsEndpoint};
+ghost use Rattle.conn_model.specs.HandedIn.{AreBytes, HasPieceInLimit, IsHandedIn, IsId};
 ghost use Rattle.conn_model.specs.History.{owned_event};
 
+use addr_core::{Addr, Endpoint};
 use arrayvec::ArrayVec;
-use conn_model::event::{Event, OwnedEvent};
+use conn_model::event::{ConnId, Event, OwnedEvent};
 use conn_model::reply::{Reply, Said};
 use list_core::Seq;
 use plan_types::Track;
@@ -11,10 +15,72 @@ use pp_v1::LINE_LIMIT;
 use proxy_types::COUNTERS;
 use std::alloc::{AllocError, Global};
 
+/// Says of a name what its type does. It does nothing.
+fn attest_id(id: &ConnId)
+    ensures { IsId id.now }
+{
+    let ConnId { frontend, serial } = *id;
+    let (_frontend, _serial) = (frontend, serial);
+}
+
+/// The same of an endpoint.
+fn attest_endpoint(endpoint: &Endpoint)
+    ensures { IsEndpoint endpoint.now }
+{
+    let _port = endpoint.port;
+    match endpoint.addr {
+        Addr::V4(number) => {
+            let _number = number;
+        }
+        Addr::V6(number) => {
+            let _number = number;
+        }
+    }
+}
+
+/// The same of bytes.
+fn attest_bytes(bytes: &[u8])
+    ensures { AreBytes bytes.now }
+{
+    let _length = bytes.len();
+}
+
+/// The same of a text.
+fn attest_text(text: &str)
+    ensures { IsUtf8 text.now × (length text.now < 2 ^ 63) }
+{
+    let _length = text.len();
+}
+
+/// The same of an event. What no type says is how long its piece is.
+fn attest(event: &Event)
+    ensures { HasPieceInLimit (owned_event event.now) → IsHandedIn (owned_event event.now) }
+{
+    match event {
+        Event::Accept(listener, real) => {
+            let _listener = *listener;
+            attest_endpoint(&real.source());
+            attest_endpoint(&real.destination());
+        }
+        Event::Piece(id, bytes) => {
+            attest_id(id);
+            attest_bytes(bytes);
+        }
+        Event::Connected(id) | Event::ConnectFailed(id) | Event::Close(id, _) | Event::Expire(id) =>
+            attest_id(id),
+        Event::Reload(text) => attest_text(text),
+    }
+}
+
 /// The event with memory of its own. Only the bytes of a piece and the text of a reload need memory.
 pub fn copy_event(alloc: Global, event: &Event) -> Result<OwnedEvent, AllocError>
-    ensures { IfOk result (λ copy. copy ≡ owned_event event.now) }
+    ensures copy { IfOk result (λ copy. copy ≡ owned_event event.now) }
+
+    // What the types do not say of an event that can be handed in is how long its piece is.
+    ensures handed_in { OnOk result (HasPieceInLimit (owned_event event.now) →
+        IsHandedIn (owned_event event.now)) }
 {
+    attest(event);
     match *event {
         Event::Accept(listener, real) => Ok(OwnedEvent::Accept(listener, real)),
         Event::Piece(id, bytes) => Ok(OwnedEvent::Piece(id, copy_text(alloc, bytes)?)),

@@ -5,6 +5,7 @@ ghost use Rattle.line_reader.specs.declared.lines.TheConstants.{MOST_LINE_BYTES}
 ghost use Rattle.conn_model.specs.Answer.{answer_in};
 ghost use Rattle.conn_model.specs.Counts.{counts_in};
 ghost use Rattle.event_text.specs.Replies.{count_line};
+ghost use Rattle.conn_model.specs.HandedIn.{HasPieceInLimit};
 ghost use Rattle.conn_model.specs.History.{owned_event};
 ghost use Rattle.conn_model.specs.declared.event.TheConstants.{PIECE_LIMIT};
 ghost use Rattle.event_text.specs.Script.{IsCounted};
@@ -127,6 +128,7 @@ fn answer(
     moment: u64,
     event: &Event<'_>,
 ) -> Result<(), ReplayFault>
+    requires piece { HasPieceInLimit (owned_event event.now) }
     ensures text { OnOk result (unsent.new.items ≡ unsent.old.items ++ answer_text (answer_in core.old moment (owned_event event.now))) }
     ensures plain { OnOk result (core.new ≡ plain_after core.old moment (owned_event event.now) (answer_in core.old moment (owned_event event.now))) }
     ensures err { IfErr result (λ f. f ≡ ReplayFault.NoMemory) }

@@ -1,10 +1,14 @@
 //! Records as they are written.
+ghost use Rattle.std.specs.Prelude.{IsTrue};
+ghost use Rattle.conn_model.specs.HandedIn.{HasPieceInLimit};
+ghost use Rattle.conn_model.specs.History.{owned_event};
+
 use crate::records::{RECORD, RELOAD_RECORD};
 use crate::runs::CONFIG;
 use addr_core::{Addr, Endpoint, Pair};
 use audit_core::write_record;
 use conn_core::Core;
-use conn_model::event::{ConnId, Event, Why};
+use conn_model::event::{ConnId, Event, PIECE_LIMIT, Why};
 use record_core::{Record, copy_event};
 use std::alloc::Global;
 
@@ -30,8 +34,25 @@ pub fn pair_from(source: u32, port: u16) -> Option<Pair> {
     Pair::of(source, destination)
 }
 
+/// Whether an event can be handed in.
+fn can_come(event: &Event) -> bool
+    ensures { IsTrue result → HasPieceInLimit (owned_event event.now) }
+{
+    match event {
+        Event::Piece(_, bytes) => bytes.len() <= PIECE_LIMIT,
+        Event::Accept(..)
+        | Event::Connected(_)
+        | Event::ConnectFailed(_)
+        | Event::Close(..)
+        | Event::Expire(_)
+        | Event::Reload(_) => true,
+    }
+}
+
 /// Whether an event is answered, and its record could be written.
-fn writes(alloc: Global, core: &mut Core, moment: u64, event: &Event, out: &mut Vec<u8>) -> bool {
+fn writes(alloc: Global, core: &mut Core, moment: u64, event: &Event, out: &mut Vec<u8>) -> bool
+    requires { HasPieceInLimit (owned_event event.now) }
+{
     let Ok(reply) = core.step(moment, event) else {
         return false;
     };
@@ -54,7 +75,7 @@ fn recorded(alloc: Global, events: &[Event<'_>]) -> Option<Vec<u8>> {
     let mut all = true;
     let mut moment = 0u64;
     for event in events {
-        all = writes(alloc, &mut core, moment, event, &mut out) && all;
+        all = can_come(event) && writes(alloc, &mut core, moment, event, &mut out) && all;
         moment = moment.saturating_add(1);
     }
     core.end();

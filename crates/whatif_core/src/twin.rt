@@ -2,6 +2,7 @@
 ghost use Rattle.std.specs.Prelude.{◌≡◌, ◌⊎◌, ◌+◌, ◌≤◌, length, Option, Some, None, Ok, Err, IfOk, IfErr, OnOk, option_and_then, option_map};
 ghost use Rattle.line_reader.specs.declared.lines.TheConstants.{MOST_LINE_BYTES};
 ghost use Rattle.conn_model.specs.declared.event.TheConstants.{PIECE_LIMIT};
+ghost use Rattle.conn_model.specs.HandedIn.{HasPieceInLimit};
 ghost use Rattle.conn_model.specs.History.{id_of, owned_event};
 ghost use Rattle.conn_rows.specs.Summaries.{names_in};
 ghost use Rattle.event_text.specs.Script.{head_read, words_of};
@@ -82,6 +83,7 @@ fn hand_in(
     moment: u64,
     event: &Event<'_>,
 ) -> Result<Option<ComparedDecision>, AllocError>
+    requires piece { HasPieceInLimit (owned_event event.now) }
     ensures decided { IfOk result (λ would. would ≡ decided trial.old moment (owned_event event.now)) }
     ensures stepped { OnOk result (trial.new ≡ stepped trial.old moment (owned_event event.now)) }
 {
@@ -126,6 +128,7 @@ fn play(
     moment: u64,
     event: &Event<'_>,
 ) -> Result<Option<Turn>, AllocError>
+    requires piece { HasPieceInLimit (owned_event event.now) }
     ensures turn { IfOk result (λ turn. turn ≡ option_map (turn_after auditor.now.plain trial.old moment (owned_event event.now)) (due_reply auditor.now.due)) }
     ensures trial { OnOk result (trial.new ≡ handed_after trial.old moment (owned_event event.now) (due_reply auditor.now.due)) }
 {

@@ -11,14 +11,15 @@ pub invariant_of-self-2 : goal.invariant_of-self-2
 invariant_of-self-2 c =
     let before : BookState = state_of c.self.inside.base c.self.inside.journal.items c.self.inside.segments c.self.inside.core c.self.inside.made in
     let stepped = c.in_ok-reply.ensures.reply c.self.inside.base (history_of before.records) c.self.invariant.well c.self.invariant.legal c.self.invariant.state in
-    rw (c.push_reserved.ensures.items, c.reserve.ensures.items, c.in-Ok-copy_event.ensures)
-    (book_goes_on before c.args.moment (owned_event c.args.event.now) c.in_ok-reply.reply c.step.new.self c.self.invariant stepped.0 stepped.1)
+    rw (c.push_reserved.ensures.items, c.reserve.ensures.items, c.in-Ok-copy_event.ensures.copy)
+    (book_goes_on before c.args.moment (owned_event c.args.event.now) c.in_ok-reply.reply c.step.new.self c.self.invariant stepped.0 stepped.1
+    (omega (arith, c.ranges.moment)) (c.in-Ok-copy_event.ensures.handed_in c.requires.piece))
 
 pub returns-clause-new : goal.returns-clause-new
 returns-clause-new c =
     let before : BookState = state_of c.self.inside.base c.self.inside.journal.items c.self.inside.segments c.self.inside.core c.self.inside.made in
     let e : Entry = entry c.args.moment (owned_event c.args.event.now) c.in_ok-reply.reply in
-    rw (c.push_reserved.ensures.items, c.reserve.ensures.items, c.in-Ok-copy_event.ensures, c.copy_reply.ensures)
+    rw (c.push_reserved.ensures.items, c.reserve.ensures.items, c.in-Ok-copy_event.ensures.copy, c.copy_reply.ensures)
     (made_by_step before e c.step.new.self c.self.invariant c.in_ok-reply.ensures.plain_new ∙ ap (λ b. with_entry b e) c.self.view_is)
 
 pub returns-clause-legal : goal.returns-clause-legal

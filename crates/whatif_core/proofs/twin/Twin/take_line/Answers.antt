@@ -28,6 +28,6 @@ returns-in-Ok-clause-turn c =
     let step : on_line s.checked line ≡ Ok next = c.in_ok-moment.ensures.ok in
     let room : c.self.inside.piece.len ≡ length piece = sym (c.check_first_again.ensures.room ∙ c.deref_mut.ensures.len) in
     let same : c.deref.result.now ≡ piece = c.deref.ensures.value ∙ ap (λ n. take n (piece ++ drop (length piece) c.self.inside.piece.items)) room ∙ take-append_seam piece (drop (length piece) c.self.inside.piece.items) in
-    let event : owned_event c.event-event.result ≡ event_read piece request = c.event-event.ensures ∙ ap (λ p. event_read p request) same in
+    let event : owned_event c.event-event.result ≡ event_read piece request = c.event-event.ensures.event ∙ ap (λ p. event_read p request) same in
     let turn : c.in-Ok.turn ≡ option_map (turn_after next.plain s.trial moment (event_read piece request)) (due_reply next.due) = rw event at c.in-Ok.ensures.turn in
     turn ∙ turn_of_line s next line (moment, event_read piece request) given (not_reload piece request) step ∙ ap (λ s. turn_at s line) c.self.view_is
