@@ -1,1 +1,3 @@
 pub mod TriedLemmas
+pub mod OnceLemmas
+pub mod OpeningLemmas

@@ -1,6 +1,8 @@
 -- What is tried for one connection, and what it is answered.
 use Rattle.std.specs.Prelude.{◌≡◌, ℕ, Bool, true, false, not, ◌&&◌, ◌||◌, nat_lt, List, [], ◌∷◌, ◌++◌, Option, Some, None, is_none, slice_get, Ok, if◌then◌else◌}
+use Rattle.std.specs.Option.{option_map_or}
 use Rattle.addr_core.specs.PairValue.{PairValue}
+use Rattle.conf_text.specs.declared.line.Line.{Line}
 use Rattle.pp_any.specs.declared.rest.Rest.TheVariants.{Read}
 use Rattle.pp_any.specs.NextPiece.{status_on}
 use Rattle.pp_any.specs.Status.{Status, Wait, Whole, Fault}
@@ -25,6 +27,7 @@ use Rattle.explain_core.specs.declared.explaining.Explanation.{Explanation}
 use Rattle.explain_core.specs.declared.explaining.Trials.{Trials}
 use Rattle.explain_core.specs.declared.tried.Tried.{Tried}
 use Rattle.explain_core.specs.declared.tried.TriedChoice.{TriedChoice}
+use Rattle.explain_core.specs.Text.{accept_text, header_text, trials_text}
 use Rattle.explain_core.specs.Tried.{tried, tried_choices}
 
 -- Lists of rules.
@@ -84,11 +87,18 @@ pub record IsTriedNext (p : Plain) (listener : ℕ) (real : PairValue) (accept_p
 
 -- After its header.
 
--- what is tried once a connection that waits has that header
-abbrev pub AreTriedLater : Plain → ConnId → PairValue → Status → Option Trials → Type 0
-AreTriedLater p id real Wait trials = trials ≡ None
-AreTriedLater p id real (Fault fault count) trials = trials ≡ None
-AreTriedLater p id real (Whole count meaning) trials = (facts : RuleFacts) × SeesWaiting p id (judged_pair real meaning) facts × AreTriedBy facts no_tracks trials
+-- what is tried of a connection that is judged by that pair, once its header of so many bytes is whole, and as text
+pub record IsTriedLater (p : Plain) (lines : List Line) (id : ConnId) (judged : PairValue) (header : List ℕ) (count : ℕ) (trials : Option Trials) (text : List ℕ) : Type 0 where
+  pub facts : RuleFacts
+  pub sees : SeesWaiting p id judged facts
+  pub tried : AreTriedBy facts no_tracks trials
+  pub text_is : text ≡ header_text header count judged ++ option_map_or (trials_text lines facts) trials []
+
+-- what is tried once a connection that waits has that header, and as text: nothing unless the header is whole
+abbrev pub AreTriedLater : Plain → List Line → ConnId → PairValue → List ℕ → Status → Option Trials → List ℕ → Type 0
+AreTriedLater p lines id real header Wait trials text = (trials ≡ None) × (text ≡ [])
+AreTriedLater p lines id real header (Fault fault count) trials text = (trials ≡ None) × (text ≡ [])
+AreTriedLater p lines id real header (Whole count meaning) trials text = IsTriedLater p lines id (judged_pair real meaning) header count trials text
 
 -- what a header says that comes in one piece
 abbrev pub header_status : List ℕ → Status
@@ -105,24 +115,23 @@ waiting_in (saids.Reloaded version) = None
 
 -- All of it.
 
--- What is tried after the connection rules, and the last reply: those of its accept, or of its header where it waits for
--- one that came.
-abbrev pub IsDecided : Plain → PairValue → Reply → Option Trials → Option ConnId → Option (List ℕ) → Option Trials → Reply → Type 0
-IsDecided p real first at_accept (Some id) (Some header) trials reply = AreTriedLater p id real (header_status header) trials × (answer_in p 0 (Piece id header) ≡ Ok reply)
-IsDecided p real first at_accept None header trials reply = (trials ≡ at_accept) × (reply ≡ first)
-IsDecided p real first at_accept (Some id) None trials reply = (trials ≡ at_accept) × (reply ≡ first)
+-- What is tried after the connection rules, the last reply, and what is written between the accept and that reply: those of
+-- its accept, or of its header where it waits for one that came.
+abbrev pub IsDecided : Plain → List Line → PairValue → Reply → Option Trials → Option ConnId → Option (List ℕ) → Option Trials → Reply → List ℕ → Type 0
+IsDecided p lines real first at_accept (Some id) (Some header) trials reply text =
+    AreTriedLater p lines id real header (header_status header) trials text × (answer_in p 0 (Piece id header) ≡ Ok reply)
+IsDecided p lines real first at_accept None header trials reply text = (trials ≡ at_accept) × (reply ≡ first) × (text ≡ [])
+IsDecided p lines real first at_accept (Some id) None trials reply text = (trials ≡ at_accept) × (reply ≡ first) × (text ≡ [])
 
--- a text ends with that line
-abbrev pub EndsWith : List ℕ → List ℕ → Type 0
-EndsWith text line = (front : List ℕ) × (text ≡ front ++ line)
-
--- what is tried for the connection of that pair, and its last reply, with which the text ends, in a balancer of that state
-pub record IsExplained (p : Plain) (real : PairValue) (header : Option (List ℕ)) (e : Explanation) : Type 0 where
+-- what is tried for the connection of that pair, its last reply, and the text of both, in a balancer of that state whose
+-- configuration has those lines
+pub record IsExplained (p : Plain) (lines : List Line) (real : PairValue) (header : Option (List ℕ)) (e : Explanation) : Type 0 where
   pub at : Listener
   pub at_accept : Option Trials
   pub first : Reply
+  pub later : List ℕ
   pub listens : slice_get p.listeners e.listener ≡ Some at
   pub next : IsTriedNext p e.listener real at.accept_proxy e.entry.items at_accept
   pub answers : answer_in p 0 (Accept e.listener real) ≡ Ok first
-  pub decided : IsDecided (after p (entry 0 (Accept e.listener real) first ∷ [])) real first at_accept (waiting_in first.said) header e.trials e.reply
-  pub ends : EndsWith e.text.items (reply_line e.reply)
+  pub decided : IsDecided (after p (entry 0 (Accept e.listener real) first ∷ [])) lines real first at_accept (waiting_in first.said) header e.trials e.reply later
+  pub text : e.text.items ≡ accept_text lines next.facts at e.entry.items at_accept ++ later ++ reply_line e.reply

@@ -1,3 +1,4 @@
 pub mod Explained
 pub mod Listeners
+pub mod Text
 pub mod Tried

@@ -1,5 +1,6 @@
 -- Which listener of a frontend takes a connection.
 use Rattle.std.specs.Prelude.{◌≡◌, ℕ, Bool, true, false, ◌==◌, ◌&&◌, ◌≤◌, ◌<◌, List, Option, Some, None, slice_get, if◌then◌else◌}
+use Rattle.std.specs.List.{position}
 use Rattle.std.specs.Str.{bytes_eq}
 use Rattle.addr_core.specs.declared.addr.Addr.{Addr}
 use Rattle.addr_core.specs.declared.addr.Addr.TheVariants.{V4, V6}
@@ -50,6 +51,10 @@ pub record IsBestBefore (listeners : List Listener) (frontend : ℕ) (local : En
 abbrev pub IsBestOf : List Listener → ℕ → Endpoint → ℕ → Option ℕ → Type 0
 IsBestOf listeners frontend local place None = (other : ℕ) (listener : Listener) → other < place → slice_get listeners other ≡ Some listener → listener.frontend ≡ frontend → ⊥
 IsBestOf listeners frontend local place (Some number) = IsBestBefore listeners frontend local place number
+
+-- no frontend has the name
+abbrev pub HasNone : Plain → List ℕ → Type 0
+HasNone p name = position (λ own. bytes_eq own.name name) p.frontends ≡ None
 
 -- that listener takes the connection of a pair for the frontend of a name
 pub record Takes (p : Plain) (name : List ℕ) (real : PairValue) (number : ℕ) : Type 0 where

@@ -1,26 +1,31 @@
 //! What is tried for one connection, and what it is answered.
-ghost use Rattle.std.specs.Prelude.{◌≡◌, ◌⊎◌, ◌∷◌, [], List, IfOk, IfErr, Ok, Err, Some, slice_get};
+ghost use Rattle.std.specs.Prelude.{◌≡◌, ◌⊎◌, ◌≤◌, ◌∷◌, ◌++◌, ℕ, [], List, length, IfOk, IfErr, IfSome, IsOk, MatchOption, Ok, Err, None, Some, slice_get};
 ghost use Rattle.std.specs.Option.{option_copied};
+ghost use Rattle.conf_text.specs.Lines.{lines_of};
+ghost use Rattle.conf_text.specs.declared.line.Line.{Line};
 ghost use Rattle.plan_types.specs.declared.plan.Plan.{Plan};
 ghost use Rattle.config_core.specs.Meaning.{meaning};
-ghost use Rattle.conn_model.specs.Answer.{answer_in, judged_pair};
+ghost use Rattle.conn_model.specs.declared.event.OwnedEvent.TheVariants.{Accept, Piece};
+ghost use Rattle.conn_model.specs.declared.event.TheConstants.{PIECE_LIMIT};
+ghost use Rattle.conn_model.specs.Answer.{answer_in, frontend_in, judged_pair};
+ghost use Rattle.conn_model.specs.HandedIn.{HasPieceInLimit};
 ghost use Rattle.conn_model.specs.Rules.{rejection};
 ghost use Rattle.conn_model.specs.History.{after, entry, opening, owned_event};
 ghost use Rattle.conn_core.specs.Machine.{IsOpened};
-ghost use Rattle.explain_core.specs.Listeners.{Takes};
+ghost use Rattle.explain_core.specs.Listeners.{HasNone, Takes};
+ghost use Rattle.explain_core.specs.Text.{accept_text};
 ghost use Rattle.explain_core.specs.Explained.{choices_unless, entry_tried, goes_on, header_status, is_full, waiting_in, AreTried, AreTriedAt, AreTriedLater, IsDecided, IsExplained, IsTriedNext};
 
 use crate::listeners::{frontend_number, listener_number};
-use crate::showing::Shower;
+use crate::showing::{Shower, write_header};
 use crate::tried::{Tried, TriedChoice, try_choices, try_rules};
 use addr_core::Pair;
-use conf_text::{LineFault, LineKind, Lines};
+use conf_text::Lines;
 use conn_core::{Core, OpenFault, RuleFacts};
 use conn_model::event::{ConnId, Event};
 use conn_model::plain::Listener;
 use conn_model::reply::{Reply, Said, StepFault};
 use event_text::write_reply;
-use plan_types::Choice;
 use pp_any::{Fed, Parser};
 use pp_v1::Meaning;
 use rule_engine::{Judged, NO_TRACKS, Tracks, TracksSoFar, Verdict, judge, judge_after};
@@ -37,13 +42,6 @@ pub enum ExplainFault {
     #[error("no such frontend")]
     NoFrontend,
     #[error("no memory")]
-    NoMemory,
-}
-
-/// Why nothing is explained of a configuration that is right.
-#[derive(Clone, Copy, Debug)]
-enum Unexplained {
-    NoFrontend,
     NoMemory,
 }
 
@@ -71,17 +69,6 @@ pub struct Explanation {
     pub reply: Reply,
     /// All of this as lines, the last of which is the reply.
     pub text: Vec<u8>,
-}
-
-impl From<AllocError> for Unexplained {
-    ghost use Rattle.std.specs.Prelude.{◌≡◌};
-    ghost use Rattle.explain_core.specs.declared.explaining.Unexplained.TheVariants.{NoMemory};
-
-    ghost from_gives = { λ error fault. fault ≡ NoMemory };
-
-    fn from(_error: AllocError) -> Unexplained {
-        Unexplained::NoMemory
-    }
 }
 
 /// Whether the frontend has no place for the connection.
@@ -112,7 +99,8 @@ fn try_backends(
     facts: &RuleFacts<'_>,
     says: &Judged,
 ) -> Result<Vec<TriedChoice>, AllocError>
-    ensures { IfOk result (λ list. list.items ≡ choices_unless (rejection says.now) facts.now says.now.tracks) }
+    ensures { IfOk result (λ list. list.items
+        ≡ choices_unless (rejection says.now) facts.now says.now.tracks) }
 {
     match says.verdict {
         Verdict::Reject => Ok(Vec::new(alloc)),
@@ -194,25 +182,20 @@ fn waiting_in(reply: &Reply) -> Option<ConnId>
     }
 }
 
-/// The answer of a balancer at moment 0.
-fn step(core: &mut Core, event: &Event<'_>) -> Result<Reply, Unexplained>
-    ensures reply { IfOk result (λ reply. answer_in core.old 0 (owned_event event.now) ≡ Ok reply) }
-    ensures plain { IfOk result (λ reply. core.new ≡ after core.old (entry 0 (owned_event event.now) reply ∷ [])) }
+/// The reply of a balancer at moment 0 to an event that has one.
+fn step(core: &mut Core, event: &Event<'_>) -> Result<Reply, AllocError>
+    requires answers { IsOk (answer_in core.old 0 (owned_event event.now)) }
+    requires piece { HasPieceInLimit (owned_event event.now) }
+    ensures reply { IfOk result (λ reply.
+        answer_in core.old 0 (owned_event event.now) ≡ Ok reply) }
+    ensures plain { IfOk result (λ reply.
+        core.new ≡ after core.old (entry 0 (owned_event event.now) reply ∷ [])) }
 {
     match core.step(0, event) {
         Ok(reply) => Ok(reply),
-        Err(StepFault::NoMemory) => Err(Unexplained::NoMemory),
-        Err(_) => Err(Unexplained::NoFrontend),
+        Err(StepFault::NoMemory) => Err(AllocError),
+        Err(_) => unreachable!(),
     }
-}
-
-/// The `use_backend` line that applies.
-fn chosen<'a>(choices: &'a [Choice], tried: &[TriedChoice]) -> Option<&'a Choice> {
-    let last = tried.last()?;
-    if !last.applies {
-        return None;
-    }
-    choices.iter().find(|choice| choice.line == last.line)
 }
 
 impl Shower<'_, '_> {
@@ -224,11 +207,15 @@ impl Shower<'_, '_> {
         at: &Listener,
         real: Pair,
         text: &mut Vec<u8>,
-    ) -> Result<(Vec<Tried>, Option<Trials>), Unexplained>
-        ensures { IfOk result (λ it. IsTriedNext core.now number real at.now.accept_proxy it.0.items it.1) }
+    ) -> Result<(Vec<Tried>, Option<Trials>), AllocError>
+        requires { IsOk (answer_in core.now 0 (Accept number real)) }
+        ensures { IfOk result (λ it.
+            (next : IsTriedNext core.now number real at.now.accept_proxy it.0.items it.1)
+            × (text.new.items ≡ text.old.items
+            ++ accept_text self.now.lines.now next.facts at.now it.0.items it.1)) }
     {
         let Some(facts) = core.arriving(number, real) else {
-            return Err(Unexplained::NoFrontend);
+            unreachable!()
         };
         let entry = try_entry(self.alloc, &facts)?;
         let trials = try_at_accept(self.alloc, &facts, at.accept_proxy)?;
@@ -244,8 +231,12 @@ impl Shower<'_, '_> {
         real: Pair,
         header: &[u8],
         text: &mut Vec<u8>,
-    ) -> Result<Option<Trials>, Unexplained>
-        ensures { IfOk result (λ trials. AreTriedLater core.now id real (header_status header.now) trials) }
+    ) -> Result<Option<Trials>, AllocError>
+        requires { IsOk (answer_in core.now 0 (Piece id header.now)) }
+        ensures { IfOk result (λ trials. (more : List ℕ)
+            × (text.new.items ≡ text.old.items ++ more)
+            × AreTriedLater core.now self.now.lines.now id real header.now
+            (header_status header.now) trials more) }
     {
         match Parser::new().feed(header) {
             Fed::More(_parser) => Ok(None),
@@ -253,57 +244,13 @@ impl Shower<'_, '_> {
             Fed::Whole(meaning, used) => {
                 let judged = judged_pair(real, meaning);
                 let Some(facts) = core.waiting(id, judged) else {
-                    return Err(Unexplained::NoFrontend);
+                    unreachable!()
                 };
                 let trials = try_session(self.alloc, &facts, NO_TRACKS)?;
-                self.show_header(text, header, used, &judged)?;
+                write_header(text, header, used, &judged)?;
                 self.show_trials(text, &facts, &trials)?;
                 Ok(Some(trials))
             }
-        }
-    }
-
-    fn show_accept(
-        &self,
-        text: &mut Vec<u8>,
-        facts: &RuleFacts<'_>,
-        at: &Listener,
-        entry: &[Tried],
-        trials: &Option<Trials>,
-    ) -> Result<(), AllocError> {
-        self.show_frontend(text, facts.frontend, &at.at, at.accept_proxy)?;
-        self.show_limit(text, facts, is_full(facts))?;
-        self.show_rules(
-            text,
-            facts,
-            facts.frontend.connection_rules.as_slice(),
-            entry,
-        )?;
-        match trials {
-            Some(trials) => self.show_trials(text, facts, trials),
-            None => Ok(()),
-        }
-    }
-
-    fn show_trials(
-        &self,
-        text: &mut Vec<u8>,
-        facts: &RuleFacts<'_>,
-        trials: &Trials,
-    ) -> Result<(), AllocError> {
-        let frontend = facts.frontend;
-        let rules = frontend.session_rules.as_slice();
-        self.show_rules(text, facts, rules, trials.session.as_slice())?;
-        if trials.says.verdict == Verdict::Reject {
-            return Ok(());
-        }
-        let choices = frontend.choices.as_slice();
-        let tried = trials.choices.as_slice();
-        self.show_choices(text, facts, choices, tried, &trials.says.tracks)?;
-        match (chosen(choices, tried), frontend.default) {
-            (Some(choice), _) => self.show_backend(text, facts, choice.backend, false),
-            (None, Some(number)) => self.show_backend(text, facts, number, true),
-            (None, None) => Ok(()),
         }
     }
 
@@ -317,8 +264,14 @@ impl Shower<'_, '_> {
         first: Reply,
         at_accept: Option<Trials>,
         text: &mut Vec<u8>,
-    ) -> Result<(Option<Trials>, Reply), Unexplained>
-        ensures { IfOk result (λ it. IsDecided core.old real first at_accept (waiting_in first.said) (option_copied header.entry) it.0 it.1) }
+    ) -> Result<(Option<Trials>, Reply), AllocError>
+        requires answers { (id : ConnId) (header : List ℕ) → waiting_in first.said ≡ Some id →
+            IsOk (answer_in core.old 0 (Piece id header)) }
+        requires header { IfSome header (λ bytes. length bytes.now ≤ PIECE_LIMIT) }
+        ensures { IfOk result (λ it. (more : List ℕ)
+            × (text.new.items ≡ text.old.items ++ more)
+            × IsDecided core.old self.now.lines.now real first at_accept
+            (waiting_in first.said) (option_copied header.entry) it.0 it.1 more) }
     {
         let Some(id) = waiting_in(&first) else {
             return Ok((at_accept, first));
@@ -339,9 +292,12 @@ impl Shower<'_, '_> {
         at: &Listener,
         real: Pair,
         header: Option<&[u8]>,
-    ) -> Result<Explanation, Unexplained>
-        requires { slice_get core.old.listeners number ≡ Some at.now }
-        ensures explained { IfOk result (λ e. IsExplained core.old real (option_copied header.entry) e) }
+    ) -> Result<Explanation, AllocError>
+        requires opening { (plan : Plan) × (core.old ≡ opening plan 0) }
+        requires listens { slice_get core.old.listeners number ≡ Some at.now }
+        requires header { IfSome header (λ bytes. length bytes.now ≤ PIECE_LIMIT) }
+        ensures explained { IfOk result (λ e.
+            IsExplained core.old self.now.lines.now real (option_copied header.entry) e) }
         ensures listener { IfOk result (λ e. e.listener ≡ number) }
     {
         let mut text = Vec::new(self.alloc);
@@ -359,39 +315,43 @@ impl Shower<'_, '_> {
     }
 }
 
-/// The listener of the frontend of that name that takes the connection, with its number.
-fn find_listener(core: &Core, name: &[u8], real: Pair) -> Result<(u16, Listener), Unexplained>
-    ensures listens { IfOk result (λ found. slice_get core.now.listeners found.0 ≡ Some found.1) }
-    ensures takes { IfOk result (λ found. Takes core.now name.now real found.0) }
+/// The listener of the frontend of that name that takes the connection, with its number. None where no frontend has the
+/// name: each one has a listener.
+fn find_listener(
+    core: &Core,
+    name: &[u8],
+    real: Pair,
+) -> Result<Option<(u16, Listener)>, AllocError>
+    requires { (plan : Plan) × (core.now ≡ opening plan 0) }
+    ensures found { IfOk result (λ found. MatchOption found (HasNone core.now name.now) (λ it.
+        (slice_get core.now.listeners it.0 ≡ Some it.1) × Takes core.now name.now real it.0)) }
 {
-    let Ok(plain) = core.plain() else {
-        return Err(Unexplained::NoMemory);
-    };
+    let plain = core.plain()?;
     let Some(frontend) = frontend_number(plain.frontends.as_slice(), name) else {
-        return Err(Unexplained::NoFrontend);
+        return Ok(None);
     };
     let listeners = plain.listeners.as_slice();
     let Some(number) = listener_number(listeners, frontend, &real.destination()) else {
-        return Err(Unexplained::NoFrontend);
+        unreachable!()
     };
-    match listeners.get(usize::from(number)) {
-        Some(at) => Ok((number, *at)),
-        None => Err(Unexplained::NoFrontend),
-    }
+    Ok(Some((number as u16, listeners[number])))
 }
 
 /// The lines of a configuration that was read before.
-fn lines_of(alloc: Global, config: &str) -> Result<Lines<'_>, Unexplained> {
+fn lines_of(alloc: Global, config: &str) -> Result<Lines<'_>, AllocError>
+    ensures { IfOk result (λ lines. lines_of config.now ≡ Ok lines) }
+{
     match Lines::of(alloc, config) {
         Ok(lines) => Ok(lines),
-        Err(_) => Err(Unexplained::NoMemory),
+        Err(_) => Err(AllocError),
     }
 }
 
 /// A core on the configuration.
 fn open_core(alloc: Global, config: &str) -> Result<Core, ExplainFault>
     ensures ok { IfOk result (λ core. IsOpened config.now 0 core) }
-    ensures fault { IfErr result (λ f. (f ≡ ExplainFault.NoMemory) ⊎ ((o : OpenFault) × (f ≡ ExplainFault.Config o) × (meaning config.now ≡ Err o))) }
+    ensures fault { IfErr result (λ f. (f ≡ ExplainFault.NoMemory)
+        ⊎ ((o : OpenFault) × (f ≡ ExplainFault.Config o) × (meaning config.now ≡ Err o))) }
 {
     match Core::open(alloc, config) {
         Ok(core) => Ok(core),
@@ -400,6 +360,7 @@ fn open_core(alloc: Global, config: &str) -> Result<Core, ExplainFault>
     }
 }
 
+/// What is tried for the connection, and what it is answered: nothing where no frontend has the name.
 fn explain_in(
     alloc: Global,
     core: &mut Core,
@@ -407,17 +368,24 @@ fn explain_in(
     name: &[u8],
     real: Pair,
     header: Option<&[u8]>,
-) -> Result<Explanation, Unexplained>
-    ensures explained { IfOk result (λ e. IsExplained core.old real (option_copied header.entry) e) }
-    ensures takes { IfOk result (λ e. Takes core.old name.now real e.listener) }
+) -> Result<Option<Explanation>, AllocError>
+    requires opening { (plan : Plan) × (core.old ≡ opening plan 0) }
+    requires header { IfSome header (λ bytes. length bytes.now ≤ PIECE_LIMIT) }
+    ensures explained { IfOk result (λ o. MatchOption o (HasNone core.old name.now) (λ e.
+        (lines : List Line) × (lines_of config.now ≡ Ok lines)
+        × Takes core.old name.now real e.listener
+        × IsExplained core.old lines real (option_copied header.entry) e)) }
 {
     let lines = lines_of(alloc, config)?;
-    let (number, at) = find_listener(core, name, real)?;
+    let Some((number, at)) = find_listener(core, name, real)? else {
+        return Ok(None);
+    };
     let shower = Shower {
         alloc,
         lines: &lines,
     };
-    shower.explain(core, number, &at, real, header)
+    let explained = shower.explain(core, number, &at, real, header)?;
+    Ok(Some(explained))
 }
 
 /// What is tried for the connection of a pair that comes to the frontend of a name, in a balancer that has just opened
@@ -431,17 +399,22 @@ pub fn explain(
     real: Pair,
     header: Option<&[u8]>,
 ) -> Result<Explanation, ExplainFault>
-    ensures ok { IfOk result (λ e. (plan : Plan) × (meaning config.now ≡ Ok plan)
+    requires header { IfSome header (λ bytes. length bytes.now ≤ PIECE_LIMIT) }
+    ensures ok { IfOk result (λ e. (plan : Plan) × (lines : List Line)
+        × (meaning config.now ≡ Ok plan) × (lines_of config.now ≡ Ok lines)
         × Takes (opening plan 0) name.now real e.listener
-        × IsExplained (opening plan 0) real (option_copied header.entry) e) }
-    ensures refused { (fault : OpenFault) → result ≡ Err (ExplainFault.Config fault) → meaning config.now ≡ Err fault }
+        × IsExplained (opening plan 0) lines real (option_copied header.entry) e) }
+    ensures refused { (fault : OpenFault) → result ≡ Err (ExplainFault.Config fault) →
+        meaning config.now ≡ Err fault }
+    ensures no_frontend { result ≡ Err ExplainFault.NoFrontend →
+        (plan : Plan) × (meaning config.now ≡ Ok plan) × (frontend_in plan name.now ≡ None) }
 {
     let mut core = open_core(alloc, config)?;
     let explained = explain_in(alloc, &mut core, config, name, real, header);
     core.end();
     match explained {
-        Ok(explained) => Ok(explained),
-        Err(Unexplained::NoFrontend) => Err(ExplainFault::NoFrontend),
-        Err(Unexplained::NoMemory) => Err(ExplainFault::NoMemory),
+        Ok(Some(explained)) => Ok(explained),
+        Ok(None) => Err(ExplainFault::NoFrontend),
+        Err(_) => Err(ExplainFault::NoMemory),
     }
 }

@@ -7,6 +7,8 @@ ghost use Rattle.explain_core.specs.Tried.{decided_in, tried};
 
 /// The last of the rules that are tried is the one that decides, if one does, and no rule after it is tried.
 pub fn tried_decide()
-    ensures verdict { (scene : SceneMeaning) (tracks : TrackSlots) (rules : List Rule) → (judged_after scene tracks rules).verdict ≡ (decided_in (tried scene tracks rules)).0 }
-    ensures line { (scene : SceneMeaning) (tracks : TrackSlots) (rules : List Rule) → (judged_after scene tracks rules).line ≡ (decided_in (tried scene tracks rules)).1 }
+    ensures verdict { (scene : SceneMeaning) (tracks : TrackSlots) (rules : List Rule) →
+        (judged_after scene tracks rules).verdict ≡ (decided_in (tried scene tracks rules)).0 }
+    ensures line { (scene : SceneMeaning) (tracks : TrackSlots) (rules : List Rule) →
+        (judged_after scene tracks rules).line ≡ (decided_in (tried scene tracks rules)).1 }
 {}

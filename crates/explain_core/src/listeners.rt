@@ -1,7 +1,7 @@
 //! Where a connection comes in.
-ghost use Rattle.std.specs.Prelude.{◌≡◌, ◌<◌, ◌+◌, true, IfSome, Some, length, slice_get};
+ghost use Rattle.std.specs.Prelude.{◌≡◌, ◌≢◌, ◌<◌, ◌+◌, ℕ, IfNone, IfSome, Some, length, slice_get};
+ghost use Rattle.std.specs.List.{position};
 ghost use Rattle.std.specs.Str.{bytes_eq};
-ghost use Rattle.conn_model.specs.declared.plain.FrontendRows.{FrontendRows};
 ghost use Rattle.conn_model.specs.declared.plain.Listener.{Listener};
 ghost use Rattle.explain_core.specs.Listeners.{fit, is_any, is_same_family, IsBest, IsBestOf};
 
@@ -9,16 +9,10 @@ use addr_core::{Addr, Endpoint};
 use conn_model::plain::{FrontendRows, Listener};
 
 /// The number of the frontend of that name.
-pub fn frontend_number(frontends: &[FrontendRows], name: &[u8]) -> Option<u16>
-    ensures { IfSome result (λ number. (own : FrontendRows) × (slice_get frontends.now number ≡ Some own)
-        × (bytes_eq own.name name.now ≡ true)) }
+pub fn frontend_number(frontends: &[FrontendRows], name: &[u8]) -> Option<usize>
+    ensures { result ≡ position (λ own. bytes_eq own.name name.now) frontends.now }
 {
-    for place in 0..frontends.len() {
-        if frontends[place].name.as_slice() == name {
-            return u16::try_from(place).ok();
-        }
-    }
-    None
+    frontends.iter().position(|own| own.name.as_slice() == name)
 }
 
 /// Whether the address is all addresses of its family.
@@ -57,7 +51,7 @@ fn fit(at: &Endpoint, local: &Endpoint) -> u8
 /// The best listener of a frontend before a place, with that at the place.
 fn better(
     listeners: &[Listener],
-    frontend: u16,
+    frontend: usize,
     local: &Endpoint,
     best: Option<usize>,
     place: usize,
@@ -67,7 +61,7 @@ fn better(
     ensures { IsBestOf listeners.now frontend local.now (place + 1) result }
 {
     let listener = &listeners[place];
-    if listener.frontend != frontend {
+    if usize::from(listener.frontend) != frontend {
         return best;
     }
     let Some(so_far) = best else {
@@ -80,13 +74,17 @@ fn better(
     }
 }
 
-/// The number of the listener of a frontend that takes connections to an address: the first one that fits best.
-pub fn listener_number(listeners: &[Listener], frontend: u16, local: &Endpoint) -> Option<u16>
-    ensures { IfSome result (λ number. (at : Listener) × IsBest listeners.now frontend local.now number at) }
+/// The number of the listener of a frontend that takes connections to an address: the first one that fits best. None
+/// where the frontend has no listener.
+pub fn listener_number(listeners: &[Listener], frontend: usize, local: &Endpoint) -> Option<usize>
+    ensures some { IfSome result (λ number.
+        (at : Listener) × IsBest listeners.now frontend local.now number at) }
+    ensures none { IfNone result ((other : ℕ) (listener : Listener) →
+        slice_get listeners.now other ≡ Some listener → listener.frontend ≢ frontend) }
 {
     let mut best = None;
     for place in 0..listeners.len() {
         best = better(listeners, frontend, local, best, place);
     }
-    u16::try_from(best?).ok()
+    best
 }

@@ -70,7 +70,8 @@ pub fn try_choices<V: View>(
     choices: &[Choice],
     view: &V,
 ) -> Result<Vec<TriedChoice>, AllocError>
-    ensures { IfOk result (λ list. list.items ≡ tried_choices (V.acls view.now) (V.worth view.now) choices.now) }
+    ensures { IfOk result (λ list. list.items
+        ≡ tried_choices (V.acls view.now) (V.worth view.now) choices.now) }
 {
     let mut list = Vec::new(alloc);
     for choice in choices {
