@@ -27,6 +27,7 @@ use Rattle.rule_engine.specs.Judging.{judged_after, no_tracks, TrackSlots}
 use Rattle.conn_model.specs.declared.event.ConnId.{ConnId}
 use Rattle.conn_model.specs.declared.event.OwnedEvent.{OwnedEvent}
 use Rattle.conn_model.specs.declared.event.OwnedEvent.TheVariants.{Accept, Piece, Connected, ConnectFailed, Close, Expire, Reload}
+use Rattle.conn_model.specs.declared.event.Why.{Why}
 use Rattle.conn_model.specs.declared.event.Why.TheVariants.{Failed}
 use Rattle.conn_model.specs.declared.reply.Cause.{Cause}
 use Rattle.conn_model.specs.declared.reply.Cause.TheVariants.{Line, NoBackend, NoServer}
@@ -303,3 +304,15 @@ server_answers_only q id said reply answer =
     let got : ServerAnswered q id said reply = server_answered q id said reply answer in
     let offered = awaits-offered got.row.phase got.awaits in
     (got.row, offered.0, got.row_is, offered.1, sym got.reply_is)
+
+-- Closes.
+
+pub closes : (q : Plain) (moment : ℕ) (id : ConnId) (why : Why) (row : Row) → row_at q.frontends id ≡ Some row → answer_in q moment (Close id why) ≡ Ok (reply_of (Closed id why))
+closes q moment id why row there = rw there refl
+
+pub only_closes : (q : Plain) (moment : ℕ) (id : ConnId) (why : Why) (reply : Reply) → answer_in q moment (Close id why) ≡ Ok reply →
+    (row : Row) × (row_at q.frontends id ≡ Some row) × (reply ≡ reply_of (Closed id why))
+only_closes q moment id why reply answer =
+    let one = bind-ok (or_fault NoSuch (row_at q.frontends id)) _ reply answer in
+    let same : reply_of (Closed id why) ≡ reply = let it : Ok (reply_of (Closed id why)) ≡ Ok reply = one.2 in cc in
+    (one.0, or_fault-ok NoSuch (row_at q.frontends id) one.0 one.1, sym same)

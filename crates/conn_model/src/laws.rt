@@ -28,7 +28,8 @@ ghost use Rattle.conn_model.specs.Servers.{cursor_after, cursor_at, cursors_afte
 ghost use Rattle.conn_model.specs.History.{after, answer, counts, entry, identity_of, is_needed, joined, newest_number, opening, served_less, served_more, tables_of, version_for, IsLegal, IsWell, Entry};
 ghost use Rattle.conn_model.specs.Tables.{is_listed, is_listed_by, same_id, table_at, IncarnationsDiffer};
 ghost use Rattle.conn_model.specs.declared.event.ConnId.{ConnId};
-ghost use Rattle.conn_model.specs.declared.event.OwnedEvent.TheVariants.{Connected, ConnectFailed, Reload};
+ghost use Rattle.conn_model.specs.declared.event.OwnedEvent.TheVariants.{Close, Connected, ConnectFailed, Reload};
+ghost use Rattle.conn_model.specs.declared.event.Why.{Why};
 ghost use Rattle.conn_model.specs.declared.event.Why.TheVariants.{Failed};
 ghost use Rattle.conn_model.specs.declared.reply.Reply.{Reply};
 ghost use Rattle.conn_model.specs.declared.reply.Said.TheVariants as saids;
@@ -124,6 +125,17 @@ pub fn servers_answer_offers()
         (row : Row) × (assignment : Assignment) × (row_at (after p h).frontends id ≡ Some row) × (row.phase ≡ Offered assignment) × (reply ≡ reply_of (saids.Up id)) }
     ensures only_failed { (p : Plain) (h : List Entry) (moment : ℕ) (id : ConnId) (reply : Reply) → answer p h moment (ConnectFailed id) ≡ Ok reply →
         (row : Row) × (assignment : Assignment) × (row_at (after p h).frontends id ≡ Some row) × (row.phase ≡ Offered assignment) × (reply ≡ reply_of (Closed id Failed)) }
+{}
+
+/// A connection is closed exactly where it is open, and the answer names it, with the reason that was given.
+pub fn closes_end_their_own()
+    ensures closed { (p : Plain) (h : List Entry) (moment : ℕ) (id : ConnId) (why : Why)
+        (row : Row) → row_at (after p h).frontends id ≡ Some row →
+        answer p h moment (Close id why) ≡ Ok (reply_of (Closed id why)) }
+    ensures only_closed { (p : Plain) (h : List Entry) (moment : ℕ) (id : ConnId) (why : Why)
+        (reply : Reply) → answer p h moment (Close id why) ≡ Ok reply →
+        (row : Row) × (row_at (after p h).frontends id ≡ Some row)
+        × (reply ≡ reply_of (Closed id why)) }
 {}
 
 /// An offer moves the cursor of the backend whose server is offered, and that of no other backend: by round robin it is
