@@ -17,6 +17,14 @@ struct Seen {
     segment: Option<(u64, usize)>,
 }
 
+/// The first number and the length of the next segment, taken out of the ring.
+fn taken(segments: &mut Consumer<Segment>) -> Option<(u64, usize)> {
+    match segments.pop() {
+        Ok(segment) => Some((segment.first, segment.records.len())),
+        Err(_empty) => None,
+    }
+}
+
 /// A cut before the first step, one after it, and one after another step, for which the ring has no room.
 fn cut_thrice(book: Book, segments: Consumer<Segment>, real: &Pair) -> Seen
     requires { IsPair book.segments segments }
@@ -29,14 +37,10 @@ fn cut_thrice(book: Book, segments: Consumer<Segment>, real: &Pair) -> Seen
     let full = book.cut();
     let left = book.left(&mut segments);
     book.end();
-    let segment = match segments.pop() {
-        Ok(segment) => Some((segment.first, segment.records.len())),
-        Err(_empty) => None,
-    };
     Seen {
         cuts: [new, stepped, full],
         left,
-        segment,
+        segment: taken(&mut segments),
     }
 }
 
@@ -54,4 +58,44 @@ fn cut_needs_a_record_and_room_in_the_ring(rt: HostRuntime) {
         segment: Some((1, 1)),
     };
     assert_eq!(rt; cuts(rt.alloc()), Some(seen));
+}
+
+/// What the cuts come to, and the first number and the length of each segment.
+#[derive(Clone, Copy, Debug, PartialEq, Eq)]
+struct Read {
+    cuts: [Result<(), CutFault>; 4],
+    segments: [Option<(u64, usize)>; 2],
+}
+
+/// A cut, two for which the ring has no room, each after a step, and one after its segment was taken out of it.
+fn cut_and_take(book: Book, segments: Consumer<Segment>, real: &Pair) -> Read {
+    let (mut book, mut segments) = (book, segments);
+    let _ = book.step(0, &Event::Accept(0, *real));
+    let first = book.cut();
+    let _ = book.step(0, &Event::Accept(0, *real));
+    let full = book.cut();
+    let _ = book.step(0, &Event::Accept(0, *real));
+    let still_full = book.cut();
+    let front = taken(&mut segments);
+    let read = book.cut();
+    book.end();
+    Read {
+        cuts: [first, full, still_full, read],
+        segments: [front, taken(&mut segments)],
+    }
+}
+
+fn cuts_beside_a_reader(alloc: Global) -> Option<Read> {
+    let real = pair_from(0xc000_0205, 4000, 9000)?;
+    let (book, segments) = open_with_ring(alloc, RULE, 1)?;
+    Some(cut_and_take(book, segments, &real))
+}
+
+#[test]
+fn full_ring_has_room_once_its_segment_is_taken(rt: HostRuntime) {
+    let read = Read {
+        cuts: [Ok(()), Err(CutFault::Full), Err(CutFault::Full), Ok(())],
+        segments: [Some((1, 1)), Some((2, 2))],
+    };
+    assert_eq!(rt; cuts_beside_a_reader(rt.alloc()), Some(read));
 }
