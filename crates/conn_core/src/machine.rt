@@ -222,7 +222,8 @@ impl Core {
     pub fn waiting(&self, id: ConnId, judged: Pair) -> Option<RuleFacts<'_>>
         ensures some { IfSome result (λ facts. SeesWaiting self.now id judged facts) }
         ensures kept { IfSome result (λ facts. IsKept facts) }
-        ensures none { IfNone result ((piece : List ℕ) → IsErr (piece_answer self.now id piece)) }
+        ensures none { IfNone result ((piece : List ℕ) →
+            IsErr (piece_answer self.now id piece)) }
     {
         let Ok(row) = self.waiting_row(id) else {
             return None;

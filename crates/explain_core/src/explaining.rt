@@ -265,7 +265,8 @@ impl Shower<'_, '_> {
         at_accept: Option<Trials>,
         text: &mut Vec<u8>,
     ) -> Result<(Option<Trials>, Reply), AllocError>
-        requires answers { (id : ConnId) (header : List ℕ) → waiting_in first.said ≡ Some id →
+        requires answers { (id : ConnId) (header : List ℕ) →
+            waiting_in first.said ≡ Some id →
             IsOk (answer_in core.old 0 (Piece id header)) }
         requires header { IfSome header (λ bytes. length bytes.now ≤ PIECE_LIMIT) }
         ensures { IfOk result (λ it. (more : List ℕ)

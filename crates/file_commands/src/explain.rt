@@ -39,7 +39,8 @@ fn words<'a>(given: &'a ArgMatches<'_>) -> Option<ExplainWords<'a>> {
 
 /// The bytes of a header that is written in hexadecimal, or the status if there are none.
 fn header_bytes(rt: &(impl AllocGlobal + Eprint), word: Option<&str>) -> Result<Option<Vec<u8>>, u8>
-    ensures { IfOk result (λ header. IfSome header (λ bytes. length bytes.items ≤ PIECE_LIMIT)) }
+    ensures { IfOk result (λ header.
+        IfSome header (λ bytes. length bytes.items ≤ PIECE_LIMIT)) }
 {
     let Some(word) = word else {
         return Ok(None);
