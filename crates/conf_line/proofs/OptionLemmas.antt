@@ -15,7 +15,7 @@ use Rattle.conf_line.specs.declared.statement.ServerOption.{ServerOption}
 use Rattle.conf_line.specs.declared.statement.ServerOption.TheVariants as flags
 use Rattle.conf_line.specs.Sound.{IsSoundLimit}
 use Rattle.conf_line.specs.Words.{last_of, onto, after}
-use Rattle.conf_line.specs.Tables.{option_keys, option_size, is_keys, is_size, has_repeat}
+use Rattle.conf_line.specs.Tables.{option_keys, option_size, option_expire, is_keys, is_size, is_expire, has_repeat}
 
 or_none : {Y : Type 0} (a : Option Y) → option_or a None ≡ a
 or_none None = refl
@@ -74,6 +74,11 @@ some_keys (options.Store stores ∷ all) = by (last_of option_keys all) (some_ke
     by : (o : Option KeyType) → is_some o ≡ nat_lt 0 (length (filter is_keys all)) → is_some (option_or o None) ≡ nat_lt 0 (length (filter is_keys all))
     by None is = is
     by (Some k) is = is
+some_keys (options.Expire ms ∷ all) = by (last_of option_keys all) (some_keys all)
+  where
+    by : (o : Option KeyType) → is_some o ≡ nat_lt 0 (length (filter is_keys all)) → is_some (option_or o None) ≡ nat_lt 0 (length (filter is_keys all))
+    by None is = is
+    by (Some k) is = is
 
 some_size : (all : List TableOption) → is_some (last_of option_size all) ≡ nat_lt 0 (length (filter is_size all))
 some_size [] = refl
@@ -92,18 +97,68 @@ some_size (options.Store stores ∷ all) = by (last_of option_size all) (some_si
     by : (o : Option ℕ) → is_some o ≡ nat_lt 0 (length (filter is_size all)) → is_some (option_or o None) ≡ nat_lt 0 (length (filter is_size all))
     by None is = is
     by (Some k) is = is
+some_size (options.Expire ms ∷ all) = by (last_of option_size all) (some_size all)
+  where
+    by : (o : Option ℕ) → is_some o ≡ nat_lt 0 (length (filter is_size all)) → is_some (option_or o None) ≡ nat_lt 0 (length (filter is_size all))
+    by None is = is
+    by (Some k) is = is
 
-more_numbers : (n m : ℕ) (k s : Bool) → (nat_lt 1 (n + (if k then 1 else 0)) || nat_lt 1 (m + (if s then 1 else 0))) ≡ ((nat_lt 1 n || nat_lt 1 m) || ((k && nat_lt 0 n) || (s && nat_lt 0 m)))
-more_numbers n m true true = grind (arith, nat_tests)
-more_numbers n m true false = grind (arith, nat_tests)
-more_numbers n m false true = grind (arith, nat_tests)
-more_numbers n m false false = grind (arith, nat_tests)
+some_expire : (all : List TableOption) → is_some (last_of option_expire all) ≡ nat_lt 0 (length (filter is_expire all))
+some_expire [] = refl
+some_expire (options.Keys keys ∷ all) = by (last_of option_expire all) (some_expire all)
+  where
+    by : (o : Option ℕ) → is_some o ≡ nat_lt 0 (length (filter is_expire all)) → is_some (option_or o None) ≡ nat_lt 0 (length (filter is_expire all))
+    by None is = is
+    by (Some k) is = is
+some_expire (options.Size size ∷ all) = by (last_of option_expire all) (some_expire all)
+  where
+    by : (o : Option ℕ) → is_some o ≡ nat_lt 0 (length (filter is_expire all)) → is_some (option_or o None) ≡ nat_lt 0 (length (filter is_expire all))
+    by None is = is
+    by (Some k) is = is
+some_expire (options.Store stores ∷ all) = by (last_of option_expire all) (some_expire all)
+  where
+    by : (o : Option ℕ) → is_some o ≡ nat_lt 0 (length (filter is_expire all)) → is_some (option_or o None) ≡ nat_lt 0 (length (filter is_expire all))
+    by None is = is
+    by (Some k) is = is
+some_expire (options.Expire ms ∷ all) = by (last_of option_expire all) ∙ sym (positive (length (filter is_expire all)))
+  where
+    by : (o : Option ℕ) → is_some (option_or o (Some ms)) ≡ true
+    by None = refl
+    by (Some k) = refl
+
+one_more : (n : ℕ) (k : Bool) → nat_lt 1 (n + (if k then 1 else 0)) ≡ (nat_lt 1 n || (k && nat_lt 0 n))
+one_more n true = grind (arith, nat_tests)
+one_more n false = grind (arith, nat_tests)
+
+-- what is there of three, and what comes to each
+three_more : (n m l k s e : Bool) → (((n || k) || (m || s)) || (l || e)) ≡ (((n || m) || l) || (k || s || e))
+three_more true m l k s e = refl
+three_more false true l true s e = refl
+three_more false true l false s e = refl
+three_more false false true true s e = refl
+three_more false false true false true e = refl
+three_more false false true false false e = refl
+three_more false false false true s e = refl
+three_more false false false false true e = refl
+three_more false false false false false e = refl
 
 pub repeat_more : (all : List TableOption) (option : TableOption) →
-    has_repeat (all ++ option ∷ []) ≡ (has_repeat all || ((is_keys option && is_some (last_of option_keys all)) || (is_size option && is_some (last_of option_size all))))
+    has_repeat (all ++ option ∷ []) ≡
+    (has_repeat all || ((is_keys option && is_some (last_of option_keys all)) || (is_size option && is_some (last_of option_size all)) || (is_expire option && is_some (last_of option_expire all))))
 repeat_more all option =
-    rw (count_more is_keys all option, count_more is_size all option, some_keys all, some_size all)
-    (more_numbers (length (filter is_keys all)) (length (filter is_size all)) (is_keys option) (is_size option))
+    rw (
+      count_more is_keys all option,
+      count_more is_size all option,
+      count_more is_expire all option,
+      some_keys all,
+      some_size all,
+      some_expire all,
+      one_more (length (filter is_keys all)) (is_keys option),
+      one_more (length (filter is_size all)) (is_size option),
+      one_more (length (filter is_expire all)) (is_expire option),
+    )
+    (three_more (nat_lt 1 (length (filter is_keys all))) (nat_lt 1 (length (filter is_size all))) (nat_lt 1 (length (filter is_expire all)))
+    (is_keys option && nat_lt 0 (length (filter is_keys all))) (is_size option && nat_lt 0 (length (filter is_size all))) (is_expire option && nat_lt 0 (length (filter is_expire all))))
 
 pub after_none : {X F : Type 0} (read : Result (List X) F) → after [] read ≡ read
 after_none (Err fault) = refl

@@ -1,5 +1,5 @@
 -- What a `stick-table` line says.
-use Rattle.std.specs.Prelude.{◌≡◌, ℕ, Bool, true, false, ◌||◌, ◌==◌, ◌*◌, ◌-◌, ◌∷◌, min, nat_lt, take, length, filter, List, [], Option, Some, None, Result, Ok, Err, codes, if◌then◌else◌}
+use Rattle.std.specs.Prelude.{◌≡◌, ℕ, Bool, true, false, ◌||◌, ◌==◌, ◌*◌, ◌-◌, ◌∷◌, min, nat_lt, take, length, filter, List, [], Option, Some, None, Result, Ok, Err, codes, unwrap_or, if◌then◌else◌}
 use Rattle.std.specs.Str.{bytes_eq}
 use Rattle.std.specs.List.{slice_split, list_any}
 use Rattle.list_core.specs.Each.{◌>>=◌, run}
@@ -14,6 +14,7 @@ use Rattle.conf_line.specs.declared.statement.TableOption.TheVariants as options
 use Rattle.proxy_types.specs.declared.limits.TheConstants.{MOST_ENTRIES}
 use Rattle.conf_line.specs.declared.fault.ConfKind.{ConfKind}
 use Rattle.conf_line.specs.declared.fault.ConfKind.TheVariants.{MissingWord, BadNumber, Unsupported}
+use Rattle.conf_line.specs.Times.{time_at}
 use Rattle.conf_line.specs.Words.{number_at, last_of, onto}
 
 -- Sizes: k is 1,024, and m is 1,048,576.
@@ -57,10 +58,14 @@ stores_with stores kind =
 abbrev pub stores_of : List ℕ → Result Stores ConfKind
 stores_of word = run stores_with no_stores (slice_split (λ byte. byte == 44) word)
 
+-- a time from 1 ms on
+abbrev pub expire_at : List ℕ → Result ℕ ConfKind
+expire_at word = time_at word >>= λ ms. if ms == 0 then Err BadNumber else Ok ms
+
 -- Options: a name, and its value.
 
 abbrev pub is_table_option : List ℕ → Bool
-is_table_option name = bytes_eq name (codes "type") || bytes_eq name (codes "size") || bytes_eq name (codes "store")
+is_table_option name = bytes_eq name (codes "type") || bytes_eq name (codes "size") || bytes_eq name (codes "store") || bytes_eq name (codes "expire")
 
 -- a name with no word after it
 abbrev pub without_value : List ℕ → ConfKind
@@ -71,6 +76,7 @@ table_option name value =
     if bytes_eq name (codes "type") then (keys_of value >>= λ keys. Ok (options.Keys keys))
     else if bytes_eq name (codes "size") then (size_at value >>= λ size. Ok (options.Size size))
     else if bytes_eq name (codes "store") then (stores_of value >>= λ stores. Ok (options.Store stores))
+    else if bytes_eq name (codes "expire") then (expire_at value >>= λ ms. Ok (options.Expire ms))
     else Err Unsupported
 
 -- the words are options in any order, each a name and its value
@@ -85,39 +91,62 @@ abbrev pub option_keys : TableOption → Option KeyType
 option_keys (options.Keys keys) = Some keys
 option_keys (options.Size size) = None
 option_keys (options.Store stores) = None
+option_keys (options.Expire ms) = None
 
 abbrev pub option_size : TableOption → Option ℕ
 option_size (options.Keys keys) = None
 option_size (options.Size size) = Some size
 option_size (options.Store stores) = None
+option_size (options.Expire ms) = None
+
+abbrev pub option_expire : TableOption → Option ℕ
+option_expire (options.Keys keys) = None
+option_expire (options.Size size) = None
+option_expire (options.Store stores) = None
+option_expire (options.Expire ms) = Some ms
 
 abbrev pub is_keys : TableOption → Bool
 is_keys (options.Keys keys) = true
 is_keys (options.Size size) = false
 is_keys (options.Store stores) = false
+is_keys (options.Expire ms) = false
 
 abbrev pub is_size : TableOption → Bool
 is_size (options.Keys keys) = false
 is_size (options.Size size) = true
 is_size (options.Store stores) = false
+is_size (options.Expire ms) = false
+
+abbrev pub is_expire : TableOption → Bool
+is_expire (options.Keys keys) = false
+is_expire (options.Size size) = false
+is_expire (options.Store stores) = false
+is_expire (options.Expire ms) = true
 
 abbrev pub stores_cur : TableOption → Bool
 stores_cur (options.Keys keys) = false
 stores_cur (options.Size size) = false
 stores_cur (options.Store stores) = stores.cur
+stores_cur (options.Expire ms) = false
 
 abbrev pub stores_cnt : TableOption → Bool
 stores_cnt (options.Keys keys) = false
 stores_cnt (options.Size size) = false
 stores_cnt (options.Store stores) = stores.cnt
+stores_cnt (options.Expire ms) = false
 
--- `type` or `size` is given twice
+-- `type`, `size` or `expire` is given twice
 abbrev pub has_repeat : List TableOption → Bool
-has_repeat all = nat_lt 1 (length (filter is_keys all)) || nat_lt 1 (length (filter is_size all))
+has_repeat all = (nat_lt 1 (length (filter is_keys all)) || nat_lt 1 (length (filter is_size all))) || nat_lt 1 (length (filter is_expire all))
 
 abbrev pub table_reading : List TableOption → KeyType → ℕ → LineReading
 table_reading all keys size = record {
-  statement = statements.StickTable (record { keys = keys; size = size; stores = record { cur = list_any stores_cur all; cnt = list_any stores_cnt all } });
+  statement = statements.StickTable (record {
+    keys = keys;
+    size = size;
+    stores = record { cur = list_any stores_cur all; cnt = list_any stores_cnt all };
+    expire = unwrap_or (last_of option_expire all) 0;
+  });
   repeats = has_repeat all;
   exceeds = nat_lt MOST_ENTRIES size;
 }
@@ -132,7 +161,7 @@ abbrev pub table_of : List (List ℕ) → Result LineReading ConfKind
 table_of words = table_options words >>= λ all. table_by all (last_of option_keys all) (last_of option_size all)
 
 -- the words are options that say this together
-abbrev pub IsTable : List (List ℕ) → Option KeyType → Option ℕ → Stores → Bool → Type 0
-IsTable words keys size stores repeats =
+abbrev pub IsTable : List (List ℕ) → Option KeyType → Option ℕ → Stores → Option ℕ → Bool → Type 0
+IsTable words keys size stores expire repeats =
     (all : List TableOption) × (table_options words ≡ Ok all) × (keys ≡ last_of option_keys all) × (size ≡ last_of option_size all) ×
-    (stores ≡ record { cur = list_any stores_cur all; cnt = list_any stores_cnt all }) × (repeats ≡ has_repeat all)
+    (stores ≡ record { cur = list_any stores_cur all; cnt = list_any stores_cnt all }) × (expire ≡ last_of option_expire all) × (repeats ≡ has_repeat all)

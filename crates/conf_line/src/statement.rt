@@ -48,6 +48,8 @@ pub struct TableWords {
     /// How many entries there may be, from 1 on.
     pub size: u64,
     pub stores: Stores,
+    /// How long an entry is kept that nobody uses, in ms, 0 for any time.
+    pub expire: u64,
 }
 
 /// An option of a `stick-table` line.
@@ -56,6 +58,8 @@ pub enum TableOption {
     Keys(KeyType),
     Size(u64),
     Store(Stores),
+    /// In ms, from 1 on.
+    Expire(u64),
 }
 
 /// An option of a `server` line.

@@ -5,10 +5,11 @@ ghost use Rattle.std.specs.Option.{option_or};
 ghost use Rattle.list_core.specs.Each.{run};
 ghost use Rattle.conf_line.specs.Sound.{IsSoundSize, IsSoundReading};
 ghost use Rattle.conf_line.specs.Words.{onto};
-ghost use Rattle.conf_line.specs.Tables.{unit_of, digits_of, size_at, keys_of, stores_with, stores_of, without_value, table_option, table_options, option_keys, option_size, is_keys, is_size, stores_cur, stores_cnt, IsTable, table_of};
+ghost use Rattle.conf_line.specs.Tables.{unit_of, digits_of, size_at, keys_of, stores_with, stores_of, expire_at, without_value, table_option, table_options, option_keys, option_size, option_expire, is_keys, is_size, is_expire, stores_cur, stores_cnt, IsTable, table_of};
 
 use crate::fault::ConfKind;
 use crate::statement::{LineReading, Statement, TableOption, TableWords};
+use crate::times::time_at;
 use crate::words::{after_first, number_at};
 use list_core::newest;
 use proxy_types::{KeyType, MOST_ENTRIES, Stores};
@@ -101,10 +102,21 @@ fn stores_of(word: &[u8]) -> Result<Stores, ConfKind>
     stores_with(stores, rest)
 }
 
+/// How long an entry is kept that nobody uses.
+fn expire_at(word: &[u8]) -> Result<u64, ConfKind>
+    ensures { result ≡ expire_at word.now }
+{
+    let ms = time_at(word)?;
+    if ms == 0 {
+        return Err(ConfKind::BadNumber);
+    }
+    Ok(ms)
+}
+
 fn without_value(name: &Word) -> ConfKind
     ensures { result ≡ without_value name.now }
 {
-    if name.is(b"type") || name.is(b"size") || name.is(b"store") {
+    if name.is(b"type") || name.is(b"size") || name.is(b"store") || name.is(b"expire") {
         ConfKind::MissingWord
     } else {
         ConfKind::Unsupported
@@ -122,6 +134,8 @@ fn option(name: &Word, value: &Word) -> Result<TableOption, ConfKind>
         Ok(TableOption::Size(size_at(value.bytes())?))
     } else if name.is(b"store") {
         Ok(TableOption::Store(stores_of(value.bytes())?))
+    } else if name.is(b"expire") {
+        Ok(TableOption::Expire(expire_at(value.bytes())?))
     } else {
         Err(ConfKind::Unsupported)
     }
@@ -145,7 +159,8 @@ struct Options {
     keys: Option<KeyType>,
     size: Option<u64>,
     stores: Stores,
-    /// `type` or `size` is given twice.
+    expire: Option<u64>,
+    /// `type`, `size` or `expire` is given twice.
     repeats: bool,
 }
 
@@ -155,7 +170,8 @@ fn with_option(options: Options, option: &TableOption) -> Options
     ensures size { result.size ≡ option_or (option_size option.now) options.size }
     ensures cur { result.stores.cur ≡ (options.stores.cur || stores_cur option.now) }
     ensures cnt { result.stores.cnt ≡ (options.stores.cnt || stores_cnt option.now) }
-    ensures repeats { result.repeats ≡ (options.repeats || ((is_keys option.now && is_some options.keys) || (is_size option.now && is_some options.size))) }
+    ensures expire { result.expire ≡ option_or (option_expire option.now) options.expire }
+    ensures repeats { result.repeats ≡ (options.repeats || ((is_keys option.now && is_some options.keys) || (is_size option.now && is_some options.size) || (is_expire option.now && is_some options.expire))) }
 {
     match option {
         TableOption::Keys(keys) => Options {
@@ -175,12 +191,17 @@ fn with_option(options: Options, option: &TableOption) -> Options
             },
             ..options
         },
+        TableOption::Expire(ms) => Options {
+            expire: Some(*ms),
+            repeats: options.repeats || options.expire.is_some(),
+            ..options
+        },
     }
 }
 
 /// What all options of the words say together.
 fn all_options<'a, 'w>(words: &'w [Word<'a>]) -> Result<Options, ConfKind>
-    ensures ok { IfOk result (λ o. IsTable words.now o.keys o.size o.stores o.repeats) }
+    ensures ok { IfOk result (λ o. IsTable words.now o.keys o.size o.stores o.expire o.repeats) }
     ensures err { IfErr result (λ kind. table_options words.now ≡ Err kind) }
     ensures sound { IfOk result (λ o. IsSoundSize o.size) }
 {
@@ -191,6 +212,7 @@ fn all_options<'a, 'w>(words: &'w [Word<'a>]) -> Result<Options, ConfKind>
             cur: false,
             cnt: false,
         },
+        expire: None,
         repeats: false,
     };
     let mut rest: &'w [Word<'a>] = words;
@@ -216,6 +238,7 @@ pub fn table<'a>(words: &[Word<'a>]) -> Result<LineReading<'a>, ConfKind>
             keys,
             size,
             stores: options.stores,
+            expire: options.expire.unwrap_or(0),
         }),
         repeats: options.repeats,
         exceeds: size > MOST_ENTRIES,

@@ -16,8 +16,8 @@ use Rattle.conn_model.specs.declared.plain.Phase.TheVariants as phases
 use Rattle.conn_model.specs.declared.plain.Plain.{Plain}
 use Rattle.conn_model.specs.declared.plain.Row.{Row}
 use Rattle.conn_model.specs.declared.plain.Version.{Version}
-use Rattle.conn_model.specs.Answer.{accept_answer, admission, candidate_at, frontend_in, new_row}
-use Rattle.conn_model.specs.History.{by_counter, entry, id_of, identity_of, newest_number, tables_by, with_said}
+use Rattle.conn_model.specs.Answer.{accept_answer, admission, answer_in, candidate_at, frontend_in, new_row}
+use Rattle.conn_model.specs.History.{by_counter, entry, id_of, identity_of, newest_number, tables_passed, with_said}
 use Rattle.conn_model.specs.Words.{newest}
 use Rattle.conn_model.proofs.Steps.{after-accept, rows_left}
 use Rattle.conn_model.specs.Changes.{with_item}
@@ -72,13 +72,13 @@ versions_are id used number (Refuse cause) versions = refl
 -- the state once a connection came in
 pub accepted : (p : Plain) → IsCoreState p → (moment listener : ℕ) (arrival : SessionStart) (decision : TrackedOutcome) (id : ConnId) (own : FrontendRows) →
     slice_get p.frontends id.frontend ≡ Some own → id.serial ≡ own.serial + 1 → arrival.version ≡ newest_number p → arrival.accepted ≡ max p.clock moment →
-    accept_answer p (max p.clock moment) listener arrival.real ≡ Ok (reply_by id 0 decision) →
+    answer_in p moment (Accept listener arrival.real) ≡ Ok (reply_by id 0 decision) →
     IsAfter p (entry moment (Accept listener arrival.real) (reply_by id 0 decision)) (record {
       clock = max p.clock moment;
       listeners = p.listeners;
       frontends = with_item id.frontend (entered p.versions arrival decision) p.frontends;
       versions = settled_versions arrival.version decision.outcome p.versions;
-      tables = tables_by p.frontends p.tables (reply_by id 0 decision);
+      tables = tables_passed (max p.clock moment) p.frontends p.tables (reply_by id 0 decision);
     })
 accepted p known moment listener arrival decision id own there next version clock is =
     is_after p known (entry moment (Accept listener arrival.real) (reply_by id 0 decision)) _ (brings_none (entry moment (Accept listener arrival.real) (reply_by id 0 decision)) refl) is
@@ -90,7 +90,7 @@ accepted p known moment listener arrival decision id own there next version cloc
       listeners = p.listeners;
       frontends = slice_set p.frontends id.frontend (record own { serial = own.serial + 1; rows = own.rows ++ rs });
       versions = vs;
-      tables = tables_by p.frontends p.tables (reply_by id 0 decision);
+      tables = tables_passed (max p.clock moment) p.frontends p.tables (reply_by id 0 decision);
     }
 
     versions : settled_versions arrival.version decision.outcome p.versions ≡ with_said (newest_number p) (said_by id 0 decision.outcome) p.versions

@@ -11,11 +11,13 @@ use Rattle.plan_types.specs.declared.track.TableId.{TableId}
 use Rattle.conn_model.specs.declared.ask.Counts.{Counts}
 use Rattle.conn_model.specs.declared.plain.TableState.{TableState}
 use Rattle.conn_model.specs.Rules.{RuleView, current_of, key_in_table, key_of, total_of}
-use Rattle.conn_model.specs.Tables.{entry_counts, table_at, trackers}
+use Rattle.plan_types.specs.declared.track.Track.{Track}
+use Rattle.conn_model.specs.Tables.{entry_counts, table_alive, table_at, tables_alive, trackers}
 use Rattle.conn_tables.specs.Tables.{key_at, table_key}
 use Rattle.conn_model.proofs.Trackers.{trackers-append}
 use Rattle.conn_core.specs.Judging.{counts_of}
-use Rattle.conn_model.proofs.OneTable.{table_found}
+use Rattle.conn_model.proofs.Moments.{table_alive-entries}
+use Rattle.conn_model.proofs.OneTable.{table_at-map, table_found}
 
 -- nothing comes of nothing alone
 pub nothing : {X Y : Type 0} (f : X → Y) (o : Option X) → option_map f o ≡ None → o ≡ None
@@ -40,6 +42,15 @@ key_by v number id there = ap (λ o. option_and_then (key_in_table v) (option_an
     by : (o : Option TableState) → table_at v.tables id ≡ o → option_and_then (key_in_table v) o ≡ option_map (λ key. (id, key)) (option_and_then (table_key v.tracks v.source) o)
     by None is = refl
     by (Some table) is = ap (λ (i : TableId). option_map (λ (key : Addr). (i, key)) (table_key v.tracks v.source table)) (table_found v.tables id table is)
+
+-- a table is the same at each moment, but for its entries
+pub plan_alive : (moment : ℕ) (tracks : List Track) (tables : List TableState) (id : TableId) →
+    option_map (λ (table : TableState). table.table) (table_at (tables_alive moment tracks tables) id) ≡ option_map (λ (table : TableState). table.table) (table_at tables id)
+plan_alive moment tracks tables id = ap (option_map (λ (table : TableState). table.table)) (table_at-map (table_alive moment tracks) (table_alive-entries moment tracks) tables id) ∙ by (table_at tables id)
+  where
+    by : (o : Option TableState) → option_map (λ (table : TableState). table.table) (option_map (table_alive moment tracks) o) ≡ option_map (λ (table : TableState). table.table) o
+    by None = refl
+    by (Some table) = refl
 
 abbrev counts : ℕ → ℕ → Counts
 counts cur cnt = record { cur = cur; cnt = cnt }

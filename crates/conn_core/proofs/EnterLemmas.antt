@@ -17,7 +17,7 @@ use Rattle.conn_model.specs.declared.plain.Version.{Version}
 use Rattle.conn_model.specs.Counts.{change_row}
 use Rattle.conn_model.specs.Answer.{rest_in}
 use Rattle.conn_model.specs.History.{tables_by, with_offer}
-use Rattle.conn_model.specs.Tables.{by_counter, open_tracks, tracks_at, tracks_in, with_tracks, without_tracks}
+use Rattle.conn_model.specs.Tables.{by_counter, open_tracks, tables_alive, tracks_at, tracks_in, with_tracks, without_tracks}
 use Rattle.conn_model.specs.Words.{row_at, row_in}
 use Rattle.conn_model.proofs.Trackings.{none_tracked}
 use Rattle.conn_model.specs.Changes.{rest_at, with_arrival, with_conn, with_item, with_refusal, with_row, without_conn, without_row}
@@ -155,21 +155,29 @@ newcomer_gone frontends id own arrival tracks coming =
     ∙ rw coming.there (ap (λ n. slice_set frontends id.frontend (record own { serial = own.serial + 1; rows = filter (λ row. not (row.serial == n)) (own.rows ++ newcomer arrival tracks (own.serial + 1) ∷ []) })) coming.next
     ∙ ap (λ rows. slice_set frontends id.frontend (record own { serial = own.serial + 1; rows = rows })) (gone-new own.serial own.rows (newcomer arrival tracks (own.serial + 1)) coming.given refl))
 
--- The rows once a connection came in, which tracks nothing yet.
+-- The rows at the moment of an accept, once a connection came in, which tracks nothing yet.
 pub record HasEntered (old now : RowsValue) (id : ConnId) (arrival : SessionStart) : Type 0 where
   pub frontends : now.frontends ≡ with_item id.frontend (with_newcomer arrival []) old.frontends
   pub versions : now.versions ≡ old.versions
-  pub tables : now.tables ≡ old.tables
+  pub tables : now.tables ≡ tables_alive arrival.accepted (open_tracks old.frontends) old.tables
+  pub clock : now.clock ≡ arrival.accepted
   pub spare : 3 ≤ now.spare
 
-pub has_entered : (old ready now : RowsValue) (id : ConnId) (arrival : SessionStart) → 3 ≤ ready.spare → ready ≡ record old { spare = ready.spare } →
-    now ≡ record ready { frontends = with_item id.frontend (with_arrival arrival.version arrival.real arrival.accepted) ready.frontends } → HasEntered old now id arrival
-has_entered old ready now id arrival room same ok = record {
-  frontends = ap (λ (r : RowsValue). r.frontends) ok ∙ ap (λ (r : RowsValue). with_item id.frontend (with_newcomer arrival []) r.frontends) same;
-  versions = ap (λ (r : RowsValue). r.versions) ok ∙ ap (λ (r : RowsValue). r.versions) same;
-  tables = ap (λ (r : RowsValue). r.tables) ok ∙ ap (λ (r : RowsValue). r.tables) same;
-  spare = subst (λ n. 3 ≤ n) (sym (ap (λ (r : RowsValue). r.spare) ok)) room;
+pub has_entered : (old ready came now : RowsValue) (id : ConnId) (own : FrontendRows) (arrival : SessionStart) → IsComing old.frontends id own → 3 ≤ ready.spare → ready ≡ record old { spare = ready.spare } →
+    came ≡ record ready { frontends = with_item id.frontend (with_arrival arrival.version arrival.real arrival.accepted) ready.frontends } →
+    now ≡ record came { tables = tables_alive arrival.accepted (open_tracks came.frontends) came.tables; clock = arrival.accepted } → HasEntered old now id arrival
+has_entered old ready came now id own arrival coming room same ok passed = record {
+  frontends = ap (λ (r : RowsValue). r.frontends) passed ∙ fronts;
+  versions = ap (λ (r : RowsValue). r.versions) passed ∙ ap (λ (r : RowsValue). r.versions) ok ∙ ap (λ (r : RowsValue). r.versions) same;
+  tables = ap (λ (r : RowsValue). r.tables) passed ∙ ap (λ fs. tables_alive arrival.accepted (open_tracks fs) came.tables) fronts
+      ∙ ap (λ ts. tables_alive arrival.accepted ts came.tables) (arrival_tracks old.frontends id own arrival coming)
+      ∙ ap (tables_alive arrival.accepted (open_tracks old.frontends)) (ap (λ (r : RowsValue). r.tables) ok ∙ ap (λ (r : RowsValue). r.tables) same);
+  clock = ap (λ (r : RowsValue). r.clock) passed;
+  spare = subst (λ n. 3 ≤ n) (sym (ap (λ (r : RowsValue). r.spare) passed ∙ ap (λ (r : RowsValue). r.spare) ok)) room;
 }
+  where
+    fronts : came.frontends ≡ with_item id.frontend (with_newcomer arrival []) old.frontends
+    fronts = ap (λ (r : RowsValue). r.frontends) ok ∙ ap (λ (r : RowsValue). with_item id.frontend (with_newcomer arrival []) r.frontends) same
 
 pub open_once : (old now : RowsValue) (id : ConnId) (own : FrontendRows) (arrival : SessionStart) → IsComing old.frontends id own → HasEntered old now id arrival → IsSome (row_at now.frontends id)
 open_once old now id own arrival coming is = subst (λ fs. IsSome (row_at fs id)) (sym is.frontends) (newcomer_open old.frontends id own arrival [] coming)
@@ -179,7 +187,7 @@ sorted_once old now id own arrival coming is = subst (λ fs. AreSorted fs id) (s
 
 -- what could be tracked can be tracked for it
 pub possible_once : (old now : RowsValue) (id : ConnId) (own : FrontendRows) (arrival : SessionStart) (slots : TrackSlots) → IsComing old.frontends id own → HasEntered old now id arrival →
-    (source : Addr) × ArePossible (open_tracks old.frontends) old.tables [] source slots → (source : Addr) × ArePossible (open_tracks now.frontends) now.tables (tracks_at now.frontends id) source slots
+    (source : Addr) × ArePossible (open_tracks old.frontends) (tables_alive arrival.accepted (open_tracks old.frontends) old.tables) [] source slots → (source : Addr) × ArePossible (open_tracks now.frontends) now.tables (tracks_at now.frontends id) source slots
 possible_once old now id own arrival slots coming is can =
     let opens : open_tracks now.frontends ≡ open_tracks old.frontends = ap open_tracks is.frontends ∙ arrival_tracks old.frontends id own arrival coming in
     let none : tracks_at now.frontends id ≡ [] = ap (λ fs. tracks_at fs id) is.frontends ∙ newcomer_tracks old.frontends id own arrival [] coming in (
@@ -191,15 +199,16 @@ possible_once old now id own arrival slots coming is can =
 
 -- and then it tracks those
 pub tracking_once : (old now after : RowsValue) (id : ConnId) (own : FrontendRows) (arrival : SessionStart) (tracks : List Track) → IsComing old.frontends id own → HasEntered old now id arrival →
-    after.frontends ≡ with_conn id (row_with tracks) now.frontends → after.versions ≡ now.versions → after.tables ≡ with_tracks (open_tracks now.frontends) tracks now.tables →
-    state_of after ≡ record (state_of old) { frontends = with_item id.frontend (with_newcomer arrival tracks) old.frontends; tables = with_tracks (open_tracks old.frontends) tracks old.tables }
+    after.frontends ≡ with_conn id (row_with tracks) now.frontends → after.versions ≡ now.versions → after.tables ≡ with_tracks now.clock (open_tracks now.frontends) tracks now.tables →
+    state_of after ≡ record (state_of old) { frontends = with_item id.frontend (with_newcomer arrival tracks) old.frontends; tables = with_tracks arrival.accepted (open_tracks old.frontends) tracks (tables_alive arrival.accepted (open_tracks old.frontends) old.tables) }
 tracking_once old now after id own arrival tracks coming is fronts versions tables =
     let opens : open_tracks now.frontends ≡ open_tracks old.frontends = ap open_tracks is.frontends ∙ arrival_tracks old.frontends id own arrival coming in
     let f : after.frontends ≡ with_item id.frontend (with_newcomer arrival tracks) old.frontends =
     fronts ∙ ap (with_conn id (row_with tracks)) is.frontends ∙ arrival_tracking old.frontends id own arrival tracks coming in
     let v : after.versions ≡ old.versions = versions ∙ is.versions in
-    let t : after.tables ≡ with_tracks (open_tracks old.frontends) tracks old.tables =
-    tables ∙ ap (λ ts. with_tracks ts tracks now.tables) opens ∙ ap (with_tracks (open_tracks old.frontends) tracks) is.tables in
+    let t : after.tables ≡ with_tracks arrival.accepted (open_tracks old.frontends) tracks (tables_alive arrival.accepted (open_tracks old.frontends) old.tables) =
+    tables ∙ ap (λ n. with_tracks n (open_tracks now.frontends) tracks now.tables) is.clock ∙ ap (λ ts. with_tracks arrival.accepted ts tracks now.tables) opens
+    ∙ ap (with_tracks arrival.accepted (open_tracks old.frontends) tracks) is.tables in
     cc (f, v, t)
 
 -- Decisions.
@@ -231,31 +240,34 @@ entered_gone frontends versions id own arrival decision cause coming is =
 
 -- Tables.
 
-tables_offer : (frontends : List FrontendRows) (tables : List TableState) (id : ConnId) (decision : TrackedOutcome) (offer : Offer) → decision.outcome ≡ outcomes.Offer offer →
-    with_tracks (open_tracks frontends) (present decision.tracks) tables ≡ tables_by frontends tables (reply_by id 0 decision)
-tables_offer frontends tables id decision offer is = rw is refl
+tables_offer : (moment : ℕ) (frontends : List FrontendRows) (tables : List TableState) (id : ConnId) (decision : TrackedOutcome) (offer : Offer) → decision.outcome ≡ outcomes.Offer offer →
+    with_tracks moment (open_tracks frontends) (present decision.tracks) tables ≡ tables_by moment frontends tables (reply_by id 0 decision)
+tables_offer moment frontends tables id decision offer is = rw is refl
 
 -- what a refused connection tracked is no longer tracked
-tables_refused : (frontends : List FrontendRows) (tables : List TableState) (id : ConnId) (own : FrontendRows) (decision : TrackedOutcome) (cause : Cause) → IsComing frontends id own →
+tables_refused : (moment : ℕ) (frontends : List FrontendRows) (tables : List TableState) (id : ConnId) (own : FrontendRows) (decision : TrackedOutcome) (cause : Cause) → IsComing frontends id own →
     decision.outcome ≡ outcomes.Refuse cause →
-    without_tracks (by_counter (present decision.tracks)) (with_tracks (open_tracks frontends) (present decision.tracks) tables) ≡ tables_by frontends tables (reply_by id 0 decision)
-tables_refused frontends tables id own decision cause coming is =
+    without_tracks moment (by_counter (present decision.tracks)) (with_tracks moment (open_tracks frontends) (present decision.tracks) tables) ≡ tables_by moment frontends tables (reply_by id 0 decision)
+tables_refused moment frontends tables id own decision cause coming is =
     let none : tracks_at frontends id ≡ [] = none_tracked frontends id own coming.there coming.given coming.next in
     rw (is, none) refl
 
--- The rows once a decision is kept.
+-- The rows at the moment of an accept, once a decision is kept.
+
+abbrev tables_then : RowsValue → SessionStart → List TableState
+tables_then old arrival = tables_alive arrival.accepted (open_tracks old.frontends) old.tables
 
 abbrev state_with : RowsValue → ConnId → SessionStart → List Track → RowsState
 state_with old id arrival tracks = record (state_of old) {
   frontends = with_item id.frontend (with_newcomer arrival tracks) old.frontends;
-  tables = with_tracks (open_tracks old.frontends) tracks old.tables;
+  tables = with_tracks arrival.accepted (open_tracks old.frontends) tracks (tables_then old arrival);
 }
 
 abbrev state_entered : RowsValue → ConnId → SessionStart → TrackedOutcome → RowsState
 state_entered old id arrival decision = record (state_of old) {
   frontends = with_item id.frontend (entered old.versions arrival decision) old.frontends;
   versions = settled_versions arrival.version decision.outcome old.versions;
-  tables = tables_by old.frontends old.tables (reply_by id 0 decision);
+  tables = tables_by arrival.accepted old.frontends (tables_then old arrival) (reply_by id 0 decision);
 }
 
 pub offered_once : (old now after : RowsValue) (id : ConnId) (own : FrontendRows) (arrival : SessionStart) (decision : TrackedOutcome) (offer : Offer) → IsComing old.frontends id own → decision.outcome ≡ outcomes.Offer offer →
@@ -268,28 +280,29 @@ offered_once old now after id own arrival decision offer coming is came offered 
     ∙ ap (λ (s : RowsState). with_conn id (row_offered old.versions offer.seat) s.frontends) came ∙ entered_offer old.frontends old.versions id own arrival decision offer coming is in
     let v : after.versions ≡ settled_versions arrival.version decision.outcome old.versions =
     ap (λ (r : RowsValue). r.versions) offered ∙ ap (map (with_offer arrival.version offer.seat.line offer.seat.server)) versions ∙ ap (λ o. settled_versions arrival.version o old.versions) (sym is) in
-    let t : after.tables ≡ tables_by old.frontends old.tables (reply_by id 0 decision) =
-    ap (λ (r : RowsValue). r.tables) offered ∙ ap (λ (s : RowsState). s.tables) came ∙ tables_offer old.frontends old.tables id decision offer is in
+    let t : after.tables ≡ tables_by arrival.accepted old.frontends (tables_then old arrival) (reply_by id 0 decision) =
+    ap (λ (r : RowsValue). r.tables) offered ∙ ap (λ (s : RowsState). s.tables) came ∙ tables_offer arrival.accepted old.frontends (tables_then old arrival) id decision offer is in
     cc (f, v, t)
 
 -- a refused connection that tracks nothing
-pub skipped_once : (old after : RowsValue) (id : ConnId) (own : FrontendRows) (arrival : SessionStart) (decision : TrackedOutcome) (cause : Cause) → IsComing old.frontends id own → decision.outcome ≡ outcomes.Refuse cause →
-    present decision.tracks ≡ [] → after ≡ record old { frontends = with_item id.frontend with_refusal old.frontends } → state_of after ≡ state_entered old id arrival decision
-skipped_once old after id own arrival decision cause coming is none skipped =
+pub skipped_once : (old passed after : RowsValue) (id : ConnId) (own : FrontendRows) (arrival : SessionStart) (decision : TrackedOutcome) (cause : Cause) → IsComing old.frontends id own → decision.outcome ≡ outcomes.Refuse cause →
+    present decision.tracks ≡ [] → passed ≡ record old { tables = tables_then old arrival; clock = arrival.accepted } → after ≡ record passed { frontends = with_item id.frontend with_refusal passed.frontends } → state_of after ≡ state_entered old id arrival decision
+skipped_once old passed after id own arrival decision cause coming is none passing skipped =
     let f : after.frontends ≡ with_item id.frontend (entered old.versions arrival decision) old.frontends =
-    ap (λ (r : RowsValue). r.frontends) skipped ∙ entered_skip old.frontends old.versions id own arrival decision cause coming is in
+    ap (λ (r : RowsValue). r.frontends) skipped ∙ ap (λ (r : RowsValue). with_item id.frontend with_refusal r.frontends) passing ∙ entered_skip old.frontends old.versions id own arrival decision cause coming is in
     let v : after.versions ≡ settled_versions arrival.version decision.outcome old.versions =
-    ap (λ (r : RowsValue). r.versions) skipped ∙ ap (λ o. settled_versions arrival.version o old.versions) (sym is) in
-    let t : after.tables ≡ tables_by old.frontends old.tables (reply_by id 0 decision) =
-    ap (λ (r : RowsValue). r.tables) skipped ∙ ap (λ ts. without_tracks (by_counter ts) (with_tracks (open_tracks old.frontends) ts old.tables)) (sym none)
-    ∙ tables_refused old.frontends old.tables id own decision cause coming is in
+    ap (λ (r : RowsValue). r.versions) skipped ∙ ap (λ (r : RowsValue). r.versions) passing ∙ ap (λ o. settled_versions arrival.version o old.versions) (sym is) in
+    let t : after.tables ≡ tables_by arrival.accepted old.frontends (tables_then old arrival) (reply_by id 0 decision) =
+    ap (λ (r : RowsValue). r.tables) skipped ∙ ap (λ (r : RowsValue). r.tables) passing
+    ∙ ap (λ ts. without_tracks arrival.accepted (by_counter ts) (with_tracks arrival.accepted (open_tracks old.frontends) ts (tables_then old arrival))) (sym none)
+    ∙ tables_refused arrival.accepted old.frontends (tables_then old arrival) id own decision cause coming is in
     cc (f, v, t)
 
 -- a refused connection that tracks some
 pub removed_once : (old now after : RowsValue) (id : ConnId) (own : FrontendRows) (arrival : SessionStart) (decision : TrackedOutcome) (cause : Cause) → IsComing old.frontends id own → decision.outcome ≡ outcomes.Refuse cause →
-    state_of now ≡ state_with old id arrival (present decision.tracks) →
-    after ≡ record now { frontends = without_conn id now.frontends; tables = without_tracks (tracks_at now.frontends id) now.tables } → state_of after ≡ state_entered old id arrival decision
-removed_once old now after id own arrival decision cause coming is came removed =
+    state_of now ≡ state_with old id arrival (present decision.tracks) → now.clock ≡ arrival.accepted →
+    after ≡ record now { frontends = without_conn id now.frontends; tables = without_tracks now.clock (tracks_at now.frontends id) now.tables } → state_of after ≡ state_entered old id arrival decision
+removed_once old now after id own arrival decision cause coming is came clock removed =
     let tracks : List Track = present decision.tracks in
     let fronts : now.frontends ≡ with_item id.frontend (with_newcomer arrival tracks) old.frontends = ap (λ (s : RowsState). s.frontends) came in
     let f : after.frontends ≡ with_item id.frontend (entered old.versions arrival decision) old.frontends =
@@ -297,7 +310,8 @@ removed_once old now after id own arrival decision cause coming is came removed 
     let v : after.versions ≡ settled_versions arrival.version decision.outcome old.versions =
     ap (λ (r : RowsValue). r.versions) removed ∙ ap (λ (s : RowsState). s.versions) came ∙ ap (λ o. settled_versions arrival.version o old.versions) (sym is) in
     let made : tracks_at now.frontends id ≡ by_counter tracks = ap (λ fs. tracks_at fs id) fronts ∙ newcomer_tracks old.frontends id own arrival tracks coming in
-    let t : after.tables ≡ tables_by old.frontends old.tables (reply_by id 0 decision) =
-    ap (λ (r : RowsValue). r.tables) removed ∙ ap (λ ts. without_tracks ts now.tables) made ∙ ap (λ (s : RowsState). without_tracks (by_counter tracks) s.tables) came
-    ∙ tables_refused old.frontends old.tables id own decision cause coming is in
+    let t : after.tables ≡ tables_by arrival.accepted old.frontends (tables_then old arrival) (reply_by id 0 decision) =
+    ap (λ (r : RowsValue). r.tables) removed ∙ ap (λ n. without_tracks n (tracks_at now.frontends id) now.tables) clock ∙ ap (λ ts. without_tracks arrival.accepted ts now.tables) made
+    ∙ ap (λ (s : RowsState). without_tracks arrival.accepted (by_counter tracks) s.tables) came
+    ∙ tables_refused arrival.accepted old.frontends (tables_then old arrival) id own decision cause coming is in
     cc (f, v, t)

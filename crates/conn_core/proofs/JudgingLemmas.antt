@@ -38,7 +38,7 @@ use Rattle.conn_core.specs.declared.outcome.Outcome.{Outcome}
 use Rattle.conn_core.specs.declared.outcome.Outcome.TheVariants as outcomes
 use Rattle.conn_core.specs.Changes.{CanOffer}
 use Rattle.conn_core.specs.Machine.{AreSound, IsCoreState}
-use Rattle.conn_core.specs.Judging.{decided, facts_view, AreAllowed}
+use Rattle.conn_core.specs.Judging.{decided, facts_view, AreAllowed, rows_at}
 use Rattle.conn_core.specs.Outcome.{header_in, outcome_of, reply_by, said_by}
 use Rattle.conn_core.specs.Tracking.{IsPossible}
 use Rattle.conn_core.proofs.TrackLemmas.{allowed_after}
@@ -120,4 +120,4 @@ allowed_then facts earlier rules says is known = subst (λ (s : Judged). AreAllo
 -- also the first list of a step
 pub allowed_first : (facts : RuleFacts) (rules : List Rule) (says : Judged) → says ≡ judged (scene_of (facts_view facts)) rules → AreAllowed facts says.tracks
 allowed_first facts rules says is =
-    allowed_then facts no_tracks rules says is (none_made (IsPossible (open_tracks facts.rows.now.frontends) facts.rows.now.tables (present facts.own) facts.source))
+    allowed_then facts no_tracks rules says is (none_made (IsPossible (open_tracks facts.rows.now.frontends) (rows_at facts.moment facts.rows.now).tables (present facts.own) facts.source))

@@ -191,7 +191,7 @@ abbrev state_spoken : RowsValue → OwnedEvent → ConnId → ℕ → Reply → 
 state_spoken rows event id version reply = record (state_of rows) {
   frontends = spoken rows.versions event id reply rows.frontends;
   versions = with_said version reply.said rows.versions;
-  tables = tables_by rows.frontends rows.tables reply;
+  tables = tables_by rows.clock rows.frontends rows.tables reply;
 }
 
 pub waited_once : (old fed : RowsValue) (id : ConnId) (version : ℕ) (piece : List ℕ) (count : ℕ) (found : Row × Rest) (reply : Reply) →
@@ -215,13 +215,13 @@ same_tracks frontends id found sorted waits =
 pub refused_once : (old fed after : RowsValue) (event : OwnedEvent) (id : ConnId) (version : ℕ) (piece : List ℕ) (used : ℕ) (cause : Cause) (found : Row × Rest) (reply : Reply) →
     ((own : FrontendRows) → slice_get old.frontends id.frontend ≡ Some own → IsSorted own) → waiting_row old.frontends id ≡ Ok found →
     fed ≡ record old { frontends = with_conn id (row_fed piece) old.frontends } →
-    after ≡ record fed { frontends = without_conn id fed.frontends; tables = without_tracks (tracks_at fed.frontends id) fed.tables } → reply ≡ reply_of (saids.Refuse id used cause) →
+    after ≡ record fed { frontends = without_conn id fed.frontends; tables = without_tracks fed.clock (tracks_at fed.frontends id) fed.tables } → reply ≡ reply_of (saids.Refuse id used cause) →
     state_of after ≡ state_spoken old event id version reply
 refused_once old fed after event id version piece used cause found reply sorted waits fed_is removed reply_is =
     ap state_of removed
-    ∙ ap (λ (r : RowsValue). record (state_of r) { frontends = without_conn id r.frontends; tables = without_tracks (tracks_at r.frontends id) r.tables }) fed_is
-    ∙ ap (λ fs. record (state_of old) { frontends = fs; tables = without_tracks (tracks_at (with_conn id (row_fed piece) old.frontends) id) old.tables }) (changed_gone id (row_fed piece) old.frontends (λ row. refl))
-    ∙ ap (λ ts. record (state_of old) { frontends = without_conn id old.frontends; tables = without_tracks ts old.tables }) (tracks_at-same id (row_fed piece) old.frontends (fed_unseen piece) ∙ sym (same_tracks old.frontends id found sorted waits))
+    ∙ ap (λ (r : RowsValue). record (state_of r) { frontends = without_conn id r.frontends; tables = without_tracks r.clock (tracks_at r.frontends id) r.tables }) fed_is
+    ∙ ap (λ fs. record (state_of old) { frontends = fs; tables = without_tracks old.clock (tracks_at (with_conn id (row_fed piece) old.frontends) id) old.tables }) (changed_gone id (row_fed piece) old.frontends (λ row. refl))
+    ∙ ap (λ ts. record (state_of old) { frontends = without_conn id old.frontends; tables = without_tracks old.clock ts old.tables }) (tracks_at-same id (row_fed piece) old.frontends (fed_unseen piece) ∙ sym (same_tracks old.frontends id found sorted waits))
     ∙ ap (state_spoken old event id version) (sym reply_is)
 
 -- Who judges is one.
@@ -257,29 +257,29 @@ tracks_with frontends id tracks there = by (row_at frontends id) refl there
         rw (now, is) refl
 
 -- and the tables
-tables_settled : (id : ConnId) (used : ℕ) (outcome : Outcome) (slots : TrackSlots) (frontends : List FrontendRows) (tables : List TableState) → ((other : ConnId) (count : ℕ) → said_by id used outcome ≡ saids.Wait other count → ⊥) →
-    IsSome (row_at frontends id) → settled_tables id outcome (with_conn id (row_with (present slots)) frontends) (with_tracks (open_tracks frontends) (present slots) tables)
-    ≡ tables_by frontends tables (reply_with (said_by id used outcome) slots)
-tables_settled id used outcomes.Wait slots frontends tables decides there = absurd (decides id used refl)
-tables_settled id used (outcomes.Offer offer) slots frontends tables decides there = refl
-tables_settled id used (outcomes.Refuse cause) slots frontends tables decides there =
-    ap (λ ts. without_tracks ts (with_tracks (open_tracks frontends) (present slots) tables)) (tracks_with frontends id (present slots) there)
+tables_settled : (moment : ℕ) (id : ConnId) (used : ℕ) (outcome : Outcome) (slots : TrackSlots) (frontends : List FrontendRows) (tables : List TableState) → ((other : ConnId) (count : ℕ) → said_by id used outcome ≡ saids.Wait other count → ⊥) →
+    IsSome (row_at frontends id) → settled_tables moment id outcome (with_conn id (row_with (present slots)) frontends) (with_tracks moment (open_tracks frontends) (present slots) tables)
+    ≡ tables_by moment frontends tables (reply_with (said_by id used outcome) slots)
+tables_settled moment id used outcomes.Wait slots frontends tables decides there = absurd (decides id used refl)
+tables_settled moment id used (outcomes.Offer offer) slots frontends tables decides there = refl
+tables_settled moment id used (outcomes.Refuse cause) slots frontends tables decides there =
+    ap (λ ts. without_tracks moment ts (with_tracks moment (open_tracks frontends) (present slots) tables)) (tracks_with frontends id (present slots) there)
 
 pub settled_once : (old now after : RowsValue) (event : OwnedEvent) (id : ConnId) (version used : ℕ) (judged : PairValue) (result : Result NumberedServer Cause) (decided : TrackedOutcome) (reply : Reply) → IsSome (row_at old.frontends id) →
     said_by id used decided.outcome ≡ said_of id used judged result →
-    now.frontends ≡ with_conn id (row_with (present decided.tracks)) old.frontends → now.versions ≡ old.versions → now.tables ≡ with_tracks (open_tracks old.frontends) (present decided.tracks) old.tables →
-    after ≡ record now { frontends = settled now.versions id decided.outcome now.frontends; versions = settled_versions version decided.outcome now.versions; tables = settled_tables id decided.outcome now.frontends now.tables } →
+    now.frontends ≡ with_conn id (row_with (present decided.tracks)) old.frontends → now.versions ≡ old.versions → now.clock ≡ old.clock → now.tables ≡ with_tracks old.clock (open_tracks old.frontends) (present decided.tracks) old.tables →
+    after ≡ record now { frontends = settled now.versions id decided.outcome now.frontends; versions = settled_versions version decided.outcome now.versions; tables = settled_tables now.clock id decided.outcome now.frontends now.tables } →
     reply ≡ reply_by id used decided → state_of after ≡ state_spoken old event id version reply
-settled_once old now after event id version used judged result decided reply there said fronts versions tables kept reply_is =
+settled_once old now after event id version used judged result decided reply there said fronts versions clock tables kept reply_is =
     let f : after.frontends ≡ spoken old.versions event id (reply_by id used decided) old.frontends =
     ap (λ (r : RowsValue). r.frontends) kept ∙ ap (λ vs. settled vs id decided.outcome now.frontends) versions ∙ ap (settled old.versions id decided.outcome) fronts
     ∙ frontends_settled old.versions event id used decided.outcome decided.tracks old.frontends decides in
     let v : after.versions ≡ with_said version (said_by id used decided.outcome) old.versions =
     ap (λ (r : RowsValue). r.versions) kept ∙ ap (settled_versions version decided.outcome) versions ∙ versions_are id used version decided.outcome old.versions in
-    let t : after.tables ≡ tables_by old.frontends old.tables (reply_by id used decided) =
-    ap (λ (r : RowsValue). r.tables) kept ∙ ap (λ fs. settled_tables id decided.outcome fs now.tables) fronts
-    ∙ ap (settled_tables id decided.outcome (with_conn id (row_with (present decided.tracks)) old.frontends)) tables
-    ∙ tables_settled id used decided.outcome decided.tracks old.frontends old.tables decides there in
+    let t : after.tables ≡ tables_by old.clock old.frontends old.tables (reply_by id used decided) =
+    ap (λ (r : RowsValue). r.tables) kept ∙ ap (λ n. settled_tables n id decided.outcome now.frontends now.tables) clock ∙ ap (λ fs. settled_tables old.clock id decided.outcome fs now.tables) fronts
+    ∙ ap (settled_tables old.clock id decided.outcome (with_conn id (row_with (present decided.tracks)) old.frontends)) tables
+    ∙ tables_settled old.clock id used decided.outcome decided.tracks old.frontends old.tables decides there in
     let all : state_of after ≡ state_spoken old event id version (reply_by id used decided) = cc (f, v, t) in
     all ∙ ap (state_spoken old event id version) (sym reply_is)
   where
@@ -295,12 +295,12 @@ spoken_fed frontends versions event id piece used judged (Ok given) made =
     changed_twice id (row_fed piece) (row_by versions event (reply_with (said_of id used judged (Ok given)) made)) frontends (λ row. refl)
 spoken_fed frontends versions event id piece used judged (Err cause) made = changed_gone id (row_fed piece) frontends (λ row. refl)
 
-tables_fed : (frontends : List FrontendRows) (tables : List TableState) (id : ConnId) (piece : List ℕ) (used : ℕ) (judged : PairValue) (result : Result NumberedServer Cause) (made : TrackSlots) →
-    tables_by (with_conn id (row_fed piece) frontends) tables (reply_with (said_of id used judged result) made) ≡ tables_by frontends tables (reply_with (said_of id used judged result) made)
-tables_fed frontends tables id piece used judged (Ok given) made = ap (λ ts. with_tracks ts (present made) tables) (open_tracks-same id (row_fed piece) frontends (fed_unseen piece))
-tables_fed frontends tables id piece used judged (Err cause) made =
-    ap (λ ts. without_tracks (by_counter (tracks_at (with_conn id (row_fed piece) frontends) id ++ present made)) (with_tracks ts (present made) tables)) (open_tracks-same id (row_fed piece) frontends (fed_unseen piece))
-    ∙ ap (λ ts. without_tracks (by_counter (ts ++ present made)) (with_tracks (open_tracks frontends) (present made) tables)) (tracks_at-same id (row_fed piece) frontends (fed_unseen piece))
+tables_fed : (moment : ℕ) (frontends : List FrontendRows) (tables : List TableState) (id : ConnId) (piece : List ℕ) (used : ℕ) (judged : PairValue) (result : Result NumberedServer Cause) (made : TrackSlots) →
+    tables_by moment (with_conn id (row_fed piece) frontends) tables (reply_with (said_of id used judged result) made) ≡ tables_by moment frontends tables (reply_with (said_of id used judged result) made)
+tables_fed moment frontends tables id piece used judged (Ok given) made = ap (λ ts. with_tracks moment ts (present made) tables) (open_tracks-same id (row_fed piece) frontends (fed_unseen piece))
+tables_fed moment frontends tables id piece used judged (Err cause) made =
+    ap (λ ts. without_tracks moment (by_counter (tracks_at (with_conn id (row_fed piece) frontends) id ++ present made)) (with_tracks moment ts (present made) tables)) (open_tracks-same id (row_fed piece) frontends (fed_unseen piece))
+    ∙ ap (λ ts. without_tracks moment (by_counter (ts ++ present made)) (with_tracks moment (open_tracks frontends) (present made) tables)) (tracks_at-same id (row_fed piece) frontends (fed_unseen piece))
 
 pub decided_once : (old fed after : RowsValue) (event : OwnedEvent) (id : ConnId) (number : ℕ) (piece : List ℕ) (p : Plain) (version : Version) (frontend : Frontend) (used : ℕ) (judged : PairValue) (reply : Reply) →
     reply ≡ decision (candidate_of p id version frontend) used judged no_tracks → fed ≡ record old { frontends = with_conn id (row_fed piece) old.frontends } → state_of after ≡ state_spoken fed event id number reply →
@@ -309,8 +309,8 @@ decided_once old fed after event id number piece p version frontend used judged 
     after_is
     ∙ ap (λ (r : RowsValue). state_spoken r event id number reply) fed_is
     ∙ ap (λ (r : Reply). state_spoken fed_rows event id number r) reply_is
-    ∙ ap (λ fs. record (state_of old) { frontends = fs; versions = with_said number said.said old.versions; tables = tables_by fed_rows.frontends old.tables said }) (spoken_fed old.frontends old.versions event id piece used judged decided.result decided.made)
-    ∙ ap (λ ts. record (state_of old) { frontends = spoken old.versions event id said old.frontends; versions = with_said number said.said old.versions; tables = ts }) (tables_fed old.frontends old.tables id piece used judged decided.result decided.made)
+    ∙ ap (λ fs. record (state_of old) { frontends = fs; versions = with_said number said.said old.versions; tables = tables_by old.clock fed_rows.frontends old.tables said }) (spoken_fed old.frontends old.versions event id piece used judged decided.result decided.made)
+    ∙ ap (λ ts. record (state_of old) { frontends = spoken old.versions event id said old.frontends; versions = with_said number said.said old.versions; tables = ts }) (tables_fed old.clock old.frontends old.tables id piece used judged decided.result decided.made)
     ∙ ap (state_spoken old event id number) (sym reply_is)
   where
     fed_rows : RowsValue

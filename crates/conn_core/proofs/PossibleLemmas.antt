@@ -51,24 +51,24 @@ AreAlike a b = (id : TableId) (key : Addr) → trackers a id key ≡ trackers b 
 alike_append : (a b c : List Track) → AreAlike a b → AreAlike (a ++ c) (b ++ c)
 alike_append a b c same id key = trackers-append a c id key ∙ ap (λ n. n + trackers c id key) (same id key) ∙ sym (trackers-append b c id key)
 
-with_track-alike : (a b : List Track) (track : Track) (tables : List TableState) → AreAlike a b → with_track a track tables ≡ with_track b track tables
-with_track-alike a b track tables same =
+with_track-alike : (moment : ℕ) (a b : List Track) (track : Track) (tables : List TableState) → AreAlike a b → with_track moment a track tables ≡ with_track moment b track tables
+with_track-alike moment a b track tables same =
     let all : trackers a ≡ trackers b = fun_ext (λ id. fun_ext (same id)) in
-    ap (λ (f : TableId → Addr → ℕ). map {A = TableState} {B = TableState} (λ table. if same_id table.id track.table then record table { entries = with_tracking (f table.id) table.table.size track.key table.entries } else table) tables) all
+    ap (λ (f : TableId → Addr → ℕ). map {A = TableState} {B = TableState} (λ table. if same_id table.id track.table then record table { entries = with_tracking moment (f table.id) table.table.size track.key table.entries } else table) tables) all
 
 -- tables see of what is tracked by how many each key is
-pub with_tracks-alike : (a b tracks : List Track) (tables : List TableState) → AreAlike a b → with_tracks a tracks tables ≡ with_tracks b tracks tables
-with_tracks-alike a b [] tables same = refl
-with_tracks-alike a b (track ∷ tracks) tables same =
-    ap (with_tracks (a ++ track ∷ []) tracks) (with_track-alike a b track tables same)
-    ∙ with_tracks-alike (a ++ track ∷ []) (b ++ track ∷ []) tracks (with_track b track tables) (alike_append a b (track ∷ []) same)
+pub with_tracks-alike : (moment : ℕ) (a b tracks : List Track) (tables : List TableState) → AreAlike a b → with_tracks moment a tracks tables ≡ with_tracks moment b tracks tables
+with_tracks-alike moment a b [] tables same = refl
+with_tracks-alike moment a b (track ∷ tracks) tables same =
+    ap (with_tracks moment (a ++ track ∷ []) tracks) (with_track-alike moment a b track tables same)
+    ∙ with_tracks-alike moment (a ++ track ∷ []) (b ++ track ∷ []) tracks (with_track moment b track tables) (alike_append a b (track ∷ []) same)
 
 -- One more track.
 
 -- what a source could be tracked under besides can be tracked still
-pub still_possible : (before after : List Track) (tables : List TableState) (track : Track) (id : TableId) (source key : Addr) → key_at before tables track.table source ≡ Some track.key →
-    key_at before tables id source ≡ Some key → AreAlike after (before ++ track ∷ []) → key_at after (with_track before track tables) id source ≡ Some key
-still_possible before after tables track id source key own is alike = by (table_at tables id) refl
+pub still_possible : (moment : ℕ) (before after : List Track) (tables : List TableState) (track : Track) (id : TableId) (source key : Addr) → key_at before tables track.table source ≡ Some track.key →
+    key_at before tables id source ≡ Some key → AreAlike after (before ++ track ∷ []) → key_at after (with_track moment before track tables) id source ≡ Some key
+still_possible moment before after tables track id source key own is alike = by (table_at tables id) refl
   where
     in_other : (table : TableState) → same_id table.id track.table ≡ false → table_key before source table ≡ Some key → table_key after source table ≡ Some key
     in_other table other tracked =
@@ -76,23 +76,23 @@ still_possible before after tables track id source key own is alike = by (table_
         ap (λ (f : Addr → ℕ). tracked_key f table.table.kind table.table.size table.entries source) same ∙ tracked
 
     in_same : (table : TableState) → table_key before source table ≡ Some key → table_key before source table ≡ Some track.key →
-        tracked_key (trackers after table.id) table.table.kind table.table.size (with_tracking (trackers before table.id) table.table.size track.key table.entries) source ≡ Some key
+        tracked_key (trackers after table.id) table.table.kind table.table.size (with_tracking moment (trackers before table.id) table.table.size track.key table.entries) source ≡ Some key
     in_same table tracked made =
-        let more : List PlainEntry = with_tracking (trackers before table.id) table.table.size track.key table.entries in
+        let more : List PlainEntry = with_tracking moment (trackers before table.id) table.table.size track.key table.entries in
         let keys : track.key ≡ key = let it : Some track.key ≡ Some key = sym made ∙ tracked in cc in
         let both = tracked_is (trackers before table.id) table.table.kind table.table.size table.entries source key tracked in
-        let there : is_in key more ≡ true = ap (λ k. is_in k more) (sym keys) ∙ in-tracked (trackers before table.id) table.table.size track.key table.entries in
+        let there : is_in key more ≡ true = ap (λ k. is_in k more) (sym keys) ∙ in-tracked moment (trackers before table.id) table.table.size track.key table.entries in
         tracks_if (trackers after table.id) table.table.kind table.table.size more source key both.0 (rw there refl)
 
-    in_table : (table : TableState) (b : Bool) → table_at tables id ≡ Some table → same_id table.id track.table ≡ b → table_key after source (table_with before track table) ≡ Some key
+    in_table : (table : TableState) (b : Bool) → table_at tables id ≡ Some table → same_id table.id track.table ≡ b → table_key after source (table_with moment before track table) ≡ Some key
     in_table table false there e = rw e (in_other table e (rw there at is))
     in_table table true there e =
         let ids : track.table ≡ id = sym (same_id-is table.id track.table e) ∙ table_found tables id table there in
         let found : table_at tables track.table ≡ Some table = ap (table_at tables) ids ∙ there in
         rw e (in_same table (rw there at is) (rw found at own))
 
-    by : (o : Option TableState) → table_at tables id ≡ o → key_at after (with_track before track tables) id source ≡ Some key
+    by : (o : Option TableState) → table_at tables id ≡ o → key_at after (with_track moment before track tables) id source ≡ Some key
     by None none = absurd (let wrong : None ≡ Some key = rw none at is in cc)
     by (Some table) there =
-        let now : table_at (with_track before track tables) id ≡ Some (table_with before track table) = table_at-map (table_with before track) (table_with-entries before track) tables id ∙ ap (option_map (table_with before track)) there in
+        let now : table_at (with_track moment before track tables) id ≡ Some (table_with moment before track table) = table_at-map (table_with moment before track) (table_with-entries moment before track) tables id ∙ ap (option_map (table_with moment before track)) there in
         ap (option_and_then (table_key after source)) now ∙ in_table table (same_id table.id track.table) there refl

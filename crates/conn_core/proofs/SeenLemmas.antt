@@ -1,5 +1,5 @@
 -- What rules see of a connection.
-use Rattle.std.proofs.Common.{◌≡◌, ℕ, suc, ◌+◌, ◌≤◌, Bool, true, false, List, [], ◌∷◌, ◌++◌, length, Option, Some, None, refl, ◌∙◌, sym, ap, append-nil, arith}
+use Rattle.std.proofs.Common.{max, ◌≡◌, ℕ, suc, ◌+◌, ◌≤◌, Bool, true, false, List, [], ◌∷◌, ◌++◌, length, Option, Some, None, refl, ◌∙◌, sym, ap, append-nil, arith}
 use Rattle.std.specs.Prelude.{slice_get, slice_set, filter, flat_map, option_map, ◌==◌, ◌&&◌, if◌then◌else◌}
 use Rattle.std.specs.List.{AllByRecursion}
 use Rattle.std.specs.Option.{option_map_or}
@@ -25,7 +25,7 @@ use Rattle.conn_model.specs.declared.plain.Version.{Version}
 use Rattle.conn_model.specs.declared.plain.Plain.{Plain}
 use Rattle.conn_model.specs.Counts.{open_in, open_named, open_if, offered_to, offered_in, is_offered_to, is_served_by, served_by, served_in, server_of, total, change_row}
 use Rattle.conn_model.specs.Rules.{RuleView, view_of}
-use Rattle.conn_model.specs.Tables.{open_tracks, tracks_at, tracks_in}
+use Rattle.conn_model.specs.Tables.{tables_alive, open_tracks, tracks_at, tracks_in}
 use Rattle.conn_model.specs.Words.{newest, row_at, row_in}
 use Rattle.conn_model.specs.Answer.{candidate_at, candidate_of, frontend_in, new_row}
 use Rattle.conn_model.proofs.Offers.{served_with}
@@ -36,7 +36,7 @@ use Rattle.conn_model.proofs.Changes.{own_changed, row_changed}
 use Rattle.conn_model.proofs.Totals.{total-set}
 use Rattle.conn_core.specs.declared.facts.RuleFacts.{RuleFacts}
 use Rattle.conn_core.specs.Counts.{IsSeen}
-use Rattle.conn_core.specs.Judging.{arrival_in, facts_view}
+use Rattle.conn_core.specs.Judging.{arrival_in, facts_view, rows_at}
 use Rattle.conn_core.specs.Seeing.{SeesNext}
 use Rattle.conn_core.proofs.EnterLemmas.{find-new, flat_map-set, tracks-new}
 
@@ -78,7 +78,7 @@ view_is e1 e2 e3 e4 e5 e6 e7 e8 e9 e10 = cc (e1, e2, e3, e4, e5, e6, e7, e8, e9,
 
 pub record SeesArrival (p : Plain) (own : FrontendRows) (version : Version) (frontend : Frontend) (facts : RuleFacts) (source : Addr) : Type 0 where
   pub rows : facts.rows.now.frontends ≡ p.frontends
-  pub tables : facts.rows.now.tables ≡ p.tables
+  pub tables : (rows_at facts.moment facts.rows.now).tables ≡ p.tables
   pub version_is : facts.version.now ≡ version
   pub frontend_is : facts.frontend.now ≡ frontend
   pub name : facts.name.now ≡ own.name
@@ -159,7 +159,7 @@ pub record SeesOpen (number : ℕ) (version : Version) (frontend : Frontend) (fa
   pub judged : facts.source ≡ source
 
 pub view_later : (state : Plain) (id : ConnId) (version : Version) (frontend : Frontend) (facts : RuleFacts) (source : Addr) →
-    IsSeen id state facts.rows.now → present facts.own ≡ tracks_at facts.rows.now.frontends id → SeesOpen id.frontend version frontend facts source →
+    IsSeen id state (rows_at facts.moment facts.rows.now) → present facts.own ≡ tracks_at facts.rows.now.frontends id → SeesOpen id.frontend version frontend facts source →
     view_of (candidate_of state id version frontend) source ≡ facts_view facts
 view_later state id version frontend facts source same own sees = fun_ext by
   where
@@ -173,6 +173,12 @@ view_later state id version frontend facts source same own sees = fun_ext by
 
     by : (made : List Track) → view_of (candidate_of state id version frontend) source made ≡ facts_view facts made
     by made = view_is (sym sees.judged) (sym sees.version_is) (sym sees.frontend_is) same.tables same.tracks (same.tracked ∙ sym own) (same.own ∙ sym sees.connections) (fun_ext named) (fun_ext same.offered) (fun_ext same.served)
+
+-- At the moment up to which time has passed, rules see the rows as they are.
+pub rows_now : (moment : ℕ) (rows : RowsValue) → moment ≡ rows.clock → tables_alive rows.clock (open_tracks rows.frontends) rows.tables ≡ rows.tables → rows_at moment rows ≡ rows
+rows_now moment rows same alive =
+    let now : max rows.clock moment ≡ rows.clock = omega (arith, same) in
+    ap (λ n. record rows { tables = tables_alive n (open_tracks rows.frontends) rows.tables; clock = n }) now ∙ ap (λ ts. record rows { tables = ts }) alive
 
 -- A change that rules do not see.
 

@@ -1,7 +1,7 @@
 -- The state of a core after one event.
 use Rattle.std.proofs.Common.{◌≡◌, ℕ, [], ◌∷◌, List, Bool, true, false, Option, Some, None, Result, Ok, refl, max, sym, ap, subst, append-nil, ◌∙◌}
 use Rattle.std.specs.Prelude.{slice_get, slice_set, find, filter, not, map, option_and_then, option_map, ◌==◌, ◌++◌, if◌then◌else◌}
-use Rattle.std.specs.List.{AllByRecursion}
+use Rattle.std.specs.List.{enumerate_from, AllByRecursion}
 use Rattle.std.specs.Option.{option_map_or}
 use Rattle.std.proofs.Math.Path.{fun_ext}
 use Rattle.plan_types.specs.declared.plan.Plan.{Plan}
@@ -21,9 +21,11 @@ use Rattle.conn_model.specs.declared.plain.TableState.{TableState}
 use Rattle.conn_model.specs.declared.plain.Version.{Version}
 use Rattle.conn_model.specs.declared.plain.Plain.{Plain}
 use Rattle.conn_model.specs.Counts.{change_row}
-use Rattle.conn_model.specs.Answer.{answer_in, reply_of, row_at, row_in}
-use Rattle.conn_model.specs.History.{after, by_counter, entry, id_of, is_last, judging_version, needed_versions, newest_number, next_version, number_said, phase_by, phase_up, plan_in, plan_of, plan_with, tables_by, tables_with, tracks_at, version_of, with_said, with_version, Entry}
-use Rattle.conn_model.specs.Tables.{is_listed_by, without_tracks, written_tables}
+use Rattle.conn_model.specs.Answer.{answer_in, at_moment, reply_of, row_at, row_in}
+use Rattle.conn_model.specs.History.{after, by_counter, entry, id_of, is_last, judging_version, needed_versions, newest_number, next_version, number_said, phase_by, phase_up, plan_in, plan_of, plan_with, tables_passed, tables_with, tracks_at, version_of, with_said, with_version, Entry}
+use Rattle.plan_types.specs.declared.plan.Table.{Table}
+use Rattle.plan_types.specs.declared.track.Track.{Track}
+use Rattle.conn_model.specs.Tables.{is_listed_by, is_new, new_table, table_alive, tables_alive, without_tracks, written_tables}
 use Rattle.conn_model.specs.Words.{newest}
 use Rattle.conn_model.proofs.Goes.{well_at}
 use Rattle.conn_model.proofs.Lists.{all-more}
@@ -86,9 +88,9 @@ pruned_if true p = pruned p
 pruned_if false p = p
 
 -- so are the rows
-pub pruned_rows : (clock : ℕ) (listeners : List Listener) (last : Bool) (rows : RowsValue) → state_of clock listeners (forgotten last rows) ≡ pruned_if last (state_of clock listeners rows)
-pruned_rows clock listeners true rows = refl
-pruned_rows clock listeners false rows = refl
+pub pruned_rows : (listeners : List Listener) (last : Bool) (rows : RowsValue) → state_of listeners (forgotten last rows) ≡ pruned_if last (state_of listeners rows)
+pruned_rows listeners true rows = refl
+pruned_rows listeners false rows = refl
 
 -- the plan of a version is the one by which the replies to its rows are read
 pub plan_is : (p : Plain) (n : ℕ) → plan_of p [] n ≡ plan_at p.versions n
@@ -129,7 +131,7 @@ pub after_spoken : (p : Plain) → IsCoreState p → (moment : ℕ) (event : Own
       listeners = p.listeners;
       frontends = spoken p.versions event id reply p.frontends;
       versions = with_said row.version reply.said p.versions;
-      tables = tables_by p.frontends p.tables reply;
+      tables = tables_passed (max p.clock moment) p.frontends p.tables reply;
     }))
 after_spoken p known moment event id reply row open_now old whom is =
     is_after p known (entry moment event reply) _ (brings_none (entry moment event reply) (open_no_plan event old)) is (by (is_last reply.said) refl)
@@ -146,7 +148,7 @@ after_spoken p known moment event id reply row open_now old whom is =
       listeners = p.listeners;
       frontends = frontends;
       versions = versions;
-      tables = tables_by p.frontends p.tables reply;
+      tables = tables_passed (max p.clock moment) p.frontends p.tables reply;
     }
 
     judges : judging_version p.frontends (newest_number p) reply.said ≡ row.version
@@ -177,7 +179,7 @@ pub after_last : (p : Plain) → IsCoreState p → (moment : ℕ) (event : Owned
       listeners = p.listeners;
       frontends = without_conn id p.frontends;
       versions = p.versions;
-      tables = without_tracks (tracks_at p.frontends id) p.tables;
+      tables = without_tracks (max p.clock moment) (tracks_at p.frontends id) (at_moment moment p).tables;
     }))
 after_last p known moment event id said row open_now old whom last is =
     subst (IsAfter p (entry moment event (reply_of said))) same (after_spoken p known moment event id (reply_of said) row open_now old whom is)
@@ -191,13 +193,13 @@ after_last p known moment event id said row open_now old whom last is =
     gone : spoken p.versions event id (reply_of said) p.frontends ≡ without_conn id p.frontends
     gone = rw last refl
 
-    same : pruned_if (is_last said) (state (spoken p.versions event id (reply_of said) p.frontends) (with_said row.version said p.versions) (tables_by p.frontends p.tables (reply_of said)))
-        ≡ pruned (state (without_conn id p.frontends) p.versions (without_tracks (tracks_at p.frontends id) p.tables))
+    same : pruned_if (is_last said) (state (spoken p.versions event id (reply_of said) p.frontends) (with_said row.version said p.versions) (tables_passed (max p.clock moment) p.frontends p.tables (reply_of said)))
+        ≡ pruned (state (without_conn id p.frontends) p.versions (without_tracks (max p.clock moment) (tracks_at p.frontends id) (at_moment moment p).tables))
     same =
-        ap (λ b. pruned_if b (state (spoken p.versions event id (reply_of said) p.frontends) (with_said row.version said p.versions) (tables_by p.frontends p.tables (reply_of said)))) last
-        ∙ ap (λ fs. pruned (state fs (with_said row.version said p.versions) (tables_by p.frontends p.tables (reply_of said)))) gone
-        ∙ ap (λ vs. pruned (state (without_conn id p.frontends) vs (tables_by p.frontends p.tables (reply_of said)))) versions
-        ∙ ap (λ ts. pruned (state (without_conn id p.frontends) p.versions ts)) (tables_ended p known.well id said whom last)
+        ap (λ b. pruned_if b (state (spoken p.versions event id (reply_of said) p.frontends) (with_said row.version said p.versions) (tables_passed (max p.clock moment) p.frontends p.tables (reply_of said)))) last
+        ∙ ap (λ fs. pruned (state fs (with_said row.version said p.versions) (tables_passed (max p.clock moment) p.frontends p.tables (reply_of said)))) gone
+        ∙ ap (λ vs. pruned (state (without_conn id p.frontends) vs (tables_passed (max p.clock moment) p.frontends p.tables (reply_of said)))) versions
+        ∙ ap (λ ts. pruned (state (without_conn id p.frontends) p.versions ts)) (tables_ended (max p.clock moment) (at_moment moment p).tables p known.well id said whom last)
 
 -- Rows that are changed alike.
 
@@ -216,7 +218,7 @@ pub after_up : (p : Plain) → IsCoreState p → (moment : ℕ) (id : ConnId) (r
       listeners = p.listeners;
       frontends = with_conn id row_up p.frontends;
       versions = p.versions;
-      tables = p.tables;
+      tables = (at_moment moment p).tables;
     })
 after_up p known moment id row open_now is =
     subst (IsAfter p (entry moment (Connected id) (reply_of (Up id)))) same (after_spoken p known moment (Connected id) id (reply_of (Up id)) row open_now tt refl is)
@@ -241,10 +243,22 @@ after_up p known moment id row open_now is =
     state : List FrontendRows → List TableState → Plain
     state fs tables = record { clock = max p.clock moment; listeners = p.listeners; frontends = fs; versions = p.versions; tables = tables }
 
-    same : state (with_conn id said_up p.frontends) (tables_by p.frontends p.tables (reply_of (Up id))) ≡ state (with_conn id row_up p.frontends) p.tables
-    same = ap (λ fs. state fs (tables_by p.frontends p.tables (reply_of (Up id)))) frontends ∙ ap (state (with_conn id row_up p.frontends)) (tables_kept p (Up id) refl)
+    same : state (with_conn id said_up p.frontends) (tables_passed (max p.clock moment) p.frontends p.tables (reply_of (Up id))) ≡ state (with_conn id row_up p.frontends) (at_moment moment p).tables
+    same = ap (λ fs. state fs (tables_passed (max p.clock moment) p.frontends p.tables (reply_of (Up id)))) frontends ∙ ap (state (with_conn id row_up p.frontends)) (tables_kept (max p.clock moment) (at_moment moment p).tables p (Up id) refl)
 
 -- A reload.
+
+-- a table that begins has no entry
+new_alive : (moment : ℕ) (tracks : List Track) (version : ℕ) (places : List (ℕ × Table)) → tables_alive moment tracks (map (new_table version) places) ≡ map (new_table version) places
+new_alive moment tracks version [] = refl
+new_alive moment tracks version (place ∷ places) = ap (λ ts. new_table version place ∷ ts) (new_alive moment tracks version places)
+
+-- so time makes nothing of it
+pub with_alive : (moment : ℕ) (tracks : List Track) (tables : List TableState) (version : Option Version) (brought : Option (ℕ × Plan)) →
+    tables_alive moment tracks (tables ++ tables_with version brought) ≡ tables_alive moment tracks tables ++ tables_with version brought
+with_alive moment tracks (table ∷ tables) version brought = ap (λ ts. table_alive moment tracks table ∷ ts) (with_alive moment tracks tables version brought)
+with_alive moment tracks [] version None = refl
+with_alive moment tracks [] version (Some (number, plan)) = new_alive moment tracks number (filter (is_new (written_tables version)) (enumerate_from 0 plan.tables))
 
 -- the number of the version at the end
 newest_last : (versions : List Version) (version : Version) → option_map_or (λ (v : Version). v.number) (newest (versions ++ version ∷ [])) 0 ≡ version.number
@@ -258,7 +272,7 @@ pub after_reload : (p : Plain) → IsCoreState p → (moment number : ℕ) (text
       listeners = p.listeners;
       frontends = p.frontends;
       versions = with_version p.versions (Some (number, plan));
-      tables = p.tables ++ tables_with (newest p.versions) (Some (number, plan));
+      tables = (at_moment moment p).tables ++ tables_with (newest p.versions) (Some (number, plan));
     }))
 after_reload p known moment number text plan meant sound is =
     is_after p known e _ brings is (ap pruned_to (newest_last p.versions next) ∙ sym (after-reload p known.well moment number text plan meant))
@@ -275,7 +289,7 @@ after_reload p known moment number text plan meant sound is =
       listeners = p.listeners;
       frontends = p.frontends;
       versions = needed_versions p.frontends force (p.versions ++ next ∷ []);
-      tables = filter (is_listed_by (needed_versions p.frontends force (p.versions ++ next ∷ []))) (p.tables ++ tables_with (newest p.versions) (Some (number, plan)));
+      tables = filter (is_listed_by (needed_versions p.frontends force (p.versions ++ next ∷ []))) ((at_moment moment p).tables ++ tables_with (newest p.versions) (Some (number, plan)));
     }
 
     brings : BringsSound e

@@ -15,7 +15,7 @@ use Rattle.conn_model.specs.Rules.{RuleView, key_in_table, numbered_table, own_t
 use Rattle.conn_model.specs.Tables.{open_tracks, table_at, trackers}
 use Rattle.conn_model.proofs.OneTable.{table_found}
 use Rattle.conn_tables.specs.Tables.{key_at}
-use Rattle.conn_core.specs.Judging.{facts_view, AreAllowed}
+use Rattle.conn_core.specs.Judging.{facts_view, rows_at, AreAllowed}
 use Rattle.conn_core.specs.Tracking.{IsPossible}
 use Rattle.conn_core.specs.declared.facts.RuleFacts.{RuleFacts}
 
@@ -30,7 +30,7 @@ at_own tables None table t is same = absurd (let wrong : None ≡ Some t = is in
 at_own tables (Some id) table t is same = ap (table_at tables) (sym same ∙ table_found tables id t is) ∙ is
 
 -- a scene lets a free counter track only what is possible
-pub allowed : (facts : RuleFacts) → Makes (scene_of (facts_view facts)) (IsPossible (open_tracks facts.rows.now.frontends) facts.rows.now.tables (present facts.own) facts.source)
+pub allowed : (facts : RuleFacts) → Makes (scene_of (facts_view facts)) (IsPossible (open_tracks facts.rows.now.frontends) (rows_at facts.moment facts.rows.now).tables (present facts.own) facts.source)
 allowed facts counter number made table key below free there = record {
   counter_is = refl;
   below = below;
@@ -50,15 +50,15 @@ allowed facts counter number made table key below free there = record {
         let same : a ≡ b = let pair : Some a ≡ Some b = rw is at made_is in cc in
         (ap (λ p. p.0) same, is ∙ ap (λ p. Some p.1) same)
 
-    keyed : (o : Option TableState) → numbered_table view number ≡ o → key_at (open_tracks facts.rows.now.frontends) facts.rows.now.tables table facts.source ≡ Some key
+    keyed : (o : Option TableState) → numbered_table view number ≡ o → key_at (open_tracks facts.rows.now.frontends) (rows_at facts.moment facts.rows.now).tables table facts.source ≡ Some key
     keyed None is = absurd (let wrong : None ≡ Some (table, key) = rw is at there in cc)
     keyed (Some t) is =
         let made_is : key_in_table view t ≡ Some (table, key) = rw is at there in
         let both = in_table t (tracked_key (trackers view.tracks t.id) t.table.kind t.table.size t.entries view.source) refl made_is in
-        let found : table_at facts.rows.now.tables table ≡ Some t = at_own facts.rows.now.tables (slice_get facts.version.now.tables number) table t is both.0 in
+        let found : table_at (rows_at facts.moment facts.rows.now).tables table ≡ Some t = at_own (rows_at facts.moment facts.rows.now).tables (slice_get facts.version.now.tables number) table t is both.0 in
         rw found both.1
 
 -- so do lists of rules
 pub allowed_after : (facts : RuleFacts) (earlier : TrackSlots) (rules : List Rule) → AreAllowed facts earlier → AreAllowed facts (judged_after (scene_of (facts_view facts)) earlier rules).tracks
 allowed_after facts earlier rules known =
-    judged-slots (scene_of (facts_view facts)) (IsPossible (open_tracks facts.rows.now.frontends) facts.rows.now.tables (present facts.own) facts.source) (allowed facts) earlier rules known
+    judged-slots (scene_of (facts_view facts)) (IsPossible (open_tracks facts.rows.now.frontends) (rows_at facts.moment facts.rows.now).tables (present facts.own) facts.source) (allowed facts) earlier rules known

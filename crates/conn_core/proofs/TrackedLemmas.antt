@@ -156,10 +156,10 @@ some_map None f some = some
 some_map (Some row) f some = some
 
 -- once a slot is tracked, the next ones can be
-pub can_next : (frontends : List FrontendRows) (after : List FrontendRows) (tables : List TableState) (id : ConnId) (source : Addr) (from : ℕ) (slots : TrackSlots) (track : Track) →
+pub can_next : (moment : ℕ) (frontends : List FrontendRows) (after : List FrontendRows) (tables : List TableState) (id : ConnId) (source : Addr) (from : ℕ) (slots : TrackSlots) (track : Track) →
     CanTrack frontends tables id source from slots → slice_get slots from ≡ Some (Some track) → after ≡ with_conn id (row_tracking track) frontends →
-    AreAlike (open_tracks after) (open_tracks frontends ++ track ∷ []) → CanTrack after (with_track (open_tracks frontends) track tables) id source (from + 1) slots
-can_next frontends after tables id source from slots track can is made alike = record {
+    AreAlike (open_tracks after) (open_tracks frontends ++ track ∷ []) → CanTrack after (with_track moment (open_tracks frontends) track tables) id source (from + 1) slots
+can_next moment frontends after tables id source from slots track can is made alike = record {
   there = subst (λ o. IsSome o) (sym (ap (λ fs. row_at fs id) made ∙ row_changed id (row_tracking track) frontends (λ row. refl))) (some_map (row_at frontends id) (row_tracking track) can.there);
   sorted = subst (λ fs. AreSorted fs id) (sym made) (still_sorted id (row_tracking track) frontends (λ row e. by_counter-twice (row.tracks ++ track ∷ [])) (λ row. refl) can.sorted);
   each = each;
@@ -172,7 +172,7 @@ can_next frontends after tables id source from slots track can is made alike = r
     tracks = ap (λ fs. tracks_at fs id) made ∙ tracks_more frontends id track can.there
 
     each : (counter : ℕ) (other : Track) → from + 1 ≤ counter → slice_get slots counter ≡ Some (Some other) →
-        IsPossible (open_tracks after) (with_track (open_tracks frontends) track tables) (tracks_at after id) source counter other
+        IsPossible (open_tracks after) (with_track moment (open_tracks frontends) track tables) (tracks_at after id) source counter other
     each counter other less there =
         let old : IsPossible (open_tracks frontends) tables (tracks_at frontends id) source counter other = can.each counter other (omega (arith, less)) there in
         let own_counter : track.counter ≡ from = own.counter_is in
@@ -181,14 +181,15 @@ can_next frontends after tables id source from slots track can is made alike = r
           counter_is = old.counter_is;
           below = old.below;
           free = ap (track_of counter) tracks ∙ still_free counter track (tracks_at frontends id) lower old.free;
-          key = still_possible (open_tracks frontends) (open_tracks after) tables track other.table source other.key own.key old.key alike;
+          key = still_possible moment (open_tracks frontends) (open_tracks after) tables track other.table source other.key own.key old.key alike;
         }
 
 -- As far as the slots were tracked one after the other: to track the rest gives what is to come of them all.
 pub record IsTracked (start now : RowsValue) (id : ConnId) (from : ℕ) (slots : TrackSlots) : Type 0 where
   pub frontends : with_conn id (row_with (present (drop from slots))) now.frontends ≡ with_conn id (row_with (present slots)) start.frontends
   pub versions : now.versions ≡ start.versions
-  pub tables : with_tracks (open_tracks now.frontends) (present (drop from slots)) now.tables ≡ with_tracks (open_tracks start.frontends) (present slots) start.tables
+  pub clock : now.clock ≡ start.clock
+  pub tables : with_tracks now.clock (open_tracks now.frontends) (present (drop from slots)) now.tables ≡ with_tracks start.clock (open_tracks start.frontends) (present slots) start.tables
   pub can : (source : Addr) × CanTrack now.frontends now.tables id source from slots
   pub room : 3 ≤ now.spare + from
 
@@ -213,6 +214,7 @@ pub none_yet : (rows : RowsValue) (id : ConnId) (slots : TrackSlots) → IsSome 
 none_yet rows id slots there sorted can room = record {
   frontends = refl;
   versions = refl;
+  clock = refl;
   tables = refl;
   can = (can.0, record { there = there; sorted = sorted; each = λ counter track less is. can.1.each counter track is });
   room = omega (arith, room);
@@ -254,39 +256,43 @@ after_empty_slot start now id from slots next known =
     record {
       frontends = ap (λ ts. with_conn id (row_with ts) now.frontends) (sym same) ∙ known.frontends;
       versions = known.versions;
-      tables = ap (λ ts. with_tracks (open_tracks now.frontends) ts now.tables) (sym same) ∙ known.tables;
+      clock = known.clock;
+      tables = ap (λ ts. with_tracks now.clock (open_tracks now.frontends) ts now.tables) (sym same) ∙ known.tables;
       can = (known.can.0, next_slots now.frontends now.tables id known.can.0 from slots known.can.1);
       room = omega (arith, room);
     }
 
 -- a slot that is tracked
 pub after_slot : (start now after : RowsValue) (id : ConnId) (from : ℕ) (slots : TrackSlots) (track : Track) → IsNext slots from (Some track) →
-    after ≡ record now { frontends = with_conn id (row_tracking track) now.frontends; tables = with_track (open_tracks now.frontends) track now.tables; spare = now.spare - 1 } →
+    after ≡ record now { frontends = with_conn id (row_tracking track) now.frontends; tables = with_track now.clock (open_tracks now.frontends) track now.tables; spare = now.spare - 1 } →
     AreAlike (open_tracks after.frontends) (open_tracks now.frontends ++ track ∷ []) → IsTracked start now id from slots → IsTracked start after id (from + 1) slots
 after_slot start now after id from slots track next made alike known =
     let same : present (drop from slots) ≡ track ∷ present (drop (from + 1) slots) = ap present next.rest in
     let fronts : after.frontends ≡ with_conn id (row_tracking track) now.frontends = ap (λ (r : RowsValue). r.frontends) made in
-    let tables : after.tables ≡ with_track (open_tracks now.frontends) track now.tables = ap (λ (r : RowsValue). r.tables) made in
+    let clock : after.clock ≡ now.clock = ap (λ (r : RowsValue). r.clock) made in
+    let tables : after.tables ≡ with_track now.clock (open_tracks now.frontends) track now.tables = ap (λ (r : RowsValue). r.tables) made in
     let room = known.room in
     let spare : after.spare ≡ now.spare - 1 = ap (λ (r : RowsValue). r.spare) made in
     let rest : List Track = present (drop (from + 1) slots) in
     record {
       frontends = ap (with_conn id (row_with rest)) fronts ∙ one_then_more id track rest now.frontends ∙ ap (λ ts. with_conn id (row_with ts) now.frontends) (sym same) ∙ known.frontends;
       versions = ap (λ (r : RowsValue). r.versions) made ∙ known.versions;
-      tables = ap (with_tracks (open_tracks after.frontends) rest) tables ∙ with_tracks-alike (open_tracks after.frontends) (open_tracks now.frontends ++ track ∷ []) rest (with_track (open_tracks now.frontends) track now.tables) alike
-          ∙ ap (λ ts. with_tracks (open_tracks now.frontends) ts now.tables) (sym same) ∙ known.tables;
+      clock = clock ∙ known.clock;
+      tables = ap (λ n. with_tracks n (open_tracks after.frontends) rest after.tables) clock ∙ ap (with_tracks now.clock (open_tracks after.frontends) rest) tables
+          ∙ with_tracks-alike now.clock (open_tracks after.frontends) (open_tracks now.frontends ++ track ∷ []) rest (with_track now.clock (open_tracks now.frontends) track now.tables) alike
+          ∙ ap (λ ts. with_tracks now.clock (open_tracks now.frontends) ts now.tables) (sym same) ∙ known.tables;
       can = (
         known.can.0,
-        subst (λ ts. CanTrack after.frontends ts id known.can.0 (from + 1) slots) (sym tables) (can_next now.frontends after.frontends now.tables id known.can.0 from slots track known.can.1 next.there fronts alike),
+        subst (λ ts. CanTrack after.frontends ts id known.can.0 (from + 1) slots) (sym tables) (can_next now.clock now.frontends after.frontends now.tables id known.can.0 from slots track known.can.1 next.there fronts alike),
       );
       room = let below = next.below in omega (arith, room, spare, below);
     }
 
 -- all slots
 pub all_tracked : (start now : RowsValue) (id : ConnId) (from : ℕ) (slots : TrackSlots) → length slots ≡ 3 → 3 ≤ from → IsTracked start now id from slots →
-    (now.frontends ≡ with_conn id (row_with (present slots)) start.frontends) × (now.tables ≡ with_tracks (open_tracks start.frontends) (present slots) start.tables)
+    (now.frontends ≡ with_conn id (row_with (present slots)) start.frontends) × (now.tables ≡ with_tracks start.clock (open_tracks start.frontends) (present slots) start.tables)
 all_tracked start now id from slots three past known =
     let none : present (drop from slots) ≡ [] = ap present (drop_all from slots (omega (arith, three, past))) in (
       sym (none_more id now.frontends known.can.1.sorted) ∙ ap (λ ts. with_conn id (row_with ts) now.frontends) (sym none) ∙ known.frontends,
-      ap (λ ts. with_tracks (open_tracks now.frontends) ts now.tables) (sym none) ∙ known.tables,
+      ap (λ ts. with_tracks now.clock (open_tracks now.frontends) ts now.tables) (sym none) ∙ known.tables,
     )

@@ -97,11 +97,11 @@ settled_versions version Wait versions = versions
 settled_versions version (Offer offer) versions = map (with_offer version offer.seat.line offer.seat.server) versions
 settled_versions version (Refuse cause) versions = versions
 
--- and the tables
-abbrev pub settled_tables : ConnId → Outcome → List FrontendRows → List TableState → List TableState
-settled_tables id Wait frontends tables = tables
-settled_tables id (Offer offer) frontends tables = tables
-settled_tables id (Refuse cause) frontends tables = without_tracks (tracks_at frontends id) tables
+-- and the tables, where that is at a moment
+abbrev pub settled_tables : ℕ → ConnId → Outcome → List FrontendRows → List TableState → List TableState
+settled_tables moment id Wait frontends tables = tables
+settled_tables moment id (Offer offer) frontends tables = tables
+settled_tables moment id (Refuse cause) frontends tables = without_tracks moment (tracks_at frontends id) tables
 
 -- the rows once a connection ended, if one did: without the versions that are not needed, and the tables that no other lists
 abbrev pub forgotten : Bool → RowsValue → RowsValue

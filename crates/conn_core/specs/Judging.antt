@@ -1,5 +1,5 @@
 -- What the code judges by, in the words of the definitions.
-use Rattle.std.specs.Prelude.{ℕ, Bool, List, Option, Result, Ok, Err, ◌+◌, ◌&&◌, option_and_then, option_map, if◌then◌else◌}
+use Rattle.std.specs.Prelude.{ℕ, Bool, List, max, Option, Result, Ok, Err, ◌+◌, ◌&&◌, option_and_then, option_map, if◌then◌else◌}
 use Rattle.std.specs.Option.{option_map_or}
 use Rattle.std.specs.Str.{bytes_eq}
 use Rattle.addr_core.specs.declared.addr.Addr.{Addr}
@@ -21,6 +21,7 @@ use Rattle.conn_model.specs.Counts.{open_named, offered_to, served_by}
 use Rattle.conn_model.specs.Rules.{RuleView, counted, current_of, total_of}
 use Rattle.conn_model.specs.Tables.{open_tracks, table_at}
 use Rattle.conn_model.specs.Words.{or_fault}
+use Rattle.conn_rows.specs.Value.{rows_passed, RowsValue}
 use Rattle.conn_core.specs.Tracking.{ArePossible}
 use Rattle.conn_core.specs.declared.facts.RuleFacts.{RuleFacts}
 use Rattle.conn_core.specs.declared.judging.ServerVerdict.{ServerVerdict}
@@ -30,13 +31,17 @@ use Rattle.conn_core.specs.declared.judging.ServerVerdict.TheVariants.{Assigned,
 abbrev pub arrival_in : Bool → List ℕ → List ℕ → ℕ
 arrival_in arriving own name = if arriving && bytes_eq own name then 1 else 0
 
+-- the rows as they are at a moment; time does not go back
+abbrev pub rows_at : ℕ → RowsValue → RowsValue
+rows_at moment rows = rows_passed (max rows.clock moment) rows
+
 -- what rules see of a connection once the step tracked those
 abbrev pub facts_view : RuleFacts → List Track → RuleView
 facts_view facts made = record {
   source = facts.source;
   version = facts.version.now;
   frontend = facts.frontend.now;
-  tables = facts.rows.now.tables;
+  tables = (rows_at facts.moment facts.rows.now).tables;
   tracks = open_tracks facts.rows.now.frontends;
   own = present facts.own;
   made = made;
@@ -75,4 +80,4 @@ decided views frontend id used judged made =
 
 -- the step may track those
 abbrev pub AreAllowed : RuleFacts → TrackSlots → Type 0
-AreAllowed facts slots = ArePossible (open_tracks facts.rows.now.frontends) facts.rows.now.tables (present facts.own) facts.source slots
+AreAllowed facts slots = ArePossible (open_tracks facts.rows.now.frontends) (rows_at facts.moment facts.rows.now).tables (present facts.own) facts.source slots

@@ -16,7 +16,7 @@ use Rattle.conn_rows.specs.Value.{RowsValue}
 use Rattle.conn_core.specs.declared.facts.RuleFacts.{RuleFacts}
 use Rattle.conn_core.specs.Changes.{Judge}
 use Rattle.conn_core.specs.Counts.{IsSeen}
-use Rattle.conn_core.specs.Judging.{facts_view}
+use Rattle.conn_core.specs.Judging.{facts_view, rows_at}
 
 -- the version that judges is one of those that are kept
 abbrev pub IsKept : RuleFacts → Type 0
@@ -32,15 +32,16 @@ pub record SeesNext (p : Plain) (listener : ℕ) (real : PairValue) (facts : Rul
   pub named : frontend_in facts.version.now.plan own.name ≡ Some facts.frontend.now
   pub view : (clock : ℕ) → facts_view facts ≡ view_of (candidate_at p clock at.frontend real own facts.version.now facts.frontend.now) real.source.addr
 
--- The connection is open, that version judges it by that pair, and rules see that of it.
-pub record SeesOpen (rows : RowsValue) (id : ConnId) (number : ℕ) (judged : PairValue) (facts : RuleFacts) : Type 0 where
+-- The connection is open, that version judges it by that pair, and rules see that of it at a moment.
+pub record SeesOpen (rows : RowsValue) (id : ConnId) (number : ℕ) (judged : PairValue) (moment : ℕ) (facts : RuleFacts) : Type 0 where
   pub judge : Judge rows.frontends rows.versions id number
   pub rows_are : facts.rows.now ≡ rows
+  pub moment_is : facts.moment ≡ moment
   pub version_is : facts.version.now ≡ judge.version
   pub frontend_is : facts.frontend.now ≡ judge.frontend
   pub tracks : present facts.own ≡ tracks_at rows.frontends id
   pub source : facts.source ≡ judged.source.addr
-  pub view : (state : Plain) → IsSeen id state rows → facts_view facts ≡ view_of (candidate_of state id judge.version judge.frontend) judged.source.addr
+  pub view : (state : Plain) → IsSeen id state (rows_at moment rows) → facts_view facts ≡ view_of (candidate_of state id judge.version judge.frontend) judged.source.addr
 
 -- The connection waits for its header, and rules see that of it once its header states that pair.
 pub record SeesWaiting (p : Plain) (id : ConnId) (judged : PairValue) (facts : RuleFacts) : Type 0 where

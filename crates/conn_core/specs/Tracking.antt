@@ -1,5 +1,5 @@
 -- What a step may track.
-use Rattle.std.specs.Prelude.{ℕ, List, Some, None, find, slice_get, ◌≡◌, ◌==◌, ◌<◌, ◌++◌}
+use Rattle.std.specs.Prelude.{ℕ, List, [], Some, None, find, slice_get, ◌≡◌, ◌==◌, ◌<◌, ◌++◌}
 use Rattle.std.specs.List.{AllByRecursion}
 use Rattle.addr_core.specs.declared.addr.Addr.{Addr}
 use Rattle.plan_types.specs.declared.track.Track.{Track}
@@ -9,7 +9,8 @@ use Rattle.conn_model.specs.declared.event.ConnId.{ConnId}
 use Rattle.conn_model.specs.declared.plain.FrontendRows.{FrontendRows}
 use Rattle.conn_model.specs.declared.plain.Row.{Row}
 use Rattle.conn_model.specs.declared.plain.TableState.{TableState}
-use Rattle.conn_model.specs.Tables.{by_counter}
+use Rattle.conn_model.specs.Tables.{by_counter, open_tracks}
+use Rattle.conn_rows.specs.Value.{RowsValue}
 use Rattle.conn_tables.specs.Tables.{key_at}
 
 -- a counter may track that: it is one of three and tracks nothing, and the key of the source can be listed
@@ -22,6 +23,10 @@ pub record IsPossible (tracks : List Track) (tables : List TableState) (own : Li
 -- where open connections track those, and the connection itself those of them
 abbrev pub ArePossible : List Track → List TableState → List Track → Addr → TrackSlots → Type 0
 ArePossible tracks tables own source slots = AreSlots (IsPossible tracks tables own source) slots
+
+-- so may a connection that comes in, which tracks nothing yet
+abbrev pub CanTrackFirst : RowsValue → TrackSlots → Type 0
+CanTrackFirst rows slots = (source : Addr) × ArePossible (open_tracks rows.frontends) rows.tables [] source slots
 
 -- a connection that tracks those too
 abbrev pub row_with : List Track → Row → Row

@@ -9,7 +9,7 @@ ghost use Rattle.plan_types.specs.Tables.{is_table_of, table_number};
 ghost use Rattle.rule_engine.specs.Meaning.{present};
 ghost use Rattle.conn_model.specs.Rules.{named_table, own_track, worth};
 ghost use Rattle.conn_model.specs.Tables.{table_at, trackers};
-ghost use Rattle.conn_core.specs.Judging.{counts_of, facts_view, source_counts, tracked_counts};
+ghost use Rattle.conn_core.specs.Judging.{counts_of, facts_view, rows_at, source_counts, tracked_counts};
 
 use crate::facts::RuleFacts;
 use crate::tracking::{track_by, trackers};
@@ -109,10 +109,11 @@ impl RuleFacts<'_> {
 
     /// How many track an address in the table of that incarnation and how often it was tracked, this step included.
     fn counts(&self, tracks: &Tracks, id: TableId, addr: &Addr) -> Option<Counts>
-        ensures { result ≡ option_map (counts_of (facts_view self.now (present tracks.now)) addr.now) (table_at self.now.rows.now.tables id) }
+        ensures { result ≡ option_map (counts_of (facts_view self.now (present tracks.now)) addr.now) (table_at (rows_at self.now.moment self.now.rows.now).tables id) }
     {
         let table = self.rows.table(id)?;
-        let counts = self.rows.counts(id, addr)?;
+        let moment = self.rows.clock().max(self.moment);
+        let counts = self.rows.counts(id, addr, moment)?;
         let made = key_trackers(tracks, id, table.kind, addr);
         Some(Counts {
             cur: counts.cur + made,

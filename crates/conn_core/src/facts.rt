@@ -16,6 +16,8 @@ use text_core::is_same_name;
 #[derive(Drop)]
 pub struct RuleFacts<'a> {
     pub rows: &'a Rows,
+    /// The moment of the step, in ms.
+    pub moment: u64,
     /// The version that judges it.
     pub version: &'a Version,
     /// Its frontend, as it is judged.

@@ -8,7 +8,7 @@ ghost use Rattle.conn_model.specs.declared.plain.Row.{Row};
 ghost use Rattle.conn_model.specs.declared.reply.Said.{Said};
 ghost use Rattle.conn_model.specs.declared.reply.Said.TheVariants.{Reloaded};
 ghost use Rattle.conn_model.specs.HandedIn.{HasPieceInLimit};
-ghost use Rattle.conn_model.specs.Answer.{answer_in, accept_answer, piece_answer, reload_answer, reply_of, row_at, server_answer, waiting_row};
+ghost use Rattle.conn_model.specs.Answer.{answer_in, at_moment, reload_answer, reply_of, row_at, server_answer, waiting_row};
 ghost use Rattle.conn_rows.specs.Needed.{versions_needed, AreTracksHeld};
 ghost use Rattle.conn_rows.specs.Summaries.{names_in, names_of, summary_of};
 ghost use Rattle.conn_model.specs.Counts.{counts_in, newest_backend, server_of};
@@ -51,7 +51,6 @@ use std::marker::Model;
 /// A balancer's decisions, and what it keeps for them. It cannot be dropped: it ends by `end`.
 pub struct Core {
     alloc: Global,
-    clock: u64,
     listeners: Seq<Listener>,
     rows: Rows,
 }
@@ -62,9 +61,9 @@ impl Model for Core {
 
     ghost Value = { Plain };
 
-    ghost view = { λ c. state_of c.clock c.listeners c.rows };
+    ghost view = { λ c. state_of c.listeners c.rows };
 
-    ghost invariant = { λ c. IsCoreState (state_of c.clock c.listeners c.rows) };
+    ghost invariant = { λ c. IsCoreState (state_of c.listeners c.rows) };
 }
 
 impl Core {
@@ -104,7 +103,6 @@ impl Core {
         let rows = Rows::new(alloc, plan, last)?;
         Ok(Core {
             alloc,
-            clock: 0,
             listeners,
             rows,
         })
@@ -164,7 +162,7 @@ impl Core {
             Ask::Entry(number, addr) => {
                 let version = self.rows.newest()?;
                 let id = item(version.tables.as_slice(), number)?;
-                self.rows.counts(*id, &addr)
+                self.rows.counts(*id, &addr, self.rows.clock())
             }
         }
     }
@@ -183,13 +181,13 @@ impl Core {
         self.rows.settings(id)
     }
 
-    /// What rules see of the connection of that pair, if it comes to that listener next. None exactly where its accept
-    /// has no listener.
-    pub fn arriving(&self, listener: u16, real: Pair) -> Option<RuleFacts<'_>>
-        ensures some { IfSome result (λ facts. SeesNext self.now listener real facts) }
+    /// What rules see of the connection of that pair, if it comes to that listener next, at that moment. None exactly
+    /// where its accept has no listener.
+    pub fn arriving(&self, listener: u16, real: Pair, moment: u64) -> Option<RuleFacts<'_>>
+        ensures some { IfSome result (λ facts. SeesNext (at_moment moment self.now) listener real facts) }
         ensures kept { IfSome result (λ facts. IsKept facts) }
-        ensures none { IfNone result ((clock : ℕ) →
-            accept_answer self.now clock listener real ≡ Err StepFault.NoListener) }
+        ensures none { IfNone result ((later : ℕ) →
+            answer_in self.now later (owned.Accept listener real) ≡ Err StepFault.NoListener) }
     {
         let Some(at) = item(self.listeners.as_slice(), listener) else {
             return None;
@@ -207,6 +205,7 @@ impl Core {
         let source = real.source();
         Some(RuleFacts {
             rows: &self.rows,
+            moment,
             version,
             frontend: judge,
             name: own.name,
@@ -217,18 +216,18 @@ impl Core {
         })
     }
 
-    /// What rules see of a connection that waits for its header, once that states the pair. None exactly where no
-    /// connection of that name waits: each piece of it has a fault for an answer.
-    pub fn waiting(&self, id: ConnId, judged: Pair) -> Option<RuleFacts<'_>>
-        ensures some { IfSome result (λ facts. SeesWaiting self.now id judged facts) }
+    /// What rules see of a connection that waits for its header, once that states the pair, at that moment. None exactly
+    /// where no connection of that name waits: each piece of it has a fault for an answer.
+    pub fn waiting(&self, id: ConnId, judged: Pair, moment: u64) -> Option<RuleFacts<'_>>
+        ensures some { IfSome result (λ facts. SeesWaiting (at_moment moment self.now) id judged facts) }
         ensures kept { IfSome result (λ facts. IsKept facts) }
-        ensures none { IfNone result ((piece : List ℕ) →
-            IsErr (piece_answer self.now id piece)) }
+        ensures none { IfNone result ((later : ℕ) (piece : List ℕ) →
+            IsErr (answer_in self.now later (owned.Piece id piece))) }
     {
         let Ok(row) = self.waiting_row(id) else {
             return None;
         };
-        facts_of(&self.rows, id, row.version, judged)
+        facts_of(&self.rows, id, row.version, judged, moment)
     }
 
     /// The state of the core.
@@ -251,7 +250,6 @@ impl Core {
     pub fn end(self) {
         let Core {
             alloc: _,
-            clock: _,
             listeners: _listeners,
             rows,
         } = self;
@@ -273,7 +271,7 @@ impl Core {
         ensures well { IsWell self.now }
         ensures plans { AreSound self.now.versions }
     {
-        self.clock
+        self.rows.clock()
     }
 
     #[inline(always)]
@@ -302,12 +300,12 @@ impl Core {
         ensures fault { IfErr result (λ f. IsFault (owned.Accept listener real) (answer_in self.old moment (owned.Accept listener real)) f) }
         ensures err { OnErr result (self.new ≡ self.old) }
     {
-        let now = self.clock.max(moment);
+        let now = self.clock().max(moment);
         let mut decision = TrackedOutcome {
             outcome: Outcome::Wait,
             tracks: NO_TRACKS,
         };
-        let Admission { id, version } = self.admit(now, listener, real, &mut decision)?;
+        let Admission { id, version } = self.admit(moment, listener, real, &mut decision)?;
         let arrival = SessionStart {
             version,
             real,
@@ -316,23 +314,22 @@ impl Core {
         let Ok(()) = enter(&mut self.rows, id, &arrival, &decision) else {
             return Err(StepFault::NoMemory);
         };
-        self.clock = now;
         Ok(reply(id, 0, &decision))
     }
 
-    /// Decides what becomes of a connection at its accept.
+    /// Decides what becomes of a connection at the moment of its accept.
     #[inline(always)]
     fn admit(
         &self,
-        now: u64,
+        moment: u64,
         listener: u16,
         real: Pair,
         decision: &mut TrackedOutcome,
     ) -> Result<Admission, StepFault>
-        ensures reply { IfOk result (λ a. accept_answer self.now now listener real ≡ Ok (reply_by a.id 0 decision.new)) }
-        ensures can { OnOk result (ArePossible (open_tracks self.now.frontends) self.now.tables [] real.source.addr decision.new.tracks) }
+        ensures reply { IfOk result (λ a. answer_in self.now moment (owned.Accept listener real) ≡ Ok (reply_by a.id 0 decision.new)) }
+        ensures can { OnOk result (ArePossible (open_tracks self.now.frontends) (at_moment moment self.now).tables [] real.source.addr decision.new.tracks) }
         ensures offers { IfOk result (λ a. CanOffer self.now.versions a.version decision.new.outcome) }
-        ensures fault { IfErr result (λ f. accept_answer self.now now listener real ≡ Err f) }
+        ensures fault { IfErr result (λ f. answer_in self.now moment (owned.Accept listener real) ≡ Err f) }
         ensures next { IfOk result (λ a. (own : FrontendRows) × IsNext self.now a own) }
     {
         let Some(listener) = item(self.listeners.as_slice(), listener) else {
@@ -352,6 +349,7 @@ impl Core {
         };
         let facts = RuleFacts {
             rows: &self.rows,
+            moment,
             version,
             frontend,
             name: own.name,
@@ -378,11 +376,12 @@ impl Core {
 
     #[inline(always)]
     fn piece(&mut self, moment: u64, id: ConnId, piece: &[u8]) -> Result<Reply, StepFault>
-        ensures reply { IfOk result (λ r. piece_answer self.old id piece.now ≡ Ok r) }
+        ensures reply { IfOk result (λ r. answer_in self.old moment (owned.Piece id piece.now) ≡ Ok r) }
         ensures new { IfOk result (λ r. self.new ≡ after self.old (entry moment (owned.Piece id piece.now) r ∷ [])) }
-        ensures fault { IfErr result (λ f. IsFault (owned.Piece id piece.now) (piece_answer self.old id piece.now) f) }
+        ensures fault { IfErr result (λ f. IsFault (owned.Piece id piece.now) (answer_in self.old moment (owned.Piece id piece.now)) f) }
         ensures err { OnErr result (self.new ≡ self.old) }
     {
+        let now = self.clock().max(moment);
         let row = self.waiting_row(id)?;
         if !can_judge(&self.rows, id, row.version) {
             return Err(StepFault::NoSuch);
@@ -390,9 +389,9 @@ impl Core {
         let Ok(()) = self.rows.reserve(STEP_TRACKS) else {
             return Err(StepFault::NoMemory);
         };
+        self.rows.pass(now);
         let reply = receive(&mut self.rows, id, &row, piece);
         forget_after(&mut self.rows, &reply.said);
-        self.clock = self.clock.max(moment);
         Ok(reply)
     }
 
@@ -434,9 +433,10 @@ impl Core {
         ensures no_memory { result ≢ Err StepFault.NoMemory }
         ensures err { OnErr result (self.new ≡ self.old) }
     {
+        let now = self.clock().max(moment);
         self.check_awaits_server(id)?;
+        self.rows.pass(now);
         self.rows.up(id);
-        self.clock = self.clock.max(moment);
         Ok(plain_reply(Said::Up { id }))
     }
 
@@ -448,10 +448,11 @@ impl Core {
         ensures no_memory { result ≢ Err StepFault.NoMemory }
         ensures err { OnErr result (self.new ≡ self.old) }
     {
+        let now = self.clock().max(moment);
         self.check_awaits_server(id)?;
+        self.rows.pass(now);
         self.rows.remove(id);
         self.rows.forget();
-        self.clock = self.clock.max(moment);
         Ok(plain_reply(Said::Closed {
             id,
             why: Why::Failed,
@@ -466,12 +467,13 @@ impl Core {
         ensures no_memory { result ≢ Err StepFault.NoMemory }
         ensures err { OnErr result (self.new ≡ self.old) }
     {
+        let now = self.clock().max(moment);
         let Some(_row) = self.rows.row(id) else {
             return Err(StepFault::NoSuch);
         };
+        self.rows.pass(now);
         self.rows.remove(id);
         self.rows.forget();
-        self.clock = self.clock.max(moment);
         Ok(plain_reply(Said::Closed { id, why }))
     }
 
@@ -483,14 +485,14 @@ impl Core {
         ensures no_memory { result ≢ Err StepFault.NoMemory }
         ensures err { OnErr result (self.new ≡ self.old) }
     {
+        let now = self.clock().max(moment);
         let row = self.waiting_row(id)?;
-        let now = self.clock.max(moment);
         if !is_due(row.accepted, now) {
             return Err(StepFault::NotDue);
         }
+        self.rows.pass(now);
         self.rows.remove(id);
         self.rows.forget();
-        self.clock = now;
         Ok(plain_reply(Said::Refuse {
             id,
             used: 0,
@@ -505,13 +507,14 @@ impl Core {
         ensures fault { IfErr result (λ f. IsFault (owned.Reload text.now) (answer_in self.old moment (owned.Reload text.now)) f) }
         ensures err { OnErr result (self.new ≡ self.old) }
     {
+        let now = self.clock().max(moment);
         let plan = new_plan(self.alloc, text)?;
         let version = self.next_version(&plan)?;
         let Ok(()) = self.rows.reload(self.alloc, version, plan) else {
             return Err(StepFault::NoMemory);
         };
+        self.rows.pass(now);
         self.rows.forget();
-        self.clock = self.clock.max(moment);
         Ok(plain_reply(Said::Reloaded { version }))
     }
 

@@ -50,10 +50,16 @@ pub fn can_judge(rows: &Rows, id: ConnId, version: u64) -> bool
     }
 }
 
-/// What rules see of an open connection of that version, which is judged by that pair.
-pub fn facts_of(rows: &Rows, id: ConnId, version: u64, judged: Pair) -> Option<RuleFacts<'_>>
+/// What rules see at a moment of an open connection of that version, which is judged by that pair.
+pub fn facts_of(
+    rows: &Rows,
+    id: ConnId,
+    version: u64,
+    judged: Pair,
+    moment: u64,
+) -> Option<RuleFacts<'_>>
     requires { AreSound rows.now.versions }
-    ensures some { IfSome result (λ facts. SeesOpen rows.now id version judged facts) }
+    ensures some { IfSome result (λ facts. SeesOpen rows.now id version judged moment facts) }
     ensures none { IfNone result (Judge rows.now.frontends rows.now.versions id version → ⊥) }
 {
     let Some(own) = rows.frontend(id.frontend) else {
@@ -67,6 +73,7 @@ pub fn facts_of(rows: &Rows, id: ConnId, version: u64, judged: Pair) -> Option<R
     };
     Some(RuleFacts {
         rows,
+        moment,
         version,
         frontend,
         name: own.name,
@@ -87,7 +94,7 @@ fn decision(rows: &Rows, id: ConnId, version: u64, judged: Pair) -> Option<Track
     ensures offers { IfSome result (λ d. CanOffer rows.now.versions version d.outcome) }
     ensures none { IfNone result (Judge rows.now.frontends rows.now.versions id version → ⊥) }
 {
-    let Some(facts) = facts_of(rows, id, version, judged) else {
+    let Some(facts) = facts_of(rows, id, version, judged, rows.clock()) else {
         return None;
     };
     let mut decision = TrackedOutcome {
@@ -128,10 +135,11 @@ fn decide(rows: &mut Rows, id: ConnId, version: u64, judged: Pair, used: u64) ->
     requires room { STEP_TRACKS ≤ rows.old.spare }
     ensures reply { (judge : Judge rows.old.frontends rows.old.versions id version) (state : Plain) → IsSeen id state rows.old →
         result ≡ decision (candidate_of state id judge.version judge.frontend) used judged no_tracks }
+    ensures clock { rows.new.clock ≡ rows.old.clock }
     ensures new { (event : OwnedEvent) → state_of rows.new ≡ record (state_of rows.old) {
       frontends = spoken rows.old.versions event id result rows.old.frontends;
       versions = with_said version result.said rows.old.versions;
-      tables = tables_by rows.old.frontends rows.old.tables result;
+      tables = tables_by rows.old.clock rows.old.frontends rows.old.tables result;
     } }
 {
     let Some(decision) = decision(rows, id, version, judged) else {
@@ -150,7 +158,7 @@ fn settle(rows: &mut Rows, id: ConnId, version: u64, outcome: &Outcome)
     ensures { rows.new ≡ record rows.old {
       frontends = settled rows.old.versions id outcome.now rows.old.frontends;
       versions = settled_versions version outcome.now rows.old.versions;
-      tables = settled_tables id outcome.now rows.old.frontends rows.old.tables;
+      tables = settled_tables rows.old.clock id outcome.now rows.old.frontends rows.old.tables;
     } }
 {
     match outcome {
@@ -169,10 +177,11 @@ pub fn receive(rows: &mut Rows, id: ConnId, row: &RowSummary, piece: &[u8]) -> R
     requires sound { AreSound rows.old.versions }
     requires room { STEP_TRACKS ≤ rows.old.spare }
     ensures reply { (p : Plain) → IsStateOf p rows.old → piece_answer p id piece.now ≡ Ok result }
+    ensures clock { rows.new.clock ≡ rows.old.clock }
     ensures new { state_of rows.new ≡ record (state_of rows.old) {
       frontends = spoken rows.old.versions (Piece id piece.now) id result rows.old.frontends;
       versions = with_said row.now.version result.said rows.old.versions;
-      tables = tables_by rows.old.frontends rows.old.tables result;
+      tables = tables_by rows.old.clock rows.old.frontends rows.old.tables result;
     } }
 {
     match rows.feed(id, piece) {

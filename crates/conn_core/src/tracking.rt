@@ -87,7 +87,8 @@ pub fn track_all(rows: &mut Rows, id: ConnId, tracks: &Tracks)
     requires room { STEP_TRACKS ≤ rows.old.spare }
     ensures frontends { rows.new.frontends ≡ with_conn id (row_with (present tracks.now)) rows.old.frontends }
     ensures versions { rows.new.versions ≡ rows.old.versions }
-    ensures tables { rows.new.tables ≡ with_tracks (open_tracks rows.old.frontends) (present tracks.now) rows.old.tables }
+    ensures clock { rows.new.clock ≡ rows.old.clock }
+    ensures tables { rows.new.tables ≡ with_tracks rows.old.clock (open_tracks rows.old.frontends) (present tracks.now) rows.old.tables }
 {
     for slot in tracks {
         if let Some(track) = slot {

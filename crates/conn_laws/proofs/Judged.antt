@@ -48,7 +48,7 @@ accept_judged q moment listener real arrival less =
 
 pub piece_judged : (q : Plain) (moment : ℕ) (id : ConnId) (piece : List ℕ) → Waiter q id → IsJudged (answer_in q moment (Piece id piece))
 piece_judged q moment id piece waiter =
-    let candidate : Candidate = waiting q id waiter in (
+    let candidate : Candidate = waiting q moment id waiter in (
       header_reply candidate waiter.row.real (length piece) (status_on waiter.rest piece),
       piece_is q moment id piece waiter,
       header_judges candidate waiter.row.real (length piece) (status_on waiter.rest piece),

@@ -32,7 +32,7 @@ use Rattle.conn_model.specs.declared.plain.Plain.{Plain}
 use Rattle.conn_model.specs.Words.{or_fault, row_at}
 use Rattle.conn_model.specs.Servers.{cursor_at, pick_in}
 use Rattle.conn_model.specs.Rules.{backend_for, rejection, scene_of, view_of, worth, Candidate, RuleView}
-use Rattle.conn_model.specs.Answer.{admission, answer_in, decision, demands_header, entry_reply, entry_rules, header_reply, judged_pair, numbered_server, reply_of, rest_in, said_of, server_for, server_unless, NumberedServer}
+use Rattle.conn_model.specs.Answer.{admission, answer_in, decision, demands_header, entry_reply, entry_rules, header_reply, judged_pair, numbered_server, reply_of, rest_in, said_of, server_for, server_unless, NumberedServer, at_moment}
 use Rattle.conn_model.specs.History.{after, answer, joined, opening, Entry, IsLegal}
 use Rattle.conn_model.proofs.Joined.{decides_joined}
 use Rattle.conn_model.proofs.Replies.{accepted, bind-ok, expired, followed, or_fault-ok, received, server_answered, Accepted, Received}
@@ -108,8 +108,8 @@ decision_is candidate used judged made given is =
 -- The client or the connection that an answer is for.
 
 -- the client that came, by what the answer to an accept looked up
-abbrev pub arrival_of : (q : Plain) (clock listener : ℕ) (real : PairValue) (reply : Reply) → Accepted q clock listener real reply → Arrival q listener
-arrival_of q clock listener real reply got = record {
+abbrev pub arrival_of : (q : Plain) (moment listener : ℕ) (real : PairValue) (reply : Reply) → Accepted (at_moment moment q) (max q.clock moment) listener real reply → Arrival q listener
+arrival_of q moment listener real reply got = record {
   at = got.at;
   own = got.own;
   version = got.version;
@@ -121,8 +121,8 @@ arrival_of q clock listener real reply got = record {
 }
 
 -- the connection that waits, by what the answer to a piece looked up
-abbrev pub waiter_of : (q : Plain) (id : ConnId) (piece : List ℕ) (reply : Reply) → Received q id piece reply → Waiter q id
-waiter_of q id piece reply got = record {
+abbrev pub waiter_of : (q : Plain) (moment : ℕ) (id : ConnId) (piece : List ℕ) (reply : Reply) → Received (at_moment moment q) id piece reply → Waiter q id
+waiter_of q moment id piece reply got = record {
   row = got.row;
   rest = got.rest;
   own = got.own;
@@ -195,8 +195,8 @@ let_in_is candidate accept_proxy real others no_header admitted =
 said_by_accept : (q : Plain) (moment listener : ℕ) (real : PairValue) (said : Said) (tracks : List Track) → is_offer said ≡ true → Says (answer_in q moment (Accept listener real)) said tracks →
     (arrival : Arrival q listener) × IsOfferedAtAccept q moment real listener arrival said tracks
 said_by_accept q moment listener real said tracks offers says =
-    let got = accepted q (max q.clock moment) listener real (reply_saying said tracks) says in
-    let arrival : Arrival q listener = arrival_of q (max q.clock moment) listener real (reply_saying said tracks) got in
+    let got = accepted (at_moment moment q) (max q.clock moment) listener real (reply_saying said tracks) says in
+    let arrival : Arrival q listener = arrival_of q moment listener real (reply_saying said tracks) got in
     let candidate : Candidate = newcomer q moment real listener arrival in
     let lets = let_in candidate arrival.at.accept_proxy real (length arrival.own.rows) said offers (ap (λ (r : Reply). r.said) got.reply_is) in (
       arrival,
@@ -266,8 +266,8 @@ wait_said candidate accept_proxy real others demanded admitted =
 waits_by_accept : (q : Plain) (moment listener : ℕ) (real : PairValue) (said : Said) (tracks : List Track) → is_wait said ≡ true → Says (answer_in q moment (Accept listener real)) said tracks →
     (arrival : Arrival q listener) × IsLetWait q moment real listener arrival said tracks
 waits_by_accept q moment listener real said tracks waits says =
-    let got = accepted q (max q.clock moment) listener real (reply_saying said tracks) says in
-    let arrival : Arrival q listener = arrival_of q (max q.clock moment) listener real (reply_saying said tracks) got in
+    let got = accepted (at_moment moment q) (max q.clock moment) listener real (reply_saying said tracks) says in
+    let arrival : Arrival q listener = arrival_of q moment listener real (reply_saying said tracks) got in
     let candidate : Candidate = newcomer q moment real listener arrival in
     let lets = let_wait candidate arrival.at.accept_proxy real (length arrival.own.rows) (ap (λ (r : Reply). is_wait r.said) got.reply_is ∙ waits) in
     let is : reply_saying said tracks ≡ reply_saying (saids.Wait candidate.id 0) (entry_tracks candidate real) = sym got.reply_is ∙ wait_said candidate arrival.at.accept_proxy real (length arrival.own.rows) lets.0 lets.1 in (
@@ -297,7 +297,7 @@ waits p h moment listener real said tracks is_one = (waits_by_accept (after p h)
 -- At a piece.
 
 pub piece_is : (q : Plain) (moment : ℕ) (id : ConnId) (piece : List ℕ) (waiter : Waiter q id) →
-    answer_in q moment (Piece id piece) ≡ Ok (header_reply (waiting q id waiter) waiter.row.real (length piece) (status_on waiter.rest piece))
+    answer_in q moment (Piece id piece) ≡ Ok (header_reply (waiting q moment id waiter) waiter.row.real (length piece) (status_on waiter.rest piece))
 piece_is q moment id piece waiter = rw (waiter.row_is, waiter.waits, waiter.there, waiter.of_accept, waiter.found) refl
 
 pub phase_waits : (phase : Phase) (rest : Rest) → rest_in phase ≡ Some rest → phase ≡ Waiting rest
@@ -305,12 +305,12 @@ phase_waits (Waiting held) rest is = let same : held ≡ rest = cc in ap Waiting
 phase_waits (Offered assignment) rest is = absurd (let wrong : None ≡ Some rest = is in cc)
 phase_waits (Up assignment) rest is = absurd (let wrong : None ≡ Some rest = is in cc)
 
-said_by_piece : (q : Plain) (id : ConnId) (waiter : Waiter q id) (bytes piece : List ℕ) (before : ℕ) (said : Said) (tracks : List Track) → is_offer said ≡ true → (state : Status) → status bytes ≡ shifted before state →
-    header_reply (waiting q id waiter) waiter.row.real (length piece) state ≡ reply_saying said tracks → IsOfferedAtPiece q id waiter bytes before said tracks
-said_by_piece q id waiter bytes piece before said tracks offers statuses.Wait state_is is = absurd (waits_none said id (length piece) offers (ap (λ (r : Reply). r.said) is))
-said_by_piece q id waiter bytes piece before said tracks offers (statuses.Fault fault count) state_is is = absurd (false≢true (ap (λ (r : Reply). is_offer r.said) is ∙ offers))
-said_by_piece q id waiter bytes piece before said tracks offers (statuses.Whole count meaning) state_is is =
-    let got = decided (waiting q id waiter) count (judged_pair waiter.row.real meaning) no_tracks said offers (ap (λ (r : Reply). r.said) is) in
+said_by_piece : (q : Plain) (moment : ℕ) (id : ConnId) (waiter : Waiter q id) (bytes piece : List ℕ) (before : ℕ) (said : Said) (tracks : List Track) → is_offer said ≡ true → (state : Status) → status bytes ≡ shifted before state →
+    header_reply (waiting q moment id waiter) waiter.row.real (length piece) state ≡ reply_saying said tracks → IsOfferedAtPiece q moment id waiter bytes before said tracks
+said_by_piece q moment id waiter bytes piece before said tracks offers statuses.Wait state_is is = absurd (waits_none said id (length piece) offers (ap (λ (r : Reply). r.said) is))
+said_by_piece q moment id waiter bytes piece before said tracks offers (statuses.Fault fault count) state_is is = absurd (false≢true (ap (λ (r : Reply). is_offer r.said) is ∙ offers))
+said_by_piece q moment id waiter bytes piece before said tracks offers (statuses.Whole count meaning) state_is is =
+    let got = decided (waiting q moment id waiter) count (judged_pair waiter.row.real meaning) no_tracks said offers (ap (λ (r : Reply). r.said) is) in
     record { meaning = meaning; used = count; given = got.given; header = state_is; is_given = got.is_given; said_is = got.said_is; tracks_are = ap (λ (r : Reply). r.tracks.items) (sym is) }
 
 -- the status of the piece by that of all bytes
@@ -324,9 +324,9 @@ whole_on before used meaning (statuses.Fault fault count) is = absurd (let wrong
 whole_on before used meaning statuses.Wait is = absurd (let wrong : statuses.Wait ≡ statuses.Whole (used + before) meaning = is in cc)
 
 piece_says : (q : Plain) (moment : ℕ) (id : ConnId) (piece bytes : List ℕ) (before : ℕ) (waiter : Waiter q id) (said : Said) (tracks : List Track) → status bytes ≡ shifted before (status_on waiter.rest piece) →
-    IsOfferedAtPiece q id waiter bytes before said tracks → Says (answer_in q moment (Piece id piece)) said tracks
+    IsOfferedAtPiece q moment id waiter bytes before said tracks → Says (answer_in q moment (Piece id piece)) said tracks
 piece_says q moment id piece bytes before waiter said tracks state_is offered =
-    let candidate : Candidate = waiting q id waiter in
+    let candidate : Candidate = waiting q moment id waiter in
     let judged : PairValue = judged_pair waiter.row.real offered.meaning in
     let whole : status_on waiter.rest piece ≡ statuses.Whole offered.used offered.meaning = whole_on before offered.used offered.meaning (status_on waiter.rest piece) (sym state_is ∙ offered.header) in
     piece_is q moment id piece waiter
@@ -342,18 +342,18 @@ piece_status plan last h legal id piece waiter = decides_joined plan last h lega
 
 said_at_piece : (plan : Plan) (last : ℕ) (h : List Entry) → IsLegal (opening plan last) h → (moment : ℕ) (id : ConnId) (piece : List ℕ) (said : Said) (tracks : List Track) → is_offer said ≡ true →
     Says (answer (opening plan last) h moment (Piece id piece)) said tracks →
-    (waiter : Waiter (after (opening plan last) h) id) × IsOfferedAtPiece (after (opening plan last) h) id waiter (joined id h ++ piece) (length (joined id h)) said tracks
+    (waiter : Waiter (after (opening plan last) h) id) × IsOfferedAtPiece (after (opening plan last) h) moment id waiter (joined id h ++ piece) (length (joined id h)) said tracks
 said_at_piece plan last h legal moment id piece said tracks offers says =
     let q : Plain = after (opening plan last) h in
-    let got = received q id piece (reply_saying said tracks) says in
-    let waiter : Waiter q id = waiter_of q id piece (reply_saying said tracks) got in (
+    let got = received (at_moment moment q) id piece (reply_saying said tracks) says in
+    let waiter : Waiter q id = waiter_of q moment id piece (reply_saying said tracks) got in (
       waiter,
-      said_by_piece q id waiter (joined id h ++ piece) piece (length (joined id h)) said tracks offers (status_on waiter.rest piece) (piece_status plan last h legal id piece waiter) got.reply_is,
+      said_by_piece q moment id waiter (joined id h ++ piece) piece (length (joined id h)) said tracks offers (status_on waiter.rest piece) (piece_status plan last h legal id piece waiter) got.reply_is,
     )
 
 pub at_piece : (plan : Plan) (last : ℕ) (h : List Entry) → IsLegal (opening plan last) h → (moment : ℕ) (id : ConnId) (piece : List ℕ) (said : Said) (tracks : List Track) → is_offer said ≡ true →
     Says (answer (opening plan last) h moment (Piece id piece)) said tracks
-    ↔ ((waiter : Waiter (after (opening plan last) h) id) × IsOfferedAtPiece (after (opening plan last) h) id waiter (joined id h ++ piece) (length (joined id h)) said tracks)
+    ↔ ((waiter : Waiter (after (opening plan last) h) id) × IsOfferedAtPiece (after (opening plan last) h) moment id waiter (joined id h ++ piece) (length (joined id h)) said tracks)
 at_piece plan last h legal moment id piece said tracks offers = (
   said_at_piece plan last h legal moment id piece said tracks offers,
   λ is. piece_says (after (opening plan last) h) moment id piece (joined id h ++ piece) (length (joined id h)) is.0 said tracks (piece_status plan last h legal id piece is.0) is.1,
@@ -361,12 +361,12 @@ at_piece plan last h legal moment id piece said tracks offers = (
 
 -- It waits on.
 
-left_waiting : (q : Plain) (id : ConnId) (waiter : Waiter q id) (bytes piece : List ℕ) (before : ℕ) (said : Said) (tracks : List Track) → is_wait said ≡ true → (state : Status) → status bytes ≡ shifted before state →
-    header_reply (waiting q id waiter) waiter.row.real (length piece) state ≡ reply_saying said tracks → IsLeftWaiting id bytes (length piece) said tracks
-left_waiting q id waiter bytes piece before said tracks waits statuses.Wait state_is is = record { header = state_is; said_is = ap (λ (r : Reply). r.said) (sym is); tracks_are = ap (λ (r : Reply). r.tracks.items) (sym is) }
-left_waiting q id waiter bytes piece before said tracks waits (statuses.Fault fault count) state_is is = absurd (false≢true (ap (λ (r : Reply). is_wait r.said) is ∙ waits))
-left_waiting q id waiter bytes piece before said tracks waits (statuses.Whole count meaning) state_is is =
-    let candidate : Candidate = waiting q id waiter in
+left_waiting : (q : Plain) (moment : ℕ) (id : ConnId) (waiter : Waiter q id) (bytes piece : List ℕ) (before : ℕ) (said : Said) (tracks : List Track) → is_wait said ≡ true → (state : Status) → status bytes ≡ shifted before state →
+    header_reply (waiting q moment id waiter) waiter.row.real (length piece) state ≡ reply_saying said tracks → IsLeftWaiting id bytes (length piece) said tracks
+left_waiting q moment id waiter bytes piece before said tracks waits statuses.Wait state_is is = record { header = state_is; said_is = ap (λ (r : Reply). r.said) (sym is); tracks_are = ap (λ (r : Reply). r.tracks.items) (sym is) }
+left_waiting q moment id waiter bytes piece before said tracks waits (statuses.Fault fault count) state_is is = absurd (false≢true (ap (λ (r : Reply). is_wait r.said) is ∙ waits))
+left_waiting q moment id waiter bytes piece before said tracks waits (statuses.Whole count meaning) state_is is =
+    let candidate : Candidate = waiting q moment id waiter in
     let judged : PairValue = judged_pair waiter.row.real meaning in
     absurd (false≢true (sym (decides_no_wait id count judged (server_unless (choice_view candidate judged no_tracks) (rejection (session_rules candidate judged no_tracks)))) ∙ ap (λ (r : Reply). is_wait r.said) is ∙ waits))
 
@@ -379,7 +379,7 @@ waits_says : (q : Plain) (moment : ℕ) (id : ConnId) (piece bytes : List ℕ) (
     IsLeftWaiting id bytes (length piece) said tracks → Says (answer_in q moment (Piece id piece)) said tracks
 waits_says q moment id piece bytes before waiter said tracks state_is left =
     piece_is q moment id piece waiter
-    ∙ ap (λ s. Ok (header_reply (waiting q id waiter) waiter.row.real (length piece) s)) (wait_on before (status_on waiter.rest piece) (sym state_is ∙ left.header))
+    ∙ ap (λ s. Ok (header_reply (waiting q moment id waiter) waiter.row.real (length piece) s)) (wait_on before (status_on waiter.rest piece) (sym state_is ∙ left.header))
     ∙ ap (λ s. Ok (reply_saying s [])) (sym left.said_is)
     ∙ ap (λ t. Ok (reply_saying said t)) (sym left.tracks_are)
 
@@ -387,10 +387,10 @@ waits_at_piece : (plan : Plan) (last : ℕ) (h : List Entry) → IsLegal (openin
     Says (answer (opening plan last) h moment (Piece id piece)) said tracks → Waiter (after (opening plan last) h) id × IsLeftWaiting id (joined id h ++ piece) (length piece) said tracks
 waits_at_piece plan last h legal moment id piece said tracks waits says =
     let q : Plain = after (opening plan last) h in
-    let got = received q id piece (reply_saying said tracks) says in
-    let waiter : Waiter q id = waiter_of q id piece (reply_saying said tracks) got in (
+    let got = received (at_moment moment q) id piece (reply_saying said tracks) says in
+    let waiter : Waiter q id = waiter_of q moment id piece (reply_saying said tracks) got in (
       waiter,
-      left_waiting q id waiter (joined id h ++ piece) piece (length (joined id h)) said tracks waits (status_on waiter.rest piece) (piece_status plan last h legal id piece waiter) got.reply_is,
+      left_waiting q moment id waiter (joined id h ++ piece) piece (length (joined id h)) said tracks waits (status_on waiter.rest piece) (piece_status plan last h legal id piece waiter) got.reply_is,
     )
 
 pub waits_on : (plan : Plan) (last : ℕ) (h : List Entry) → IsLegal (opening plan last) h → (moment : ℕ) (id : ConnId) (piece : List ℕ) (said : Said) (tracks : List Track) → is_wait said ≡ true →
@@ -408,13 +408,13 @@ offers_not reply said is none offers = sym none ∙ ap (λ (r : Reply). is_offer
 pub nothing_else : (q : Plain) (moment : ℕ) (event : OwnedEvent) (reply : Reply) → answer_in q moment event ≡ Ok reply → is_offer reply.said ≡ true → may_offer event ≡ true
 nothing_else q moment (Accept listener real) reply is offers = refl
 nothing_else q moment (Piece id bytes) reply is offers = refl
-nothing_else q moment (Connected id) reply is offers = offers_not reply (saids.Up id) (server_answered q id (saids.Up id) reply is).reply_is refl offers
-nothing_else q moment (ConnectFailed id) reply is offers = offers_not reply (saids.Closed id Failed) (server_answered q id (saids.Closed id Failed) reply is).reply_is refl offers
+nothing_else q moment (Connected id) reply is offers = offers_not reply (saids.Up id) (server_answered (at_moment moment q) id (saids.Up id) reply is).reply_is refl offers
+nothing_else q moment (ConnectFailed id) reply is offers = offers_not reply (saids.Closed id Failed) (server_answered (at_moment moment q) id (saids.Closed id Failed) reply is).reply_is refl offers
 nothing_else q moment (Close id why) reply is offers =
     let one = bind-ok (or_fault NoSuch (row_at q.frontends id)) _ reply is in
     offers_not reply (saids.Closed id why) (let it : Ok (reply_of (saids.Closed id why)) ≡ Ok reply = one.2 in cc) refl offers
-nothing_else q moment (Expire id) reply is offers = let got = expired q (max q.clock moment) id reply is in offers_not reply _ got.reply_is refl offers
-nothing_else q moment (Reload text) reply is offers = let got = followed q text reply is in offers_not reply _ got.reply_is refl offers
+nothing_else q moment (Expire id) reply is offers = let got = expired (at_moment moment q) (max q.clock moment) id reply is in offers_not reply _ got.reply_is refl offers
+nothing_else q moment (Reload text) reply is offers = let got = followed (at_moment moment q) text reply is in offers_not reply _ got.reply_is refl offers
 
 no_track : (reply : Reply) (said : Said) → reply_of said ≡ reply → reply.tracks.items ≡ []
 no_track reply said is = ap (λ (r : Reply). r.tracks.items) (sym is)
@@ -422,10 +422,10 @@ no_track reply said is = ap (λ (r : Reply). r.tracks.items) (sym is)
 pub tracks_nothing : (q : Plain) (moment : ℕ) (event : OwnedEvent) (reply : Reply) → answer_in q moment event ≡ Ok reply → may_offer event ≡ false → reply.tracks.items ≡ []
 tracks_nothing q moment (Accept listener real) reply is other = absurd (false≢true (sym other))
 tracks_nothing q moment (Piece id bytes) reply is other = absurd (false≢true (sym other))
-tracks_nothing q moment (Connected id) reply is other = no_track reply (saids.Up id) (server_answered q id (saids.Up id) reply is).reply_is
-tracks_nothing q moment (ConnectFailed id) reply is other = no_track reply (saids.Closed id Failed) (server_answered q id (saids.Closed id Failed) reply is).reply_is
+tracks_nothing q moment (Connected id) reply is other = no_track reply (saids.Up id) (server_answered (at_moment moment q) id (saids.Up id) reply is).reply_is
+tracks_nothing q moment (ConnectFailed id) reply is other = no_track reply (saids.Closed id Failed) (server_answered (at_moment moment q) id (saids.Closed id Failed) reply is).reply_is
 tracks_nothing q moment (Close id why) reply is other =
     let one = bind-ok (or_fault NoSuch (row_at q.frontends id)) _ reply is in
     no_track reply (saids.Closed id why) (let it : Ok (reply_of (saids.Closed id why)) ≡ Ok reply = one.2 in cc)
-tracks_nothing q moment (Expire id) reply is other = let got = expired q (max q.clock moment) id reply is in no_track reply _ got.reply_is
-tracks_nothing q moment (Reload text) reply is other = let got = followed q text reply is in no_track reply _ got.reply_is
+tracks_nothing q moment (Expire id) reply is other = let got = expired (at_moment moment q) (max q.clock moment) id reply is in no_track reply _ got.reply_is
+tracks_nothing q moment (Reload text) reply is other = let got = followed (at_moment moment q) text reply is in no_track reply _ got.reply_is

@@ -21,7 +21,7 @@ use Rattle.conn_model.specs.declared.plain.Row.{Row}
 use Rattle.conn_model.specs.declared.plain.Version.{Version}
 use Rattle.conn_model.specs.Words.{map_from, newest, row_at, row_in}
 use Rattle.conn_model.specs.Rules.{Candidate}
-use Rattle.conn_model.specs.Answer.{answer_in, candidate_at, frontend_in, new_row, rest_in, version_at}
+use Rattle.conn_model.specs.Answer.{answer_in, at_moment, candidate_at, frontend_in, new_row, rest_in, version_at}
 use Rattle.conn_model.specs.History.{after, arrival, arrival_of, arrivals as opened, frontend_after, has_ended, id_of, in_force, leaves_open, listeners_of, newest_number, now_of, opening, row_after, Entry, IsLegal}
 use Rattle.conn_model.proofs.Lists.{all-found, get-from_zero}
 use Rattle.conn_model.proofs.Replies.{accepted, admission-id, Accepted}
@@ -198,11 +198,11 @@ opened_at : (q : Plain) (moment number clock version : ℕ) (event : OwnedEvent)
     slice_get (arrival number clock version event reply.said) n ≡ Some row → CameBy q.listeners number
 opened_at q moment number clock version (Accept listener real) reply is n row there = by (leaves_open reply.said) (got.at.frontend == number) refl (ap (λ o. slice_get (arrival_of number clock version real reply.said o) n) (sym speaks) ∙ there)
   where
-    got : Accepted q (max q.clock moment) listener real reply
-    got = accepted q (max q.clock moment) listener real reply is
+    got : Accepted (at_moment moment q) (max q.clock moment) listener real reply
+    got = accepted (at_moment moment q) (max q.clock moment) listener real reply is
 
     candidate : Candidate
-    candidate = candidate_at q (max q.clock moment) got.at.frontend real got.own got.version got.frontend
+    candidate = candidate_at (at_moment moment q) (max q.clock moment) got.at.frontend real got.own got.version got.frontend
 
     speaks : id_of reply.said ≡ Some candidate.id
     speaks = ap (λ (r : Reply). id_of r.said) (sym got.reply_is) ∙ admission-id candidate got.at.accept_proxy real (length got.own.rows)

@@ -27,7 +27,7 @@ use Rattle.conn_model.specs.declared.reply.StepFault.TheVariants.{NoSuch}
 use Rattle.conn_model.specs.declared.plain.Plain.{Plain}
 use Rattle.conn_model.specs.Words.{or_fault, row_at}
 use Rattle.conn_model.specs.Rules.{rejection, scene_of, view_of, Candidate, RuleView}
-use Rattle.conn_model.specs.Answer.{admission, decision, demands_header, entry_reply, entry_rules, header_reply, judged_pair, reply_of, said_of, server_for, server_unless, NumberedServer}
+use Rattle.conn_model.specs.Answer.{admission, decision, demands_header, entry_reply, entry_rules, header_reply, judged_pair, reply_of, said_of, server_for, server_unless, NumberedServer, at_moment}
 use Rattle.conn_model.specs.History.{after, answer, id_of, joined, opening, Entry, IsLegal}
 use Rattle.conn_model.proofs.Replies.{accepted, admission-id, bind-ok, expired, followed, header_reply-id, received, server_answered}
 use Rattle.conn_laws.specs.Deciding.{choice_view, newcomer, session_rules, session_tracks, waiting, Arrival, IsCause, IsNotRejected, IsRefusedAtAccept, IsRefusedAtPiece, IsWithheld, Waiter}
@@ -156,24 +156,24 @@ refused_at_accept candidate accept_proxy real others id used cause names is = by
 
 -- At a piece.
 
-whole_refused : (q : Plain) (id : ConnId) (waiter : Waiter q id) (bytes : List ℕ) (count : ℕ) (meaning : Meaning) (cause : Cause) (tracks : List Track) → status bytes ≡ statuses.Whole count meaning →
-    IsWithheld (waiting q id waiter) (judged_pair waiter.row.real meaning) no_tracks cause → tracks ≡ session_tracks (waiting q id waiter) (judged_pair waiter.row.real meaning) no_tracks → IsRefusedAtPiece q id waiter bytes count cause tracks
-whole_refused q id waiter bytes count meaning (Line line) tracks is withheld made = record { meaning = meaning; header = is; withheld = withheld; tracks_are = made }
-whole_refused q id waiter bytes count meaning (Header fault) tracks is withheld made = absurd withheld
-whole_refused q id waiter bytes count meaning Expired tracks is withheld made = absurd withheld
-whole_refused q id waiter bytes count meaning (NoBackend line) tracks is withheld made = record { meaning = meaning; header = is; withheld = withheld; tracks_are = made }
-whole_refused q id waiter bytes count meaning (NoServer line) tracks is withheld made = record { meaning = meaning; header = is; withheld = withheld; tracks_are = made }
+whole_refused : (q : Plain) (moment : ℕ) (id : ConnId) (waiter : Waiter q id) (bytes : List ℕ) (count : ℕ) (meaning : Meaning) (cause : Cause) (tracks : List Track) → status bytes ≡ statuses.Whole count meaning →
+    IsWithheld (waiting q moment id waiter) (judged_pair waiter.row.real meaning) no_tracks cause → tracks ≡ session_tracks (waiting q moment id waiter) (judged_pair waiter.row.real meaning) no_tracks → IsRefusedAtPiece q moment id waiter bytes count cause tracks
+whole_refused q moment id waiter bytes count meaning (Line line) tracks is withheld made = record { meaning = meaning; header = is; withheld = withheld; tracks_are = made }
+whole_refused q moment id waiter bytes count meaning (Header fault) tracks is withheld made = absurd withheld
+whole_refused q moment id waiter bytes count meaning Expired tracks is withheld made = absurd withheld
+whole_refused q moment id waiter bytes count meaning (NoBackend line) tracks is withheld made = record { meaning = meaning; header = is; withheld = withheld; tracks_are = made }
+whole_refused q moment id waiter bytes count meaning (NoServer line) tracks is withheld made = record { meaning = meaning; header = is; withheld = withheld; tracks_are = made }
 
-refused_at_piece : (q : Plain) (id : ConnId) (waiter : Waiter q id) (bytes piece : List ℕ) (before : ℕ) (other : ConnId) (used : ℕ) (cause : Cause) (state : Status) → NamesBackends (length waiter.version.plan.backends) waiter.frontend → status bytes ≡ shifted before state →
-    (header_reply (waiting q id waiter) waiter.row.real (length piece) state).said ≡ Refuse other used cause →
-    IsRefusedAtPiece q id waiter bytes (used + before) cause (header_reply (waiting q id waiter) waiter.row.real (length piece) state).tracks.items
-refused_at_piece q id waiter bytes piece before other used cause statuses.Wait names state_is is = absurd (let wrong : saids.Wait id (length piece) ≡ Refuse other used cause = is in cc)
-refused_at_piece q id waiter bytes piece before other used cause (statuses.Fault fault count) names state_is is =
+refused_at_piece : (q : Plain) (moment : ℕ) (id : ConnId) (waiter : Waiter q id) (bytes piece : List ℕ) (before : ℕ) (other : ConnId) (used : ℕ) (cause : Cause) (state : Status) → NamesBackends (length waiter.version.plan.backends) waiter.frontend → status bytes ≡ shifted before state →
+    (header_reply (waiting q moment id waiter) waiter.row.real (length piece) state).said ≡ Refuse other used cause →
+    IsRefusedAtPiece q moment id waiter bytes (used + before) cause (header_reply (waiting q moment id waiter) waiter.row.real (length piece) state).tracks.items
+refused_at_piece q moment id waiter bytes piece before other used cause statuses.Wait names state_is is = absurd (let wrong : saids.Wait id (length piece) ≡ Refuse other used cause = is in cc)
+refused_at_piece q moment id waiter bytes piece before other used cause (statuses.Fault fault count) names state_is is =
     let both = same_cause id other count used (Header fault) cause is in
-    subst (λ c. IsRefusedAtPiece q id waiter bytes (used + before) c []) both.1 (state_is ∙ ap (λ n. statuses.Fault fault (n + before)) both.0, refl)
-refused_at_piece q id waiter bytes piece before other used cause (statuses.Whole count meaning) names state_is is =
-    let got = refuses (waiting q id waiter) count (judged_pair waiter.row.real meaning) no_tracks other used cause names is in
-    whole_refused q id waiter bytes (used + before) meaning cause (session_tracks (waiting q id waiter) (judged_pair waiter.row.real meaning) no_tracks) (state_is ∙ ap (λ n. statuses.Whole (n + before) meaning) got.used_is) got.withheld refl
+    subst (λ c. IsRefusedAtPiece q moment id waiter bytes (used + before) c []) both.1 (state_is ∙ ap (λ n. statuses.Fault fault (n + before)) both.0, refl)
+refused_at_piece q moment id waiter bytes piece before other used cause (statuses.Whole count meaning) names state_is is =
+    let got = refuses (waiting q moment id waiter) count (judged_pair waiter.row.real meaning) no_tracks other used cause names is in
+    whole_refused q moment id waiter bytes (used + before) meaning cause (session_tracks (waiting q moment id waiter) (judged_pair waiter.row.real meaning) no_tracks) (state_is ∙ ap (λ n. statuses.Whole (n + before) meaning) got.used_is) got.withheld refl
 
 -- Whole histories.
 
@@ -184,8 +184,8 @@ pub refused_for_cause : (text : List ℕ) (plan : Plan) (last : ℕ) (h : List E
     answer (opening plan last) h moment event ≡ Ok reply → reply.said ≡ Refuse id used cause → IsCause (after (opening plan last) h) (λ id. joined id h) moment event id used cause reply.tracks.items
 refused_for_cause text plan last h meant legal moment (Accept listener real) reply id used cause is said_is =
     let q : Plain = after (opening plan last) h in
-    let got = accepted q (max q.clock moment) listener real reply is in
-    let arrival : Arrival q listener = arrival_of q (max q.clock moment) listener real reply got in
+    let got = accepted (at_moment moment q) (max q.clock moment) listener real reply is in
+    let arrival : Arrival q listener = arrival_of q moment listener real reply got in
     let candidate : Candidate = newcomer q moment real listener arrival in
     let now : (admission candidate got.at.accept_proxy real (length got.own.rows)).said ≡ Refuse id used cause = ap (λ (r : Reply). r.said) got.reply_is ∙ said_is in
     let refused = refused_at_accept candidate got.at.accept_proxy real (length got.own.rows) id used cause (arrival_names text plan last h meant legal listener arrival) now in (
@@ -198,23 +198,23 @@ refused_for_cause text plan last h meant legal moment (Accept listener real) rep
     )
 refused_for_cause text plan last h meant legal moment (Piece own piece) reply id used cause is said_is =
     let q : Plain = after (opening plan last) h in
-    let got = received q own piece reply is in
-    let waiter : Waiter q own = waiter_of q own piece reply got in
-    let whole : Reply = header_reply (waiting q own waiter) waiter.row.real (length piece) (status_on waiter.rest piece) in
+    let got = received (at_moment moment q) own piece reply is in
+    let waiter : Waiter q own = waiter_of q moment own piece reply got in
+    let whole : Reply = header_reply (waiting q moment own waiter) waiter.row.real (length piece) (status_on waiter.rest piece) in
     let now : whole.said ≡ Refuse id used cause = ap (λ (r : Reply). r.said) got.reply_is ∙ said_is in
-    let refused = refused_at_piece q own waiter (joined own h ++ piece) piece (length (joined own h)) id used cause (status_on waiter.rest piece) (waiter_names text plan last h meant legal own waiter) (piece_status plan last h legal own piece waiter) now in (
-      named whole.said id own used cause (header_reply-id (waiting q own waiter) waiter.row.real (length piece) (status_on waiter.rest piece)) now,
+    let refused = refused_at_piece q moment own waiter (joined own h ++ piece) piece (length (joined own h)) id used cause (status_on waiter.rest piece) (waiter_names text plan last h meant legal own waiter) (piece_status plan last h legal own piece waiter) now in (
+      named whole.said id own used cause (header_reply-id (waiting q moment own waiter) waiter.row.real (length piece) (status_on waiter.rest piece)) now,
       (
         waiter,
-        subst (λ t. IsRefusedAtPiece q own waiter (joined own h ++ piece) (used + length (joined own h)) cause t) (ap (λ (r : Reply). r.tracks.items) got.reply_is) refused,
+        subst (λ t. IsRefusedAtPiece q moment own waiter (joined own h ++ piece) (used + length (joined own h)) cause t) (ap (λ (r : Reply). r.tracks.items) got.reply_is) refused,
       ),
     )
 refused_for_cause text plan last h meant legal moment (Connected own) reply id used cause is said_is =
     let q : Plain = after (opening plan last) h in
-    absurd (let wrong : saids.Up own ≡ Refuse id used cause = no_refusal reply (saids.Up own) id used cause (server_answered q own (saids.Up own) reply is).reply_is said_is in cc)
+    absurd (let wrong : saids.Up own ≡ Refuse id used cause = no_refusal reply (saids.Up own) id used cause (server_answered (at_moment moment q) own (saids.Up own) reply is).reply_is said_is in cc)
 refused_for_cause text plan last h meant legal moment (ConnectFailed own) reply id used cause is said_is =
     let q : Plain = after (opening plan last) h in
-    absurd (let wrong : saids.Closed own Failed ≡ Refuse id used cause = no_refusal reply (saids.Closed own Failed) id used cause (server_answered q own (saids.Closed own Failed) reply is).reply_is said_is in cc)
+    absurd (let wrong : saids.Closed own Failed ≡ Refuse id used cause = no_refusal reply (saids.Closed own Failed) id used cause (server_answered (at_moment moment q) own (saids.Closed own Failed) reply is).reply_is said_is in cc)
 refused_for_cause text plan last h meant legal moment (Close own why) reply id used cause is said_is =
     let q : Plain = after (opening plan last) h in
     let one = bind-ok (or_fault NoSuch (row_at q.frontends own)) _ reply is in
@@ -222,7 +222,7 @@ refused_for_cause text plan last h meant legal moment (Close own why) reply id u
     absurd (let wrong : saids.Closed own why ≡ Refuse id used cause = no_refusal reply (saids.Closed own why) id used cause same said_is in cc)
 refused_for_cause text plan last h meant legal moment (Expire own) reply id used cause is said_is =
     let q : Plain = after (opening plan last) h in
-    let got = expired q (max q.clock moment) own reply is in
+    let got = expired (at_moment moment q) (max q.clock moment) own reply is in
     let now : Refuse own 0 Expired ≡ Refuse id used cause = no_refusal reply (Refuse own 0 Expired) id used cause got.reply_is said_is in
     let both = same_cause own id 0 used Expired cause now in
     let due = got.due in (
@@ -232,5 +232,5 @@ refused_for_cause text plan last h meant legal moment (Expire own) reply id used
     )
 refused_for_cause text plan last h meant legal moment (Reload config) reply id used cause is said_is =
     let q : Plain = after (opening plan last) h in
-    let got = followed q config reply is in
+    let got = followed (at_moment moment q) config reply is in
     absurd (let wrong : saids.Reloaded (got.version.number + 1) ≡ Refuse id used cause = no_refusal reply (saids.Reloaded (got.version.number + 1)) id used cause got.reply_is said_is in cc)

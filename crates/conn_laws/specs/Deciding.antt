@@ -41,7 +41,7 @@ use Rattle.conn_model.specs.declared.plain.Version.{Version}
 use Rattle.conn_model.specs.Words.{newest, row_at}
 use Rattle.conn_model.specs.Servers.{cursor_at, identity_in, loads_of, pick_in}
 use Rattle.conn_model.specs.Rules.{backend_for, scene_of, view_of, worth, Candidate, RuleView}
-use Rattle.conn_model.specs.Answer.{candidate_at, candidate_of, demands_header, entry_rules, frontend_in, judged_pair, numbered_server, rest_in, said_of, version_at, NumberedServer}
+use Rattle.conn_model.specs.Answer.{candidate_at, candidate_of, demands_header, entry_rules, frontend_in, judged_pair, numbered_server, rest_in, said_of, version_at, NumberedServer, at_moment}
 
 -- What judges a connection.
 
@@ -56,9 +56,9 @@ pub record Arrival (p : Plain) (listener : ℕ) : Type 0 where
   pub in_force : newest p.versions ≡ Some version
   pub found : frontend_in version.plan own.name ≡ Some frontend
 
--- it is one of the open connections when it is judged
+-- it is one of the open connections when it is judged, at that moment
 abbrev pub newcomer : (p : Plain) (moment : ℕ) (real : PairValue) (listener : ℕ) → Arrival p listener → Candidate
-newcomer p moment real listener arrival = candidate_at p (max p.clock moment) arrival.at.frontend real arrival.own arrival.version arrival.frontend
+newcomer p moment real listener arrival = candidate_at (at_moment moment p) (max p.clock moment) arrival.at.frontend real arrival.own arrival.version arrival.frontend
 
 -- a connection that waits for its header: the version of its accept judges it
 pub record Waiter (p : Plain) (id : ConnId) : Type 0 where
@@ -73,8 +73,9 @@ pub record Waiter (p : Plain) (id : ConnId) : Type 0 where
   pub of_accept : version_at p.versions row.version ≡ Some version
   pub found : frontend_in version.plan own.name ≡ Some frontend
 
-abbrev pub waiting : (p : Plain) (id : ConnId) → Waiter p id → Candidate
-waiting p id waiter = candidate_of p id waiter.version waiter.frontend
+-- as it is judged at a moment
+abbrev pub waiting : (p : Plain) (moment : ℕ) (id : ConnId) → Waiter p id → Candidate
+waiting p moment id waiter = candidate_of (at_moment moment p) id waiter.version waiter.frontend
 
 -- The rules.
 
@@ -154,14 +155,14 @@ pub record IsLetWait (p : Plain) (moment : ℕ) (real : PairValue) (listener : �
 
 -- At a piece, where so many of the bytes came before: they are a header, and maybe more bytes follow it. What is sent
 -- first states the judged pair, which is the one that the header declares. What the session rules track is tracked.
-pub record IsOfferedAtPiece (p : Plain) (id : ConnId) (waiter : Waiter p id) (bytes : List ℕ) (before : ℕ) (said : Said) (tracks : List Track) : Type 0 where
+pub record IsOfferedAtPiece (p : Plain) (moment : ℕ) (id : ConnId) (waiter : Waiter p id) (bytes : List ℕ) (before : ℕ) (said : Said) (tracks : List Track) : Type 0 where
   pub meaning : Meaning
   pub used : ℕ
   pub given : NumberedServer
   pub header : status bytes ≡ Whole (used + before) meaning
-  pub is_given : IsGiven (waiting p id waiter) (judged_pair waiter.row.real meaning) no_tracks given
+  pub is_given : IsGiven (waiting p moment id waiter) (judged_pair waiter.row.real meaning) no_tracks given
   pub said_is : said ≡ said_of id used (judged_pair waiter.row.real meaning) (Ok given)
-  pub tracks_are : tracks ≡ session_tracks (waiting p id waiter) (judged_pair waiter.row.real meaning) no_tracks
+  pub tracks_are : tracks ≡ session_tracks (waiting p moment id waiter) (judged_pair waiter.row.real meaning) no_tracks
 
 -- It waits on after a piece of so many bytes: with it, the bytes are the beginning of a header. Nothing is tracked.
 pub record IsLeftWaiting (id : ConnId) (bytes : List ℕ) (count : ℕ) (said : Said) (tracks : List Track) : Type 0 where
@@ -302,19 +303,19 @@ IsRefusedAtAccept candidate accept_proxy real others cause tracks =
 
 -- at a piece the bytes are a header, which ends after so many of them, and it gets no server: what the session rules
 -- track is tracked
-pub record IsWithheldAtPiece (p : Plain) (id : ConnId) (waiter : Waiter p id) (bytes : List ℕ) (count : ℕ) (cause : Cause) (tracks : List Track) : Type 0 where
+pub record IsWithheldAtPiece (p : Plain) (moment : ℕ) (id : ConnId) (waiter : Waiter p id) (bytes : List ℕ) (count : ℕ) (cause : Cause) (tracks : List Track) : Type 0 where
   pub meaning : Meaning
   pub header : status bytes ≡ Whole count meaning
-  pub withheld : IsWithheld (waiting p id waiter) (judged_pair waiter.row.real meaning) no_tracks cause
-  pub tracks_are : tracks ≡ session_tracks (waiting p id waiter) (judged_pair waiter.row.real meaning) no_tracks
+  pub withheld : IsWithheld (waiting p moment id waiter) (judged_pair waiter.row.real meaning) no_tracks cause
+  pub tracks_are : tracks ≡ session_tracks (waiting p moment id waiter) (judged_pair waiter.row.real meaning) no_tracks
 
 -- or the bytes have that fault, which so many of them show, and nothing is tracked
-abbrev pub IsRefusedAtPiece : (p : Plain) (id : ConnId) → Waiter p id → List ℕ → ℕ → Cause → List Track → Type 0
-IsRefusedAtPiece p id waiter bytes count (Line line) tracks = IsWithheldAtPiece p id waiter bytes count (Line line) tracks
-IsRefusedAtPiece p id waiter bytes count (Header fault) tracks = (status bytes ≡ Fault fault count) × (tracks ≡ [])
-IsRefusedAtPiece p id waiter bytes count Expired tracks = ⊥
-IsRefusedAtPiece p id waiter bytes count (NoBackend line) tracks = IsWithheldAtPiece p id waiter bytes count (NoBackend line) tracks
-IsRefusedAtPiece p id waiter bytes count (NoServer line) tracks = IsWithheldAtPiece p id waiter bytes count (NoServer line) tracks
+abbrev pub IsRefusedAtPiece : (p : Plain) (moment : ℕ) (id : ConnId) → Waiter p id → List ℕ → ℕ → Cause → List Track → Type 0
+IsRefusedAtPiece p moment id waiter bytes count (Line line) tracks = IsWithheldAtPiece p moment id waiter bytes count (Line line) tracks
+IsRefusedAtPiece p moment id waiter bytes count (Header fault) tracks = (status bytes ≡ Fault fault count) × (tracks ≡ [])
+IsRefusedAtPiece p moment id waiter bytes count Expired tracks = ⊥
+IsRefusedAtPiece p moment id waiter bytes count (NoBackend line) tracks = IsWithheldAtPiece p moment id waiter bytes count (NoBackend line) tracks
+IsRefusedAtPiece p moment id waiter bytes count (NoServer line) tracks = IsWithheldAtPiece p moment id waiter bytes count (NoServer line) tracks
 
 -- no whole header came in time, and nothing is tracked
 pub record IsLate (p : Plain) (moment : ℕ) (id : ConnId) (cause : Cause) (tracks : List Track) : Type 0 where
@@ -335,7 +336,7 @@ IsCause p before moment (Accept listener real) id used cause tracks =
     × (id ≡ (newcomer p moment real listener arrival).id)
     × IsRefusedAtAccept (newcomer p moment real listener arrival) arrival.at.accept_proxy real (length arrival.own.rows) cause tracks)
 IsCause p before moment (Piece own bytes) id used cause tracks =
-    (id ≡ own) × ((waiter : Waiter p own) × IsRefusedAtPiece p own waiter (before own ++ bytes) (used + length (before own)) cause tracks)
+    (id ≡ own) × ((waiter : Waiter p own) × IsRefusedAtPiece p moment own waiter (before own ++ bytes) (used + length (before own)) cause tracks)
 IsCause p before moment (Connected own) id used cause tracks = ⊥
 IsCause p before moment (ConnectFailed own) id used cause tracks = ⊥
 IsCause p before moment (Close own why) id used cause tracks = ⊥

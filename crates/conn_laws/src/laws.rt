@@ -54,7 +54,7 @@ pub fn offered_exactly_when()
         (said : Said) (tracks : List Track) → is_offer said ≡ true →
         Says (answer (opening plan last) h moment (Piece id piece)) said tracks
         ↔ ((waiter : Waiter (after (opening plan last) h) id)
-        × IsOfferedAtPiece (after (opening plan last) h) id waiter
+        × IsOfferedAtPiece (after (opening plan last) h) moment id waiter
         (joined id h ++ piece) (length (joined id h)) said tracks) }
     ensures waits_on { (plan : Plan) (last : ℕ) (h : List Entry) → IsLegal (opening plan last) h →
         (moment : ℕ) (id : ConnId) (piece : List ℕ)

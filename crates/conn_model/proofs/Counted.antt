@@ -29,7 +29,7 @@ use Rattle.conn_model.specs.declared.plain.Plain.{Plain}
 use Rattle.conn_model.specs.declared.plain.Version.{Version}
 use Rattle.conn_model.specs.Words.{or_fault, row_at, row_in, Rise}
 use Rattle.conn_model.specs.Counts.{change_row, is_served_by, served_by, served_in, total}
-use Rattle.conn_model.specs.Answer.{answer_in, reply_of, rest_in, version_at}
+use Rattle.conn_model.specs.Answer.{answer_in, at_moment, reply_of, rest_in, version_at}
 use Rattle.conn_model.specs.History.{after, by_counter, entry, id_of, identity_of, is_last, judging_version, newest_number, opening, phase_by, phase_on, phase_up, plan_of, served_less, served_more, version_for, Entry, IsLegal, IsWell}
 use Rattle.conn_model.proofs.Replies.{answered, bind-ok, expired, followed, received, server_answered, Followed, IsNew, IsOld, Received}
 use Rattle.conn_model.proofs.Goes.{well_at, whole_in_parts}
@@ -216,20 +216,20 @@ offered_waits : (q : Plain) (moment : ℕ) (event : OwnedEvent) (reply : Reply) 
     id_of reply.said ≡ Some id → row_at q.frontends id ≡ Some row → is_offer reply.said ≡ true → is_served_by server row.phase ≡ false
 offered_waits q moment (Accept listener real) reply id row server old answer whom there is = absurd old
 offered_waits q moment (Piece id' bytes) reply id row server old answer whom there is =
-    let got : Received q id' bytes reply = received q id' bytes reply answer in
+    let got : Received (at_moment moment q) id' bytes reply = received (at_moment moment q) id' bytes reply answer in
     let speaks : IsOld q id' reply.said = answered q moment (Piece id' bytes) reply answer in
     let same : id' ≡ id = let it : Some id' ≡ Some id = sym speaks.speaks ∙ whom in cc in
     let rows : got.row ≡ row = let it : Some got.row ≡ Some row = sym got.row_is ∙ ap (row_at q.frontends) same ∙ there in cc in
     waiting_unserved server row.phase got.rest (ap (λ r. rest_in r.phase) (sym rows) ∙ got.waits)
 offered_waits q moment (Connected id') reply id row server old answer whom there is =
-    absurd (no_offer (saids.Up id') reply (server_answered q id' (saids.Up id') reply answer).reply_is refl is)
+    absurd (no_offer (saids.Up id') reply (server_answered (at_moment moment q) id' (saids.Up id') reply answer).reply_is refl is)
 offered_waits q moment (ConnectFailed id') reply id row server old answer whom there is =
-    absurd (no_offer (Closed id' Failed) reply (server_answered q id' (Closed id' Failed) reply answer).reply_is refl is)
+    absurd (no_offer (Closed id' Failed) reply (server_answered (at_moment moment q) id' (Closed id' Failed) reply answer).reply_is refl is)
 offered_waits q moment (Close id' why) reply id row server old answer whom there is =
     let one = bind-ok (or_fault NoSuch (row_at q.frontends id')) _ reply answer in
     let same : reply_of (Closed id' why) ≡ reply = let it : Ok (reply_of (Closed id' why)) ≡ Ok reply = one.2 in cc in
     absurd (no_offer (Closed id' why) reply same refl is)
-offered_waits q moment (Expire id') reply id row server old answer whom there is = absurd (no_offer _ reply (expired q (max q.clock moment) id' reply answer).reply_is refl is)
+offered_waits q moment (Expire id') reply id row server old answer whom there is = absurd (no_offer _ reply (expired (at_moment moment q) (max q.clock moment) id' reply answer).reply_is refl is)
 offered_waits q moment (Reload text) reply id row server old answer whom there is = absurd old
 
 on-served : (server : ServerIdentity) (piece : List ℕ) (phase : Phase) → is_served_by server (phase_on piece phase) ≡ is_served_by server phase
@@ -321,7 +321,7 @@ step_counts q well moment (ConnectFailed id) reply answer server = open_counts q
 step_counts q well moment (Close id why) reply answer server = open_counts q well moment (Close id why) reply id tt answer (answered q moment (Close id why) reply answer) server
 step_counts q well moment (Expire id) reply answer server = open_counts q well moment (Expire id) reply id tt answer (answered q moment (Expire id) reply answer) server
 step_counts q well moment (Reload text) reply answer server =
-    let got : Followed q text reply = followed q text reply answer in
+    let got : Followed (at_moment moment q) text reply = followed (at_moment moment q) text reply answer in
     let number : ℕ = got.version.number + 1 in
     let frontends : (after q (entry moment (Reload text) (reply_of (Reloaded number)) ∷ [])).frontends ≡ q.frontends = ap (λ s. s.frontends) (after-reload q well moment number text got.plan got.meant) in
     subst (λ r. served_by (after q (entry moment (Reload text) r ∷ [])).frontends server + served_less q r.said server ≡ served_by q.frontends server + served_more q r.said server) got.reply_is

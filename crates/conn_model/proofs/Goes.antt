@@ -11,10 +11,10 @@ use Rattle.conn_model.specs.declared.plain.Plain.{Plain}
 use Rattle.conn_model.specs.Words.{newest}
 use Rattle.conn_model.specs.Answer.{answer_in}
 use Rattle.conn_model.specs.Tables.{is_listed_by}
-use Rattle.conn_model.specs.History.{after, arrival, arrivals, frontends_after, has_ended, in_force, needed_versions, newest_number, now_of, tables_after, tables_by, tables_with, version_of, versions_after, versions_by, Entry, IsLegal, IsFrontendWell, IsWell}
+use Rattle.conn_model.specs.History.{after, arrival, arrivals, frontends_after, has_ended, in_force, needed_versions, newest_number, now_of, tables_after, tables_passed, tables_with, version_of, versions_after, versions_by, Entry, IsLegal, IsFrontendWell, IsWell}
 use Rattle.conn_model.proofs.Lists.{all-append, all-at, all-both, all-more}
 use Rattle.conn_model.proofs.Versions.{numbers-below}
-use Rattle.conn_model.proofs.Parts.{force-append, frontends_in_parts, history_parts, is_spoken_to, newest_after, AllGoOn, ReadsAlike}
+use Rattle.conn_model.proofs.Parts.{now_of-append, force-append, frontends_in_parts, history_parts, is_spoken_to, newest_after, AllGoOn, ReadsAlike}
 use Rattle.conn_model.proofs.Replies.{answered}
 use Rattle.conn_model.proofs.Serials.{arrival-all, fresh}
 use Rattle.conn_model.proofs.Kept.{absent, absent-held, alike, force-needed, held, needed_after, rises, rows-needed, IsHeld}
@@ -100,12 +100,14 @@ tables_in_parts p well (e ∷ g) h legal later =
     let tables : tables_after (after p h) g ≡ tables_after p (g ++ h) = tables_in_parts p well g h legal later.0 in
     let before : versions_after (after p h) g ≡ versions_after p (g ++ h) = versions_in_parts p well g h legal later.0 in
     let now : versions_after (after p h) (e ∷ g) ≡ versions_after p (e ∷ (g ++ h)) = versions_in_parts p well (e ∷ g) h legal later in
-    let all : List Version → List Version → List FrontendRows → List TableState → List TableState =
-    λ vs us fs ts. filter (is_listed_by vs) (tables_by fs ts e.reply ++ tables_with (newest us) (version_of e)) in
-    ap (λ vs. all vs (versions_after (after p h) g) (frontends_after (after p h) g) (tables_after (after p h) g)) now
-    ∙ ap (λ us. all (versions_after p (e ∷ (g ++ h))) us (frontends_after (after p h) g) (tables_after (after p h) g)) before
-    ∙ ap (λ fs. all (versions_after p (e ∷ (g ++ h))) (versions_after p (g ++ h)) fs (tables_after (after p h) g)) frontends
-    ∙ ap (λ ts. all (versions_after p (e ∷ (g ++ h))) (versions_after p (g ++ h)) (frontends_after p (g ++ h)) ts) tables
+    let clock : now_of (now_of p.clock h) (e ∷ g) ≡ now_of p.clock (e ∷ (g ++ h)) = now_of-append p.clock (e ∷ g) h in
+    let all : ℕ → List Version → List Version → List FrontendRows → List TableState → List TableState =
+    λ n vs us fs ts. filter (is_listed_by vs) (tables_passed n fs ts e.reply ++ tables_with (newest us) (version_of e)) in
+    ap (λ n. all n (versions_after (after p h) (e ∷ g)) (versions_after (after p h) g) (frontends_after (after p h) g) (tables_after (after p h) g)) clock
+    ∙ ap (λ vs. all (now_of p.clock (e ∷ (g ++ h))) vs (versions_after (after p h) g) (frontends_after (after p h) g) (tables_after (after p h) g)) now
+    ∙ ap (λ us. all (now_of p.clock (e ∷ (g ++ h))) (versions_after p (e ∷ (g ++ h))) us (frontends_after (after p h) g) (tables_after (after p h) g)) before
+    ∙ ap (λ fs. all (now_of p.clock (e ∷ (g ++ h))) (versions_after p (e ∷ (g ++ h))) (versions_after p (g ++ h)) fs (tables_after (after p h) g)) frontends
+    ∙ ap (λ ts. all (now_of p.clock (e ∷ (g ++ h))) (versions_after p (e ∷ (g ++ h))) (versions_after p (g ++ h)) (frontends_after p (g ++ h)) ts) tables
 
 in_parts : (p : Plain) → IsWell p → (g h : List Entry) → IsLegal p h → IsLegal (after p h) g → after (after p h) g ≡ after p (g ++ h)
 in_parts p well g h legal later = history_parts p g h (all_go_on p well g h legal later) (versions_in_parts p well g h legal later) (tables_in_parts p well g h legal later)

@@ -32,7 +32,7 @@ use Rattle.conn_model.specs.declared.plain.Plain.{Plain}
 use Rattle.conn_model.specs.Words.{is_conn, map_from, Rise, or_fault}
 use Rattle.rule_engine.specs.Judging.{no_tracks}
 use Rattle.conn_model.specs.Rules.{Candidate, view_of}
-use Rattle.conn_model.specs.Answer.{row_in, row_at, reply_of, rest_in, verdict, said_of, candidate_of, judged_pair, header_reply, answer_in, NumberedServer}
+use Rattle.conn_model.specs.Answer.{row_in, row_at, reply_of, rest_in, verdict, said_of, candidate_of, judged_pair, header_reply, answer_in, at_moment, NumberedServer}
 use Rattle.conn_model.specs.History.{newest_number, speaks_to, plan_of, phase_by, phase_up, is_last, arrival, has_ended, accepts, row_after, frontend_after, frontends_after, after, piece_for, joined, Entry, IsLegal, IsWell, opening}
 use Rattle.conn_model.proofs.Lists.{all-append, all-more, all-each, all-filter_if, all-map, all-found, all-at, all-both}
 use Rattle.conn_model.proofs.Replies.{bind-ok, Says, Received, received, expired, answered, server_answered}
@@ -166,20 +166,20 @@ spoken_row q h moment (Accept listener real) reply number own row plan there ans
 spoken_row q h moment (Piece id bytes) reply number own row plan there answer known spoken open' =
     let old = answered q moment (Piece id bytes) reply answer in
     let that = speaks_that number row.serial reply.said id old.speaks spoken in
-    piece_row q h id bytes reply number own row plan there (received q id bytes reply answer) known (rw old.speaks at spoken) that.0 that.1 open'
+    piece_row (at_moment moment q) h id bytes reply number own row plan there (received (at_moment moment q) id bytes reply answer) known (rw old.speaks at spoken) that.0 that.1 open'
 spoken_row q h moment (Connected id) reply number own row plan there answer known spoken open' =
-    let got = server_answered q id (saids.Up id) reply answer in
+    let got = server_answered (at_moment moment q) id (saids.Up id) reply answer in
     let before : List ℕ = joined (conn number row.serial) h in
     subst (λ said. IsHeld (before ++ []) (phase_by plan (Connected id) said row.phase)) (ap (λ r. r.said) got.reply_is) (up-held before row.phase known.held)
 spoken_row q h moment (ConnectFailed id) reply number own row plan there answer known spoken open' =
-    let got = server_answered q id (Closed id Failed) reply answer in
+    let got = server_answered (at_moment moment q) id (Closed id Failed) reply answer in
     absurd (false≢true (sym (ap (λ r. is_last r.said) got.reply_is ∙ open')))
 spoken_row q h moment (Close id why) reply number own row plan there answer known spoken open' =
     let one = bind-ok (or_fault NoSuch (row_at q.frontends id)) _ reply answer in
     let same : reply_of (Closed id why) ≡ reply = let it : Ok (reply_of (Closed id why)) ≡ Ok reply = one.2 in cc in
     absurd (false≢true (sym (ap (λ r. is_last r.said) same ∙ open')))
 spoken_row q h moment (Expire id) reply number own row plan there answer known spoken open' =
-    let got = expired q (max q.clock moment) id reply answer in
+    let got = expired (at_moment moment q) (max q.clock moment) id reply answer in
     absurd (false≢true (sym (ap (λ r. is_last r.said) got.reply_is ∙ open')))
 spoken_row q h moment (Reload text) reply number own row plan there answer known spoken open' =
     absurd (reload-silent q text reply.said number row.serial (answered q moment (Reload text) reply answer) spoken)

@@ -14,6 +14,7 @@ pub mod VersionSteps
 pub mod Entries
 pub mod OneTable
 pub mod Listed
+pub mod Moments
 pub mod Sources
 pub mod TableSteps
 pub mod TrackSteps

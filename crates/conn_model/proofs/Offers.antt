@@ -47,13 +47,14 @@ use Rattle.conn_model.specs.Words.{or_fault, row_at}
 use Rattle.conn_model.specs.Servers.{cursor_at, has_room, identity_in, load_of, loads_of, pick_in, weight_of, MayOffer}
 use Rattle.conn_model.specs.Counts.{is_served_by, served_by, served_in}
 use Rattle.conn_model.specs.Rules.{backend_for, rejection, scene_of, view_of, worth, Candidate, RuleView}
-use Rattle.conn_model.specs.Answer.{admission, answer_in, awaits_server, candidate_at, candidate_of, decision, demands_header, entry_reply, entry_rules, header_reply, judged_pair, new_row, numbered_server, reply_of, said_of, server_answer, server_for, server_unless, version_at, NumberedServer}
+use Rattle.conn_model.specs.Answer.{admission, answer_in, at_moment, awaits_server, candidate_at, candidate_of, decision, demands_header, entry_reply, entry_rules, header_reply, judged_pair, new_row, numbered_server, reply_of, said_of, server_answer, server_for, server_unless, version_at, NumberedServer}
 use Rattle.conn_model.specs.History.{after, answer, identity_at, identity_of, id_of, judging_version, newest_number, nobody, opening, version_for, Entry, IsLegal, IsWell}
 use Rattle.conn_model.proofs.Totals.{total-kept}
 use Rattle.conn_model.proofs.Lists.{or_true}
 use Rattle.conn_model.proofs.Versions.{is_offer, newest-at}
 use Rattle.conn_model.proofs.VersionSteps.{judging-new, judging-old}
-use Rattle.conn_model.proofs.Replies.{accepted, answered, bind-ok, expired, followed, or_fault-ok, received, server_answered, Accepted, IsNew, IsOld, Received, ServerAnswered}
+use Rattle.conn_model.proofs.Moments.{at-well}
+use Rattle.conn_model.proofs.Replies.{accepted, answered, bind-ok, expired, followed, or_fault-ok, received, server_answered, answered-now, Accepted, IsNew, IsOld, Received, ServerAnswered}
 use Rattle.conn_model.proofs.Goes.{well_at}
 use Rattle.conn_model.proofs.Sources.{any-at}
 use Rattle.conn_model.proofs.Well.{history_well}
@@ -231,18 +232,19 @@ not_offered q said reply same other is = absurd (false≢true (sym other ∙ ap 
 
 offer_room : (q : Plain) → IsWell q → (moment : ℕ) (event : OwnedEvent) (reply : Reply) → answer_in q moment event ≡ Ok reply → is_offer reply.said ≡ true → HasRoom q reply.said
 offer_room q well moment (Accept listener real) reply answer is =
-    accepted-room q well (max q.clock moment) listener real reply (accepted q (max q.clock moment) listener real reply answer) (answered q moment (Accept listener real) reply answer)
+    let now : Plain = at_moment moment q in
+    accepted-room now (at-well q well moment) now.clock listener real reply (accepted now now.clock listener real reply answer) (answered-now now (Accept listener real) reply answer)
 offer_room q well moment (Piece id bytes) reply answer is =
     let old : IsOld q id reply.said = answered q moment (Piece id bytes) reply answer in
-    received-room q id bytes reply (received q id bytes reply answer) old.speaks
-offer_room q well moment (Connected id) reply answer is = not_offered q (saids.Up id) reply (server_answered q id (saids.Up id) reply answer).reply_is refl is
-offer_room q well moment (ConnectFailed id) reply answer is = not_offered q (Closed id Failed) reply (server_answered q id (Closed id Failed) reply answer).reply_is refl is
+    received-room (at_moment moment q) id bytes reply (received (at_moment moment q) id bytes reply answer) old.speaks
+offer_room q well moment (Connected id) reply answer is = not_offered q (saids.Up id) reply (server_answered (at_moment moment q) id (saids.Up id) reply answer).reply_is refl is
+offer_room q well moment (ConnectFailed id) reply answer is = not_offered q (Closed id Failed) reply (server_answered (at_moment moment q) id (Closed id Failed) reply answer).reply_is refl is
 offer_room q well moment (Close id why) reply answer is =
     let one = bind-ok (or_fault NoSuch (row_at q.frontends id)) _ reply answer in
     let same : reply_of (Closed id why) ≡ reply = let it : Ok (reply_of (Closed id why)) ≡ Ok reply = one.2 in cc in
     not_offered q (Closed id why) reply same refl is
-offer_room q well moment (Expire id) reply answer is = not_offered q _ reply (expired q (max q.clock moment) id reply answer).reply_is refl is
-offer_room q well moment (Reload text) reply answer is = not_offered q _ reply (followed q text reply answer).reply_is refl is
+offer_room q well moment (Expire id) reply answer is = not_offered q _ reply (expired (at_moment moment q) (max q.clock moment) id reply answer).reply_is refl is
+offer_room q well moment (Reload text) reply answer is = not_offered q _ reply (followed (at_moment moment q) text reply answer).reply_is refl is
 
 -- after a legal history
 pub offered_with_room : (plan : Plan) (last : ℕ) (h : List Entry) → IsLegal (opening plan last) h → (moment : ℕ) (event : OwnedEvent) (reply : Reply) →

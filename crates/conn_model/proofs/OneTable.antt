@@ -1,5 +1,5 @@
 -- What a step makes of each table.
-use Rattle.std.specs.Prelude.{ℕ, Bool, true, false, List, [], length, map, filter, Option, Some, None, option_map, refl, ◌≤◌, ◌≡◌, ◌==◌, ◌&&◌, ◌∷◌, ◌++◌, if◌then◌else◌}
+use Rattle.std.specs.Prelude.{ℕ, Bool, true, false, List, [], length, map, filter, Option, Some, None, IsSome, option_map, refl, ◌≤◌, ◌≡◌, ◌==◌, ◌&&◌, ◌∷◌, ◌++◌, if◌then◌else◌}
 use Rattle.std.specs.List.{AllByRecursion}
 use Rattle.std.proofs.Common.{sym, ap, ◌∙◌, subst, arith, append-nil}
 use Rattle.std.proofs.Math.Path.{fun_ext}
@@ -18,9 +18,9 @@ use Rattle.plan_types.specs.declared.track.Track.{Track}
 use Rattle.conn_model.specs.declared.reply.Reply.{Reply}
 use Rattle.conn_model.specs.declared.plain.FrontendRows.{FrontendRows}
 use Rattle.conn_model.specs.declared.plain.TableState.{TableState}
-use Rattle.conn_model.specs.Tables.{is_of, open_tracks, same_id, table_at, table_with, table_without, trackers, with_track, with_tracks, without_track, without_tracks}
+use Rattle.conn_model.specs.Tables.{is_of, open_tracks, same_id, table_at, table_with, table_without, trackers, with_track, with_tracks, without_track, without_tracks, IncarnationsDiffer}
 use Rattle.conn_model.specs.History.{ended_by, tables_by}
-use Rattle.conn_model.proofs.Lists.{all-more, and_true}
+use Rattle.conn_model.proofs.Lists.{all-map, all-more, and_true}
 use Rattle.conn_model.proofs.Entries.{in-tracked, touched-differ, touched-length, tracking-differ, tracking-fits}
 
 -- Incarnations.
@@ -49,41 +49,41 @@ table_found tables id table found = same_id-is table.id id (find-passes (λ (t :
 -- A step changes each table by itself.
 
 -- a table once several keys are tracked, where those were tracked before
-abbrev pub table_with_tracks : List Track → List Track → TableState → TableState
-table_with_tracks tracks [] table = table
-table_with_tracks tracks (new ∷ rest) table = table_with_tracks (tracks ++ new ∷ []) rest (table_with tracks new table)
+abbrev pub table_with_tracks : ℕ → List Track → List Track → TableState → TableState
+table_with_tracks moment tracks [] table = table
+table_with_tracks moment tracks (new ∷ rest) table = table_with_tracks moment (tracks ++ new ∷ []) rest (table_with moment tracks new table)
 
 -- and once several trackings ended
-abbrev pub table_without_tracks : List Track → TableState → TableState
-table_without_tracks [] table = table
-table_without_tracks (track ∷ rest) table = table_without_tracks rest (table_without track table)
+abbrev pub table_without_tracks : ℕ → List Track → TableState → TableState
+table_without_tracks moment [] table = table
+table_without_tracks moment (track ∷ rest) table = table_without_tracks moment rest (table_without moment track table)
 
 -- and after a reply
-abbrev pub table_by : List FrontendRows → Reply → TableState → TableState
-table_by frontends reply table = table_without_tracks (ended_by frontends reply) (table_with_tracks (open_tracks frontends) reply.tracks.items table)
+abbrev pub table_by : ℕ → List FrontendRows → Reply → TableState → TableState
+table_by moment frontends reply table = table_without_tracks moment (ended_by frontends reply) (table_with_tracks moment (open_tracks frontends) reply.tracks.items table)
 
 map-map : {X : Type 0} (f g h : X → X) → ((x : X) → g (f x) ≡ h x) → (xs : List X) → map g (map f xs) ≡ map h xs
 map-map f g h same [] = refl
 map-map f g h same (x ∷ xs) = cc (same x, map-map f g h same xs)
 
-with_tracks-each : (tracks made : List Track) (tables : List TableState) → with_tracks tracks made tables ≡ map (table_with_tracks tracks made) tables
-with_tracks-each tracks [] tables = sym (map-id tables)
-with_tracks-each tracks (track ∷ made) tables =
-    with_tracks-each (tracks ++ track ∷ []) made (with_track tracks track tables)
-    ∙ map-map (table_with tracks track) (table_with_tracks (tracks ++ track ∷ []) made) (table_with_tracks tracks (track ∷ made)) (λ table. refl) tables
+with_tracks-each : (moment : ℕ) (tracks made : List Track) (tables : List TableState) → with_tracks moment tracks made tables ≡ map (table_with_tracks moment tracks made) tables
+with_tracks-each moment tracks [] tables = sym (map-id tables)
+with_tracks-each moment tracks (track ∷ made) tables =
+    with_tracks-each moment (tracks ++ track ∷ []) made (with_track moment tracks track tables)
+    ∙ map-map (table_with moment tracks track) (table_with_tracks moment (tracks ++ track ∷ []) made) (table_with_tracks moment tracks (track ∷ made)) (λ table. refl) tables
 
-without_tracks-each : (ended : List Track) (tables : List TableState) → without_tracks ended tables ≡ map (table_without_tracks ended) tables
-without_tracks-each [] tables = sym (map-id tables)
-without_tracks-each (track ∷ ended) tables =
-    without_tracks-each ended (without_track track tables)
-    ∙ map-map (table_without track) (table_without_tracks ended) (table_without_tracks (track ∷ ended)) (λ table. refl) tables
+without_tracks-each : (moment : ℕ) (ended : List Track) (tables : List TableState) → without_tracks moment ended tables ≡ map (table_without_tracks moment ended) tables
+without_tracks-each moment [] tables = sym (map-id tables)
+without_tracks-each moment (track ∷ ended) tables =
+    without_tracks-each moment ended (without_track moment track tables)
+    ∙ map-map (table_without moment track) (table_without_tracks moment ended) (table_without_tracks moment (track ∷ ended)) (λ table. refl) tables
 
-pub tables_by-each : (frontends : List FrontendRows) (tables : List TableState) (reply : Reply) → tables_by frontends tables reply ≡ map (table_by frontends reply) tables
-tables_by-each frontends tables reply =
+pub tables_by-each : (moment : ℕ) (frontends : List FrontendRows) (tables : List TableState) (reply : Reply) → tables_by moment frontends tables reply ≡ map (table_by moment frontends reply) tables
+tables_by-each moment frontends tables reply =
     let ended : List Track = ended_by frontends reply in
     let made : List Track = reply.tracks.items in
-    ap (without_tracks ended) (with_tracks-each (open_tracks frontends) made tables) ∙ without_tracks-each ended (map (table_with_tracks (open_tracks frontends) made) tables)
-    ∙ map-map (table_with_tracks (open_tracks frontends) made) (table_without_tracks ended) (table_by frontends reply) (λ table. refl) tables
+    ap (without_tracks moment ended) (with_tracks-each moment (open_tracks frontends) made tables) ∙ without_tracks-each moment ended (map (table_with_tracks moment (open_tracks frontends) made) tables)
+    ∙ map-map (table_with_tracks moment (open_tracks frontends) made) (table_without_tracks moment ended) (table_by moment frontends reply) (λ table. refl) tables
 
 -- Of a table only the entries change.
 
@@ -95,33 +95,33 @@ changes_twice f g one two table =
     let with_last : TableState → TableState = λ t. record t { entries = (g (f table)).entries } in
     two (f table) ∙ ap with_last (one table)
 
-pub table_with-entries : (tracks : List Track) (track : Track) → EntriesChange (table_with tracks track)
-table_with-entries tracks track table = by (same_id table.id track.table) refl
+pub table_with-entries : (moment : ℕ) (tracks : List Track) (track : Track) → EntriesChange (table_with moment tracks track)
+table_with-entries moment tracks track table = by (same_id table.id track.table) refl
   where
-    by : (b : Bool) → same_id table.id track.table ≡ b → table_with tracks track table ≡ record table { entries = (table_with tracks track table).entries }
+    by : (b : Bool) → same_id table.id track.table ≡ b → table_with moment tracks track table ≡ record table { entries = (table_with moment tracks track table).entries }
     by true e = rw e refl
     by false e = rw e refl
 
-table_without-entries : (track : Track) → EntriesChange (table_without track)
-table_without-entries track table = by (same_id table.id track.table) refl
+table_without-entries : (moment : ℕ) (track : Track) → EntriesChange (table_without moment track)
+table_without-entries moment track table = by (same_id table.id track.table) refl
   where
-    by : (b : Bool) → same_id table.id track.table ≡ b → table_without track table ≡ record table { entries = (table_without track table).entries }
+    by : (b : Bool) → same_id table.id track.table ≡ b → table_without moment track table ≡ record table { entries = (table_without moment track table).entries }
     by true e = rw e refl
     by false e = rw e refl
 
-with_tracks-entries : (tracks made : List Track) → EntriesChange (table_with_tracks tracks made)
-with_tracks-entries tracks [] table = refl
-with_tracks-entries tracks (track ∷ made) table =
-    changes_twice (table_with tracks track) (table_with_tracks (tracks ++ track ∷ []) made) (table_with-entries tracks track) (with_tracks-entries (tracks ++ track ∷ []) made) table
+with_tracks-entries : (moment : ℕ) (tracks made : List Track) → EntriesChange (table_with_tracks moment tracks made)
+with_tracks-entries moment tracks [] table = refl
+with_tracks-entries moment tracks (track ∷ made) table =
+    changes_twice (table_with moment tracks track) (table_with_tracks moment (tracks ++ track ∷ []) made) (table_with-entries moment tracks track) (with_tracks-entries moment (tracks ++ track ∷ []) made) table
 
-without_tracks-entries : (ended : List Track) → EntriesChange (table_without_tracks ended)
-without_tracks-entries [] table = refl
-without_tracks-entries (track ∷ ended) table = changes_twice (table_without track) (table_without_tracks ended) (table_without-entries track) (without_tracks-entries ended) table
+without_tracks-entries : (moment : ℕ) (ended : List Track) → EntriesChange (table_without_tracks moment ended)
+without_tracks-entries moment [] table = refl
+without_tracks-entries moment (track ∷ ended) table = changes_twice (table_without moment track) (table_without_tracks moment ended) (table_without-entries moment track) (without_tracks-entries moment ended) table
 
-pub table_by-entries : (frontends : List FrontendRows) (reply : Reply) → EntriesChange (table_by frontends reply)
-table_by-entries frontends reply table =
-    changes_twice (table_with_tracks (open_tracks frontends) reply.tracks.items) (table_without_tracks (ended_by frontends reply)) (with_tracks-entries (open_tracks frontends) reply.tracks.items)
-    (without_tracks-entries (ended_by frontends reply)) table
+pub table_by-entries : (moment : ℕ) (frontends : List FrontendRows) (reply : Reply) → EntriesChange (table_by moment frontends reply)
+table_by-entries moment frontends reply table =
+    changes_twice (table_with_tracks moment (open_tracks frontends) reply.tracks.items) (table_without_tracks moment (ended_by frontends reply)) (with_tracks-entries moment (open_tracks frontends) reply.tracks.items)
+    (without_tracks-entries moment (ended_by frontends reply)) table
 
 -- so each is found under its incarnation
 pub table_at-map : (f : TableState → TableState) → EntriesChange f → (tables : List TableState) (id : TableId) → table_at (map f tables) id ≡ option_map f (table_at tables id)
@@ -132,34 +132,48 @@ table_at-map f same (table ∷ tables) id = by (same_id table.id id) refl (table
     by true e rest = let changed : same_id (f table).id id ≡ true = ap (λ t. same_id t.id id) (same table) ∙ e in rw (changed, e) refl
     by false e rest = let changed : same_id (f table).id id ≡ false = ap (λ t. same_id t.id id) (same table) ∙ e in rw (changed, e) rest
 
+-- and no two are of one incarnation
+pub differ-map : (f : TableState → TableState) → EntriesChange f → (tables : List TableState) → IncarnationsDiffer tables → IncarnationsDiffer (map f tables)
+differ-map f same [] differ = tt
+differ-map f same (table ∷ tables) differ = (
+  all-map (λ other. same_id other.id (f table).id ≡ false) f tables
+      (all-more (λ other. same_id other.id table.id ≡ false) (λ other. same_id (f other).id (f table).id ≡ false) tables
+      (λ other apart. ap (λ t. same_id t.id (f table).id) (same other) ∙ ap (λ t. same_id other.id t.id) (same table) ∙ apart) differ.0),
+  differ-map f same tables differ.1,
+)
+
+pub some-map : {X : Type 0} (f : X → X) (o : Option X) → IsSome o → IsSome (option_map f o)
+some-map f None is = is
+some-map f (Some x) is = refl
+
 -- Keys that differ.
 
-table_with-differ : (tracks : List Track) (track : Track) (table : TableState) → KeysDiffer table.entries → KeysDiffer (table_with tracks track table).entries
-table_with-differ tracks track table differ = by (same_id table.id track.table) refl
+table_with-differ : (moment : ℕ) (tracks : List Track) (track : Track) (table : TableState) → KeysDiffer table.entries → KeysDiffer (table_with moment tracks track table).entries
+table_with-differ moment tracks track table differ = by (same_id table.id track.table) refl
   where
-    by : (b : Bool) → same_id table.id track.table ≡ b → KeysDiffer (table_with tracks track table).entries
-    by true e = rw e (tracking-differ (trackers tracks table.id) table.table.size track.key table.entries differ)
+    by : (b : Bool) → same_id table.id track.table ≡ b → KeysDiffer (table_with moment tracks track table).entries
+    by true e = rw e (tracking-differ moment (trackers tracks table.id) table.table.size track.key table.entries differ)
     by false e = rw e differ
 
-with_tracks-differ : (tracks made : List Track) (table : TableState) → KeysDiffer table.entries → KeysDiffer (table_with_tracks tracks made table).entries
-with_tracks-differ tracks [] table differ = differ
-with_tracks-differ tracks (track ∷ made) table differ = with_tracks-differ (tracks ++ track ∷ []) made (table_with tracks track table) (table_with-differ tracks track table differ)
+with_tracks-differ : (moment : ℕ) (tracks made : List Track) (table : TableState) → KeysDiffer table.entries → KeysDiffer (table_with_tracks moment tracks made table).entries
+with_tracks-differ moment tracks [] table differ = differ
+with_tracks-differ moment tracks (track ∷ made) table differ = with_tracks-differ moment (tracks ++ track ∷ []) made (table_with moment tracks track table) (table_with-differ moment tracks track table differ)
 
-table_without-differ : (track : Track) (table : TableState) → KeysDiffer table.entries → KeysDiffer (table_without track table).entries
-table_without-differ track table differ = by (same_id table.id track.table) refl
+table_without-differ : (moment : ℕ) (track : Track) (table : TableState) → KeysDiffer table.entries → KeysDiffer (table_without moment track table).entries
+table_without-differ moment track table differ = by (same_id table.id track.table) refl
   where
-    by : (b : Bool) → same_id table.id track.table ≡ b → KeysDiffer (table_without track table).entries
-    by true e = rw e (touched-differ track.key table.entries differ)
+    by : (b : Bool) → same_id table.id track.table ≡ b → KeysDiffer (table_without moment track table).entries
+    by true e = rw e (touched-differ moment track.key table.entries differ)
     by false e = rw e differ
 
-without_tracks-differ : (ended : List Track) (table : TableState) → KeysDiffer table.entries → KeysDiffer (table_without_tracks ended table).entries
-without_tracks-differ [] table differ = differ
-without_tracks-differ (track ∷ ended) table differ = without_tracks-differ ended (table_without track table) (table_without-differ track table differ)
+without_tracks-differ : (moment : ℕ) (ended : List Track) (table : TableState) → KeysDiffer table.entries → KeysDiffer (table_without_tracks moment ended table).entries
+without_tracks-differ moment [] table differ = differ
+without_tracks-differ moment (track ∷ ended) table differ = without_tracks-differ moment ended (table_without moment track table) (table_without-differ moment track table differ)
 
-pub table_by-differ : (frontends : List FrontendRows) (reply : Reply) (table : TableState) → KeysDiffer table.entries → KeysDiffer (table_by frontends reply table).entries
-table_by-differ frontends reply table differ =
-    without_tracks-differ (ended_by frontends reply) (table_with_tracks (open_tracks frontends) reply.tracks.items table)
-    (with_tracks-differ (open_tracks frontends) reply.tracks.items table differ)
+pub table_by-differ : (moment : ℕ) (frontends : List FrontendRows) (reply : Reply) (table : TableState) → KeysDiffer table.entries → KeysDiffer (table_by moment frontends reply table).entries
+table_by-differ moment frontends reply table differ =
+    without_tracks-differ moment (ended_by frontends reply) (table_with_tracks moment (open_tracks frontends) reply.tracks.items table)
+    (with_tracks-differ moment (open_tracks frontends) reply.tracks.items table differ)
 
 -- At most as many as the size.
 
@@ -194,47 +208,47 @@ trackers_besides tracks track id other = fun_ext (λ key.
 abbrev IsSmall : TableState → Type 0
 IsSmall table = length table.entries ≤ table.table.size
 
-with_tracks-fits : (tracks made : List Track) (source : Addr) (table : TableState) → AreOfSource tracks source table made → IsSmall table → IsSmall (table_with_tracks tracks made table)
-with_tracks-fits tracks [] source table keys fits = fits
-with_tracks-fits tracks (track ∷ made) source table keys fits = by (same_id table.id track.table) refl (with_tracks-fits (tracks ++ track ∷ []) made source)
+with_tracks-fits : (moment : ℕ) (tracks made : List Track) (source : Addr) (table : TableState) → AreOfSource tracks source table made → IsSmall table → IsSmall (table_with_tracks moment tracks made table)
+with_tracks-fits moment tracks [] source table keys fits = fits
+with_tracks-fits moment tracks (track ∷ made) source table keys fits = by (same_id table.id track.table) refl (with_tracks-fits moment (tracks ++ track ∷ []) made source)
   where
     by : (b : Bool) → same_id table.id track.table ≡ b →
-        ((next : TableState) → AreOfSource (tracks ++ track ∷ []) source next made → IsSmall next → IsSmall (table_with_tracks (tracks ++ track ∷ []) made next)) →
-        IsSmall (table_with_tracks tracks (track ∷ made) table)
+        ((next : TableState) → AreOfSource (tracks ++ track ∷ []) source next made → IsSmall next → IsSmall (table_with_tracks moment (tracks ++ track ∷ []) made next)) →
+        IsSmall (table_with_tracks moment tracks (track ∷ made) table)
     by true e rest =
         let f : Addr → ℕ = trackers tracks table.id in
         let more : Addr → ℕ = trackers (tracks ++ track ∷ []) table.id in
         let size : ℕ = table.table.size in
-        let after : List PlainEntry = with_tracking f size track.key table.entries in
+        let after : List PlainEntry = with_tracking moment f size track.key table.entries in
         let next : TableState = record table { entries = after } in
-        let this : table_with tracks track table ≡ next = rw e refl in
+        let this : table_with moment tracks track table ≡ next = rw e refl in
         let own = tracked_is f table.table.kind size table.entries source track.key (keys.0 e) in
-        let listed : is_in track.key after ≡ true = in-tracked f size track.key table.entries in
+        let listed : is_in track.key after ≡ true = in-tracked moment f size track.key table.entries in
         let key : tracked_key more table.table.kind size after source ≡ Some track.key = rw (own.0, listed) refl in
         let later : AreOfSource (tracks ++ track ∷ []) source next made =
         all-more (λ t. same_id table.id t.table ≡ true → key_for tracks source table ≡ Some t.key) (λ t. same_id table.id t.table ≡ true → tracked_key more table.table.kind size after source ≡ Some t.key)
         made (λ t known on. key ∙ sym (keys.0 e) ∙ known on) keys.1 in
-        subst (λ t. IsSmall (table_with_tracks (tracks ++ track ∷ []) made t)) (sym this) (rest next later (tracking-fits f size track.key table.entries own.1 fits))
+        subst (λ t. IsSmall (table_with_tracks moment (tracks ++ track ∷ []) made t)) (sym this) (rest next later (tracking-fits moment f size track.key table.entries own.1 fits))
     by false e rest =
-        let this : table_with tracks track table ≡ table = rw e refl in
+        let this : table_with moment tracks track table ≡ table = rw e refl in
         let later : AreOfSource (tracks ++ track ∷ []) source table made =
         subst (λ (f : Addr → ℕ). AllByRecursion (λ t. same_id table.id t.table ≡ true → tracked_key f table.table.kind table.table.size table.entries source ≡ Some t.key) made)
         (sym (trackers_besides tracks track table.id e)) keys.1 in
-        subst (λ t. IsSmall (table_with_tracks (tracks ++ track ∷ []) made t)) (sym this) (rest table later fits)
+        subst (λ t. IsSmall (table_with_tracks moment (tracks ++ track ∷ []) made t)) (sym this) (rest table later fits)
 
-table_without-fits : (track : Track) (table : TableState) → IsSmall table → IsSmall (table_without track table)
-table_without-fits track table fits = by (same_id table.id track.table) refl
+table_without-fits : (moment : ℕ) (track : Track) (table : TableState) → IsSmall table → IsSmall (table_without moment track table)
+table_without-fits moment track table fits = by (same_id table.id track.table) refl
   where
-    by : (b : Bool) → same_id table.id track.table ≡ b → IsSmall (table_without track table)
-    by true e = let same : length (touched track.key table.entries) ≡ length table.entries = touched-length track.key table.entries in rw e (omega (arith, same, fits))
+    by : (b : Bool) → same_id table.id track.table ≡ b → IsSmall (table_without moment track table)
+    by true e = let same : length (touched moment track.key table.entries) ≡ length table.entries = touched-length moment track.key table.entries in rw e (omega (arith, same, fits))
     by false e = rw e fits
 
-without_tracks-fits : (ended : List Track) (table : TableState) → IsSmall table → IsSmall (table_without_tracks ended table)
-without_tracks-fits [] table fits = fits
-without_tracks-fits (track ∷ ended) table fits = without_tracks-fits ended (table_without track table) (table_without-fits track table fits)
+without_tracks-fits : (moment : ℕ) (ended : List Track) (table : TableState) → IsSmall table → IsSmall (table_without_tracks moment ended table)
+without_tracks-fits moment [] table fits = fits
+without_tracks-fits moment (track ∷ ended) table fits = without_tracks-fits moment ended (table_without moment track table) (table_without-fits moment track table fits)
 
-pub table_by-fits : (frontends : List FrontendRows) (reply : Reply) (source : Addr) (table : TableState) → AreOfSource (open_tracks frontends) source table reply.tracks.items →
-    length table.entries ≤ table.table.size → length (table_by frontends reply table).entries ≤ (table_by frontends reply table).table.size
-table_by-fits frontends reply source table keys fits =
-    without_tracks-fits (ended_by frontends reply) (table_with_tracks (open_tracks frontends) reply.tracks.items table)
-    (with_tracks-fits (open_tracks frontends) reply.tracks.items source table keys fits)
+pub table_by-fits : (moment : ℕ) (frontends : List FrontendRows) (reply : Reply) (source : Addr) (table : TableState) → AreOfSource (open_tracks frontends) source table reply.tracks.items →
+    length table.entries ≤ table.table.size → length (table_by moment frontends reply table).entries ≤ (table_by moment frontends reply table).table.size
+table_by-fits moment frontends reply source table keys fits =
+    without_tracks-fits moment (ended_by frontends reply) (table_with_tracks moment (open_tracks frontends) reply.tracks.items table)
+    (with_tracks-fits moment (open_tracks frontends) reply.tracks.items source table keys fits)

@@ -1,5 +1,5 @@
 -- What reloads leave as it was.
-use Rattle.std.specs.Prelude.{ℕ, Bool, true, false, List, [], map, filter, slice_get, Option, Some, None, option_map, Ok, IsSome, refl, ◌+◌, ◌≡◌, ◌==◌, ◌∷◌}
+use Rattle.std.specs.Prelude.{ℕ, Bool, true, false, List, [], map, max, filter, slice_get, Option, Some, None, option_map, Ok, IsSome, refl, ◌+◌, ◌≡◌, ◌==◌, ◌∷◌}
 use Rattle.std.specs.List.{AllByRecursion}
 use Rattle.std.specs.Option.{option_and_then}
 use Rattle.std.proofs.Common.{sym, ap, ◌∙◌, subst}
@@ -19,12 +19,12 @@ use Rattle.conn_model.specs.declared.plain.FrontendRows.{FrontendRows}
 use Rattle.conn_model.specs.declared.plain.TableState.{TableState}
 use Rattle.conn_model.specs.declared.plain.Version.{Version}
 use Rattle.plan_types.specs.declared.track.TableId.{TableId}
-use Rattle.conn_model.specs.Tables.{same_id, table_at}
+use Rattle.conn_model.specs.Tables.{open_tracks, same_id, table_alive, table_at}
 use Rattle.conn_model.proofs.OneTable.{same_id-is, table_at-map, table_by, table_by-entries}
 use Rattle.conn_model.specs.declared.plain.Plain.{Plain}
 use Rattle.conn_model.specs.Words.{newest, row_at}
-use Rattle.conn_model.specs.Answer.{answer_in, reply_of, row_in, version_at}
-use Rattle.conn_model.specs.History.{after, frontends_after, in_force, is_needed, number_said, opening, plan_in, plan_with, tables_after, versions_after, entry, Entry, IsFrontendWell, IsLegal, IsWell}
+use Rattle.conn_model.specs.Answer.{answer_in, at_moment, reply_of, row_in, version_at}
+use Rattle.conn_model.specs.History.{after, frontends_after, in_force, is_needed, now_of, number_said, opening, plan_in, plan_with, tables_after, versions_after, entry, Entry, IsFrontendWell, IsLegal, IsWell}
 use Rattle.conn_model.proofs.Lists.{all-at, all-found}
 use Rattle.conn_model.proofs.Replies.{answered, followed, Followed, Says}
 use Rattle.conn_model.proofs.Nothing.{after-nil}
@@ -32,7 +32,8 @@ use Rattle.conn_model.proofs.Goes.{legal_rest, whole_in_parts}
 use Rattle.conn_model.proofs.Kept.{needed_after}
 use Rattle.conn_model.proofs.Versions.{version_at-map}
 use Rattle.conn_model.proofs.VersionSteps.{plans_stay, version_known, version_step, version_step-cursors, versions_all, versions_step-each}
-use Rattle.conn_model.proofs.TableSteps.{lists, newest-all, table_kept, tables_all, tables_step-each}
+use Rattle.conn_model.proofs.TableSteps.{lists, newest-all, passed, table_kept, table_step, tables_all, tables_step-each}
+use Rattle.conn_model.proofs.Moments.{table_alive-entries}
 use Rattle.conn_model.proofs.Well.{history_well, opening_well, well_after}
 
 -- The answer to a reload.
@@ -40,7 +41,7 @@ use Rattle.conn_model.proofs.Well.{history_well, opening_well, well_after}
 pub reload_follows : (q : Plain) (moment : ℕ) (text : List ℕ) (reply : Reply) → answer_in q moment (Reload text) ≡ Ok reply →
     (plan : Plan) × (version : Version) × (meaning text ≡ Ok plan) × (newest q.versions ≡ Some version) × (same_binds version.plan plan ≡ true) × (reply ≡ reply_of (Reloaded (version.number + 1)))
 reload_follows q moment text reply is =
-    let got : Followed q text reply = followed q text reply is in
+    let got : Followed (at_moment moment q) text reply = followed (at_moment moment q) text reply is in
     (got.plan, got.version, got.meant, got.newest_is, got.binds, sym got.reply_is)
 
 -- Each version binds what the opening did.
@@ -146,19 +147,24 @@ listed-passes test (x ∷ tables) id w there = by (test x.id) (same_id x.id id) 
     by true false ea eb rest = rest (rw (ea, eb) at there)
     by false b ea eb rest = rest (rw ea at there)
 
-table_step : (q : Plain) → IsWell q → (moment : ℕ) (text : List ℕ) (reply : Reply) → answer_in q moment (Reload text) ≡ Ok reply → (id : TableId) (v w : TableState) → table_at q.tables id ≡ Some v →
-    table_at (tables_after q (entry moment (Reload text) reply ∷ [])) id ≡ Some w → w ≡ v
-table_step q well moment text reply is id v w before now =
+of_reload : (q : Plain) → IsWell q → (moment : ℕ) (text : List ℕ) (reply : Reply) → answer_in q moment (Reload text) ≡ Ok reply → (id : TableId) (v w : TableState) → table_at q.tables id ≡ Some v →
+    table_at (tables_after q (entry moment (Reload text) reply ∷ [])) id ≡ Some w → w ≡ table_alive (max q.clock moment) (open_tracks q.frontends) v
+of_reload q well moment text reply is id v w before now =
     let e : Entry = entry moment (Reload text) reply in
-    let f : TableState → TableState = table_by q.frontends reply in
-    let same : f v ≡ v = subst (λ r. table_by q.frontends r v ≡ v) (followed q text reply is).reply_is refl in
-    let found : table_at (map f q.tables) id ≡ Some v = table_at-map f (table_by-entries q.frontends reply) q.tables id ∙ ap (λ o. option_map f o) before ∙ ap (λ t. Some t) same in
+    let clock : ℕ = max q.clock moment in
+    let f : TableState → TableState = table_step q e in
+    let u : TableState = table_alive clock (open_tracks q.frontends) v in
+    let same : f u ≡ u = subst (λ r. table_by clock q.frontends r u ≡ u) (followed (at_moment moment q) text reply is).reply_is refl in
+    let passes : table_at (passed q e) id ≡ Some u =
+    table_at-map (table_alive clock (open_tracks q.frontends)) (table_alive-entries clock (open_tracks q.frontends)) q.tables id ∙ ap (λ o. option_map (table_alive clock (open_tracks q.frontends)) o) before in
+    let found : table_at (map f (passed q e)) id ≡ Some u = table_at-map f (table_by-entries clock q.frontends reply) (passed q e) id ∙ ap (λ o. option_map f o) passes ∙ ap (λ t. Some t) same in
     let listed : lists (versions_after q (e ∷ [])) id ≡ true = listed-passes (lists (versions_after q (e ∷ []))) (tables_all q e) id w (ap (λ ts. table_at ts id) (sym (tables_step-each q well e)) ∙ now) in
-    let both : Some w ≡ Some v = sym now ∙ table_kept q well e id listed (subst IsSome (sym found) refl) ∙ found in
+    let both : Some w ≡ Some u = sym now ∙ table_kept q well e id listed (subst IsSome (sym found) refl) ∙ found in
     cc
 
 pub table_stays : (p : Plain) → IsWell p → (h : List Entry) (moment : ℕ) (text : List ℕ) (reply : Reply) → IsLegal p (entry moment (Reload text) reply ∷ h) → (id : TableId) (v w : TableState) →
-    table_at (after p h).tables id ≡ Some v → table_at (after p (entry moment (Reload text) reply ∷ h)).tables id ≡ Some w → w ≡ v
+    table_at (after p h).tables id ≡ Some v → table_at (after p (entry moment (Reload text) reply ∷ h)).tables id ≡ Some w →
+    w ≡ table_alive (now_of p.clock (entry moment (Reload text) reply ∷ h)) (open_tracks (after p h).frontends) v
 table_stays p well h moment text reply legal id v w before now =
-    table_step (after p h) (well_after p well h legal.0) moment text reply legal.1 id v w before
+    of_reload (after p h) (well_after p well h legal.0) moment text reply legal.1 id v w before
     (ap (λ s. table_at s.tables id) (whole_in_parts p well (entry moment (Reload text) reply ∷ []) h legal) ∙ now)

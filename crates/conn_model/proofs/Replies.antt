@@ -1,5 +1,5 @@
 -- What is known of a reply.
-use Rattle.std.specs.Prelude.{ℕ, Bool, true, false, max, List, length, slice_get, Option, Some, None, Result, Ok, Err, refl, ◌+◌, ◌≡◌, nat_lt, nat_le, if◌then◌else◌}
+use Rattle.std.specs.Prelude.{ℕ, Bool, true, false, List, length, slice_get, Option, Some, None, Result, Ok, Err, refl, ◌+◌, ◌≡◌, nat_lt, nat_le, if◌then◌else◌}
 use Rattle.std.proofs.Common.{sym, ap, ◌∙◌}
 use Rattle.list_core.specs.Each.{◌>>=◌}
 use Rattle.addr_core.specs.PairValue.{PairValue}
@@ -32,7 +32,7 @@ use Rattle.conn_model.specs.declared.plain.Plain.{Plain}
 use Rattle.conn_model.specs.Words.{newest, or_fault}
 use Rattle.rule_engine.specs.Judging.{no_tracks, TrackSlots}
 use Rattle.conn_model.specs.Rules.{Candidate, rejection, view_of}
-use Rattle.conn_model.specs.Answer.{awaits_server, row_at, server_answer, version_at, NumberedServer, frontend_in, reply_of, verdict, said_of, decision, candidate_at, candidate_of, judged_pair, rest_in, waiting_row, demands_header, entry_reply, entry_rules, admission, header_reply, accept_answer, piece_answer, close_answer, expire_answer, next_answer, reload_answer, answer_in}
+use Rattle.conn_model.specs.Answer.{awaits_server, row_at, server_answer, version_at, NumberedServer, frontend_in, reply_of, verdict, said_of, decision, candidate_at, candidate_of, judged_pair, rest_in, waiting_row, demands_header, entry_reply, entry_rules, admission, header_reply, accept_answer, piece_answer, close_answer, expire_answer, next_answer, reload_answer, answer_in, answer_now, at_moment}
 use Rattle.conn_model.specs.History.{id_of}
 
 -- Answers in steps.
@@ -305,11 +305,29 @@ reloaded q text reply got =
     record { plan = got.plan; version = got.version; meant = got.meant; newest_is = got.newest_is; binds = got.binds; says = ap (λ r. r.said) (sym got.reply_is) }
 
 -- what is known of an answer
+pub answered-now : (q : Plain) (event : OwnedEvent) (reply : Reply) → answer_now q event ≡ Ok reply → Says q event reply.said
+answered-now q (Accept listener real) reply is = new_at q q.clock listener real reply (accepted q q.clock listener real reply is)
+answered-now q (Piece id bytes) reply is = old_piece q id bytes reply (received q id bytes reply is)
+answered-now q (Connected id) reply is = old_server q id (saids.Up id) reply refl (server_answered q id (saids.Up id) reply is)
+answered-now q (ConnectFailed id) reply is = old_server q id (Closed id Failed) reply refl (server_answered q id (Closed id Failed) reply is)
+answered-now q (Close id why) reply is = closed q id (Closed id why) reply refl is
+answered-now q (Expire id) reply is = old_expired q q.clock id reply (expired q q.clock id reply is)
+answered-now q (Reload text) reply is = reloaded q text reply (followed q text reply is)
+
+-- time makes no difference to it
+
+old_before : (q : Plain) (moment : ℕ) (id : ConnId) (said : Said) → IsOld (at_moment moment q) id said → IsOld q id said
+old_before q moment id said old = record { speaks = old.speaks; row = old.row; there = old.there }
+
+says_before : (q : Plain) (moment : ℕ) (event : OwnedEvent) (said : Said) → Says (at_moment moment q) event said → Says q event said
+says_before q moment (Accept listener real) said new = record { id = new.id; speaks = new.speaks; own = new.own; there = new.there; next = new.next }
+says_before q moment (Piece id bytes) said old = old_before q moment id said old
+says_before q moment (Connected id) said old = old_before q moment id said old
+says_before q moment (ConnectFailed id) said old = old_before q moment id said old
+says_before q moment (Close id why) said old = old_before q moment id said old
+says_before q moment (Expire id) said old = old_before q moment id said old
+says_before q moment (Reload text) said got =
+    record { plan = got.plan; version = got.version; meant = got.meant; newest_is = got.newest_is; binds = got.binds; says = got.says }
+
 pub answered : (q : Plain) (moment : ℕ) (event : OwnedEvent) (reply : Reply) → answer_in q moment event ≡ Ok reply → Says q event reply.said
-answered q moment (Accept listener real) reply is = new_at q (max q.clock moment) listener real reply (accepted q (max q.clock moment) listener real reply is)
-answered q moment (Piece id bytes) reply is = old_piece q id bytes reply (received q id bytes reply is)
-answered q moment (Connected id) reply is = old_server q id (saids.Up id) reply refl (server_answered q id (saids.Up id) reply is)
-answered q moment (ConnectFailed id) reply is = old_server q id (Closed id Failed) reply refl (server_answered q id (Closed id Failed) reply is)
-answered q moment (Close id why) reply is = closed q id (Closed id why) reply refl is
-answered q moment (Expire id) reply is = old_expired q (max q.clock moment) id reply (expired q (max q.clock moment) id reply is)
-answered q moment (Reload text) reply is = reloaded q text reply (followed q text reply is)
+answered q moment event reply is = says_before q moment event reply.said (answered-now (at_moment moment q) event reply is)

@@ -1,5 +1,5 @@
 -- What an answer tracks: keys of one source, in tables of the version that judges the connection.
-use Rattle.std.specs.Prelude.{ℕ, zero, suc, Bool, true, false, List, [], length, max, slice_get, slice_set, flat_map, Option, Some, None, option_and_then, Ok, refl, ◌+◌, ◌≡◌, ◌∷◌, ◌++◌, nat_le}
+use Rattle.std.specs.Prelude.{ℕ, zero, suc, Bool, true, false, List, [], length, slice_get, slice_set, flat_map, Option, Some, None, option_and_then, Ok, refl, ◌+◌, ◌≡◌, ◌∷◌, ◌++◌, nat_le}
 use Rattle.std.specs.List.{AllByRecursion, list_any}
 use Rattle.std.specs.Option.{option_map_or}
 use Rattle.std.proofs.Common.{sym, ap, ◌∙◌, subst, append-nil}
@@ -32,7 +32,7 @@ use Rattle.conn_model.specs.declared.plain.Plain.{Plain}
 use Rattle.conn_model.specs.Words.{or_fault}
 use Rattle.conn_model.specs.Tables.{open_tracks, same_id, table_at, tracks_in}
 use Rattle.conn_model.specs.Rules.{key_in_table, rejection, scene_of, view_of, Candidate, RuleView}
-use Rattle.conn_model.specs.Answer.{admission, answer_in, candidate_at, candidate_of, close_answer, decision, demands_header, entry_reply, entry_rules, header_reply, judged_pair, new_row, reply_of, row_at}
+use Rattle.conn_model.specs.Answer.{admission, answer_now, candidate_at, candidate_of, close_answer, decision, demands_header, entry_reply, entry_rules, header_reply, judged_pair, new_row, reply_of, row_at}
 use Rattle.conn_model.specs.History.{newest_number, tables_of, IsWell}
 pub use Rattle.conn_model.proofs.Lists.{any-at}
 use Rattle.conn_model.proofs.Versions.{newest-at}
@@ -185,11 +185,11 @@ closed_source q id number said reply is =
     let one = bind-ok (or_fault NoSuch (row_at q.frontends id)) _ reply is in
     no_source q number said reply (let it : Ok (reply_of said) ≡ Ok reply = one.2 in cc)
 
-pub has_source : (q : Plain) → IsWell q → (moment : ℕ) (event : OwnedEvent) (reply : Reply) → answer_in q moment event ≡ Ok reply → HasSource q (judging q event) reply
-has_source q well moment (Accept listener real) reply is = accepted_source q well (max q.clock moment) listener real reply (accepted q (max q.clock moment) listener real reply is)
-has_source q well moment (Piece id bytes) reply is = received_source q id bytes reply (received q id bytes reply is)
-has_source q well moment (Connected id) reply is = no_source q (judging q (Connected id)) (saids.Up id) reply (server_answered q id (saids.Up id) reply is).reply_is
-has_source q well moment (ConnectFailed id) reply is = no_source q (judging q (ConnectFailed id)) (Closed id Failed) reply (server_answered q id (Closed id Failed) reply is).reply_is
-has_source q well moment (Close id why) reply is = closed_source q id (judging q (Close id why)) (Closed id why) reply is
-has_source q well moment (Expire id) reply is = let got = expired q (max q.clock moment) id reply is in no_source q (judging q (Expire id)) _ reply got.reply_is
-has_source q well moment (Reload text) reply is = no_source q (judging q (Reload text)) _ reply (followed q text reply is).reply_is
+pub has_source : (q : Plain) → IsWell q → (event : OwnedEvent) (reply : Reply) → answer_now q event ≡ Ok reply → HasSource q (judging q event) reply
+has_source q well (Accept listener real) reply is = accepted_source q well q.clock listener real reply (accepted q q.clock listener real reply is)
+has_source q well (Piece id bytes) reply is = received_source q id bytes reply (received q id bytes reply is)
+has_source q well (Connected id) reply is = no_source q (judging q (Connected id)) (saids.Up id) reply (server_answered q id (saids.Up id) reply is).reply_is
+has_source q well (ConnectFailed id) reply is = no_source q (judging q (ConnectFailed id)) (Closed id Failed) reply (server_answered q id (Closed id Failed) reply is).reply_is
+has_source q well (Close id why) reply is = closed_source q id (judging q (Close id why)) (Closed id why) reply is
+has_source q well (Expire id) reply is = let got = expired q q.clock id reply is in no_source q (judging q (Expire id)) _ reply got.reply_is
+has_source q well (Reload text) reply is = no_source q (judging q (Reload text)) _ reply (followed q text reply is).reply_is

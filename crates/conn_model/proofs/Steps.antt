@@ -28,8 +28,8 @@ use Rattle.conn_model.specs.declared.plain.Version.{Version}
 use Rattle.conn_model.specs.declared.plain.Plain.{Plain}
 use Rattle.conn_model.specs.Words.{map_from, newest}
 use Rattle.conn_model.specs.Counts.{change_row}
-use Rattle.conn_model.specs.Answer.{reply_of, row_in, version_at, new_row}
-use Rattle.conn_model.specs.Tables.{is_listed_by, new_tables, written_tables}
+use Rattle.conn_model.specs.Answer.{at_moment, reply_of, row_in, version_at, new_row}
+use Rattle.conn_model.specs.Tables.{is_listed_by, new_tables, open_tracks, tables_alive, written_tables}
 use Rattle.conn_model.specs.History.{id_of, speaks_to, has_version, in_force, is_needed, needed_versions, newest_number, next_version, number_said, plan_in, plan_of, plan_with, tables_after, tables_with, version_of, with_version, identity_of, by_counter, phase_by, is_last, is_accept_at, arrival, has_ended, row_after, frontend_after, frontends_after, judging_version, tables_by, versions_after, with_said, after, entry, Entry, IsFrontendWell, IsWell}
 use Rattle.conn_model.proofs.Lists.{all-more, all-at, all-both, or_left, or_right, or_true}
 use Rattle.conn_model.proofs.Nothing.{after-nil}
@@ -237,7 +237,7 @@ pub after-accept : (p : Plain) → IsWell p → (moment listener : ℕ) (real : 
       listeners = p.listeners;
       frontends = slice_set p.frontends id.frontend (record own { serial = own.serial + 1; rows = own.rows ++ rows_left p (max p.clock moment) real reply.tracks.items reply.said });
       versions = with_said (newest_number p) reply.said p.versions;
-      tables = tables_by p.frontends p.tables reply;
+      tables = tables_by (max p.clock moment) p.frontends (at_moment moment p).tables reply;
     }
 after-accept p well moment listener real reply id own there whom next =
     let zero_plus : 0 + id.frontend ≡ id.frontend = omega arith in
@@ -340,7 +340,7 @@ pub after-end : (p : Plain) → IsWell p → (e : Entry) (id : ConnId) (own : Fr
       versions = needed_versions (slice_set p.frontends id.frontend (record own { rows = filter (λ row. not (row.serial == id.serial)) own.rows })) (newest_number p) p.versions;
       tables = filter
           (is_listed_by (needed_versions (slice_set p.frontends id.frontend (record own { rows = filter (λ row. not (row.serial == id.serial)) own.rows })) (newest_number p) p.versions))
-          (tables_by p.frontends p.tables e.reply);
+          (tables_by (max p.clock e.moment) p.frontends (at_moment e.moment p).tables e.reply);
     }
 after-end p well e id own there old whom last =
     let fine : IsFrontendWell p.versions own = all-at (IsFrontendWell p.versions) p.frontends id.frontend own well.frontends there in
@@ -351,8 +351,8 @@ after-end p well e id own there old whom last =
     versions_kept (judging_version p.frontends (newest_number p) e.reply.said) e.reply.said p.versions (last_no_offer e.reply.said last) in
     let versions : versions_after p (e ∷ []) ≡ needed_versions left (newest_number p) p.versions =
     versions_quiet p well e none ∙ ap (λ vs. needed_versions (frontends_after p (e ∷ [])) (newest_number p) vs) kept ∙ ap (λ fs. needed_versions fs (newest_number p) p.versions) frontends in
-    let tables : tables_after p (e ∷ []) ≡ filter (is_listed_by (needed_versions left (newest_number p) p.versions)) (tables_by p.frontends p.tables e.reply) =
-    tables_quiet p well e none ∙ ap (λ vs. filter (is_listed_by vs) (tables_by p.frontends p.tables e.reply)) versions in
+    let tables : tables_after p (e ∷ []) ≡ filter (is_listed_by (needed_versions left (newest_number p) p.versions)) (tables_by (max p.clock e.moment) p.frontends (at_moment e.moment p).tables e.reply) =
+    tables_quiet p well e none ∙ ap (λ vs. filter (is_listed_by vs) (tables_by (max p.clock e.moment) p.frontends (at_moment e.moment p).tables e.reply)) versions in
     state_is p (max p.clock e.moment) _ _ _ _ _ _ tables versions frontends
 
 -- a connection once that is said to it, and it tracks those too
@@ -397,7 +397,7 @@ pub after-change : (p : Plain) → IsWell p → (e : Entry) (id : ConnId) (own :
       listeners = p.listeners;
       frontends = slice_set p.frontends id.frontend (record own { rows = change_row id.serial (row_said p e.event e.reply) own.rows });
       versions = with_said (judging_version p.frontends (newest_number p) e.reply.said) e.reply.said p.versions;
-      tables = tables_by p.frontends p.tables e.reply;
+      tables = tables_by (max p.clock e.moment) p.frontends (at_moment e.moment p).tables e.reply;
     }
 after-change p well e id own there old whom last =
     let rows : List Row = change_row id.serial (row_said p e.event e.reply) own.rows in
@@ -421,7 +421,7 @@ with_reload p clock number plan = record {
   frontends = p.frontends;
   versions = needed_versions p.frontends number (p.versions ++ next_version number (written_tables (newest p.versions)) plan ∷ []);
   tables = filter (is_listed_by (needed_versions p.frontends number (p.versions ++ next_version number (written_tables (newest p.versions)) plan ∷ [])))
-      (p.tables ++ new_tables number (written_tables (newest p.versions)) plan.tables);
+      (tables_alive clock (open_tracks p.frontends) p.tables ++ new_tables number (written_tables (newest p.versions)) plan.tables);
 }
 
 pub after-reload : (p : Plain) → IsWell p → (moment number : ℕ) (text : List ℕ) (plan : Plan) → meaning text ≡ Ok plan →
@@ -436,9 +436,9 @@ after-reload p well moment number text plan meant =
     let versions : versions_after p (e ∷ []) ≡ needed_versions p.frontends number next =
     versions_step p well e ∙ ap (λ b. needed_versions (frontends_after p (e ∷ [])) (in_force (newest_number p) (e ∷ [])) (with_version p.versions b)) brings
     ∙ ap (λ n. needed_versions (frontends_after p (e ∷ [])) n next) force ∙ ap (λ fs. needed_versions fs number next) frontends in
-    let tables : tables_after p (e ∷ []) ≡ filter (is_listed_by (needed_versions p.frontends number next)) (p.tables ++ new_tables number (written_tables (newest p.versions)) plan.tables) =
-    tables_step-by p well e ∙ ap (λ b. filter (is_listed_by (versions_after p (e ∷ []))) (p.tables ++ tables_with (newest p.versions) b)) brings
-    ∙ ap (λ vs. filter (is_listed_by vs) (p.tables ++ new_tables number (written_tables (newest p.versions)) plan.tables)) versions in
+    let tables : tables_after p (e ∷ []) ≡ filter (is_listed_by (needed_versions p.frontends number next)) ((at_moment moment p).tables ++ new_tables number (written_tables (newest p.versions)) plan.tables) =
+    tables_step-by p well e ∙ ap (λ b. filter (is_listed_by (versions_after p (e ∷ []))) ((at_moment moment p).tables ++ tables_with (newest p.versions) b)) brings
+    ∙ ap (λ vs. filter (is_listed_by vs) ((at_moment moment p).tables ++ new_tables number (written_tables (newest p.versions)) plan.tables)) versions in
     state_is p (max p.clock moment) _ _ _ _ _ _ tables versions frontends
 
 -- where a connection is open, its frontend is there

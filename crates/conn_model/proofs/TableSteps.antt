@@ -1,5 +1,5 @@
 -- One step keeps what is known of tables.
-use Rattle.std.specs.Prelude.{ℕ, Bool, true, false, List, [], map, filter, find, zip, Option, Some, None, IsSome, is_none, option_map, Ok, refl, ◌+◌, ◌≤◌, ◌<◌, ◌≡◌, ◌==◌, ◌&&◌, ◌||◌, ◌∷◌, ◌++◌}
+use Rattle.std.specs.Prelude.{ℕ, Bool, true, false, List, [], map, max, filter, find, zip, Option, Some, None, IsSome, is_none, option_map, Ok, refl, ◌+◌, ◌≤◌, ◌<◌, ◌≡◌, ◌==◌, ◌&&◌, ◌||◌, ◌∷◌, ◌++◌}
 use Rattle.std.specs.List.{list_any, AllByRecursion, enumerate_from}
 use Rattle.std.specs.Option.{option_map_or}
 use Rattle.std.proofs.Common.{sym, ap, ◌∙◌, subst, arith, append-nil}
@@ -16,30 +16,21 @@ use Rattle.conn_model.specs.declared.plain.Version.{Version}
 use Rattle.conn_model.specs.declared.plain.Plain.{Plain}
 use Rattle.conn_model.specs.Words.{newest, Rise}
 use Rattle.conn_model.specs.Tables.{is_listed, is_listed_by, is_new, new_id, new_table, next_id, open_tracks, same_before, same_id, same_table, table_at, written_tables, IncarnationsDiffer, IsTableWell}
-use Rattle.conn_model.specs.Answer.{answer_in}
-use Rattle.conn_model.specs.History.{frontends_after, in_force, is_needed, judging_version, newest_number, next_version, opening, tables_after, tables_by, tables_of, tables_with, version_of, versions_after, with_said, with_version, after, Entry, AreTablesWell, IsLegal, IsWell}
+use Rattle.conn_model.specs.Answer.{answer_in, at_moment}
+use Rattle.conn_model.specs.History.{frontends_after, in_force, is_needed, judging_version, newest_number, next_version, opening, tables_after, tables_by, tables_of, tables_passed, tables_with, version_of, versions_after, with_said, with_version, after, Entry, AreTablesWell, IsLegal, IsWell}
 use Rattle.conn_model.proofs.Lists.{all-append, all-both, all-filter, all-found, all-map, all-more, all-pass, filter-all, or_left, or_right, rise-filter}
 use Rattle.conn_model.proofs.Versions.{newest-map, with_said-each, CursorsChange}
 use Rattle.conn_model.proofs.Parts.{newest_after}
 use Rattle.conn_model.proofs.Kept.{rises, stays, turn, turns, Turn}
 use Rattle.conn_model.proofs.VersionSteps.{version_step, version_step-cursors, versions_all, versions_step-each}
 use Rattle.conn_model.proofs.Nothing.{after-nil}
+use Rattle.conn_model.proofs.Moments.{at-well}
 use Rattle.conn_model.proofs.Sources.{has_source, judging, HasSource, IsOfSource}
 use Rattle.conn_model.proofs.Listed.{all-in, IsIn}
-use Rattle.conn_model.proofs.OneTable.{table_at-map, table_by, table_by-entries, table_by-differ, table_by-fits, key_for, same_id-is, same_id-refl, same_id-sym, tables_by-each, AreOfSource, EntriesChange}
+use Rattle.conn_model.proofs.OneTable.{differ-map, some-map, table_at-map, table_by, table_by-entries, table_by-differ, table_by-fits, key_for, same_id-is, same_id-refl, same_id-sym, tables_by-each, AreOfSource, EntriesChange}
 
 -- Incarnations stay.
 
-differ-map : (f : TableState → TableState) → EntriesChange f → (tables : List TableState) → IncarnationsDiffer tables → IncarnationsDiffer (map f tables)
-differ-map f same [] differ = tt
-differ-map f same (table ∷ tables) differ = (
-  all-map (λ other. same_id other.id (f table).id ≡ false) f tables
-      (all-more (λ other. same_id other.id table.id ≡ false) (λ other. same_id (f other).id (f table).id ≡ false) tables
-      (λ other apart. ap (λ t. same_id t.id (f table).id) (same other) ∙ ap (λ t. same_id other.id t.id) (same table) ∙ apart) differ.0),
-  differ-map f same tables differ.1,
-)
-
--- and those that are left
 differ-filter : (test : TableState → Bool) (tables : List TableState) → IncarnationsDiffer tables → IncarnationsDiffer (filter test tables)
 differ-filter test [] differ = tt
 differ-filter test (x ∷ tables) differ = by (test x) refl (differ-filter test tables differ.1)
@@ -64,10 +55,6 @@ differ-append m (x ∷ xs) ys one two low high = (
       and_left (y.id.version == x.id.version) (y.id.position == x.id.position) apart) high),
   differ-append m xs ys one.1 two low.1 high,
 )
-
-some-map : {X : Type 0} (f : X → X) (o : Option X) → IsSome o → IsSome (option_map f o)
-some-map f None is = is
-some-map f (Some x) is = refl
 
 -- Tables that are found.
 
@@ -124,26 +111,34 @@ listed_there tables track is = by (table_at tables track.table) refl is
 
 -- The tables after one step.
 
+-- those that were there, at the moment of the step
+abbrev pub passed : Plain → Entry → List TableState
+passed q e = (at_moment e.moment q).tables
+
+-- what the step makes of each
+abbrev pub table_step : Plain → Entry → TableState → TableState
+table_step q e = table_by (max q.clock e.moment) q.frontends e.reply
+
 -- all of them, with those that begin, before any goes
 abbrev pub tables_all : Plain → Entry → List TableState
-tables_all q e = map (table_by q.frontends e.reply) q.tables ++ tables_with (newest q.versions) (version_of e)
+tables_all q e = map (table_step q e) (passed q e) ++ tables_with (newest q.versions) (version_of e)
 
 pub tables_step-by : (q : Plain) → IsWell q → (e : Entry) →
-    tables_after q (e ∷ []) ≡ filter (is_listed_by (versions_after q (e ∷ []))) (tables_by q.frontends q.tables e.reply ++ tables_with (newest q.versions) (version_of e))
+    tables_after q (e ∷ []) ≡ filter (is_listed_by (versions_after q (e ∷ []))) (tables_by (max q.clock e.moment) q.frontends (passed q e) e.reply ++ tables_with (newest q.versions) (version_of e))
 tables_step-by q well e =
-    ap (λ s. filter (is_listed_by (versions_after q (e ∷ []))) (tables_by s.frontends q.tables e.reply ++ tables_with (newest q.versions) (version_of e))) (after-nil q well)
+    ap (λ s. filter (is_listed_by (versions_after q (e ∷ []))) (tables_passed (max s.clock e.moment) s.frontends q.tables e.reply ++ tables_with (newest q.versions) (version_of e))) (after-nil q well)
 
 pub tables_step-each : (q : Plain) → IsWell q → (e : Entry) → tables_after q (e ∷ []) ≡ filter (is_listed_by (versions_after q (e ∷ []))) (tables_all q e)
 tables_step-each q well e =
-    tables_step-by q well e ∙ ap (λ ts. filter (is_listed_by (versions_after q (e ∷ []))) (ts ++ tables_with (newest q.versions) (version_of e))) (tables_by-each q.frontends q.tables e.reply)
+    tables_step-by q well e ∙ ap (λ ts. filter (is_listed_by (versions_after q (e ∷ []))) (ts ++ tables_with (newest q.versions) (version_of e))) (tables_by-each (max q.clock e.moment) q.frontends (passed q e) e.reply)
 
 -- where no version is brought
 pub tables_quiet : (q : Plain) → IsWell q → (e : Entry) → version_of e ≡ None →
-    tables_after q (e ∷ []) ≡ filter (is_listed_by (versions_after q (e ∷ []))) (tables_by q.frontends q.tables e.reply)
+    tables_after q (e ∷ []) ≡ filter (is_listed_by (versions_after q (e ∷ []))) (tables_by (max q.clock e.moment) q.frontends (passed q e) e.reply)
 tables_quiet q well e none =
     tables_step-by q well e
-    ∙ ap (λ b. filter (is_listed_by (versions_after q (e ∷ []))) (tables_by q.frontends q.tables e.reply ++ tables_with (newest q.versions) b)) none
-    ∙ ap (λ ts. filter (is_listed_by (versions_after q (e ∷ []))) ts) (append-nil (tables_by q.frontends q.tables e.reply))
+    ∙ ap (λ b. filter (is_listed_by (versions_after q (e ∷ []))) (tables_by (max q.clock e.moment) q.frontends (passed q e) e.reply ++ tables_with (newest q.versions) b)) none
+    ∙ ap (λ ts. filter (is_listed_by (versions_after q (e ∷ []))) ts) (append-nil (tables_by (max q.clock e.moment) q.frontends (passed q e) e.reply))
 
 lists-map : (f : Version → Version) → CursorsChange f → (versions : List Version) (id : TableId) → lists (map f versions) id ≡ lists versions id
 lists-map f same [] id = refl
@@ -151,23 +146,23 @@ lists-map f same (v ∷ versions) id = ap (λ u. list_any (same_id id) u.tables 
 
 -- and none is forgotten
 pub tables_said : (q : Plain) → IsWell q → (e : Entry) → version_of e ≡ None →
-    versions_after q (e ∷ []) ≡ with_said (judging_version q.frontends (newest_number q) e.reply.said) e.reply.said q.versions → tables_after q (e ∷ []) ≡ tables_by q.frontends q.tables e.reply
+    versions_after q (e ∷ []) ≡ with_said (judging_version q.frontends (newest_number q) e.reply.said) e.reply.said q.versions → tables_after q (e ∷ []) ≡ tables_by (max q.clock e.moment) q.frontends (passed q e) e.reply
 tables_said q well e none same =
     let versions : versions_after q (e ∷ []) ≡ map (version_step q e) q.versions = same ∙ with_said-each (judging_version q.frontends (newest_number q) e.reply.said) e.reply.said q.versions in
-    let each : tables_by q.frontends q.tables e.reply ≡ map (table_by q.frontends e.reply) q.tables = tables_by-each q.frontends q.tables e.reply in
-    let listed : AllByRecursion (λ table. is_listed_by (map (version_step q e) q.versions) table ≡ true) (map (table_by q.frontends e.reply) q.tables) =
-    all-map (λ table. is_listed_by (map (version_step q e) q.versions) table ≡ true) (table_by q.frontends e.reply) q.tables
-    (all-more (λ table. is_listed_by q.versions table ≡ true) (λ table. is_listed_by (map (version_step q e) q.versions) (table_by q.frontends e.reply table) ≡ true) q.tables
-    (λ table is. ap (λ t. lists (map (version_step q e) q.versions) t.id) (table_by-entries q.frontends e.reply table) ∙ lists-map (version_step q e) (version_step-cursors q e) q.versions table.id ∙ is) well.tables.listed) in
-    tables_quiet q well e none ∙ ap (λ vs. filter (is_listed_by vs) (tables_by q.frontends q.tables e.reply)) versions
-    ∙ ap (λ ts. filter (is_listed_by (map (version_step q e) q.versions)) ts) each ∙ filter-all (is_listed_by (map (version_step q e) q.versions)) (map (table_by q.frontends e.reply) q.tables) listed ∙ sym each
+    let each : tables_by (max q.clock e.moment) q.frontends (passed q e) e.reply ≡ map (table_step q e) (passed q e) = tables_by-each (max q.clock e.moment) q.frontends (passed q e) e.reply in
+    let listed : AllByRecursion (λ table. is_listed_by (map (version_step q e) q.versions) table ≡ true) (map (table_step q e) (passed q e)) =
+    all-map (λ table. is_listed_by (map (version_step q e) q.versions) table ≡ true) (table_step q e) (passed q e)
+    (all-more (λ table. is_listed_by q.versions table ≡ true) (λ table. is_listed_by (map (version_step q e) q.versions) (table_step q e table) ≡ true) (passed q e)
+    (λ table is. ap (λ t. lists (map (version_step q e) q.versions) t.id) (table_by-entries (max q.clock e.moment) q.frontends e.reply table) ∙ lists-map (version_step q e) (version_step-cursors q e) q.versions table.id ∙ is) (at-well q well e.moment).tables.listed) in
+    tables_quiet q well e none ∙ ap (λ vs. filter (is_listed_by vs) (tables_by (max q.clock e.moment) q.frontends (passed q e) e.reply)) versions
+    ∙ ap (λ ts. filter (is_listed_by (map (version_step q e) q.versions)) ts) each ∙ filter-all (is_listed_by (map (version_step q e) q.versions)) (map (table_step q e) (passed q e)) listed ∙ sym each
 
 -- a table that was there, and that a kept version lists
-pub table_kept : (q : Plain) → IsWell q → (e : Entry) (id : TableId) → lists (versions_after q (e ∷ [])) id ≡ true → IsSome (table_at (map (table_by q.frontends e.reply) q.tables) id) →
-    table_at (tables_after q (e ∷ [])) id ≡ table_at (map (table_by q.frontends e.reply) q.tables) id
+pub table_kept : (q : Plain) → IsWell q → (e : Entry) (id : TableId) → lists (versions_after q (e ∷ [])) id ≡ true → IsSome (table_at (map (table_step q e) (passed q e)) id) →
+    table_at (tables_after q (e ∷ [])) id ≡ table_at (map (table_step q e) (passed q e)) id
 table_kept q well e id listed is =
     ap (λ ts. table_at ts id) (tables_step-each q well e) ∙ table_at-filter (lists (versions_after q (e ∷ []))) (tables_all q e) id listed
-    ∙ table_at-left (map (table_by q.frontends e.reply) q.tables) (tables_with (newest q.versions) (version_of e)) id is
+    ∙ table_at-left (map (table_step q e) (passed q e)) (tables_with (newest q.versions) (version_of e)) id is
 
 -- Tables that begin.
 
@@ -307,38 +302,38 @@ abbrev AllThere : List TableState → List Version → Type 0
 AllThere tables versions = AllByRecursion (λ version. AllByRecursion (λ id. IsSome (table_at tables id)) version.tables) versions
 
 all_there : (q : Plain) → IsWell q → (e : Entry) (b : Option (ℕ × Plan)) →
-    AllThere (map (table_by q.frontends e.reply) q.tables ++ tables_with (newest q.versions) b) (with_version (map (version_step q e) q.versions) b)
+    AllThere (map (table_step q e) (passed q e) ++ tables_with (newest q.versions) b) (with_version (map (version_step q e) q.versions) b)
 all_there q well e b = by b
   where
     f : TableState → TableState
-    f = table_by q.frontends e.reply
+    f = table_step q e
 
-    old : (more : List TableState) (id : TableId) → IsSome (table_at q.tables id) → IsSome (table_at (map f q.tables ++ more) id)
+    old : (more : List TableState) (id : TableId) → IsSome (table_at (passed q e) id) → IsSome (table_at (map f (passed q e) ++ more) id)
     old more id is =
-        let mapped : IsSome (table_at (map f q.tables) id) = subst IsSome (sym (table_at-map f (table_by-entries q.frontends e.reply) q.tables id)) (some-map f (table_at q.tables id) is) in
-        subst IsSome (sym (table_at-left (map f q.tables) more id mapped)) mapped
+        let mapped : IsSome (table_at (map f (passed q e)) id) = subst IsSome (sym (table_at-map f (table_by-entries (max q.clock e.moment) q.frontends e.reply) (passed q e) id)) (some-map f (table_at (passed q e) id) is) in
+        subst IsSome (sym (table_at-left (map f (passed q e)) more id mapped)) mapped
 
-    each : (more : List TableState) → AllThere (map f q.tables ++ more) q.versions
+    each : (more : List TableState) → AllThere (map f (passed q e) ++ more) q.versions
     each more =
-        all-more (λ version. AllByRecursion (λ id. IsSome (table_at q.tables id)) version.tables) (λ version. AllByRecursion (λ id. IsSome (table_at (map f q.tables ++ more) id)) version.tables) q.versions
-        (λ version all. all-more (λ id. IsSome (table_at q.tables id)) (λ id. IsSome (table_at (map f q.tables ++ more) id)) version.tables (old more) all) well.tables.there
+        all-more (λ version. AllByRecursion (λ id. IsSome (table_at (passed q e) id)) version.tables) (λ version. AllByRecursion (λ id. IsSome (table_at (map f (passed q e) ++ more) id)) version.tables) q.versions
+        (λ version all. all-more (λ id. IsSome (table_at (passed q e) id)) (λ id. IsSome (table_at (map f (passed q e) ++ more) id)) version.tables (old more) all) (at-well q well e.moment).tables.there
 
-    moved : (more : List TableState) → AllThere (map f q.tables ++ more) (map (version_step q e) q.versions)
+    moved : (more : List TableState) → AllThere (map f (passed q e) ++ more) (map (version_step q e) q.versions)
     moved more =
-        all-map (λ version. AllByRecursion (λ id. IsSome (table_at (map f q.tables ++ more) id)) version.tables) (version_step q e) q.versions
-        (all-more (λ version. AllByRecursion (λ id. IsSome (table_at (map f q.tables ++ more) id)) version.tables) (λ version. AllByRecursion (λ id. IsSome (table_at (map f q.tables ++ more) id)) (version_step q e version).tables) q.versions
-        (λ version all. subst (AllByRecursion (λ id. IsSome (table_at (map f q.tables ++ more) id))) (sym (ap (λ v. v.tables) (version_step-cursors q e version))) all) (each more))
+        all-map (λ version. AllByRecursion (λ id. IsSome (table_at (map f (passed q e) ++ more) id)) version.tables) (version_step q e) q.versions
+        (all-more (λ version. AllByRecursion (λ id. IsSome (table_at (map f (passed q e) ++ more) id)) version.tables) (λ version. AllByRecursion (λ id. IsSome (table_at (map f (passed q e) ++ more) id)) (version_step q e version).tables) q.versions
+        (λ version all. subst (AllByRecursion (λ id. IsSome (table_at (map f (passed q e) ++ more) id))) (sym (ap (λ v. v.tables) (version_step-cursors q e version))) all) (each more))
 
-    by : (b : Option (ℕ × Plan)) → AllThere (map f q.tables ++ tables_with (newest q.versions) b) (with_version (map (version_step q e) q.versions) b)
+    by : (b : Option (ℕ × Plan)) → AllThere (map f (passed q e) ++ tables_with (newest q.versions) b) (with_version (map (version_step q e) q.versions) b)
     by None = moved []
     by (Some (n, plan)) =
         let before : List (Table × TableId) = written_tables (newest q.versions) in
         let new' : List TableState = tables_with (newest q.versions) (Some (n, plan)) in
-        let all : List TableState = map f q.tables ++ new' in
+        let all : List TableState = map f (passed q e) ++ new' in
         let written : written_tables (newest (map (version_step q e) q.versions)) ≡ before =
         ap written_tables (newest-map (version_step q e) q.versions) ∙ written-map (version_step q e) (version_step-cursors q e) (newest q.versions) in
         let next : AllByRecursion (λ id. IsSome (table_at all id)) (map (next_id n before) (enumerate_from 0 plan.tables)) =
-        next_there n 0 before plan.tables all (written_there q.versions all (each new')) (λ id is. there-right (map f q.tables) new' id is) in
+        next_there n 0 before plan.tables all (written_there q.versions all (each new')) (λ id is. there-right (map f (passed q e)) new' id is) in
         all-append (λ version. AllByRecursion (λ id. IsSome (table_at all id)) version.tables) (map (version_step q e) q.versions) (next_version n (written_tables (newest (map (version_step q e) q.versions))) plan ∷ []) (moved new')
         (subst (λ w. AllByRecursion (λ id. IsSome (table_at all id)) (map (next_id n w) (enumerate_from 0 plan.tables))) (sym written) next, tt)
 
@@ -378,35 +373,37 @@ one_key q number reply has table own =
 pub tables_step : (q : Plain) → IsWell q → (e : Entry) → IsLegal q (e ∷ []) → AreTablesWell (after q (e ∷ []))
 tables_step q well e legal =
     let is : answer_in q e.moment e.event ≡ Ok e.reply = subst (λ s. answer_in s e.moment e.event ≡ Ok e.reply) (after-nil q well) legal.1 in
-    let has : HasSource q (judging q e.event) e.reply = has_source q well e.moment e.event e.reply is in
-    let f : TableState → TableState = table_by q.frontends e.reply in
-    let entries : EntriesChange f = table_by-entries q.frontends e.reply in
+    let now : Plain = at_moment e.moment q in
+    let known : IsWell now = at-well q well e.moment in
+    let has : HasSource now (judging q e.event) e.reply = has_source now known e.event e.reply is in
+    let f : TableState → TableState = table_step q e in
+    let entries : EntriesChange f = table_by-entries (max q.clock e.moment) q.frontends e.reply in
     let versions : List Version = versions_after q (e ∷ []) in
-    let old : List TableState = map f q.tables in
+    let old : List TableState = map f (passed q e) in
     let new' : List TableState = tables_with (newest q.versions) (version_of e) in
     let begun : HaveBegun (newest_number q) (in_force (newest_number q) (e ∷ [])) new' = have_begun q e legal in
     let force : newest_number (after q (e ∷ [])) ≡ in_force (newest_number q) (e ∷ []) = newest_after q (e ∷ []) in
     let rises' : newest_number q ≤ in_force (newest_number q) (e ∷ []) = rises q e [] legal in
     let all : tables_after q (e ∷ []) ≡ filter (is_listed_by versions) (old ++ new') = tables_step-each q well e in
     let began : AllByRecursion (λ table. table.id.version ≤ newest_number q) old =
-    all-map (λ table. table.id.version ≤ newest_number q) f q.tables
-    (all-more (λ table. table.id.version ≤ newest_number q) (λ table. (f table).id.version ≤ newest_number q) q.tables
-    (λ table le. let id : (f table).id.version ≡ table.id.version = ap (λ t. t.id.version) (entries table) in omega (arith, le, id)) well.tables.began) in
+    all-map (λ table. table.id.version ≤ newest_number q) f (passed q e)
+    (all-more (λ table. table.id.version ≤ newest_number q) (λ table. (f table).id.version ≤ newest_number q) (passed q e)
+    (λ table le. let id : (f table).id.version ≡ table.id.version = ap (λ t. t.id.version) (entries table) in omega (arith, le, id)) known.tables.began) in
     let each : AllByRecursion IsTableWell old =
-    all-map IsTableWell f q.tables
-    (all-more (λ table. (table_at q.tables table.id ≡ Some table) × IsTableWell table) (λ table. IsTableWell (f table)) q.tables
+    all-map IsTableWell f (passed q e)
+    (all-more (λ table. (table_at (passed q e) table.id ≡ Some table) × IsTableWell table) (λ table. IsTableWell (f table)) (passed q e)
     (λ table both. record {
-      keys = table_by-differ q.frontends e.reply table both.1.keys;
-      fits = table_by-fits q.frontends e.reply has.0 table (one_key q (judging q e.event) e.reply has table both.0) both.1.fits;
+      keys = table_by-differ (max q.clock e.moment) q.frontends e.reply table both.1.keys;
+      fits = table_by-fits (max q.clock e.moment) q.frontends e.reply has.0 table (one_key now (judging q e.event) e.reply has table both.0) both.1.fits;
     })
-    (all-both (λ table. table_at q.tables table.id ≡ Some table) IsTableWell q.tables (own_at q.tables well.tables.differ) well.tables.each)) in
+    (all-both (λ table. table_at (passed q e) table.id ≡ Some table) IsTableWell (passed q e) (own_at (passed q e) known.tables.differ) known.tables.each)) in
     let versions_there : AllThere (old ++ new') versions =
     subst (AllThere (old ++ new')) (sym (versions_step-each q well e))
     (all-filter (λ version. AllByRecursion (λ id. IsSome (table_at (old ++ new') id)) version.tables) (λ version. is_needed (frontends_after q (e ∷ [])) (in_force (newest_number q) (e ∷ [])) version.number)
     (versions_all q e) (all_there q well e (version_of e))) in
     record {
       differ = subst IncarnationsDiffer (sym all)
-          (differ-filter (is_listed_by versions) (old ++ new') (differ-append (newest_number q) old new' (differ-map f entries q.tables well.tables.differ) begun.differ began begun.later));
+          (differ-filter (is_listed_by versions) (old ++ new') (differ-append (newest_number q) old new' (differ-map f entries (passed q e) known.tables.differ) begun.differ began begun.later));
       there = subst (λ ts. AllThere ts versions) (sym all) (kept_there versions (old ++ new') versions_there);
       listed = subst (AllByRecursion (λ table. is_listed_by versions table ≡ true)) (sym all) (all-pass (is_listed_by versions) (old ++ new'));
       began = subst (λ n. AllByRecursion (λ table. table.id.version ≤ n) (tables_after q (e ∷ []))) (sym force)

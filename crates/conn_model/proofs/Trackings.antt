@@ -10,6 +10,7 @@ use Rattle.conn_model.specs.declared.reply.Said.{Said}
 use Rattle.conn_model.specs.declared.plain.Row.{Row}
 use Rattle.conn_model.specs.declared.plain.FrontendRows.{FrontendRows}
 use Rattle.conn_model.specs.declared.plain.Plain.{Plain}
+use Rattle.conn_model.specs.declared.plain.TableState.{TableState}
 use Rattle.conn_model.specs.Answer.{reply_of, row_at, row_in}
 use Rattle.conn_model.specs.Tables.{without_tracks}
 use Rattle.conn_model.specs.History.{by_counter, id_of, is_last, tables_by, tracks_at, IsFrontendWell, IsWell}
@@ -48,24 +49,24 @@ tracks_sorted p well id = in_frontend (slice_get p.frontends id.frontend) refl
         rw e (of_row (find (λ row. row.serial == id.serial) own.rows) own.rows (all-at (IsFrontendWell p.versions) p.frontends id.frontend own well.frontends e).sorted refl)
 
 -- the connection of a last reply tracks nothing any longer
-pub tables_ended : (p : Plain) → IsWell p → (id : ConnId) (said : Said) → id_of said ≡ Some id → is_last said ≡ true →
-    tables_by p.frontends p.tables (reply_of said) ≡ without_tracks (tracks_at p.frontends id) p.tables
-tables_ended p well id said whom last =
+pub tables_ended : (moment : ℕ) (tables : List TableState) (p : Plain) → IsWell p → (id : ConnId) (said : Said) → id_of said ≡ Some id → is_last said ≡ true →
+    tables_by moment p.frontends tables (reply_of said) ≡ without_tracks moment (tracks_at p.frontends id) tables
+tables_ended moment tables p well id said whom last =
     let tracks : List Track = tracks_at p.frontends id in
     let all : by_counter (tracks ++ []) ≡ tracks = ap by_counter (append-nil tracks) ∙ tracks_sorted p well id in
-    rw (last, whom) (ap (λ ts. without_tracks ts p.tables) all)
+    rw (last, whom) (ap (λ ts. without_tracks moment ts tables) all)
 
 -- after another reply nothing changes
-pub tables_kept : (p : Plain) (said : Said) → is_last said ≡ false → tables_by p.frontends p.tables (reply_of said) ≡ p.tables
-tables_kept p said last = rw last refl
+pub tables_kept : (moment : ℕ) (tables : List TableState) (p : Plain) (said : Said) → is_last said ≡ false → tables_by moment p.frontends tables (reply_of said) ≡ tables
+tables_kept moment tables p said last = rw last refl
 
 -- nor where a connection comes in
-pub tables_entered : (p : Plain) → IsWell p → (id : ConnId) (said : Said) (own : FrontendRows) → slice_get p.frontends id.frontend ≡ Some own → id_of said ≡ Some id → id.serial ≡ own.serial + 1 →
-    tables_by p.frontends p.tables (reply_of said) ≡ p.tables
-tables_entered p well id said own there whom next = by (is_last said) refl
+pub tables_entered : (moment : ℕ) (tables : List TableState) (p : Plain) → IsWell p → (id : ConnId) (said : Said) (own : FrontendRows) → slice_get p.frontends id.frontend ≡ Some own → id_of said ≡ Some id → id.serial ≡ own.serial + 1 →
+    tables_by moment p.frontends tables (reply_of said) ≡ tables
+tables_entered moment tables p well id said own there whom next = by (is_last said) refl
   where
-    by : (b : Bool) → is_last said ≡ b → tables_by p.frontends p.tables (reply_of said) ≡ p.tables
-    by false e = tables_kept p said e
+    by : (b : Bool) → is_last said ≡ b → tables_by moment p.frontends tables (reply_of said) ≡ tables
+    by false e = tables_kept moment tables p said e
     by true e =
-        tables_ended p well id said whom e
-        ∙ ap (λ ts. without_tracks ts p.tables) (none_tracked p.frontends id own there (all-at (IsFrontendWell p.versions) p.frontends id.frontend own well.frontends there).given next)
+        tables_ended moment tables p well id said whom e
+        ∙ ap (λ ts. without_tracks moment ts tables) (none_tracked p.frontends id own there (all-at (IsFrontendWell p.versions) p.frontends id.frontend own well.frontends there).given next)

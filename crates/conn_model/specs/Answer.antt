@@ -45,6 +45,7 @@ use Rattle.conn_model.specs.declared.plain.Plain.{Plain}
 use Rattle.conn_model.specs.Words.{newest, or_fault}
 pub use Rattle.conn_model.specs.Words.{row_in, row_at}
 use Rattle.conn_model.specs.Servers.{cursor_at, pick_in}
+use Rattle.conn_model.specs.Tables.{open_tracks, tables_alive}
 use Rattle.conn_model.specs.Rules.{Candidate, RuleView, view_of, worth, scene_of, rejection, backend_for}
 
 -- The state, looked up.
@@ -240,12 +241,22 @@ abbrev pub reload_answer : Plain → Result Plan OpenFault → Result Reply Step
 reload_answer p (Err fault) = Err (BadConfig fault)
 reload_answer p (Ok plan) = or_fault BindChanged (newest p.versions) >>= next_answer plan
 
--- the reply to an event, or why it has none
+-- Time.
+
+-- the state once it is that late, without the entries of tables that are gone then; time does not go back
+abbrev pub at_moment : ℕ → Plain → Plain
+at_moment moment p = record p { clock = max p.clock moment; tables = tables_alive (max p.clock moment) (open_tracks p.frontends) p.tables }
+
+-- the reply to an event at the moment of the state, or why it has none
+abbrev pub answer_now : Plain → OwnedEvent → Result Reply StepFault
+answer_now p (Accept listener real) = accept_answer p p.clock listener real
+answer_now p (Piece id bytes) = piece_answer p id bytes
+answer_now p (Connected id) = server_answer p id (saids.Up id)
+answer_now p (ConnectFailed id) = server_answer p id (Closed id Failed)
+answer_now p (Close id why) = close_answer p id (Closed id why)
+answer_now p (Expire id) = expire_answer p p.clock id
+answer_now p (Reload text) = reload_answer p (meaning text)
+
+-- the reply to an event at a moment
 abbrev pub answer_in : Plain → ℕ → OwnedEvent → Result Reply StepFault
-answer_in p moment (Accept listener real) = accept_answer p (max p.clock moment) listener real
-answer_in p moment (Piece id bytes) = piece_answer p id bytes
-answer_in p moment (Connected id) = server_answer p id (saids.Up id)
-answer_in p moment (ConnectFailed id) = server_answer p id (Closed id Failed)
-answer_in p moment (Close id why) = close_answer p id (Closed id why)
-answer_in p moment (Expire id) = expire_answer p (max p.clock moment) id
-answer_in p moment (Reload text) = reload_answer p (meaning text)
+answer_in p moment event = answer_now (at_moment moment p) event

@@ -41,7 +41,7 @@ use Rattle.conn_model.specs.Words.{is_conn, newest, map_from, Rise}
 use Rattle.conn_model.specs.Counts.{counts_in, is_served_by}
 use Rattle.conn_model.specs.Answer.{answer_in, new_row, row_at, version_at}
 use Rattle.conn_model.specs.Servers.{cursors_after}
-use Rattle.conn_model.specs.Tables.{is_listed_by, new_id, new_table, new_tables, next_id, open_tracks, table_at, with_tracks, without_tracks, written_tables, IncarnationsDiffer, IsTableWell, IsTrackListed}
+use Rattle.conn_model.specs.Tables.{is_listed_by, new_id, new_table, new_tables, next_id, open_tracks, table_at, tables_alive, with_tracks, without_tracks, written_tables, IncarnationsDiffer, IsTableWell, IsTrackListed}
 pub use Rattle.conn_model.specs.Tables.{by_counter, tracks_at}
 
 -- an answered event, with the moment that was handed in
@@ -320,9 +320,13 @@ abbrev pub ended_by : List FrontendRows → Reply → List Track
 ended_by frontends reply =
     if is_last reply.said then by_counter (option_map_or (tracks_at frontends) (id_of reply.said) [] ++ reply.tracks.items) else []
 
--- the tables after a reply: what it tracks begins, and then what ends with it ends
-abbrev pub tables_by : List FrontendRows → List TableState → Reply → List TableState
-tables_by frontends tables reply = without_tracks (ended_by frontends reply) (with_tracks (open_tracks frontends) reply.tracks.items tables)
+-- the tables after a reply at a moment: what it tracks begins, and then what ends with it ends
+abbrev pub tables_by : ℕ → List FrontendRows → List TableState → Reply → List TableState
+tables_by moment frontends tables reply = without_tracks moment (ended_by frontends reply) (with_tracks moment (open_tracks frontends) reply.tracks.items tables)
+
+-- the same of the tables before, from which the entries go that are gone by then
+abbrev pub tables_passed : ℕ → List FrontendRows → List TableState → Reply → List TableState
+tables_passed moment frontends tables reply = tables_by moment frontends (tables_alive moment (open_tracks frontends) tables) reply
 
 -- the tables that begin with a version that is brought, where that was the newest before
 abbrev pub tables_with : Option Version → Option (ℕ × Plan) → List TableState
@@ -333,7 +337,7 @@ tables_with version (Some (number, plan)) = new_tables number (written_tables ve
 abbrev pub tables_after : Plain → List Entry → List TableState
 tables_after p [] = p.tables
 tables_after p (e ∷ h) =
-    filter (is_listed_by (versions_after p (e ∷ h))) (tables_by (frontends_after p h) (tables_after p h) e.reply ++ tables_with (newest (versions_after p h)) (version_of e))
+    filter (is_listed_by (versions_after p (e ∷ h))) (tables_passed (now_of p.clock (e ∷ h)) (frontends_after p h) (tables_after p h) e.reply ++ tables_with (newest (versions_after p h)) (version_of e))
 
 -- the plain state after the history
 abbrev pub after : Plain → List Entry → Plain

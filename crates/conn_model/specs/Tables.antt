@@ -8,7 +8,7 @@ use Rattle.proxy_types.specs.declared.table.KeyType.{KeyType}
 use Rattle.proxy_types.specs.declared.table.KeyType.TheVariants.{Ip, Ipv6}
 use Rattle.proxy_types.specs.declared.table.Stores.{Stores}
 use Rattle.addr_core.specs.Same.{same_addr}
-use Rattle.stick_core.specs.PlainEntries.{with_tracking, touched, count_at, is_in, trackers_at, KeysDiffer}
+use Rattle.stick_core.specs.PlainEntries.{alive, with_tracking, touched, count_at, is_in, trackers_at, KeysDiffer}
 use Rattle.plan_types.specs.declared.plan.Section.{Section}
 use Rattle.plan_types.specs.declared.plan.Table.{Table}
 use Rattle.plan_types.specs.Tables.{is_frontend_section}
@@ -62,36 +62,45 @@ entry_counts tracks addr table = record {
   cnt = count_at table.table.kind table.entries addr;
 }
 
--- A key is tracked: its table counts it once more, and from a full table the entry that was touched longest ago of
--- those that nobody tracks is gone.
+-- Time passes: an entry that nobody tracks is gone so long after its last touch as the table says.
 
-abbrev pub table_with : List Track → Track → TableState → TableState
-table_with tracks track table =
+abbrev pub table_alive : ℕ → List Track → TableState → TableState
+table_alive moment tracks table = record table { entries = alive (trackers tracks table.id) table.table.expire moment table.entries }
+
+-- the tables as they are at a moment, where those are tracked
+abbrev pub tables_alive : ℕ → List Track → List TableState → List TableState
+tables_alive moment tracks tables = map (table_alive moment tracks) tables
+
+-- A key is tracked at a moment: its table counts it once more, and from a full table the entry that was touched longest
+-- ago of those that nobody tracks is gone.
+
+abbrev pub table_with : ℕ → List Track → Track → TableState → TableState
+table_with moment tracks track table =
     if same_id table.id track.table
-    then record table { entries = with_tracking (trackers tracks table.id) table.table.size track.key table.entries }
+    then record table { entries = with_tracking moment (trackers tracks table.id) table.table.size track.key table.entries }
     else table
 
 -- the tables once a key is tracked, where those were tracked before
-abbrev pub with_track : List Track → Track → List TableState → List TableState
-with_track tracks track tables = map (table_with tracks track) tables
+abbrev pub with_track : ℕ → List Track → Track → List TableState → List TableState
+with_track moment tracks track tables = map (table_with moment tracks track) tables
 
 -- and several, one after the other
-abbrev pub with_tracks : List Track → List Track → List TableState → List TableState
-with_tracks tracks [] tables = tables
-with_tracks tracks (new ∷ rest) tables = with_tracks (tracks ++ new ∷ []) rest (with_track tracks new tables)
+abbrev pub with_tracks : ℕ → List Track → List Track → List TableState → List TableState
+with_tracks moment tracks [] tables = tables
+with_tracks moment tracks (new ∷ rest) tables = with_tracks moment (tracks ++ new ∷ []) rest (with_track moment tracks new tables)
 
--- A tracking ends: the key is at the end of the table's entries.
+-- A tracking ends at a moment: the key is at the end of the table's entries.
 
-abbrev pub table_without : Track → TableState → TableState
-table_without track table = if same_id table.id track.table then record table { entries = touched track.key table.entries } else table
+abbrev pub table_without : ℕ → Track → TableState → TableState
+table_without moment track table = if same_id table.id track.table then record table { entries = touched moment track.key table.entries } else table
 
-abbrev pub without_track : Track → List TableState → List TableState
-without_track track tables = map (table_without track) tables
+abbrev pub without_track : ℕ → Track → List TableState → List TableState
+without_track moment track tables = map (table_without moment track) tables
 
 -- several, one after the other
-abbrev pub without_tracks : List Track → List TableState → List TableState
-without_tracks [] tables = tables
-without_tracks (track ∷ rest) tables = without_tracks rest (without_track track tables)
+abbrev pub without_tracks : ℕ → List Track → List TableState → List TableState
+without_tracks moment [] tables = tables
+without_tracks moment (track ∷ rest) tables = without_tracks moment rest (without_track moment track tables)
 
 -- Tables that begin with a version, each with its position in the text.
 
@@ -115,9 +124,10 @@ same_kind Ipv6 Ipv6 = true
 abbrev pub same_stores : Stores → Stores → Bool
 same_stores a b = same_flag a.cur b.cur && same_flag a.cnt b.cnt
 
--- two tables that are written the same: the kind and the name of the section, the type, the size and the stored kinds
+-- two tables that are written the same: the kind and the name of the section, the type, the size, the stored kinds and
+-- how long an entry is kept
 abbrev pub same_table : Table → Table → Bool
-same_table a b = same_section a.section b.section && bytes_eq a.name b.name && same_kind a.kind b.kind && (a.size == b.size) && same_stores a.stores b.stores
+same_table a b = same_section a.section b.section && bytes_eq a.name b.name && same_kind a.kind b.kind && (a.size == b.size) && same_stores a.stores b.stores && (a.expire == b.expire)
 
 -- the tables of a version, each with its incarnation
 abbrev pub written_tables : Option Version → List (Table × TableId)

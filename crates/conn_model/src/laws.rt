@@ -25,8 +25,8 @@ ghost use Rattle.conn_model.specs.Words.{newest};
 ghost use Rattle.conn_model.specs.Answer.{reply_of, row_at, version_at};
 ghost use Rattle.conn_model.specs.Counts.{served_by};
 ghost use Rattle.conn_model.specs.Servers.{cursor_after, cursor_at, cursors_after, identity_in, pick_in, weight_of, MayOffer};
-ghost use Rattle.conn_model.specs.History.{after, answer, counts, entry, identity_of, is_needed, joined, newest_number, opening, served_less, served_more, tables_of, version_for, IsLegal, IsWell, Entry};
-ghost use Rattle.conn_model.specs.Tables.{is_listed, is_listed_by, same_id, table_at, IncarnationsDiffer};
+ghost use Rattle.conn_model.specs.History.{after, answer, counts, entry, identity_of, is_needed, joined, newest_number, now_of, opening, served_less, served_more, tables_of, version_for, IsLegal, IsWell, Entry};
+ghost use Rattle.conn_model.specs.Tables.{is_listed, is_listed_by, open_tracks, same_id, table_alive, table_at, IncarnationsDiffer};
 ghost use Rattle.conn_model.specs.declared.event.ConnId.{ConnId};
 ghost use Rattle.conn_model.specs.declared.event.OwnedEvent.TheVariants.{Close, Connected, ConnectFailed, Reload};
 ghost use Rattle.conn_model.specs.declared.event.Why.{Why};
@@ -191,8 +191,9 @@ pub fn versions_stay_as_written()
         version_at (after p h).versions number ≡ Some v → version_at (after p (e ∷ h)).versions number ≡ Some w → (w.plan ≡ v.plan) × (w.tables ≡ v.tables) }
 {}
 
-/// A table that is kept over a reload has the entries that it had.
+/// A table that is kept over a reload has the entries that it had, without those that are gone by then.
 pub fn tables_stay_over_reloads()
     ensures { (p : Plain) → IsWell p → (h : List Entry) (moment : ℕ) (text : List ℕ) (reply : Reply) → IsLegal p (entry moment (Reload text) reply ∷ h) →
-        (id : TableId) (v w : TableState) → table_at (after p h).tables id ≡ Some v → table_at (after p (entry moment (Reload text) reply ∷ h)).tables id ≡ Some w → w ≡ v }
+        (id : TableId) (v w : TableState) → table_at (after p h).tables id ≡ Some v → table_at (after p (entry moment (Reload text) reply ∷ h)).tables id ≡ Some w →
+        w ≡ table_alive (now_of p.clock (entry moment (Reload text) reply ∷ h)) (open_tracks (after p h).frontends) v }
 {}

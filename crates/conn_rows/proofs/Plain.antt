@@ -163,7 +163,7 @@ rest_is versions frontends id own there =
 -- ---- the whole state
 
 abbrev pub value_of : List StoredFrontend → List Version → StoredTables → RowsValue
-value_of frontends versions tables = record { frontends = map (plain_frontend versions) frontends; versions = versions; tables = map plain_table tables.tables; spare = tables.spare }
+value_of frontends versions tables = record { frontends = map (plain_frontend versions) frontends; versions = versions; tables = map (plain_table tables.clock) tables.tables; clock = tables.clock; spare = tables.spare }
 
 some_below : {X Y : Type 0} (f : X → Y) (o : Option X) → IsSome (option_map f o) → IsSome o
 some_below f None some = absurd (cc)
@@ -191,7 +191,7 @@ pub changed : (frontends : List StoredFrontend) (versions : List Version) (table
 changed frontends versions tables state n number own next change state_is n_is there is =
     let P : RowsValue → Type 0 = λ s. value_of (set frontends n next) versions tables ≡ record s { frontends = with_item number (change s.versions) s.frontends } in
     subst P state_is
-    (ap (λ fs. record { frontends = fs; versions = versions; tables = map plain_table tables.tables; spare = tables.spare })
+    (ap (λ fs. record { frontends = fs; versions = versions; tables = map (plain_table tables.clock) tables.tables; clock = tables.clock; spare = tables.spare })
     (ap (λ n. map (plain_frontend versions) (set frontends n next)) n_is ∙ set-map (plain_frontend versions) (change versions) frontends number own next there is))
 
 pub rest_of_state : (frontends : List StoredFrontend) (versions : List Version) (tables : StoredTables) (state : RowsValue) (id : ConnId) (own : StoredFrontend) →
@@ -272,24 +272,24 @@ own_below frontends n number own n_is value less =
 -- what there is when a plan is opened
 pub opened : (plan : Plan) (last : ℕ) (frontends : List StoredFrontend) (versions : List Version) (tables : StoredTables) →
     frontends ≡ map (λ frontend. record { name = frontend.name; serial = last; rows = [] }) plan.frontends → versions ≡ new_version 1 plan ∷ [] →
-    map plain_table tables.tables ≡ map (new_table 1) (enumerate_from 0 plan.tables) → tables.spare ≡ 0 →
+    map (plain_table tables.clock) tables.tables ≡ map (new_table 1) (enumerate_from 0 plan.tables) → tables.spare ≡ 0 → tables.clock ≡ 0 →
     value_of frontends versions tables ≡ rows_of (opening plan last)
-opened plan last frontends versions tables frontends_are versions_are tables_are spare_is =
-    rw (versions_are, tables_are, frontends_are, spare_is)
-    (ap (λ fs. record { frontends = fs; versions = new_version 1 plan ∷ []; tables = map (new_table 1) (enumerate_from 0 plan.tables); spare = 0 }) (empty_plain (new_version 1 plan ∷ []) plan.frontends last))
+opened plan last frontends versions tables frontends_are versions_are tables_are spare_is clock_is =
+    rw (versions_are, tables_are, frontends_are, spare_is, clock_is)
+    (ap (λ fs. record { frontends = fs; versions = new_version 1 plan ∷ []; tables = map (new_table 1) (enumerate_from 0 plan.tables); clock = 0; spare = 0 }) (empty_plain (new_version 1 plan ∷ []) plan.frontends last))
 
 -- a connection ended, with what it tracked
 pub removed : (frontends next : List StoredFrontend) (versions : List Version) (tables rest : StoredTables) (value : RowsValue) (id : ConnId) (o : Option StoredRow) →
     value_of frontends versions tables ≡ value → o ≡ stored_in id.serial (slice_get frontends id.frontend) →
     map (plain_frontend versions) next ≡ without_conn id (map (plain_frontend versions) frontends) →
-    map plain_table rest.tables ≡ without_tracks (option_map_or (λ row. plain_tracks row.tracks) o []) (map plain_table tables.tables) → rest.spare ≡ tables.spare →
-    value_of next versions rest ≡ record value { frontends = without_conn id value.frontends; tables = without_tracks (tracks_at value.frontends id) value.tables }
-removed frontends next versions tables rest value id o value_is o_is left ended spare =
-    let P : RowsValue → Type 0 = λ v. value_of next versions rest ≡ record v { frontends = without_conn id v.frontends; tables = without_tracks (tracks_at v.frontends id) v.tables } in
+    map (plain_table rest.clock) rest.tables ≡ without_tracks tables.clock (option_map_or (λ row. plain_tracks row.tracks) o []) (map (plain_table tables.clock) tables.tables) → rest.spare ≡ tables.spare → rest.clock ≡ tables.clock →
+    value_of next versions rest ≡ record value { frontends = without_conn id value.frontends; tables = without_tracks value.clock (tracks_at value.frontends id) value.tables }
+removed frontends next versions tables rest value id o value_is o_is left ended spare clock =
+    let P : RowsValue → Type 0 = λ v. value_of next versions rest ≡ record v { frontends = without_conn id v.frontends; tables = without_tracks v.clock (tracks_at v.frontends id) v.tables } in
     let tracks : tracks_at (map (plain_frontend versions) frontends) id ≡ option_map_or (λ row. plain_tracks row.tracks) o [] =
     ap (λ o. option_map_or (λ row. row.tracks) o []) (row_is versions frontends id ∙ ap (option_map (plain_row versions)) (sym o_is)) ∙ by o in
     subst P value_is
-    (rw (left, ended, spare, tracks) refl)
+    (rw (left, ended, spare, clock, tracks) refl)
   where
     by : (o : Option StoredRow) → option_map_or (λ row. row.tracks) (option_map (plain_row versions) o) [] ≡ option_map_or (λ row. plain_tracks row.tracks) o []
     by None = refl
@@ -358,14 +358,14 @@ free_there frontends versions tables value id own counter value_is there less so
 -- a connection tracks one key more
 pub tracking_value : (frontends : List StoredFrontend) (versions : List Version) (tables rest : StoredTables) (value : RowsValue) (n : ℕ) (id : ConnId) (own next : StoredFrontend) (track : Track) →
     value_of frontends versions tables ≡ value → n ≡ id.frontend → slice_get frontends id.frontend ≡ Some own → plain_frontend versions next ≡ with_row id.serial (row_tracking track) (plain_frontend versions own) →
-    map plain_table rest.tables ≡ with_track (open_tracks (map (plain_frontend versions) frontends)) track (map plain_table tables.tables) → rest.spare + 1 ≡ tables.spare →
-    value_of (set frontends n next) versions rest ≡ record value { frontends = with_conn id (row_tracking track) value.frontends; tables = with_track (open_tracks value.frontends) track value.tables; spare = value.spare - 1 }
-tracking_value frontends versions tables rest value n id own next track value_is n_is there next_is tables_are spare =
-    let P : RowsValue → Type 0 = λ v. value_of (set frontends n next) versions rest ≡ record v { frontends = with_conn id (row_tracking track) v.frontends; tables = with_track (open_tracks v.frontends) track v.tables; spare = v.spare - 1 } in
+    map (plain_table rest.clock) rest.tables ≡ with_track tables.clock (open_tracks (map (plain_frontend versions) frontends)) track (map (plain_table tables.clock) tables.tables) → rest.spare + 1 ≡ tables.spare → rest.clock ≡ tables.clock →
+    value_of (set frontends n next) versions rest ≡ record value { frontends = with_conn id (row_tracking track) value.frontends; tables = with_track value.clock (open_tracks value.frontends) track value.tables; spare = value.spare - 1 }
+tracking_value frontends versions tables rest value n id own next track value_is n_is there next_is tables_are spare clock =
+    let P : RowsValue → Type 0 = λ v. value_of (set frontends n next) versions rest ≡ record v { frontends = with_conn id (row_tracking track) v.frontends; tables = with_track v.clock (open_tracks v.frontends) track v.tables; spare = v.spare - 1 } in
     let all : map (plain_frontend versions) (set frontends n next) ≡ with_conn id (row_tracking track) (map (plain_frontend versions) frontends) =
     ap (λ n. map (plain_frontend versions) (set frontends n next)) n_is ∙ set-map (plain_frontend versions) (with_row id.serial (row_tracking track)) frontends id.frontend own next there next_is in
     let less : rest.spare ≡ tables.spare - 1 = omega (arith, spare) in
-    subst P value_is (rw (all, tables_are, less) refl)
+    subst P value_is (rw (all, tables_are, less, clock) refl)
 
 -- versions of the same plans say the same of the rows
 rows_alike : (versions others : List Version) → ((n : ℕ) → plan_at others n ≡ plan_at versions n) → (rows : List StoredRow) → map (plain_row others) rows ≡ map (plain_row versions) rows
@@ -395,7 +395,7 @@ offered_value frontends versions others tables value n id own version seat slot 
     frontends_alike versions others (λ m. ap (λ vs. plan_at vs m) others_are ∙ version-offer version seat.line seat.server versions m) (set frontends n next) in
     let named : others ≡ map (with_offer version seat.line seat.server) value.versions = others_are ∙ ap (λ v. map (with_offer version seat.line seat.server) v.versions) value_is in
     let first : value_of (set frontends n next) others tables ≡ record (value_of (set frontends n next) versions tables) { versions = others } =
-    ap {B = RowsValue} (λ fs. record { frontends = fs; versions = others; tables = map plain_table tables.tables; spare = tables.spare }) alike in
+    ap {B = RowsValue} (λ fs. record { frontends = fs; versions = others; tables = map (plain_table tables.clock) tables.tables; clock = tables.clock; spare = tables.spare }) alike in
     let second : record (value_of (set frontends n next) versions tables) { versions = others } ≡ record (value_of (set frontends n next) versions tables) { versions = map (with_offer version seat.line seat.server) value.versions } =
     ap (λ vs. record (value_of (set frontends n next) versions tables) { versions = vs }) named in
     let third : record (value_of (set frontends n next) versions tables) { versions = map (with_offer version seat.line seat.server) value.versions } ≡ record value { frontends = with_item id.frontend (with_row id.serial (row_offered value.versions seat)) value.frontends; versions = map (with_offer version seat.line seat.server) value.versions } =

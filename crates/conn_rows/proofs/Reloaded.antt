@@ -60,17 +60,17 @@ taken_back (version ∷ versions) next number above same =
     rw differs (ap (λ vs. version ∷ vs) (taken_back versions next number above.1 same))
 
 -- each table began before it
-pub tables_earlier : (number : ℕ) (tables : List StoredTable) → AllByRecursion (λ table. table.id.version < number) (map plain_table tables) → AllByRecursion (λ stored. stored.id.version < number) tables
-tables_earlier number [] began = tt
-tables_earlier number (stored ∷ tables) began = (began.0, tables_earlier number tables began.1)
+pub tables_earlier : (number moment : ℕ) (tables : List StoredTable) → AllByRecursion (λ table. table.id.version < number) (map (plain_table moment) tables) → AllByRecursion (λ stored. stored.id.version < number) tables
+tables_earlier number moment [] began = tt
+tables_earlier number moment (stored ∷ tables) began = (began.0, tables_earlier number moment tables began.1)
 
 pub brought_value : (frontends : List StoredFrontend) (versions others : List Version) (tables rest : StoredTables) (value : RowsValue) (number : ℕ) (plan : Plan) → value_of frontends versions tables ≡ value →
-    AreSeenAlike versions others frontends → others ≡ with_version versions (Some (number, plan)) → map plain_table rest.tables ≡ map plain_table tables.tables ++ tables_with (newest versions) (Some (number, plan)) →
-    rest.spare ≡ tables.spare →
+    AreSeenAlike versions others frontends → others ≡ with_version versions (Some (number, plan)) → map (plain_table rest.clock) rest.tables ≡ map (plain_table tables.clock) tables.tables ++ tables_with (newest versions) (Some (number, plan)) →
+    rest.spare ≡ tables.spare → rest.clock ≡ tables.clock →
     value_of frontends others rest ≡ record value { versions = with_version value.versions (Some (number, plan)); tables = value.tables ++ tables_with (newest value.versions) (Some (number, plan)) }
-brought_value frontends versions others tables rest value number plan value_is alike more begun spare =
+brought_value frontends versions others tables rest value number plan value_is alike more begun spare clock =
     let P : RowsValue → Type 0 = λ v. value_of frontends others rest ≡ record v { versions = with_version v.versions (Some (number, plan)); tables = v.tables ++ tables_with (newest v.versions) (Some (number, plan)) } in
-    subst P value_is (rw (frontends_seen versions others frontends alike, more, begun, spare) refl)
+    subst P value_is (rw (frontends_seen versions others frontends alike, more, begun, spare, clock) refl)
 
 -- without memory
 pub same_value : (frontends : List StoredFrontend) (versions others : List Version) (tables rest : StoredTables) (value : RowsValue) → value_of frontends versions tables ≡ value →
@@ -83,9 +83,9 @@ pub left_needed : (frontends : List StoredFrontend) (versions others : List Vers
 left_needed frontends versions others less = less ∙ sym (needed_alike versions frontends (option_map_or (λ version. version.number) (newest versions) 0) versions)
 
 pub forgotten_value : (frontends : List StoredFrontend) (versions others : List Version) (tables rest : StoredTables) (value : RowsValue) → value_of frontends versions tables ≡ value →
-    others ≡ stored_needed frontends (option_map_or (λ version. version.number) (newest versions) 0) versions → map plain_table rest.tables ≡ filter (is_listed_by others) (map plain_table tables.tables) → rest.spare ≡ tables.spare →
+    others ≡ stored_needed frontends (option_map_or (λ version. version.number) (newest versions) 0) versions → map (plain_table rest.clock) rest.tables ≡ filter (is_listed_by others) (map (plain_table tables.clock) tables.tables) → rest.spare ≡ tables.spare → rest.clock ≡ tables.clock →
     value_of frontends others rest ≡ record value { versions = versions_needed value.frontends value.versions; tables = filter (is_listed_by (versions_needed value.frontends value.versions)) value.tables }
-forgotten_value frontends versions others tables rest value value_is less listed spare =
+forgotten_value frontends versions others tables rest value value_is less listed spare clock =
     let P : RowsValue → Type 0 = λ v. value_of frontends others rest ≡ record v { versions = versions_needed v.frontends v.versions; tables = filter (is_listed_by (versions_needed v.frontends v.versions)) v.tables } in
     let force : ℕ = option_map_or (λ version. version.number) (newest versions) 0 in
-    subst P value_is (rw (frontends_seen versions others frontends (seen_needed versions others force frontends less), listed, spare, left_needed frontends versions others less) refl)
+    subst P value_is (rw (frontends_seen versions others frontends (seen_needed versions others force frontends less), listed, spare, clock, left_needed frontends versions others less) refl)

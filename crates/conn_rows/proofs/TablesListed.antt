@@ -17,6 +17,7 @@ use Rattle.conn_model.specs.Tables.{is_listed_by, is_new, new_table, next_id, sa
 use Rattle.conn_model.proofs.Lists.{all-append, all-map, all-more, all-pass, filter-all, or_left, or_right}
 use Rattle.conn_model.proofs.OneTable.{same_id-refl, table_with-entries}
 use Rattle.conn_model.proofs.TableSteps.{lists, new_tables_well}
+use Rattle.conn_tables.specs.declared.tables.StoredTable.{StoredTable}
 use Rattle.conn_tables.specs.Tables.{StoredTables, plain_table}
 use Rattle.conn_rows.specs.Value.{AreTablesListed}
 
@@ -31,23 +32,28 @@ listed-map versions f same tables known =
     all-map (λ table. is_listed_by versions table ≡ true) f tables
     (all-more (λ table. is_listed_by versions table ≡ true) (λ table. is_listed_by versions (f table) ≡ true) tables (λ table is. ap (lists versions) (same table) ∙ is) known)
 
-pub listed-track : (versions : List Version) (tracks : List Track) (track : Track) (tables next : List TableState) → next ≡ with_track tracks track tables → AreTablesListed versions tables → AreTablesListed versions next
-listed-track versions tracks track tables next is known =
-    subst (AreTablesListed versions) (sym is) (listed-map versions (table_with tracks track) (λ table. ap (λ (t : TableState). t.id) (table_with-entries tracks track table)) tables known)
+pub listed-track : (versions : List Version) (moment : ℕ) (tracks : List Track) (track : Track) (tables next : List TableState) → next ≡ with_track moment tracks track tables → AreTablesListed versions tables → AreTablesListed versions next
+listed-track versions moment tracks track tables next is known =
+    subst (AreTablesListed versions) (sym is) (listed-map versions (table_with moment tracks track) (λ table. ap (λ (t : TableState). t.id) (table_with-entries moment tracks track table)) tables known)
 
-without_id : (track : Track) (table : TableState) → (table_without track table).id ≡ table.id
-without_id track table = by (same_id table.id track.table)
+without_id : (moment : ℕ) (track : Track) (table : TableState) → (table_without moment track table).id ≡ table.id
+without_id moment track table = by (same_id table.id track.table)
   where
-    by : (b : Bool) → (if b then record table { entries = touched track.key table.entries } else table).id ≡ table.id
+    by : (b : Bool) → (if b then record table { entries = touched moment track.key table.entries } else table).id ≡ table.id
     by true = refl
     by false = refl
 
-listed-without : (versions : List Version) (ended : List Track) (tables : List TableState) → AreTablesListed versions tables → AreTablesListed versions (without_tracks ended tables)
-listed-without versions [] tables known = known
-listed-without versions (track ∷ ended) tables known = listed-without versions ended (without_track track tables) (listed-map versions (table_without track) (without_id track) tables known)
+listed-without : (versions : List Version) (moment : ℕ) (ended : List Track) (tables : List TableState) → AreTablesListed versions tables → AreTablesListed versions (without_tracks moment ended tables)
+listed-without versions moment [] tables known = known
+listed-without versions moment (track ∷ ended) tables known = listed-without versions moment ended (without_track moment track tables) (listed-map versions (table_without moment track) (without_id moment track) tables known)
 
-pub listed-ended : (versions others : List Version) (ended : List Track) (tables next : List TableState) → others ≡ versions → next ≡ without_tracks ended tables → AreTablesListed versions tables → AreTablesListed others next
-listed-ended versions others ended tables next same is known = rw (same, is) (listed-without versions ended tables known)
+pub listed-ended : (versions others : List Version) (moment : ℕ) (ended : List Track) (tables next : List TableState) → others ≡ versions → next ≡ without_tracks moment ended tables → AreTablesListed versions tables → AreTablesListed others next
+listed-ended versions others moment ended tables next same is known = rw (same, is) (listed-without versions moment ended tables known)
+
+-- the same tables at another moment
+pub listed-later : (versions : List Version) (moment later : ℕ) (tables : List StoredTable) → AreTablesListed versions (map (plain_table moment) tables) → AreTablesListed versions (map (plain_table later) tables)
+listed-later versions moment later [] known = tt
+listed-later versions moment later (stored ∷ tables) known = (known.0, listed-later versions moment later tables known.1)
 
 pub listed-same : (versions : List Version) (tables next : List TableState) → next ≡ tables → AreTablesListed versions tables → AreTablesListed versions next
 listed-same versions tables next is known = subst (AreTablesListed versions) (sym is) known
@@ -133,9 +139,9 @@ listed-more versions tables number plan known =
     (λ table is. any-last (λ version. list_any (same_id table.id) version.tables) versions last is) (begun-listed number before (enumerate_from 0 plan.tables)))
 
 pub listed-brought : {X E : Type 0} (r : Result X E) (versions others : List Version) (tables rest : StoredTables) (number : ℕ) (plan : Plan) →
-    OnOk r (others ≡ with_version versions (Some (number, plan))) → OnOk r (map plain_table rest.tables ≡ map plain_table tables.tables ++ tables_with (newest versions) (Some (number, plan))) →
-    OnErr r (others ≡ versions) → OnErr r (rest ≡ tables) → AreTablesListed versions (map plain_table tables.tables) → AreTablesListed others (map plain_table rest.tables)
-listed-brought (Ok x) versions others tables rest number plan more begun same before known = rw (more, begun) (listed-more versions (map plain_table tables.tables) number plan known)
+    OnOk r (others ≡ with_version versions (Some (number, plan))) → OnOk r (map (plain_table rest.clock) rest.tables ≡ map (plain_table tables.clock) tables.tables ++ tables_with (newest versions) (Some (number, plan))) →
+    OnErr r (others ≡ versions) → OnErr r (rest ≡ tables) → AreTablesListed versions (map (plain_table tables.clock) tables.tables) → AreTablesListed others (map (plain_table rest.clock) rest.tables)
+listed-brought (Ok x) versions others tables rest number plan more begun same before known = rw (more, begun) (listed-more versions (map (plain_table tables.clock) tables.tables) number plan known)
 listed-brought (Err e) versions others tables rest number plan more begun same before known = rw (same, before) known
 
 -- Versions that are forgotten.

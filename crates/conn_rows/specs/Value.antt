@@ -15,14 +15,14 @@ use Rattle.conn_model.specs.declared.plain.TableState.{TableState}
 use Rattle.conn_model.specs.declared.plain.Version.{Version}
 use Rattle.conn_model.specs.Answer.{version_at}
 use Rattle.conn_model.specs.Counts.{server_of, total}
-use Rattle.conn_model.specs.Tables.{is_listed_by}
+use Rattle.conn_model.specs.Tables.{is_listed_by, open_tracks, tables_alive}
 use Rattle.conn_rows.specs.declared.row.StoredRow.{StoredRow}
 use Rattle.conn_rows.specs.declared.rows.RowsState.{RowsState}
 use Rattle.conn_tables.specs.declared.tables.StoredTable.{StoredTable}
 use Rattle.conn_versions.specs.Judged.{judged_by, judged_of}
 use Rattle.conn_versions.specs.Versions.{VersionsValue}
 use Rattle.conn_rows.specs.Stored.{StoredFrontend, phase_of, plan_at, slot_of}
-use Rattle.conn_tables.specs.Tables.{cur_in, plain_table}
+use Rattle.conn_tables.specs.Tables.{cur_in, plain_table, StoredTables}
 use Rattle.conn_tables.specs.Tracks.{tracks_on}
 
 pub record RowsValue : Type 0 where
@@ -30,8 +30,9 @@ pub record RowsValue : Type 0 where
   pub frontends : List FrontendRows
   -- by number, the newest last
   pub versions : List Version
-  -- by incarnation
+  -- by incarnation, as they are at the moment up to which time has passed
   pub tables : List TableState
+  pub clock : ℕ
   -- for how many more trackings each table has memory
   pub spare : ℕ
 
@@ -40,7 +41,11 @@ state_of value = record { frontends = value.frontends; versions = value.versions
 
 -- what the rows keep of a plain state, before they have memory for trackings
 abbrev pub rows_of : Plain → RowsValue
-rows_of p = record { frontends = p.frontends; versions = p.versions; tables = p.tables; spare = 0 }
+rows_of p = record { frontends = p.frontends; versions = p.versions; tables = p.tables; clock = p.clock; spare = 0 }
+
+-- the rows once time passed up to a moment
+abbrev pub rows_passed : ℕ → RowsValue → RowsValue
+rows_passed moment rows = record rows { tables = tables_alive moment (open_tracks rows.frontends) rows.tables; clock = moment }
 
 -- the sum over the rows of all frontends
 abbrev pub rows_total : (StoredRow → ℕ) → List StoredFrontend → ℕ
@@ -87,7 +92,7 @@ pub record AreServed (frontends : List StoredFrontend) (kept : VersionsValue) : 
 abbrev pub AreTablesListed : List Version → List TableState → Type 0
 AreTablesListed versions tables = AllByRecursion (λ table. is_listed_by versions table ≡ true) tables
 
-pub record IsRowsState (frontends : List StoredFrontend) (kept : VersionsValue) (tables : List StoredTable) : Type 0 where
-  pub rows : AreRows frontends tables
+pub record IsRowsState (frontends : List StoredFrontend) (kept : VersionsValue) (tables : StoredTables) : Type 0 where
+  pub rows : AreRows frontends tables.tables
   pub served : AreServed frontends kept
-  pub listed : AreTablesListed kept.versions (map plain_table tables)
+  pub listed : AreTablesListed kept.versions (map (plain_table tables.clock) tables.tables)

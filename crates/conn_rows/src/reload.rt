@@ -27,9 +27,9 @@ pub fn install_version(
     plan: Plan,
 ) -> Result<(), AllocError>
     requires sound { IsSoundPlan plan }
-    requires next { IsNextNumber number kept.old.versions (map plain_table tables.old.tables) }
+    requires next { IsNextNumber number kept.old.versions (map (plain_table tables.old.clock) tables.old.tables) }
     ensures versions { OnOk result (kept.new.versions ≡ with_version kept.old.versions (Some (number, plan))) }
-    ensures tables { OnOk result (map plain_table tables.new.tables ≡ map plain_table tables.old.tables ++ tables_with (newest kept.old.versions) (Some (number, plan))) }
+    ensures tables { OnOk result (map (plain_table tables.new.clock) tables.new.tables ≡ map (plain_table tables.old.clock) tables.old.tables ++ tables_with (newest kept.old.versions) (Some (number, plan))) }
     ensures versions_err { OnErr result (kept.new.versions ≡ kept.old.versions) }
     ensures tables_err { OnErr result (tables.new ≡ tables.old) }
     ensures open { (place : ℕ) → open_at place kept.new.counts ≡ open_at place kept.old.counts }
@@ -38,6 +38,7 @@ pub fn install_version(
     ensures begins { OnOk result (judged_of kept.new number ≡ 0) }
     ensures counts { (id : TableId) (key : Addr) → cur_in id key tables.new.tables ≡ cur_in id key tables.old.tables }
     ensures spare { tables.new.spare ≡ tables.old.spare }
+    ensures clock { tables.new.clock ≡ tables.old.clock }
 {
     kept.push(number, plan)?;
     let Some(version) = newest(kept.as_slice()) else {

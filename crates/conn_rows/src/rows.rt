@@ -30,7 +30,7 @@ ghost use Rattle.conn_tables.specs.Tracks.{slots_of, track_of};
 ghost use Rattle.conn_rows.specs.declared.row.StoredRow.{StoredRow};
 ghost use Rattle.conn_model.specs.declared.plain.Version.{Version};
 ghost use Rattle.conn_rows.specs.Summaries.{Sums, names_in, names_of, summary_of};
-ghost use Rattle.conn_rows.specs.Value.{rows_of, rows_total, state_of, AllRows, HasSlot};
+ghost use Rattle.conn_rows.specs.Value.{rows_of, rows_passed, rows_total, state_of, AllRows, HasSlot};
 
 use crate::counts;
 use crate::frontend::{FrontendState, HeaderStatus, end_all, end_all_empty};
@@ -89,9 +89,9 @@ impl Model for Rows {
 
     ghost Value = { RowsValue };
 
-    ghost view = { λ r. record { frontends = map (plain_frontend r.kept.versions) r.frontends.items; versions = r.kept.versions; tables = map plain_table r.tables.tables; spare = r.tables.spare } };
+    ghost view = { λ r. record { frontends = map (plain_frontend r.kept.versions) r.frontends.items; versions = r.kept.versions; tables = map (plain_table r.tables.clock) r.tables.tables; clock = r.tables.clock; spare = r.tables.spare } };
 
-    ghost invariant = { λ r. IsRowsState r.frontends.items r.kept r.tables.tables };
+    ghost invariant = { λ r. IsRowsState r.frontends.items r.kept r.tables };
 }
 
 impl Rows {
@@ -213,12 +213,33 @@ impl Rows {
         self.kept.connections(backend, server)
     }
 
-    /// How many open connections track an address in the table of that incarnation, and how often it was tracked.
-    pub fn counts(&self, id: TableId, addr: &Addr) -> Option<Counts>
-        ensures value { result ≡ option_map (entry_counts (open_tracks self.now.frontends) addr.now) (table_at self.now.tables id) }
+    /// Lets time pass.
+    pub fn pass(&mut self, moment: u64)
+        requires { self.old.clock ≤ moment }
+        ensures { self.new ≡ rows_passed moment self.old }
+    {
+        self.tables.pass(moment);
+    }
+
+    /// The moment up to which time has passed.
+    pub fn clock(&self) -> u64
+        ensures value { result ≡ self.now.clock }
+
+        // No entry is gone by then.
+        ensures alive { (rows_passed self.now.clock self.now).tables ≡ self.now.tables }
+    {
+        self.tables.clock()
+    }
+
+    /// How many open connections track an address in the table of that incarnation, and how often it was tracked, as it
+    /// is at a moment.
+    pub fn counts(&self, id: TableId, addr: &Addr, moment: u64) -> Option<Counts>
+        requires { self.now.clock ≤ moment }
+        ensures value { result ≡ option_map (entry_counts (open_tracks self.now.frontends) addr.now)
+            (table_at (rows_passed moment self.now).tables id) }
         ensures few { IfSome result (λ counts. counts.cur ≤ 3 * 2 ^ 62) }
     {
-        self.tables.counts(id, addr)
+        self.tables.counts(id, addr, moment)
     }
 
     /// The table of that incarnation, as its line has it.
@@ -228,9 +249,10 @@ impl Rows {
         self.tables.table(id)
     }
 
-    /// The key under which the table of that incarnation would track an address, if it could.
+    /// The key under which the table of that incarnation would track an address, if it could, at whatever moment.
     pub fn key_for(&self, id: TableId, addr: &Addr) -> Option<Addr>
-        ensures { result ≡ key_at (open_tracks self.now.frontends) self.now.tables id addr.now }
+        ensures { (moment : ℕ) → self.now.clock ≤ moment →
+            result ≡ key_at (open_tracks self.now.frontends) (rows_passed moment self.now).tables id addr.now }
     {
         self.tables.key_for(id, addr)
     }
@@ -318,7 +340,7 @@ impl Rows {
         requires free { IfSome (row_at self.old.frontends id) (λ row. track_of track.counter row.tracks ≡ None) }
         requires spare { 0 < self.old.spare }
         requires key { key_at (open_tracks self.old.frontends) self.old.tables track.table track.key ≡ Some track.key }
-        ensures value { self.new ≡ record self.old { frontends = with_conn id (row_tracking track) self.old.frontends; tables = with_track (open_tracks self.old.frontends) track self.old.tables; spare = self.old.spare - 1 } }
+        ensures value { self.new ≡ record self.old { frontends = with_conn id (row_tracking track) self.old.frontends; tables = with_track self.old.clock (open_tracks self.old.frontends) track self.old.tables; spare = self.old.spare - 1 } }
 
         // As many track each key as with one track more.
         ensures trackers { (table : TableId) (key : Addr) → trackers (open_tracks self.new.frontends) table key ≡ trackers (open_tracks self.old.frontends ++ track ∷ []) table key }
@@ -329,7 +351,7 @@ impl Rows {
 
     /// Ends a connection, if it is open, with what it tracks, in the order of counters. It needs no memory.
     pub fn remove(&mut self, id: ConnId)
-        ensures { self.new ≡ record self.old { frontends = without_conn id self.old.frontends; tables = without_tracks (tracks_at self.old.frontends id) self.old.tables } }
+        ensures { self.new ≡ record self.old { frontends = without_conn id self.old.frontends; tables = without_tracks self.old.clock (tracks_at self.old.frontends id) self.old.tables } }
     {
         if let Some(row) = take_conn(&mut self.frontends, id) {
             let version = row.version;

@@ -6,6 +6,7 @@ use Rattle.std.specs.Option.{option_map_or}
 use Rattle.std.proofs.lemmas.Bool.Decides.{nat_tests}
 use Rattle.addr_core.specs.declared.addr.Addr.{Addr}
 use Rattle.stick_core.specs.Entries.{cur_of}
+use Rattle.stick_core.specs.Listing.{passed}
 use Rattle.stick_core.specs.PlainEntries.{plain}
 use Rattle.plan_types.specs.declared.plan.Table.{Table}
 use Rattle.plan_types.specs.declared.track.TableId.{TableId}
@@ -13,7 +14,7 @@ use Rattle.conn_model.specs.Tables.{is_new, new_table, new_tables, next_id, same
 use Rattle.conn_tables.specs.declared.tables.StoredTable.{StoredTable}
 use Rattle.conn_tables.specs.Tables.{AreNextIds, AreTables, IsStored, TablesDiffer, begun_table, cur_in, is_begun, is_table, plain_table}
 use Rattle.conn_model.proofs.Lists.{all-append, all-found, all-more}
-use Rattle.conn_tables.proofs.TableLemmas.{and_false, itself, no_entry}
+use Rattle.conn_tables.proofs.TableLemmas.{AreSound, no_entry_at, and_false, itself}
 
 -- Which tables begin.
 
@@ -38,9 +39,9 @@ same_begin version n before (t ∷ tables) earlier = by (find (λ pair. same_tab
     by None found more = rw (found, itself version) (ap (λ ts. new_table version (n, t) ∷ ts) more)
     by (Some pair) found more = rw (found, older pair found) more
 
-pub begun_new : (version : ℕ) (before : List (Table × TableId)) (tables : List Table) (ids : List TableId) (begun : List StoredTable) → AreNextIds version before tables ids →
-    map plain_table begun ≡ map begun_table (filter (is_begun version) (zip tables ids)) → map plain_table begun ≡ map (new_table version) (filter (is_new before) (enumerate_from 0 tables))
-begun_new version before tables ids begun next is =
+pub begun_new : (moment : ℕ) (version : ℕ) (before : List (Table × TableId)) (tables : List Table) (ids : List TableId) (begun : List StoredTable) → AreNextIds version before tables ids →
+    map (plain_table moment) begun ≡ map begun_table (filter (is_begun version) (zip tables ids)) → map (plain_table moment) begun ≡ map (new_table version) (filter (is_new before) (enumerate_from 0 tables))
+begun_new moment version before tables ids begun next is =
     is ∙ ap (λ ids. map begun_table (filter (is_begun version) (zip tables ids))) next.next ∙ same_begin version 0 before tables next.earlier
 
 length-next : (version n : ℕ) (before : List (Table × TableId)) (tables : List Table) → length tables ≡ length (map (next_id version before) (enumerate_from n tables))
@@ -55,100 +56,100 @@ enough_ids version before tables ids next =
 -- They differ from one another and from the earlier ones, and have no entries.
 
 -- of the version, at that position or after it, without entries
-record IsBegun (number place : ℕ) (stored : StoredTable) : Type 0 where
+record IsBegun (moment number place : ℕ) (stored : StoredTable) : Type 0 where
   version : stored.id.version ≡ number
   position : place ≤ stored.id.position
-  entries : plain stored.entries.entries ≡ []
+  entries : plain (passed moment stored.entries).entries ≡ []
 
-begun_at : (version n : ℕ) (stored : StoredTable) (table : Table) → plain_table stored ≡ new_table version (n, table) → IsBegun version n stored
-begun_at version n stored table is = record {
+begun_at : (moment : ℕ) (version n : ℕ) (stored : StoredTable) (table : Table) → plain_table moment stored ≡ new_table version (n, table) → IsBegun moment version n stored
+begun_at moment version n stored table is = record {
   version = ap (λ t. t.id.version) is;
   position = let at : stored.id.position ≡ n = ap (λ t. t.id.position) is in omega (arith, at);
   entries = ap (λ t. t.entries) is;
 }
 
-begun_each : (version n : ℕ) (before : List (Table × TableId)) (tables : List Table) (begun : List StoredTable) →
-    map plain_table begun ≡ map (new_table version) (filter (is_new before) (enumerate_from n tables)) → AllByRecursion (IsBegun version n) begun
-begun_each version n before [] [] is = tt
-begun_each version n before [] (s ∷ begun) is = absurd (cc)
-begun_each version n before (t ∷ tables) begun is = by (is_new before (n, t)) begun is (begun_each version (n + 1) before tables)
+begun_each : (moment : ℕ) (version n : ℕ) (before : List (Table × TableId)) (tables : List Table) (begun : List StoredTable) →
+    map (plain_table moment) begun ≡ map (new_table version) (filter (is_new before) (enumerate_from n tables)) → AllByRecursion (IsBegun moment version n) begun
+begun_each moment version n before [] [] is = tt
+begun_each moment version n before [] (s ∷ begun) is = absurd (cc)
+begun_each moment version n before (t ∷ tables) begun is = by (is_new before (n, t)) begun is (begun_each moment version (n + 1) before tables)
   where
-    later : (s : StoredTable) → IsBegun version (n + 1) s → IsBegun version n s
+    later : (s : StoredTable) → IsBegun moment version (n + 1) s → IsBegun moment version n s
     later s is = record { version = is.version; position = let at = is.position in omega (arith, at); entries = is.entries }
 
-    by : (b : Bool) (begun : List StoredTable) → map plain_table begun ≡ map (new_table version) (cond b ((n, t) ∷ filter (is_new before) (enumerate_from (n + 1) tables)) (filter (is_new before) (enumerate_from (n + 1) tables))) →
-        ((begun : List StoredTable) → map plain_table begun ≡ map (new_table version) (filter (is_new before) (enumerate_from (n + 1) tables)) → AllByRecursion (IsBegun version (n + 1)) begun) →
-        AllByRecursion (IsBegun version n) begun
-    by false begun is rest = all-more (IsBegun version (n + 1)) (IsBegun version n) begun later (rest begun is)
+    by : (b : Bool) (begun : List StoredTable) → map (plain_table moment) begun ≡ map (new_table version) (cond b ((n, t) ∷ filter (is_new before) (enumerate_from (n + 1) tables)) (filter (is_new before) (enumerate_from (n + 1) tables))) →
+        ((begun : List StoredTable) → map (plain_table moment) begun ≡ map (new_table version) (filter (is_new before) (enumerate_from (n + 1) tables)) → AllByRecursion (IsBegun moment version (n + 1)) begun) →
+        AllByRecursion (IsBegun moment version n) begun
+    by false begun is rest = all-more (IsBegun moment version (n + 1)) (IsBegun moment version n) begun later (rest begun is)
     by true [] is rest = absurd (cc)
     by true (s ∷ begun) is rest =
-        let first : plain_table s ≡ new_table version (n, t) = cc in
-        let others : map plain_table begun ≡ map (new_table version) (filter (is_new before) (enumerate_from (n + 1) tables)) = cc in
-        (begun_at version n s t first, all-more (IsBegun version (n + 1)) (IsBegun version n) begun later (rest begun others))
+        let first : plain_table moment s ≡ new_table version (n, t) = cc in
+        let others : map (plain_table moment) begun ≡ map (new_table version) (filter (is_new before) (enumerate_from (n + 1) tables)) = cc in
+        (begun_at moment version n s t first, all-more (IsBegun moment version (n + 1)) (IsBegun moment version n) begun later (rest begun others))
 
-begun_differ : (version n : ℕ) (before : List (Table × TableId)) (tables : List Table) (begun : List StoredTable) →
-    map plain_table begun ≡ map (new_table version) (filter (is_new before) (enumerate_from n tables)) → TablesDiffer begun
-begun_differ version n before [] [] is = tt
-begun_differ version n before [] (s ∷ begun) is = absurd (cc)
-begun_differ version n before (t ∷ tables) begun is = by (is_new before (n, t)) begun is (begun_differ version (n + 1) before tables)
+begun_differ : (moment : ℕ) (version n : ℕ) (before : List (Table × TableId)) (tables : List Table) (begun : List StoredTable) →
+    map (plain_table moment) begun ≡ map (new_table version) (filter (is_new before) (enumerate_from n tables)) → TablesDiffer begun
+begun_differ moment version n before [] [] is = tt
+begun_differ moment version n before [] (s ∷ begun) is = absurd (cc)
+begun_differ moment version n before (t ∷ tables) begun is = by (is_new before (n, t)) begun is (begun_differ moment version (n + 1) before tables)
   where
-    other : (id : TableId) → id.position ≡ n → (s : StoredTable) → IsBegun version (n + 1) s → same_id s.id id ≡ false
+    other : (id : TableId) → id.position ≡ n → (s : StoredTable) → IsBegun moment version (n + 1) s → same_id s.id id ≡ false
     other id at s is =
         let above : n + 1 ≤ s.id.position = is.position in
         let differs : (s.id.position == id.position) ≡ false = grind (arith, nat_tests, above, at) in
         and_false (s.id.version == id.version) (s.id.position == id.position) differs
 
-    by : (b : Bool) (begun : List StoredTable) → map plain_table begun ≡ map (new_table version) (cond b ((n, t) ∷ filter (is_new before) (enumerate_from (n + 1) tables)) (filter (is_new before) (enumerate_from (n + 1) tables))) →
-        ((begun : List StoredTable) → map plain_table begun ≡ map (new_table version) (filter (is_new before) (enumerate_from (n + 1) tables)) → TablesDiffer begun) →
+    by : (b : Bool) (begun : List StoredTable) → map (plain_table moment) begun ≡ map (new_table version) (cond b ((n, t) ∷ filter (is_new before) (enumerate_from (n + 1) tables)) (filter (is_new before) (enumerate_from (n + 1) tables))) →
+        ((begun : List StoredTable) → map (plain_table moment) begun ≡ map (new_table version) (filter (is_new before) (enumerate_from (n + 1) tables)) → TablesDiffer begun) →
         TablesDiffer begun
     by false begun is rest = rest begun is
     by true [] is rest = absurd (cc)
     by true (s ∷ begun) is rest =
-        let first : plain_table s ≡ new_table version (n, t) = cc in
-        let others : map plain_table begun ≡ map (new_table version) (filter (is_new before) (enumerate_from (n + 1) tables)) = cc in
+        let first : plain_table moment s ≡ new_table version (n, t) = cc in
+        let others : map (plain_table moment) begun ≡ map (new_table version) (filter (is_new before) (enumerate_from (n + 1) tables)) = cc in
         let at : s.id.position ≡ n = ap (λ t. t.id.position) first in
-        (all-more (IsBegun version (n + 1)) (λ o. same_id o.id s.id ≡ false) begun (other s.id at) (begun_each version (n + 1) before tables begun others), rest begun others)
+        (all-more (IsBegun moment version (n + 1)) (λ o. same_id o.id s.id ≡ false) begun (other s.id at) (begun_each moment version (n + 1) before tables begun others), rest begun others)
 
 -- With the tables that there are.
 
-joined_differ : (version : ℕ) (tables begun : List StoredTable) → AllByRecursion (λ stored. stored.id.version < version) tables → TablesDiffer tables →
-    AllByRecursion (IsBegun version 0) begun → TablesDiffer begun → TablesDiffer (tables ++ begun)
-joined_differ version [] begun earlier differ are begun_apart = begun_apart
-joined_differ version (t ∷ tables) begun earlier differ are begun_apart = (
-  all-append (λ o. same_id o.id t.id ≡ false) tables begun differ.0 (all-more (IsBegun version 0) (λ o. same_id o.id t.id ≡ false) begun other are),
-  joined_differ version tables begun earlier.1 differ.1 are begun_apart,
+joined_differ : (moment : ℕ) (version : ℕ) (tables begun : List StoredTable) → AllByRecursion (λ stored. stored.id.version < version) tables → TablesDiffer tables →
+    AllByRecursion (IsBegun moment version 0) begun → TablesDiffer begun → TablesDiffer (tables ++ begun)
+joined_differ moment version [] begun earlier differ are begun_apart = begun_apart
+joined_differ moment version (t ∷ tables) begun earlier differ are begun_apart = (
+  all-append (λ o. same_id o.id t.id ≡ false) tables begun differ.0 (all-more (IsBegun moment version 0) (λ o. same_id o.id t.id ≡ false) begun other are),
+  joined_differ moment version tables begun earlier.1 differ.1 are begun_apart,
 )
   where
-    other : (s : StoredTable) → IsBegun version 0 s → same_id s.id t.id ≡ false
+    other : (s : StoredTable) → IsBegun moment version 0 s → same_id s.id t.id ≡ false
     other s is =
         let its : s.id.version ≡ version = is.version in
         let less : t.id.version < version = earlier.0 in
         let differs : (s.id.version == t.id.version) ≡ false = grind (arith, nat_tests, its, less) in
         ap (λ b. b && (s.id.position == t.id.position)) differs
 
-pub joined_tables : (version spare : ℕ) (before : List (Table × TableId)) (tables : List Table) (kept begun : List StoredTable) → AllByRecursion (λ stored. stored.id.version < version) kept → AreTables spare kept →
-    map plain_table begun ≡ map (new_table version) (filter (is_new before) (enumerate_from 0 tables)) → AllByRecursion (IsStored spare) begun → AreTables spare (kept ++ begun)
-joined_tables version spare before tables kept begun earlier known is each = record {
-  differ = joined_differ version kept begun earlier known.differ (begun_each version 0 before tables begun is) (begun_differ version 0 before tables begun is);
-  each = all-append (IsStored spare) kept begun known.each each;
+pub joined_tables : (moment : ℕ) (version spare : ℕ) (before : List (Table × TableId)) (tables : List Table) (kept begun : List StoredTable) → AllByRecursion (λ stored. stored.id.version < version) kept → AreTables moment spare kept →
+    map (plain_table moment) begun ≡ map (new_table version) (filter (is_new before) (enumerate_from 0 tables)) → AllByRecursion (IsStored moment spare) begun → AreTables moment spare (kept ++ begun)
+joined_tables moment version spare before tables kept begun earlier known is each = record {
+  differ = joined_differ moment version kept begun earlier known.differ (begun_each moment version 0 before tables begun is) (begun_differ moment version 0 before tables begun is);
+  each = all-append (IsStored moment spare) kept begun known.each each;
 }
 
-pub joined_plain : (version : ℕ) (before : List (Table × TableId)) (tables : List Table) (kept begun : List StoredTable) →
-    map plain_table begun ≡ map (new_table version) (filter (is_new before) (enumerate_from 0 tables)) → map plain_table (kept ++ begun) ≡ map plain_table kept ++ new_tables version before tables
-joined_plain version before tables [] begun is = is
-joined_plain version before tables (t ∷ kept) begun is = ap (λ ts. plain_table t ∷ ts) (joined_plain version before tables kept begun is)
+pub joined_plain : (moment : ℕ) (version : ℕ) (before : List (Table × TableId)) (tables : List Table) (kept begun : List StoredTable) →
+    map (plain_table moment) begun ≡ map (new_table version) (filter (is_new before) (enumerate_from 0 tables)) → map (plain_table moment) (kept ++ begun) ≡ map (plain_table moment) kept ++ new_tables version before tables
+joined_plain moment version before tables [] begun is = is
+joined_plain moment version before tables (t ∷ kept) begun is = ap (λ ts. plain_table moment t ∷ ts) (joined_plain moment version before tables kept begun is)
 
-no_cur : (version : ℕ) (id : TableId) (key : Addr) (begun : List StoredTable) → AllByRecursion (IsBegun version 0) begun → cur_in id key begun ≡ 0
-no_cur version id key [] are = refl
-no_cur version id key (s ∷ begun) are = by (is_table id s) (no_cur version id key begun are.1)
+no_cur : (moment : ℕ) (version : ℕ) (id : TableId) (key : Addr) (begun : List StoredTable) → AllByRecursion (IsBegun moment version 0) begun → AllByRecursion AreSound begun → cur_in id key begun ≡ 0
+no_cur moment version id key [] are sound = refl
+no_cur moment version id key (s ∷ begun) are sound = by (is_table id s) (no_cur moment version id key begun are.1 sound.1)
   where
     by : (b : Bool) → cur_in id key begun ≡ 0 → option_map_or (λ stored. cur_of key stored.entries.entries) (if b then Some s else find (is_table id) begun) 0 ≡ 0
-    by true more = no_entry key s.entries.entries are.0.entries
+    by true more = no_entry_at moment key s.entries sound.0 are.0.entries
     by false more = more
 
-joined_cur : (version : ℕ) (id : TableId) (key : Addr) (tables begun : List StoredTable) → AllByRecursion (IsBegun version 0) begun → cur_in id key (tables ++ begun) ≡ cur_in id key tables
-joined_cur version id key [] begun are = no_cur version id key begun are
-joined_cur version id key (t ∷ tables) begun are = by (is_table id t) (joined_cur version id key tables begun are)
+joined_cur : (moment : ℕ) (version : ℕ) (id : TableId) (key : Addr) (tables begun : List StoredTable) → AllByRecursion (IsBegun moment version 0) begun → AllByRecursion AreSound begun → cur_in id key (tables ++ begun) ≡ cur_in id key tables
+joined_cur moment version id key [] begun are sound = no_cur moment version id key begun are sound
+joined_cur moment version id key (t ∷ tables) begun are sound = by (is_table id t) (joined_cur moment version id key tables begun are sound)
   where
     by : (b : Bool) → cur_in id key (tables ++ begun) ≡ cur_in id key tables →
         option_map_or (λ stored. cur_of key stored.entries.entries) (if b then Some t else find (is_table id) (tables ++ begun)) 0
@@ -156,6 +157,6 @@ joined_cur version id key (t ∷ tables) begun are = by (is_table id t) (joined_
     by true more = refl
     by false more = more
 
-pub joined_counts : (version : ℕ) (before : List (Table × TableId)) (tables : List Table) (kept begun : List StoredTable) →
-    map plain_table begun ≡ map (new_table version) (filter (is_new before) (enumerate_from 0 tables)) → (id : TableId) (key : Addr) → cur_in id key (kept ++ begun) ≡ cur_in id key kept
-joined_counts version before tables kept begun is id key = joined_cur version id key kept begun (begun_each version 0 before tables begun is)
+pub joined_counts : (moment : ℕ) (version : ℕ) (before : List (Table × TableId)) (tables : List Table) (kept begun : List StoredTable) →
+    map (plain_table moment) begun ≡ map (new_table version) (filter (is_new before) (enumerate_from 0 tables)) → AllByRecursion AreSound begun → (id : TableId) (key : Addr) → cur_in id key (kept ++ begun) ≡ cur_in id key kept
+joined_counts moment version before tables kept begun is sound id key = joined_cur moment version id key kept begun (begun_each moment version 0 before tables begun is) sound

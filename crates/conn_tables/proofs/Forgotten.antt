@@ -16,14 +16,14 @@ use Rattle.conn_tables.proofs.TableLemmas.{same_id-is}
 abbrev pub listed_tables : List Version → List StoredTable → List StoredTable
 listed_tables versions tables = filter (λ stored. is_listed_in versions stored.id) tables
 
-pub plain_listed : (versions : List Version) (tables : List StoredTable) → map plain_table (listed_tables versions tables) ≡ filter (is_listed_by versions) (map plain_table tables)
-plain_listed versions [] = refl
-plain_listed versions (t ∷ tables) = by (is_listed_in versions t.id) (plain_listed versions tables)
+pub plain_listed : (moment : ℕ) (versions : List Version) (tables : List StoredTable) → map (plain_table moment) (listed_tables versions tables) ≡ filter (is_listed_by versions) (map (plain_table moment) tables)
+plain_listed moment versions [] = refl
+plain_listed moment versions (t ∷ tables) = by (is_listed_in versions t.id) (plain_listed moment versions tables)
   where
-    by : (b : Bool) → map plain_table (listed_tables versions tables) ≡ filter (is_listed_by versions) (map plain_table tables) →
-        map plain_table (cond b (t ∷ listed_tables versions tables) (listed_tables versions tables))
-        ≡ cond b (plain_table t ∷ filter (is_listed_by versions) (map plain_table tables)) (filter (is_listed_by versions) (map plain_table tables))
-    by true more = ap (λ ts. plain_table t ∷ ts) more
+    by : (b : Bool) → map (plain_table moment) (listed_tables versions tables) ≡ filter (is_listed_by versions) (map (plain_table moment) tables) →
+        map (plain_table moment) (cond b (t ∷ listed_tables versions tables) (listed_tables versions tables))
+        ≡ cond b (plain_table moment t ∷ filter (is_listed_by versions) (map (plain_table moment) tables)) (filter (is_listed_by versions) (map (plain_table moment) tables))
+    by true more = ap (λ ts. plain_table moment t ∷ ts) more
     by false more = more
 
 -- They differ still.
@@ -36,10 +36,10 @@ filter_differ test (t ∷ tables) differ = by (test t) (filter_differ test table
     by true more = (all-filter (λ o. same_id o.id t.id ≡ false) test tables differ.0, more)
     by false more = more
 
-pub filter_tables : (spare : ℕ) (versions : List Version) (tables : List StoredTable) → AreTables spare tables → AreTables spare (listed_tables versions tables)
-filter_tables spare versions tables known = record {
+pub filter_tables : (moment : ℕ) (spare : ℕ) (versions : List Version) (tables : List StoredTable) → AreTables moment spare tables → AreTables moment spare (listed_tables versions tables)
+filter_tables moment spare versions tables known = record {
   differ = filter_differ (λ stored. is_listed_in versions stored.id) tables known.differ;
-  each = all-filter (IsStored spare) (λ stored. is_listed_in versions stored.id) tables known.each;
+  each = all-filter (IsStored moment spare) (λ stored. is_listed_in versions stored.id) tables known.each;
 }
 
 -- Who tracks a key.

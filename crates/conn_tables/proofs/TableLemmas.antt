@@ -1,7 +1,7 @@
 -- Tables, as keys are tracked in them and trackings end.
 use Rattle.std.proofs.Common.{◌≡◌, ℕ, zero, suc, ◌+◌, ◌<◌, Bool, true, false, cond, List, [], ◌∷◌, ◌++◌, length, map, set, get_or, Option, Some, None, refl, sym, ap, subst, ◌∙◌, arith}
 use Rattle.std.specs.Prelude.{◌≤◌, ◌-◌, option_and_then, find, slice_get, option_map, ◌==◌, ◌&&◌, if◌then◌else◌}
-use Rattle.std.specs.List.{AllByRecursion, enumerate_from, position, position_or_len}
+use Rattle.std.specs.List.{list_any, AllByRecursion, enumerate_from, position, position_or_len}
 use Rattle.std.specs.Option.{option_map_or}
 use Rattle.std.proofs.lemmas.Bool.{false≢true}
 use Rattle.std.proofs.lemmas.Bool.Decides.{nat_tests}
@@ -11,21 +11,23 @@ use Rattle.addr_core.specs.declared.addr.Addr.{Addr}
 use Rattle.addr_core.specs.Same.{same_addr}
 use Rattle.stick_core.specs.declared.entries.StickEntry.{StickEntry}
 use Rattle.stick_core.specs.declared.entries.PlainEntry.{PlainEntry}
-use Rattle.stick_core.specs.Entries.{cur_of}
-use Rattle.stick_core.specs.PlainEntries.{AreTrackers, plain, touched, tracked_key, trackings_of, with_tracking}
+use Rattle.stick_core.specs.Entries.{cur_of, is_gone}
+use Rattle.stick_core.specs.PlainEntries.{AreTrackers, plain, touched, tracked_key, trackings_of, with_tracking, alive}
 use Rattle.list_core.proofs.Items.{one_item}
+use Rattle.stick_core.proofs.LivingLemmas.{alive-later, cur_of-living, living-all}
+use Rattle.stick_core.specs.Listing.{passed, IsShown, IsSound, Listing}
 use Rattle.list_core.proofs.PlaceLemmas.{find-passes}
 use Rattle.addr_core.proofs.SameLemmas.{same_addr-refl}
 use Rattle.plan_types.specs.declared.plan.Table.{Table}
 use Rattle.plan_types.specs.declared.track.TableId.{TableId}
 use Rattle.plan_types.specs.declared.track.Track.{Track}
 use Rattle.conn_model.specs.declared.plain.TableState.{TableState}
-use Rattle.conn_model.specs.Tables.{new_table, same_id, table_at, trackers, without_track, without_tracks, with_track}
+use Rattle.conn_model.specs.Tables.{new_table, same_id, table_alive, table_at, tables_alive, trackers, without_track, without_tracks, with_track}
 use Rattle.conn_tables.specs.declared.tables.StoredTable.{StoredTable}
 use Rattle.conn_tables.specs.Tables.{AreCounted, AreGrown, AreTables, IsGrown, IsStored, TablesDiffer, cur_in, is_table, key_at, plain_table, table_key}
 use Rattle.conn_tables.specs.declared.tracking.Tracking.{Tracking}
 use Rattle.conn_tables.specs.Tracks.{counter_on}
-use Rattle.conn_model.proofs.Lists.{all-at, all-found, found_there, place_is, position_within}
+use Rattle.conn_model.proofs.Lists.{all-at, all-found, found_there, place_is, position_within, all-both, all-more}
 use Rattle.conn_tables.proofs.PlaceLemmas.{all_set, position-only}
 
 -- Incarnations.
@@ -130,27 +132,27 @@ not_there id (t ∷ tables) zero stored differ there = let same : t ≡ stored =
 not_there id (t ∷ tables) (suc n) stored differ there = not_there id tables n stored differ.1 there
 
 -- the table of an incarnation changed, where each table is another
-none_changed : (id : TableId) (change : TableState → TableState) (tables : List StoredTable) → AllByRecursion (λ other. same_id other.id id ≡ false) tables →
-    map (λ t. if same_id t.id id then change t else t) (map plain_table tables) ≡ map plain_table tables
-none_changed id change [] differ = refl
-none_changed id change (t ∷ tables) differ = rw differ.0 (ap (λ ts. plain_table t ∷ ts) (none_changed id change tables differ.1))
+none_changed : (moment : ℕ) (id : TableId) (change : TableState → TableState) (tables : List StoredTable) → AllByRecursion (λ other. same_id other.id id ≡ false) tables →
+    map (λ t. if same_id t.id id then change t else t) (map (plain_table moment) tables) ≡ map (plain_table moment) tables
+none_changed moment id change [] differ = refl
+none_changed moment id change (t ∷ tables) differ = rw differ.0 (ap (λ ts. plain_table moment t ∷ ts) (none_changed moment id change tables differ.1))
 
 -- and where it is one of them
-pub one_changed : (id : TableId) (change : TableState → TableState) (tables : List StoredTable) (n : ℕ) (stored next : StoredTable) → TablesDiffer tables → slice_get tables n ≡ Some stored → stored.id ≡ id →
-    plain_table next ≡ change (plain_table stored) → map plain_table (set tables n next) ≡ map (λ t. if same_id t.id id then change t else t) (map plain_table tables)
-one_changed id change [] n stored next differ there of now = absurd (cc)
-one_changed id change (t ∷ tables) zero stored next differ there of now =
+pub one_changed : (moment : ℕ) (id : TableId) (change : TableState → TableState) (tables : List StoredTable) (n : ℕ) (stored next : StoredTable) → TablesDiffer tables → slice_get tables n ≡ Some stored → stored.id ≡ id →
+    plain_table moment next ≡ change (plain_table moment stored) → map (plain_table moment) (set tables n next) ≡ map (λ t. if same_id t.id id then change t else t) (map (plain_table moment) tables)
+one_changed moment id change [] n stored next differ there of now = absurd (cc)
+one_changed moment id change (t ∷ tables) zero stored next differ there of now =
     let first : t ≡ stored = cc in
     let its : t.id ≡ id = ap (λ t. t.id) first ∙ of in
     let here : same_id t.id id ≡ true = ap (λ i. same_id i id) its ∙ same_id-refl id in
-    let rest : map (λ t. if same_id t.id id then change t else t) (map plain_table tables) ≡ map plain_table tables =
-    none_changed id change tables (subst (λ i. AllByRecursion (λ other. same_id other.id i ≡ false) tables) its differ.0) in
-    let next_is : plain_table next ≡ change (plain_table t) = now ∙ ap (λ t. change (plain_table t)) (sym first) in
+    let rest : map (λ t. if same_id t.id id then change t else t) (map (plain_table moment) tables) ≡ map (plain_table moment) tables =
+    none_changed moment id change tables (subst (λ i. AllByRecursion (λ other. same_id other.id i ≡ false) tables) its differ.0) in
+    let next_is : plain_table moment next ≡ change (plain_table moment t) = now ∙ ap (λ t. change (plain_table moment t)) (sym first) in
     rw here (cc (rest, next_is))
-one_changed id change (t ∷ tables) (suc n) stored next differ there of now =
+one_changed moment id change (t ∷ tables) (suc n) stored next differ there of now =
     let other : same_id stored.id t.id ≡ false = not_there t.id tables n stored differ.0 there in
     let past : same_id t.id id ≡ false = ap (same_id t.id) (sym of) ∙ differ_sym stored.id t.id other in
-    rw past (ap (λ ts. plain_table t ∷ ts) (one_changed id change tables n stored next differ.1 there of now))
+    rw past (ap (λ ts. plain_table moment t ∷ ts) (one_changed moment id change tables n stored next differ.1 there of now))
 
 abbrev state_of : TableId → Table → List PlainEntry → TableState
 state_of id table entries = record { id = id; table = table; entries = entries }
@@ -158,20 +160,20 @@ state_of id table entries = record { id = id; table = table; entries = entries }
 state_is : (i j : TableId) (s t : Table) (e f : List PlainEntry) → i ≡ j → s ≡ t → e ≡ f → state_of i s e ≡ state_of j t f
 state_is i j s t e f ids tables entries = rw (ids, tables, entries) refl
 
-pub plain_left : (track : Track) (tables : List StoredTable) (n : ℕ) (stored next : StoredTable) → TablesDiffer tables → slice_get tables n ≡ Some stored → stored.id ≡ track.table →
-    next.id ≡ stored.id → next.table ≡ stored.table → plain next.entries.entries ≡ touched track.key (plain stored.entries.entries) →
-    map plain_table (set tables n next) ≡ without_track track (map plain_table tables)
-plain_left track tables n stored next differ there of same table_is entries_are =
-    one_changed track.table (λ t. record t { entries = touched track.key t.entries }) tables n stored next differ there of
-    (state_is next.id stored.id next.table stored.table (plain next.entries.entries) (touched track.key (plain stored.entries.entries)) same table_is entries_are)
+pub plain_left : (moment : ℕ) (track : Track) (tables : List StoredTable) (n : ℕ) (stored next : StoredTable) → TablesDiffer tables → slice_get tables n ≡ Some stored → stored.id ≡ track.table →
+    next.id ≡ stored.id → next.table ≡ stored.table → plain (passed moment next.entries).entries ≡ touched moment track.key (plain (passed moment stored.entries).entries) →
+    map (plain_table moment) (set tables n next) ≡ without_track moment track (map (plain_table moment) tables)
+plain_left moment track tables n stored next differ there of same table_is entries_are =
+    one_changed moment track.table (λ t. record t { entries = touched moment track.key t.entries }) tables n stored next differ there of
+    (state_is next.id stored.id next.table stored.table (plain (passed moment next.entries).entries) (touched moment track.key (plain (passed moment stored.entries).entries)) same table_is entries_are)
 
-pub plain_more : (tracks : List Track) (track : Track) (tables : List StoredTable) (n : ℕ) (stored next : StoredTable) → TablesDiffer tables → slice_get tables n ≡ Some stored → stored.id ≡ track.table →
+pub plain_more : (moment : ℕ) (tracks : List Track) (track : Track) (tables : List StoredTable) (n : ℕ) (stored next : StoredTable) → TablesDiffer tables → slice_get tables n ≡ Some stored → stored.id ≡ track.table →
     next.id ≡ stored.id → next.table ≡ stored.table →
-    plain next.entries.entries ≡ with_tracking (trackers tracks stored.id) stored.table.size track.key (plain stored.entries.entries) →
-    map plain_table (set tables n next) ≡ with_track tracks track (map plain_table tables)
-plain_more tracks track tables n stored next differ there of same table_is entries_are =
-    one_changed track.table (λ t. record t { entries = with_tracking (trackers tracks t.id) t.table.size track.key t.entries }) tables n stored next differ there of
-    (state_is next.id stored.id next.table stored.table (plain next.entries.entries) (with_tracking (trackers tracks stored.id) stored.table.size track.key (plain stored.entries.entries)) same table_is entries_are)
+    plain (passed moment next.entries).entries ≡ with_tracking moment (trackers tracks stored.id) stored.table.size track.key (plain (passed moment stored.entries).entries) →
+    map (plain_table moment) (set tables n next) ≡ with_track moment tracks track (map (plain_table moment) tables)
+plain_more moment tracks track tables n stored next differ there of same table_is entries_are =
+    one_changed moment track.table (λ t. record t { entries = with_tracking moment (trackers tracks t.id) t.table.size track.key t.entries }) tables n stored next differ there of
+    (state_is next.id stored.id next.table stored.table (plain (passed moment next.entries).entries) (with_tracking moment (trackers tracks stored.id) stored.table.size track.key (plain (passed moment stored.entries).entries)) same table_is entries_are)
 
 -- a tracking more
 pub counts_more : (tracking : Tracking) (tables : List StoredTable) (n : ℕ) (stored next : StoredTable) → Found tracking.table tables n stored → next.id ≡ stored.id →
@@ -188,9 +190,9 @@ counts_more tracking tables n stored next at same counts other key = by (same_id
         rw (← same_id-is tracking.table other one) (omega (arith, is, was, more))
 
 -- several trackings end, one after the other
-pub without-append : (a b : List Track) (tables : List TableState) → without_tracks (a ++ b) tables ≡ without_tracks b (without_tracks a tables)
-without-append [] b tables = refl
-without-append (track ∷ a) b tables = without-append a b (without_track track tables)
+pub without-append : (moment : ℕ) (a b : List Track) (tables : List TableState) → without_tracks moment (a ++ b) tables ≡ without_tracks moment b (without_tracks moment a tables)
+without-append moment [] b tables = refl
+without-append moment (track ∷ a) b tables = without-append moment a b (without_track moment track tables)
 
 -- What is always true of the tables stays so.
 
@@ -204,71 +206,78 @@ differ_set (t ∷ tables) (suc n) stored next there same differ =
     let other : same_id next.id t.id ≡ false = ap (λ i. same_id i t.id) same ∙ not_there t.id tables n stored differ.0 there in
     (all_set (λ other. same_id other.id t.id ≡ false) tables n next differ.0 other, differ_set tables n stored next there same differ.1)
 
-pub still_tables : (spare least : ℕ) (tables : List StoredTable) (n : ℕ) (stored next : StoredTable) → slice_get tables n ≡ Some stored → next.id ≡ stored.id → AreTables spare tables →
-    AllByRecursion (IsStored least) tables → IsStored least next → AreTables least (set tables n next)
-still_tables spare least tables n stored next there same known each is = record { differ = differ_set tables n stored next there same known.differ; each = all_set (IsStored least) tables n next each is }
+pub still_tables : (moment : ℕ) (spare least : ℕ) (tables : List StoredTable) (n : ℕ) (stored next : StoredTable) → slice_get tables n ≡ Some stored → next.id ≡ stored.id → AreTables moment spare tables →
+    AllByRecursion (IsStored moment least) tables → IsStored moment least next → AreTables moment least (set tables n next)
+still_tables moment spare least tables n stored next there same known each is = record { differ = differ_set tables n stored next there same known.differ; each = all_set (IsStored moment least) tables n next each is }
 
 -- Tables without entries.
 
-id_at : (version n : ℕ) (tables : List Table) (stored : List StoredTable) → map plain_table stored ≡ map (new_table version) (enumerate_from n tables) → (id : TableId) → id.position < n → AllByRecursion (λ other. same_id other.id id ≡ false) stored
-id_at version n [] [] is id less = tt
-id_at version n [] (s ∷ stored) is id less = absurd (cc)
-id_at version n (t ∷ tables) [] is id less = absurd (cc)
-id_at version n (t ∷ tables) (s ∷ stored) is id less =
-    let first : plain_table s ≡ new_table version (n, t) = cc in
-    let rest : map plain_table stored ≡ map (new_table version) (enumerate_from (n + 1) tables) = cc in
+id_at : (moment : ℕ) (version n : ℕ) (tables : List Table) (stored : List StoredTable) → map (plain_table moment) stored ≡ map (new_table version) (enumerate_from n tables) → (id : TableId) → id.position < n → AllByRecursion (λ other. same_id other.id id ≡ false) stored
+id_at moment version n [] [] is id less = tt
+id_at moment version n [] (s ∷ stored) is id less = absurd (cc)
+id_at moment version n (t ∷ tables) [] is id less = absurd (cc)
+id_at moment version n (t ∷ tables) (s ∷ stored) is id less =
+    let first : plain_table moment s ≡ new_table version (n, t) = cc in
+    let rest : map (plain_table moment) stored ≡ map (new_table version) (enumerate_from (n + 1) tables) = cc in
     let its : s.id.position ≡ n = ap (λ t. t.id.position) first in
     let differs : (s.id.position == id.position) ≡ false = grind (arith, nat_tests, its, less) in
-    (and_false (s.id.version == id.version) (s.id.position == id.position) differs, id_at version (n + 1) tables stored rest id (omega arith))
+    (and_false (s.id.version == id.version) (s.id.position == id.position) differs, id_at moment version (n + 1) tables stored rest id (omega arith))
 
-new_differ : (version n : ℕ) (tables : List Table) (stored : List StoredTable) → map plain_table stored ≡ map (new_table version) (enumerate_from n tables) → TablesDiffer stored
-new_differ version n [] [] is = tt
-new_differ version n [] (s ∷ stored) is = absurd (cc)
-new_differ version n (t ∷ tables) [] is = absurd (cc)
-new_differ version n (t ∷ tables) (s ∷ stored) is =
-    let first : plain_table s ≡ new_table version (n, t) = cc in
-    let rest : map plain_table stored ≡ map (new_table version) (enumerate_from (n + 1) tables) = cc in
+new_differ : (moment : ℕ) (version n : ℕ) (tables : List Table) (stored : List StoredTable) → map (plain_table moment) stored ≡ map (new_table version) (enumerate_from n tables) → TablesDiffer stored
+new_differ moment version n [] [] is = tt
+new_differ moment version n [] (s ∷ stored) is = absurd (cc)
+new_differ moment version n (t ∷ tables) [] is = absurd (cc)
+new_differ moment version n (t ∷ tables) (s ∷ stored) is =
+    let first : plain_table moment s ≡ new_table version (n, t) = cc in
+    let rest : map (plain_table moment) stored ≡ map (new_table version) (enumerate_from (n + 1) tables) = cc in
     let its : s.id.position ≡ n = ap (λ t. t.id.position) first in
-    (id_at version (n + 1) tables stored rest s.id (omega (arith, its)), new_differ version (n + 1) tables stored rest)
+    (id_at moment version (n + 1) tables stored rest s.id (omega (arith, its)), new_differ moment version (n + 1) tables stored rest)
 
-pub new_tables : (version : ℕ) (tables : List Table) (stored : List StoredTable) → map plain_table stored ≡ map (new_table version) (enumerate_from 0 tables) → AllByRecursion (IsStored 0) stored → AreTables 0 stored
-new_tables version tables stored is each = record { differ = new_differ version 0 tables stored is; each = each }
+pub new_tables : (moment : ℕ) (version : ℕ) (tables : List Table) (stored : List StoredTable) → map (plain_table moment) stored ≡ map (new_table version) (enumerate_from 0 tables) → AllByRecursion (IsStored moment 0) stored → AreTables moment 0 stored
+new_tables moment version tables stored is each = record { differ = new_differ moment version 0 tables stored is; each = each }
 
-pub no_entry : (key : Addr) (entries : List StickEntry) → plain entries ≡ [] → cur_of key entries ≡ 0
+-- the table is sound
+abbrev pub AreSound : StoredTable → Type 0
+AreSound stored = IsSound stored.entries.size stored.entries.entries
+
+no_entry : (key : Addr) (entries : List StickEntry) → plain entries ≡ [] → cur_of key entries ≡ 0
 no_entry key [] none = refl
 no_entry key (e ∷ entries) none = absurd (cc)
 
-pub new_counts : (version n : ℕ) (tables : List Table) (stored : List StoredTable) → map plain_table stored ≡ map (new_table version) (enumerate_from n tables) → (id : TableId) (key : Addr) → cur_in id key stored ≡ 0
-new_counts version n [] [] is id key = refl
-new_counts version n [] (s ∷ stored) is id key = absurd (cc)
-new_counts version n (t ∷ tables) [] is id key = absurd (cc)
-new_counts version n (t ∷ tables) (s ∷ stored) is id key =
-    let rest : map plain_table stored ≡ map (new_table version) (enumerate_from (n + 1) tables) = cc in
-    by (is_table id s) (new_counts version (n + 1) tables stored rest id key)
+pub no_entry_at : (moment : ℕ) (key : Addr) (table : Listing) → IsSound table.size table.entries → plain (passed moment table).entries ≡ [] → cur_of key table.entries ≡ 0
+no_entry_at moment key table sound none = sym (cur_of-living table.expire moment table.entries sound.once key) ∙ no_entry key (passed moment table).entries none
+
+pub new_counts : (moment : ℕ) (version n : ℕ) (tables : List Table) (stored : List StoredTable) → map (plain_table moment) stored ≡ map (new_table version) (enumerate_from n tables) → AllByRecursion AreSound stored → (id : TableId) (key : Addr) → cur_in id key stored ≡ 0
+new_counts moment version n [] [] is sound id key = refl
+new_counts moment version n [] (s ∷ stored) is sound id key = absurd (cc)
+new_counts moment version n (t ∷ tables) [] is sound id key = absurd (cc)
+new_counts moment version n (t ∷ tables) (s ∷ stored) is sound id key =
+    let rest : map (plain_table moment) stored ≡ map (new_table version) (enumerate_from (n + 1) tables) = cc in
+    by (is_table id s) (new_counts moment version (n + 1) tables stored rest sound.1 id key)
   where
-    first : plain_table s ≡ new_table version (n, t)
+    first : plain_table moment s ≡ new_table version (n, t)
     first = cc
 
     by : (b : Bool) → cur_in id key stored ≡ 0 → option_map_or (λ stored. cur_of key stored.entries.entries) (if b then Some s else find (is_table id) stored) 0 ≡ 0
-    by true more = no_entry key s.entries.entries (ap (λ t. t.entries) first)
+    by true more = no_entry_at moment key s.entries sound.0 (ap (λ t. t.entries) first)
     by false more = more
 
 -- Tables looked up.
 
-find-plain : (id : TableId) (tables : List StoredTable) → table_at (map plain_table tables) id ≡ option_map plain_table (find (is_table id) tables)
-find-plain id [] = refl
-find-plain id (t ∷ tables) = by (same_id t.id id) (find-plain id tables)
+find-plain : (moment : ℕ) (id : TableId) (tables : List StoredTable) → table_at (map (plain_table moment) tables) id ≡ option_map (plain_table moment) (find (is_table id) tables)
+find-plain moment id [] = refl
+find-plain moment id (t ∷ tables) = by (same_id t.id id) (find-plain moment id tables)
   where
-    by : (b : Bool) → table_at (map plain_table tables) id ≡ option_map plain_table (find (is_table id) tables) →
-        (if b then Some (plain_table t) else table_at (map plain_table tables) id) ≡ option_map plain_table (if b then Some t else find (is_table id) tables)
+    by : (b : Bool) → table_at (map (plain_table moment) tables) id ≡ option_map (plain_table moment) (find (is_table id) tables) →
+        (if b then Some (plain_table moment t) else table_at (map (plain_table moment) tables) id) ≡ option_map (plain_table moment) (if b then Some t else find (is_table id) tables)
     by true more = refl
     by false more = more
 
-pub table_nowhere : (id : TableId) (tables : List StoredTable) → find (is_table id) tables ≡ None → table_at (map plain_table tables) id ≡ None
-table_nowhere id tables none = find-plain id tables ∙ ap (option_map plain_table) none
+pub table_nowhere : (moment : ℕ) (id : TableId) (tables : List StoredTable) → find (is_table id) tables ≡ None → table_at (map (plain_table moment) tables) id ≡ None
+table_nowhere moment id tables none = find-plain moment id tables ∙ ap (option_map (plain_table moment)) none
 
-pub table_there : (id : TableId) (tables : List StoredTable) (stored : StoredTable) → find (is_table id) tables ≡ Some stored → table_at (map plain_table tables) id ≡ Some (plain_table stored)
-table_there id tables stored found = find-plain id tables ∙ ap (option_map plain_table) found
+pub table_there : (moment : ℕ) (id : TableId) (tables : List StoredTable) (stored : StoredTable) → find (is_table id) tables ≡ Some stored → table_at (map (plain_table moment) tables) id ≡ Some (plain_table moment stored)
+table_there moment id tables stored found = find-plain moment id tables ∙ ap (option_map (plain_table moment)) found
 
 -- each key of the table that is found is tracked by so many
 pub trackers_of : (id : TableId) (tables : List StoredTable) (stored : StoredTable) (tracks : List Track) → find (is_table id) tables ≡ Some stored → AreCounted tracks tables → AreTrackers (trackers tracks stored.id) stored.entries.entries
@@ -276,8 +285,8 @@ trackers_of id tables stored tracks found counted key =
     let is : stored.id ≡ id = same_id-is stored.id id (find-passes (is_table id) tables stored found) in
     sym (cur_found id key tables stored found) ∙ counted id key ∙ ap (λ i. trackers tracks i key) (sym is)
 
-pub stored_of : (spare : ℕ) (id : TableId) (tables : List StoredTable) (stored : StoredTable) → find (is_table id) tables ≡ Some stored → AllByRecursion (IsStored spare) tables → IsStored spare stored
-stored_of spare id tables stored found each = (all-found (IsStored spare) (is_table id) tables stored each found).0
+pub stored_of : (moment : ℕ) (spare : ℕ) (id : TableId) (tables : List StoredTable) (stored : StoredTable) → find (is_table id) tables ≡ Some stored → AllByRecursion (IsStored moment spare) tables → IsStored moment spare stored
+stored_of moment spare id tables stored found each = (all-found (IsStored moment spare) (is_table id) tables stored each found).0
 
 -- Memory.
 
@@ -300,13 +309,13 @@ grown_set (o ∷ old) (t ∷ tables) zero stored next grown there is =
     (record { same = same; spare = omega (arith, a, b) }, grown.1)
 grown_set (o ∷ old) (t ∷ tables) (suc n) stored next grown there is = (grown.0, grown_set old tables n stored next grown.1 there is)
 
-pub grown_plain : (old tables : List StoredTable) → AreGrown old tables → map plain_table tables ≡ map plain_table old
-grown_plain [] [] grown = refl
-grown_plain [] (t ∷ tables) grown = absurd grown
-grown_plain (o ∷ old) [] grown = absurd grown
-grown_plain (o ∷ old) (t ∷ tables) grown =
-    let first : plain_table t ≡ plain_table o = ap plain_table grown.0.same in
-    let rest = grown_plain old tables grown.1 in
+pub grown_plain : (moment : ℕ) (old tables : List StoredTable) → AreGrown old tables → map (plain_table moment) tables ≡ map (plain_table moment) old
+grown_plain moment [] [] grown = refl
+grown_plain moment [] (t ∷ tables) grown = absurd grown
+grown_plain moment (o ∷ old) [] grown = absurd grown
+grown_plain moment (o ∷ old) (t ∷ tables) grown =
+    let first : plain_table moment t ≡ plain_table moment o = ap (plain_table moment) grown.0.same in
+    let rest = grown_plain moment old tables grown.1 in
     cc (first, rest)
 
 pub grown_cur : (old tables : List StoredTable) → AreGrown old tables → (id : TableId) (key : Addr) → cur_in id key tables ≡ cur_in id key old
@@ -337,67 +346,139 @@ grown_differ (o ∷ old) (t ∷ tables) grown differ =
     let id : o.id ≡ t.id = ap (λ s. s.id) (sym grown.0.same) in
     (subst (λ i. AllByRecursion (λ other. same_id other.id i ≡ false) tables) id (grown_other old tables o.id grown.1 differ.0), grown_differ old tables grown.1 differ.1)
 
-grown_one : (spare : ℕ) (old stored : StoredTable) → IsGrown old stored → IsStored spare old → IsStored spare stored
-grown_one spare old stored grown is = record {
+grown_one : (moment : ℕ) (spare : ℕ) (old stored : StoredTable) → IsGrown old stored → IsStored moment spare old → IsStored moment spare stored
+grown_one moment spare old stored grown is = record {
   kind = ap (λ s. s.entries.kind) grown.same ∙ is.kind ∙ ap (λ s. s.table.kind) (sym grown.same);
   size = ap (λ s. s.entries.size) grown.same ∙ is.size ∙ ap (λ s. s.table.size) (sym grown.same);
   stores = ap (λ s. s.entries.stores) grown.same ∙ is.stores ∙ ap (λ s. s.table.stores) (sym grown.same);
+  expire = ap (λ s. s.entries.expire) grown.same ∙ is.expire ∙ ap (λ s. s.table.expire) (sym grown.same);
+  past = let same = ap (λ s. s.entries.clock) grown.same in let a = is.past in omega (arith, same, a);
+  sound = subst AreSound (sym grown.same) is.sound;
   room = let a = is.room in let b = grown.spare in omega (arith, a, b);
 }
 
-grown_each : (spare : ℕ) (old tables : List StoredTable) → AreGrown old tables → AllByRecursion (IsStored spare) old → AllByRecursion (IsStored spare) tables
-grown_each spare [] [] grown each = tt
-grown_each spare [] (t ∷ tables) grown each = absurd grown
-grown_each spare (o ∷ old) [] grown each = absurd grown
-grown_each spare (o ∷ old) (t ∷ tables) grown each = (grown_one spare o t grown.0 each.0, grown_each spare old tables grown.1 each.1)
+grown_each : (moment : ℕ) (spare : ℕ) (old tables : List StoredTable) → AreGrown old tables → AllByRecursion (IsStored moment spare) old → AllByRecursion (IsStored moment spare) tables
+grown_each moment spare [] [] grown each = tt
+grown_each moment spare [] (t ∷ tables) grown each = absurd grown
+grown_each moment spare (o ∷ old) [] grown each = absurd grown
+grown_each moment spare (o ∷ old) (t ∷ tables) grown each = (grown_one moment spare o t grown.0 each.0, grown_each moment spare old tables grown.1 each.1)
 
-pub grown_tables : (spare : ℕ) (old tables : List StoredTable) → AreGrown old tables → AreTables spare old → AreTables spare tables
-grown_tables spare old tables grown known = record { differ = grown_differ old tables grown known.differ; each = grown_each spare old tables grown known.each }
+pub grown_tables : (moment : ℕ) (spare : ℕ) (old tables : List StoredTable) → AreGrown old tables → AreTables moment spare old → AreTables moment spare tables
+grown_tables moment spare old tables grown known = record { differ = grown_differ old tables grown known.differ; each = grown_each moment spare old tables grown known.each }
 
-room_each : (spare least : ℕ) (tables : List StoredTable) → AllByRecursion (IsStored spare) tables → AllByRecursion (λ stored. least ≤ stored.entries.spare) tables → AllByRecursion (IsStored least) tables
-room_each spare least [] each room = tt
-room_each spare least (t ∷ tables) each room = (record { kind = each.0.kind; size = each.0.size; stores = each.0.stores; room = room.0 }, room_each spare least tables each.1 room.1)
+room_each : (moment : ℕ) (spare least : ℕ) (tables : List StoredTable) → AllByRecursion (IsStored moment spare) tables → AllByRecursion (λ stored. least ≤ stored.entries.spare) tables → AllByRecursion (IsStored moment least) tables
+room_each moment spare least [] each room = tt
+room_each moment spare least (t ∷ tables) each room = (record { kind = each.0.kind; size = each.0.size; stores = each.0.stores; expire = each.0.expire; past = each.0.past; sound = each.0.sound; room = room.0 }, room_each moment spare least tables each.1 room.1)
 
-pub room_tables : (spare least : ℕ) (tables : List StoredTable) → AreTables spare tables → AllByRecursion (λ stored. least ≤ stored.entries.spare) tables → AreTables least tables
-room_tables spare least tables known room = record { differ = known.differ; each = room_each spare least tables known.each room }
+pub room_tables : (moment : ℕ) (spare least : ℕ) (tables : List StoredTable) → AreTables moment spare tables → AllByRecursion (λ stored. least ≤ stored.entries.spare) tables → AreTables moment least tables
+room_tables moment spare least tables known room = record { differ = known.differ; each = room_each moment spare least tables known.each room }
 
 -- A key tracked.
 
-pub token_is : (tracks : List Track) (stored : StoredTable) (spare : ℕ) (token : Option Addr) (addr key : Addr) → IsStored spare stored →
-    token ≡ tracked_key (trackers tracks stored.id) stored.entries.kind stored.entries.size (plain stored.entries.entries) addr → table_key tracks addr (plain_table stored) ≡ Some key → token ≡ Some key
-token_is tracks stored spare token addr key is token_at key_is =
+pub token_is : (moment : ℕ) (tracks : List Track) (stored : StoredTable) (spare : ℕ) (token : Option Addr) (addr key : Addr) → IsStored moment spare stored →
+    token ≡ tracked_key (trackers tracks stored.id) stored.entries.kind stored.entries.size (plain (passed moment stored.entries).entries) addr → table_key tracks addr (plain_table moment stored) ≡ Some key → token ≡ Some key
+token_is moment tracks stored spare token addr key is token_at key_is =
     token_at
-    ∙ ap (λ k. tracked_key (trackers tracks stored.id) k stored.entries.size (plain stored.entries.entries) addr) is.kind
-    ∙ ap (λ n. tracked_key (trackers tracks stored.id) stored.table.kind n (plain stored.entries.entries) addr) is.size
+    ∙ ap (λ k. tracked_key (trackers tracks stored.id) k stored.entries.size (plain (passed moment stored.entries).entries) addr) is.kind
+    ∙ ap (λ n. tracked_key (trackers tracks stored.id) stored.table.kind n (plain (passed moment stored.entries).entries) addr) is.size
     ∙ key_is
 
-pub key_nowhere : (tracks : List Track) (id : TableId) (tables : List StoredTable) (addr key : Addr) → find (is_table id) tables ≡ None → key_at tracks (map plain_table tables) id addr ≡ Some key → ⊥
-key_nowhere tracks id tables addr key none is =
-    let nothing : key_at tracks (map plain_table tables) id addr ≡ None = ap (option_and_then (table_key tracks addr)) (table_nowhere id tables none) in
+pub key_nowhere : (moment : ℕ) (tracks : List Track) (id : TableId) (tables : List StoredTable) (addr key : Addr) → find (is_table id) tables ≡ None → key_at tracks (map (plain_table moment) tables) id addr ≡ Some key → ⊥
+key_nowhere moment tracks id tables addr key none is =
+    let nothing : key_at tracks (map (plain_table moment) tables) id addr ≡ None = ap (option_and_then (table_key tracks addr)) (table_nowhere moment id tables none) in
     let wrong : Some key ≡ None = sym is ∙ nothing in
     absurd (cc)
 
-pub key_there : (tracks : List Track) (id : TableId) (tables : List StoredTable) (stored : StoredTable) (addr key : Addr) → find (is_table id) tables ≡ Some stored → key_at tracks (map plain_table tables) id addr ≡ Some key →
-    table_key tracks addr (plain_table stored) ≡ Some key
-key_there tracks id tables stored addr key found is = sym (ap (option_and_then (table_key tracks addr)) (table_there id tables stored found)) ∙ is
+pub key_there : (moment : ℕ) (tracks : List Track) (id : TableId) (tables : List StoredTable) (stored : StoredTable) (addr key : Addr) → find (is_table id) tables ≡ Some stored → key_at tracks (map (plain_table moment) tables) id addr ≡ Some key →
+    table_key tracks addr (plain_table moment stored) ≡ Some key
+key_there moment tracks id tables stored addr key found is = sym (ap (option_and_then (table_key tracks addr)) (table_there moment id tables stored found)) ∙ is
 
 -- with memory for one tracking less
-less_each : (spare : ℕ) (tables : List StoredTable) → AllByRecursion (IsStored spare) tables → AllByRecursion (IsStored (spare - 1)) tables
-less_each spare [] each = tt
-less_each spare (t ∷ tables) each = (record { kind = each.0.kind; size = each.0.size; stores = each.0.stores; room = let a = each.0.room in omega (arith, a) }, less_each spare tables each.1)
+less_each : (moment : ℕ) (spare : ℕ) (tables : List StoredTable) → AllByRecursion (IsStored moment spare) tables → AllByRecursion (IsStored moment (spare - 1)) tables
+less_each moment spare [] each = tt
+less_each moment spare (t ∷ tables) each = (record { kind = each.0.kind; size = each.0.size; stores = each.0.stores; expire = each.0.expire; past = each.0.past; sound = each.0.sound; room = let a = each.0.room in omega (arith, a) }, less_each moment spare tables each.1)
 
-pub tracking_tables : (spare : ℕ) (tables : List StoredTable) (n : ℕ) (stored next : StoredTable) → slice_get tables n ≡ Some stored →
-    next ≡ record stored { entries = record stored.entries { entries = next.entries.entries; spare = next.entries.spare } } → stored.entries.spare ≤ next.entries.spare + 1 → AreTables spare tables → AreTables (spare - 1) (set tables n next)
-tracking_tables spare tables n stored next there same room known =
-    let was : IsStored spare stored = all-at (IsStored spare) tables n stored known.each there in
-    let is : IsStored (spare - 1) next =
+pub tracking_tables : (moment : ℕ) (spare : ℕ) (tables : List StoredTable) (n : ℕ) (stored next : StoredTable) → slice_get tables n ≡ Some stored →
+    next ≡ record stored { entries = record (passed moment stored.entries) { entries = next.entries.entries; spare = next.entries.spare } } → AreSound next →
+    stored.entries.spare ≤ next.entries.spare + 1 → AreTables moment spare tables → AreTables moment (spare - 1) (set tables n next)
+tracking_tables moment spare tables n stored next there same sound room known =
+    let was : IsStored moment spare stored = all-at (IsStored moment spare) tables n stored known.each there in
+    let is : IsStored moment (spare - 1) next =
     record {
       kind = ap (λ s. s.entries.kind) same ∙ was.kind ∙ ap (λ s. s.table.kind) (sym same);
       size = ap (λ s. s.entries.size) same ∙ was.size ∙ ap (λ s. s.table.size) (sym same);
       stores = ap (λ s. s.entries.stores) same ∙ was.stores ∙ ap (λ s. s.table.stores) (sym same);
+      expire = ap (λ s. s.entries.expire) same ∙ was.expire ∙ ap (λ s. s.table.expire) (sym same);
+      past = let now = ap (λ s. s.entries.clock) same in omega (arith, now);
+      sound = sound;
       room = let a = was.room in omega (arith, a, room);
     } in
-    still_tables spare (spare - 1) tables n stored next there (ap (λ s. s.id) same) known (less_each spare tables known.each) is
+    still_tables moment spare (spare - 1) tables n stored next there (ap (λ s. s.id) same) known (less_each moment spare tables known.each) is
+
+-- Time passes.
+
+pub later_each : (moment later spare : ℕ) (tables : List StoredTable) → moment ≤ later → AllByRecursion (IsStored moment spare) tables → AllByRecursion (IsStored later spare) tables
+later_each moment later spare [] less each = tt
+later_each moment later spare (t ∷ tables) less each = (
+  record {
+    kind = each.0.kind;
+    size = each.0.size;
+    stores = each.0.stores;
+    expire = each.0.expire;
+    past = let a = each.0.past in omega (arith, a, less);
+    sound = each.0.sound;
+    room = each.0.room;
+  },
+  later_each moment later spare tables less each.1,
+)
+
+pub later_tables : (moment later spare : ℕ) (tables : List StoredTable) → moment ≤ later → AreTables moment spare tables → AreTables later spare tables
+later_tables moment later spare tables less known = record { differ = known.differ; each = later_each moment later spare tables less known.each }
+
+pub sound_each : (moment spare : ℕ) (tables : List StoredTable) → AllByRecursion (IsStored moment spare) tables → AllByRecursion AreSound tables
+sound_each moment spare [] each = tt
+sound_each moment spare (t ∷ tables) each = (each.0.sound, sound_each moment spare tables each.1)
+
+-- a table that was shown at a moment is the same at it
+pub shown_same : (moment : ℕ) (table : Listing) → IsShown table → table.clock ≡ moment → (passed moment table).entries ≡ table.entries
+shown_same moment table shown now = living-all table.expire moment table.entries (ap (λ m. list_any (is_gone table.expire m) table.entries) (sym now) ∙ shown.lives)
+
+one_later : (moment later spare : ℕ) (stored : StoredTable) (tracks : List Track) → moment ≤ later → IsStored moment spare stored → AreTrackers (trackers tracks stored.id) stored.entries.entries →
+    plain_table later stored ≡ table_alive later tracks (plain_table moment stored)
+one_later moment later spare stored tracks less is agree =
+    let f : Addr → ℕ = trackers tracks stored.id in
+    let with_entries : List PlainEntry → TableState = λ entries. record { id = stored.id; table = stored.table; entries = entries } in
+    ap with_entries
+    (alive-later f stored.entries.size stored.entries.expire moment later stored.entries.entries less is.sound agree
+    ∙ ap (λ expire. alive f expire later (plain (passed moment stored.entries).entries)) is.expire)
+
+-- each table is found by its incarnation
+own_found : (tables : List StoredTable) → TablesDiffer tables → AllByRecursion (λ stored. find (is_table stored.id) tables ≡ Some stored) tables
+own_found [] differ = tt
+own_found (x ∷ tables) differ = (
+  rw (same_id-refl x.id) refl,
+  all-more (λ stored. (same_id stored.id x.id ≡ false) × (find (is_table stored.id) tables ≡ Some stored)) (λ stored. find (is_table stored.id) (x ∷ tables) ≡ Some stored) tables
+      (λ stored both. rw (differ_sym stored.id x.id both.0) both.1)
+      (all-both (λ stored. same_id stored.id x.id ≡ false) (λ stored. find (is_table stored.id) tables ≡ Some stored) tables differ.0 (own_found tables differ.1)),
+)
+
+abbrev AreAgreed : List Track → StoredTable → Type 0
+AreAgreed tracks stored = AreTrackers (trackers tracks stored.id) stored.entries.entries
+
+each_later : (moment later spare : ℕ) (tables : List StoredTable) (tracks : List Track) → moment ≤ later → AllByRecursion (IsStored moment spare) tables → AllByRecursion (AreAgreed tracks) tables →
+    map (plain_table later) tables ≡ tables_alive later tracks (map (plain_table moment) tables)
+each_later moment later spare [] tracks less each agreed = refl
+each_later moment later spare (t ∷ tables) tracks less each agreed =
+    let here : plain_table later t ≡ table_alive later tracks (plain_table moment t) = one_later moment later spare t tracks less each.0 agreed.0 in
+    let rest : map (plain_table later) tables ≡ tables_alive later tracks (map (plain_table moment) tables) = each_later moment later spare tables tracks less each.1 agreed.1 in
+    cc (here, rest)
+
+-- where so many track each key, the tables later on are those that live on
+pub tables_later : (moment later spare : ℕ) (tables : List StoredTable) (tracks : List Track) → moment ≤ later → AreTables moment spare tables → AreCounted tracks tables →
+    map (plain_table later) tables ≡ tables_alive later tracks (map (plain_table moment) tables)
+tables_later moment later spare tables tracks less known counted =
+    each_later moment later spare tables tracks less known.each
+    (all-more (λ stored. find (is_table stored.id) tables ≡ Some stored) (AreAgreed tracks) tables (λ stored found. trackers_of stored.id tables stored tracks found counted) (own_found tables known.differ))
 
 -- The place of a table.
 

@@ -4,6 +4,7 @@ use Rattle.std.specs.List.{list_any, enumerate_from, AllByRecursion}
 use Rattle.std.specs.Option.{option_map_or}
 use Rattle.addr_core.specs.declared.addr.Addr.{Addr}
 use Rattle.stick_core.specs.Entries.{cur_of}
+use Rattle.stick_core.specs.Listing.{passed, IsSound}
 use Rattle.stick_core.specs.PlainEntries.{plain, tracked_key}
 use Rattle.plan_types.specs.declared.plan.Table.{Table}
 use Rattle.plan_types.specs.declared.track.TableId.{TableId}
@@ -16,11 +17,14 @@ use Rattle.conn_tables.specs.declared.tables.StoredTable.{StoredTable}
 -- what contracts see of the tables
 pub record StoredTables : Type 0 where
   pub tables : List StoredTable
+  -- the moment up to which time has passed
+  pub clock : ℕ
   -- for how many more trackings each has memory
   pub spare : ℕ
 
-abbrev pub plain_table : StoredTable → TableState
-plain_table stored = record { id = stored.id; table = stored.table; entries = plain stored.entries.entries }
+-- as it is at a moment
+abbrev pub plain_table : ℕ → StoredTable → TableState
+plain_table moment stored = record { id = stored.id; table = stored.table; entries = plain (passed moment stored.entries).entries }
 
 abbrev pub is_table : TableId → StoredTable → Bool
 is_table id stored = same_id stored.id id
@@ -33,11 +37,14 @@ cur_in id key tables = option_map_or (λ stored. cur_of key stored.entries.entri
 abbrev pub AreCounted : List Track → List StoredTable → Type 0
 AreCounted tracks tables = (id : TableId) (key : Addr) → cur_in id key tables ≡ trackers tracks id key
 
--- it is as its line says, with memory for so many more trackings
-pub record IsStored (spare : ℕ) (stored : StoredTable) : Type 0 where
+-- it is as its line says, was touched up to a moment, and has memory for so many more trackings
+pub record IsStored (moment spare : ℕ) (stored : StoredTable) : Type 0 where
   pub kind : stored.entries.kind ≡ stored.table.kind
   pub size : stored.entries.size ≡ stored.table.size
   pub stores : stored.entries.stores ≡ stored.table.stores
+  pub expire : stored.entries.expire ≡ stored.table.expire
+  pub past : stored.entries.clock ≤ moment
+  pub sound : IsSound stored.entries.size stored.entries.entries
   pub room : spare ≤ stored.entries.spare
 
 -- no two are of one incarnation
@@ -45,9 +52,9 @@ abbrev pub TablesDiffer : List StoredTable → Type 0
 TablesDiffer [] = Unit {0}
 TablesDiffer (stored ∷ tables) = AllByRecursion (λ other. same_id other.id stored.id ≡ false) tables × TablesDiffer tables
 
-pub record AreTables (spare : ℕ) (tables : List StoredTable) : Type 0 where
+pub record AreTables (moment spare : ℕ) (tables : List StoredTable) : Type 0 where
   pub differ : TablesDiffer tables
-  pub each : AllByRecursion (IsStored spare) tables
+  pub each : AllByRecursion (IsStored moment spare) tables
 
 -- The key under which a table tracks an address, if it does.
 

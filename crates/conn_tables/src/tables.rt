@@ -5,11 +5,12 @@ ghost use Rattle.std.specs.List.{AllByRecursion, enumerate_from, position};
 ghost use Rattle.addr_core.specs.declared.addr.Addr.{Addr};
 ghost use Rattle.proxy_types.specs.declared.limits.TheConstants.{MOST_TABLES};
 ghost use Rattle.stick_core.specs.Entries.{cur_of};
+ghost use Rattle.stick_core.specs.Listing.{passed, IsSound};
 ghost use Rattle.stick_core.specs.PlainEntries.{AreTrackers, plain, trackings_of, with_tracking};
 ghost use Rattle.plan_types.specs.declared.track.TableId.{TableId};
 ghost use Rattle.plan_types.specs.declared.track.Track.{Track};
 ghost use Rattle.plan_types.specs.declared.plan.Table as plans;
-ghost use Rattle.conn_model.specs.Tables.{entry_counts, is_listed_by, new_table, new_tables, table_at, trackers, with_track, without_tracks};
+ghost use Rattle.conn_model.specs.Tables.{entry_counts, is_listed_by, new_table, new_tables, table_at, trackers, with_track, without_tracks, tables_alive};
 ghost use Rattle.conn_tables.specs.Tables.{AreCounted, AreGrown, AreNextIds, IsGrown, IsStored, TablesDiffer, begun_table, cur_in, is_begun, is_id_listed, is_listed_in, is_table, key_at, plain_table, table_key};
 ghost use Rattle.conn_tables.specs.Tracks.{counter_on, plain_tracks, track_on, tracks_on};
 
@@ -38,13 +39,13 @@ pub struct StoredTable {
 impl StoredTable {
     /// A table without entries.
     fn new(alloc: Global, id: TableId, table: &Table) -> Result<StoredTable, AllocError>
-        ensures plain { IfOk result (λ stored. plain_table stored ≡ record { id = id; table = table.now; entries = [] }) }
-        ensures stored { IfOk result (λ stored. IsStored 0 stored) }
+        ensures plain { IfOk result (λ stored. (moment : ℕ) → plain_table moment stored ≡ record { id = id; table = table.now; entries = [] }) }
+        ensures stored { IfOk result (λ stored. IsStored 0 0 stored) }
     {
         Ok(StoredTable {
             id,
             table: table.duplicate(alloc)?,
-            entries: StickTable::new(alloc, table.kind, table.size, table.stores),
+            entries: StickTable::new(alloc, table.kind, table.size, table.stores, table.expire),
         })
     }
 
@@ -55,20 +56,22 @@ impl StoredTable {
         table: &Table,
         spare: usize,
     ) -> Result<StoredTable, AllocError>
-        ensures plain { IfOk result (λ stored. plain_table stored ≡ begun_table (table.now, id)) }
-        ensures stored { IfOk result (λ stored. IsStored spare stored) }
+        ensures plain { IfOk result (λ stored. (moment : ℕ) → plain_table moment stored ≡ begun_table (table.now, id)) }
+        ensures stored { IfOk result (λ stored. IsStored 0 spare stored) }
     {
         let mut stored = StoredTable::new(alloc, id, table)?;
         stored.reserve(spare)?;
         Ok(stored)
     }
 
-    /// How many track an address, and how often it was tracked.
-    fn counts(&self, addr: &Addr) -> Counts
-        requires { self.now.entries.kind ≡ self.now.table.kind }
-        ensures { (tracks : List Track) → AreTrackers (trackers tracks self.now.id) self.now.entries.entries → result ≡ entry_counts tracks addr.now (plain_table self.now) }
+    /// How many track an address, and how often it was tracked, as it is at a moment.
+    fn counts(&self, addr: &Addr, moment: u64) -> Counts
+        requires kind { self.now.entries.kind ≡ self.now.table.kind }
+        requires past { self.now.entries.clock ≤ moment }
+        ensures { (tracks : List Track) → AreTrackers (trackers tracks self.now.id) self.now.entries.entries →
+            result ≡ entry_counts tracks addr.now (plain_table moment self.now) }
     {
-        let counts = self.entries.counts(addr);
+        let counts = self.entries.counts(addr, moment);
         Counts {
             cur: counts.cur,
             cnt: counts.cnt,
@@ -79,25 +82,28 @@ impl StoredTable {
     fn key_for(&self, addr: &Addr) -> Option<Addr>
         requires kind { self.now.entries.kind ≡ self.now.table.kind }
         requires size { self.now.entries.size ≡ self.now.table.size }
-        ensures { (tracks : List Track) → AreTrackers (trackers tracks self.now.id) self.now.entries.entries → result ≡ table_key tracks addr.now (plain_table self.now) }
+        ensures { (moment : ℕ) (tracks : List Track) → AreTrackers (trackers tracks self.now.id) self.now.entries.entries →
+            result ≡ table_key tracks addr.now (plain_table moment self.now) }
     {
         self.entries.key_for(addr)
     }
 
-    /// Tracks a key, for which there is memory.
-    fn track(&mut self, key: &Addr) -> TrackToken
-        requires stored { (spare : ℕ) × IsStored spare self.old }
+    /// Tracks a key at a moment, for which there is memory.
+    fn track(&mut self, key: &Addr, moment: u64) -> TrackToken
+        requires stored { (spare : ℕ) × IsStored moment spare self.old }
         requires below { (other : Addr) → cur_of other self.old.entries.entries < 2 ^ 64 - 1 }
         requires room { 0 < self.old.entries.spare }
-        requires key { (tracks : List Track) × AreTrackers (trackers tracks self.old.id) self.old.entries.entries × (table_key tracks key.now (plain_table self.old) ≡ Some key.now) }
+        requires key { (tracks : List Track) × AreTrackers (trackers tracks self.old.id) self.old.entries.entries × (table_key tracks key.now (plain_table moment self.old) ≡ Some key.now) }
         ensures token { result ≡ key.now }
-        ensures same { self.new ≡ record self.old { entries = record self.old.entries { entries = self.new.entries.entries; spare = self.new.entries.spare } } }
+        ensures same { self.new ≡ record self.old { entries = record (passed moment self.old.entries) { entries = self.new.entries.entries; spare = self.new.entries.spare } } }
         ensures plain { (tracks : List Track) → AreTrackers (trackers tracks self.old.id) self.old.entries.entries →
-            plain self.new.entries.entries ≡ with_tracking (trackers tracks self.old.id) self.old.table.size key.now (plain self.old.entries.entries) }
+            plain (passed moment self.new.entries).entries
+            ≡ with_tracking moment (trackers tracks self.old.id) self.old.table.size key.now (plain (passed moment self.old.entries).entries) }
+        ensures sound { IsSound self.new.entries.size self.new.entries.entries }
         ensures counts { (other : Addr) → cur_of other self.new.entries.entries ≡ cur_of other self.old.entries.entries + trackings_of other (Some key.now) }
         ensures spare { self.old.entries.spare ≤ self.new.entries.spare + 1 }
     {
-        match self.entries.track(key) {
+        match self.entries.track(key, moment) {
             Ok(Some(token)) => token,
             Ok(None) | Err(_) => unreachable!(),
         }
@@ -111,14 +117,15 @@ impl StoredTable {
         self.entries.reserve(more)
     }
 
-    /// An equal table, as plain data.
-    fn plain(&self, alloc: Global) -> Result<TableState, AllocError>
-        ensures { IfOk result (λ state. state ≡ plain_table self.now) }
+    /// An equal table as it is at a moment, as plain data.
+    fn plain(&self, alloc: Global, moment: u64) -> Result<TableState, AllocError>
+        requires { self.now.entries.clock ≤ moment }
+        ensures { IfOk result (λ state. state ≡ plain_table moment self.now) }
     {
         Ok(TableState {
             id: self.id,
             table: self.table.duplicate(alloc)?,
-            entries: self.entries.entries(alloc)?,
+            entries: self.entries.entries(alloc, moment)?,
         })
     }
 }
@@ -127,6 +134,8 @@ impl StoredTable {
 #[derive(Debug, Drop)]
 pub struct Tables {
     tables: Vec<StoredTable>,
+    /// The moment up to which time has passed, for all of them.
+    clock: u64,
     /// For how many more trackings each has memory.
     spare: u64,
 }
@@ -136,16 +145,17 @@ impl Model for Tables {
 
     ghost Value = { StoredTables };
 
-    ghost view = { λ t. record { tables = t.tables.items; spare = t.spare } };
+    ghost view = { λ t. record { tables = t.tables.items; clock = t.clock; spare = t.spare } };
 
-    ghost invariant = { λ t. AreTables t.spare t.tables.items };
+    ghost invariant = { λ t. AreTables t.clock t.spare t.tables.items };
 }
 
 impl Tables {
     /// The tables that begin with a version, without entries.
     pub fn new(alloc: Global, version: u64, tables: &[Table]) -> Result<Tables, AllocError>
         requires { length tables.now ≤ MOST_TABLES }
-        ensures plain { IfOk result (λ all. map plain_table all.tables ≡ map (new_table version) (enumerate_from 0 tables.now)) }
+        ensures plain { IfOk result (λ all. map (plain_table all.clock) all.tables ≡ map (new_table version) (enumerate_from 0 tables.now)) }
+        ensures clock { IfOk result (λ all. all.clock ≡ 0) }
         ensures counts { IfOk result (λ all. (id : TableId) (key : Addr) → cur_in id key all.tables ≡ 0) }
         ensures spare { IfOk result (λ all. all.spare ≡ 0) }
     {
@@ -159,6 +169,7 @@ impl Tables {
         }
         Ok(Tables {
             tables: stored,
+            clock: 0,
             spare: 0,
         })
     }
@@ -176,7 +187,8 @@ impl Tables {
         requires next { (before : List (plans.Table × TableId)) × AreNextIds version before tables.now ids.now }
         requires earlier { AllByRecursion (λ stored. stored.id.version < version) self.old.tables }
         ensures ok { OnOk result ((before : List (plans.Table × TableId)) → AreNextIds version before tables.now ids.now →
-            map plain_table self.new.tables ≡ map plain_table self.old.tables ++ new_tables version before tables.now) }
+            map (plain_table self.new.clock) self.new.tables ≡ map (plain_table self.old.clock) self.old.tables ++ new_tables version before tables.now) }
+        ensures clock { self.new.clock ≡ self.old.clock }
         ensures err { OnErr result (self.new ≡ self.old) }
         ensures counts { (id : TableId) (key : Addr) → cur_in id key self.new.tables ≡ cur_in id key self.old.tables }
         ensures spare { self.new.spare ≡ self.old.spare }
@@ -188,7 +200,8 @@ impl Tables {
     /// Forgets the tables that none of the versions lists. Nobody tracks a key of them. It takes no memory.
     pub fn forget(&mut self, versions: &[Version])
         requires { (id : TableId) → is_listed_in versions.now id ≡ false → (key : Addr) → cur_in id key self.old.tables ≡ 0 }
-        ensures plain { map plain_table self.new.tables ≡ filter (is_listed_by versions.now) (map plain_table self.old.tables) }
+        ensures plain { map (plain_table self.new.clock) self.new.tables ≡ filter (is_listed_by versions.now) (map (plain_table self.old.clock) self.old.tables) }
+        ensures clock { self.new.clock ≡ self.old.clock }
         ensures counts { (id : TableId) (key : Addr) → cur_in id key self.new.tables ≡ cur_in id key self.old.tables }
         ensures spare { self.new.spare ≡ self.old.spare }
     {
@@ -197,34 +210,58 @@ impl Tables {
 
     /// Equal tables, as plain data.
     pub fn plain(&self, alloc: Global) -> Result<Seq<TableState>, AllocError>
-        ensures { IfOk result (λ states. states ≡ map plain_table self.now.tables) }
+        ensures { IfOk result (λ states. states ≡ map (plain_table self.now.clock) self.now.tables) }
     {
         let mut states = Seq::new(alloc);
         for stored in &self.tables {
-            states.push(stored.plain(alloc)?)?;
+            states.push(stored.plain(alloc, self.clock)?)?;
         }
         Ok(states)
     }
 
-    /// How many track an address in the table of that incarnation, and how often it was tracked.
-    pub fn counts(&self, id: TableId, addr: &Addr) -> Option<Counts>
-        ensures { (tracks : List Track) → AreCounted tracks self.now.tables → result ≡ option_map (entry_counts tracks addr.now) (table_at (map plain_table self.now.tables) id) }
+    /// The moment up to which time has passed.
+    pub fn clock(&self) -> u64
+        ensures value { result ≡ self.now.clock }
+
+        // No entry is gone by then.
+        ensures alive { (tracks : List Track) → AreCounted tracks self.now.tables →
+            tables_alive self.now.clock tracks (map (plain_table self.now.clock) self.now.tables) ≡ map (plain_table self.now.clock) self.now.tables }
+    {
+        self.clock
+    }
+
+    /// Lets time pass.
+    pub fn pass(&mut self, moment: u64)
+        requires { self.old.clock ≤ moment }
+        ensures value { self.new ≡ record self.old { clock = moment } }
+        ensures plain { (tracks : List Track) → AreCounted tracks self.old.tables →
+            map (plain_table moment) self.old.tables ≡ tables_alive moment tracks (map (plain_table self.old.clock) self.old.tables) }
+    {
+        self.clock = moment;
+    }
+
+    /// How many track an address in the table of that incarnation, and how often it was tracked, as it is at a moment.
+    pub fn counts(&self, id: TableId, addr: &Addr, moment: u64) -> Option<Counts>
+        requires { self.now.clock ≤ moment }
+        ensures { (tracks : List Track) → AreCounted tracks self.now.tables →
+            result ≡ option_map (entry_counts tracks addr.now) (table_at (tables_alive moment tracks (map (plain_table self.now.clock) self.now.tables)) id) }
     {
         let stored = find_table(self.tables.as_slice(), id)?;
-        Some(stored.counts(addr))
+        Some(stored.counts(addr, moment))
     }
 
     /// The table of that incarnation, as its line has it.
     pub fn table(&self, id: TableId) -> Option<&Table>
-        ensures { option_copied result ≡ option_map (λ table. table.table) (table_at (map plain_table self.now.tables) id) }
+        ensures { option_copied result ≡ option_map (λ table. table.table) (table_at (map (plain_table self.now.clock) self.now.tables) id) }
     {
         let stored = find_table(self.tables.as_slice(), id)?;
         Some(&stored.table)
     }
 
-    /// The key under which the table of that incarnation would track an address, if it could.
+    /// The key under which the table of that incarnation would track an address, if it could, at whatever moment.
     pub fn key_for(&self, id: TableId, addr: &Addr) -> Option<Addr>
-        ensures { (tracks : List Track) → AreCounted tracks self.now.tables → result ≡ key_at tracks (map plain_table self.now.tables) id addr.now }
+        ensures { (moment : ℕ) (tracks : List Track) → self.now.clock ≤ moment → AreCounted tracks self.now.tables →
+            result ≡ key_at tracks (tables_alive moment tracks (map (plain_table self.now.clock) self.now.tables)) id addr.now }
     {
         let stored = find_table(self.tables.as_slice(), id)?;
         stored.key_for(addr)
@@ -235,7 +272,8 @@ impl Tables {
     pub fn reserve(&mut self, more: u64) -> Result<(), AllocError>
         ensures room { OnOk result (more ≤ self.new.spare) }
         ensures spare { self.old.spare ≤ self.new.spare }
-        ensures plain { map plain_table self.new.tables ≡ map plain_table self.old.tables }
+        ensures plain { map (plain_table self.new.clock) self.new.tables ≡ map (plain_table self.old.clock) self.old.tables }
+        ensures clock { self.new.clock ≡ self.old.clock }
         ensures counts { (id : TableId) (key : Addr) → cur_in id key self.new.tables ≡ cur_in id key self.old.tables }
     {
         if more <= self.spare {
@@ -251,17 +289,19 @@ impl Tables {
     pub fn track(&mut self, id: TableId, key: &Addr) -> Tracking
         requires below { (table : TableId) (other : Addr) → cur_in table other self.old.tables < 2 ^ 64 - 1 }
         requires spare { 0 < self.old.spare }
-        requires key { (tracks : List Track) × AreCounted tracks self.old.tables × (key_at tracks (map plain_table self.old.tables) id key.now ≡ Some key.now) }
+        requires key { (tracks : List Track) × AreCounted tracks self.old.tables × (key_at tracks (map (plain_table self.old.clock) self.old.tables) id key.now ≡ Some key.now) }
         ensures tracking { result ≡ record { table = id; token = key.now } }
         ensures plain { (tracks : List Track) → AreCounted tracks self.old.tables → (counter : ℕ) →
-            map plain_table self.new.tables ≡ with_track tracks (record { counter = counter; table = id; key = key.now }) (map plain_table self.old.tables) }
+            map (plain_table self.new.clock) self.new.tables
+            ≡ with_track self.old.clock tracks (record { counter = counter; table = id; key = key.now }) (map (plain_table self.old.clock) self.old.tables) }
+        ensures clock { self.new.clock ≡ self.old.clock }
         ensures counts { (table : TableId) (other : Addr) → cur_in table other self.new.tables ≡ cur_in table other self.old.tables + counter_on table other (Some (record { table = id; token = key.now })) }
         ensures spare { self.new.spare + 1 ≡ self.old.spare }
     {
         let Some(place) = place_of(self.tables.as_slice(), id) else {
             unreachable!()
         };
-        let token = self.tables[place].track(key);
+        let token = self.tables[place].track(key, self.clock);
         self.spare -= 1;
         Tracking { table: id, token }
     }
@@ -270,7 +310,8 @@ impl Tables {
     pub fn release(&mut self, tracks: Trackings)
         requires { (id : TableId) (key : Addr) → tracks_on id key tracks ≤ cur_in id key self.old.tables }
         ensures counts { (id : TableId) (key : Addr) → cur_in id key self.new.tables + tracks_on id key tracks ≡ cur_in id key self.old.tables }
-        ensures plain { map plain_table self.new.tables ≡ without_tracks (plain_tracks tracks) (map plain_table self.old.tables) }
+        ensures plain { map (plain_table self.new.clock) self.new.tables ≡ without_tracks self.old.clock (plain_tracks tracks) (map (plain_table self.old.clock) self.old.tables) }
+        ensures clock { self.new.clock ≡ self.old.clock }
         ensures spare { self.new.spare ≡ self.old.spare }
     {
         let Trackings { sc0, sc1, sc2 } = tracks;
@@ -283,7 +324,9 @@ impl Tables {
     fn release_one(&mut self, tracking: Option<Tracking>)
         requires { (id : TableId) (key : Addr) → counter_on id key tracking ≤ cur_in id key self.old.tables }
         ensures counts { (id : TableId) (key : Addr) → cur_in id key self.new.tables + counter_on id key tracking ≡ cur_in id key self.old.tables }
-        ensures plain { (counter : ℕ) → map plain_table self.new.tables ≡ without_tracks (track_on counter tracking) (map plain_table self.old.tables) }
+        ensures plain { (counter : ℕ) →
+            map (plain_table self.new.clock) self.new.tables ≡ without_tracks self.old.clock (track_on counter tracking) (map (plain_table self.old.clock) self.old.tables) }
+        ensures clock { self.new.clock ≡ self.old.clock }
         ensures spare { self.new.spare ≡ self.old.spare }
     {
         let Some(tracking) = tracking else {
@@ -291,7 +334,7 @@ impl Tables {
         };
         let Tracking { table, token } = tracking;
         match place_of(self.tables.as_slice(), table) {
-            Some(place) => self.tables[place].entries.release(token),
+            Some(place) => self.tables[place].entries.release(token, self.clock),
             None => unreachable!(),
         }
     }
@@ -306,8 +349,8 @@ fn begin_all(
     spare: usize,
 ) -> Result<Vec<StoredTable>, AllocError>
     requires { length tables.now ≤ length ids.now }
-    ensures plain { IfOk result (λ begun. map plain_table begun.items ≡ map begun_table (filter (is_begun version) (zip tables.now ids.now))) }
-    ensures each { IfOk result (λ begun. AllByRecursion (IsStored spare) begun.items) }
+    ensures plain { IfOk result (λ begun. (moment : ℕ) → map (plain_table moment) begun.items ≡ map begun_table (filter (is_begun version) (zip tables.now ids.now))) }
+    ensures each { IfOk result (λ begun. AllByRecursion (IsStored 0 spare) begun.items) }
 {
     let mut begun = Vec::new(alloc);
     for (place, table) in tables.iter().enumerate() {

@@ -92,6 +92,7 @@ fn same_table(a: &Table, b: &Table) -> bool
         && same_kind(a.kind, b.kind)
         && a.size == b.size
         && same_stores(a.stores, b.stores)
+        && a.expire == b.expire
 }
 
 fn same_section(a: Section, b: Section) -> bool

@@ -67,11 +67,11 @@ fn printed_table(alloc: Global) -> Result<String, AllocError> {
         cur: true,
         cnt: false,
     };
-    let mut table = StickTable::new(alloc, KeyType::Ip, 2, stores);
-    let tracked = table.track(&Addr::V4(7))?;
+    let mut table = StickTable::new(alloc, KeyType::Ip, 2, stores, 30_000);
+    let tracked = table.track(&Addr::V4(7), 5)?;
     let text = format!(in alloc; "{table:?}");
     if let Some(token) = tracked {
-        table.release(token);
+        table.release(token, 6);
     }
     text
 }
@@ -82,7 +82,8 @@ fn table_is_printed(rt: HostRuntime) {
         Ok(text) => {
             text.as_str()
                 == "StickTable { kind: Ip, size: 2, stores: Stores { cur: true, cnt: false }, \
-                    touched: TouchList { index: {V4(7): Counts { cur: 1, cnt: 1 }}, \
+                    expire: 30000, clock: 5, \
+                    touched: TouchList { index: {V4(7): Counts { cur: 1, cnt: 1, last_touch: 5 }}, \
                     touched: Order { ends: Link { before: 0, after: 0 }, \
                     links: [Link { before: 4294967295, after: 4294967295 }] }, \
                     free: Order { ends: Link { before: 4294967295, after: 4294967295 }, \

@@ -28,8 +28,8 @@ use Rattle.conn_model.specs.declared.reply.Said.{Said}
 use Rattle.conn_model.specs.declared.reply.Said.TheVariants as saids
 use Rattle.conn_model.specs.declared.reply.StepFault.{StepFault}
 use Rattle.conn_model.specs.declared.reply.StepFault.TheVariants.{NoMemory}
-use Rattle.conn_model.specs.Answer.{admission, answer_in, candidate_at, frontend_in, new_row, row_at, row_in}
-use Rattle.conn_model.specs.History.{after, by_counter, entry, id_of, listeners_of, newest_number, opening, tables_by, with_said, IsFault, IsLegal}
+use Rattle.conn_model.specs.Answer.{admission, answer_in, at_moment, candidate_at, frontend_in, new_row, row_at, row_in}
+use Rattle.conn_model.specs.History.{after, by_counter, entry, id_of, listeners_of, newest_number, opening, tables_passed, with_said, IsFault, IsLegal}
 use Rattle.conn_model.proofs.Lists.{all-more}
 use Rattle.conn_model.proofs.Replies.{accepted, admission-id, Accepted}
 use Rattle.conn_model.proofs.Steps.{after-accept, rows_left}
@@ -175,16 +175,16 @@ row_waits plan listener real reply id count is said =
     p : Plain
     p = opening plan 0
 
-    got : Accepted p 0 listener real reply
-    got = accepted p 0 listener real reply is
+    got : Accepted (at_moment 0 p) 0 listener real reply
+    got = accepted (at_moment 0 p) 0 listener real reply is
 
-    said_is : (admission (candidate_at p 0 got.at.frontend real got.own got.version got.frontend) got.at.accept_proxy real (length got.own.rows)).said ≡ saids.Wait id count
+    said_is : (admission (candidate_at (at_moment 0 p) 0 got.at.frontend real got.own got.version got.frontend) got.at.accept_proxy real (length got.own.rows)).said ≡ saids.Wait id count
     said_is = ap (λ (r : Reply). r.said) got.reply_is ∙ said
 
     id_is : id ≡ record { frontend = got.at.frontend; serial = got.own.serial + 1 }
     id_is =
         let e : Some id ≡ Some (record { frontend = got.at.frontend; serial = got.own.serial + 1 }) =
-        ap id_of (sym said_is) ∙ admission-id (candidate_at p 0 got.at.frontend real got.own got.version got.frontend) got.at.accept_proxy real (length got.own.rows) in cc
+        ap id_of (sym said_is) ∙ admission-id (candidate_at (at_moment 0 p) 0 got.at.frontend real got.own got.version got.frontend) got.at.accept_proxy real (length got.own.rows) in cc
 
     there : slice_get p.frontends id.frontend ≡ Some got.own
     there = ap (λ (i : ConnId). slice_get p.frontends i.frontend) id_is ∙ got.there
@@ -208,7 +208,7 @@ row_waits plan listener real reply id count is said =
       listeners = p.listeners;
       frontends = slice_set p.frontends id.frontend (record got.own { serial = got.own.serial + 1; rows = got.own.rows ++ rows_left p 0 real reply.tracks.items said });
       versions = with_said (newest_number p) said p.versions;
-      tables = tables_by p.frontends p.tables reply;
+      tables = tables_passed 0 p.frontends p.tables reply;
     }
 
     state : after (opening plan 0) (entry 0 (Accept listener real) reply ∷ []) ≡ record {
@@ -216,7 +216,7 @@ row_waits plan listener real reply id count is said =
       listeners = p.listeners;
       frontends = slice_set p.frontends id.frontend next;
       versions = p.versions;
-      tables = tables_by p.frontends p.tables reply;
+      tables = tables_passed 0 p.frontends p.tables reply;
     }
     state =
         after-accept p (opening_well plan 0) 0 listener real reply id got.own there (ap id_of said) (ap (λ (i : ConnId). i.serial) id_is)

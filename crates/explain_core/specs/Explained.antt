@@ -16,7 +16,7 @@ use Rattle.conn_model.specs.declared.plain.Plain.{Plain}
 use Rattle.conn_model.specs.declared.reply.Reply.{Reply}
 use Rattle.conn_model.specs.declared.reply.Said.{Said}
 use Rattle.conn_model.specs.declared.reply.Said.TheVariants as saids
-use Rattle.conn_model.specs.Answer.{answer_in, judged_pair}
+use Rattle.conn_model.specs.Answer.{answer_in, at_moment, judged_pair}
 use Rattle.conn_model.specs.Rules.{rejection, scene_of, worth}
 use Rattle.conn_model.specs.History.{after, entry}
 use Rattle.event_text.specs.Replies.{reply_line}
@@ -78,19 +78,20 @@ pub record AreTriedAt (accept_proxy : Bool) (facts : RuleFacts) (trials : Option
   pub judged : is_judged_at accept_proxy facts ≡ true → AreTriedBy facts (entry_says facts).tracks trials
   pub nothing : is_judged_at accept_proxy facts ≡ false → trials ≡ None
 
--- all that its accept tries
+-- all that its accept tries, at moment 0
 pub record IsTriedNext (p : Plain) (listener : ℕ) (real : PairValue) (accept_proxy : Bool) (rules : List Tried) (rest : Option Trials) : Type 0 where
   pub facts : RuleFacts
-  pub sees : SeesNext p listener real facts
+  pub sees : SeesNext (at_moment 0 p) listener real facts
   pub entry : rules ≡ entry_tried facts
   pub trials : AreTriedAt accept_proxy facts rest
 
 -- After its header.
 
--- what is tried of a connection that is judged by that pair, once its header of so many bytes is whole, and as text
+-- what is tried at moment 0 of a connection that is judged by that pair, once its header of so many bytes is whole, and
+-- as text
 pub record IsTriedLater (p : Plain) (lines : List Line) (id : ConnId) (judged : PairValue) (header : List ℕ) (count : ℕ) (trials : Option Trials) (text : List ℕ) : Type 0 where
   pub facts : RuleFacts
-  pub sees : SeesWaiting p id judged facts
+  pub sees : SeesWaiting (at_moment 0 p) id judged facts
   pub tried : AreTriedBy facts no_tracks trials
   pub text_is : text ≡ header_text header count judged ++ option_map_or (trials_text lines facts) trials []
 

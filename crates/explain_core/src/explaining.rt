@@ -214,7 +214,7 @@ impl Shower<'_, '_> {
             × (text.new.items ≡ text.old.items
             ++ accept_text self.now.lines.now next.facts at.now it.0.items it.1)) }
     {
-        let Some(facts) = core.arriving(number, real) else {
+        let Some(facts) = core.arriving(number, real, 0) else {
             unreachable!()
         };
         let entry = try_entry(self.alloc, &facts)?;
@@ -243,7 +243,7 @@ impl Shower<'_, '_> {
             Fed::Bad(_, _) => Ok(None),
             Fed::Whole(meaning, used) => {
                 let judged = judged_pair(real, meaning);
-                let Some(facts) = core.waiting(id, judged) else {
+                let Some(facts) = core.waiting(id, judged, 0) else {
                     unreachable!()
                 };
                 let trials = try_session(self.alloc, &facts, NO_TRACKS)?;

@@ -22,8 +22,8 @@ use Rattle.conn_model.specs.declared.plain.Row.{Row}
 use Rattle.conn_model.specs.declared.plain.Version.{Version}
 use Rattle.rule_engine.specs.Judging.{no_tracks, TrackSlots}
 use Rattle.conn_model.specs.Rules.{Candidate, rejection, view_of}
-use Rattle.conn_model.specs.Answer.{admission, answer_in, candidate_at, candidate_of, decision, demands_header, entry_reply, entry_rules, frontend_in, header_reply, judged_pair, new_row, row_in, said_of, verdict, NumberedServer}
-use Rattle.conn_model.specs.History.{after, by_counter, entry, id_of, new_version, newest_number, opening, tables_by, with_said, IsWell}
+use Rattle.conn_model.specs.Answer.{admission, answer_in, at_moment, candidate_at, candidate_of, decision, demands_header, entry_reply, entry_rules, frontend_in, header_reply, judged_pair, new_row, row_in, said_of, verdict, NumberedServer}
+use Rattle.conn_model.specs.History.{after, by_counter, entry, id_of, new_version, newest_number, opening, tables_passed, with_said, IsWell}
 use Rattle.conn_model.proofs.Replies.{accepted, admission-id, Accepted}
 use Rattle.conn_model.proofs.Steps.{after-accept, rows_left}
 use Rattle.conn_model.proofs.Well.{opening_well}
@@ -67,14 +67,14 @@ header_uses candidate real count (statuses.Whole used meaning) within = decision
 -- an accept uses no byte
 pub accept_uses : (p : Plain) (listener : ℕ) (real : PairValue) (reply : Reply) → answer_in p 0 (Accept listener real) ≡ Ok reply → UsesAtMost 0 reply.said
 accept_uses p listener real reply is =
-    let got = accepted p (max p.clock 0) listener real reply is in
-    subst (λ (r : Reply). UsesAtMost 0 r.said) got.reply_is (admission_uses (candidate_at p (max p.clock 0) got.at.frontend real got.own got.version got.frontend) got.at.accept_proxy real (length got.own.rows))
+    let got = accepted (at_moment 0 p) (max p.clock 0) listener real reply is in
+    subst (λ (r : Reply). UsesAtMost 0 r.said) got.reply_is (admission_uses (candidate_at (at_moment 0 p) (max p.clock 0) got.at.frontend real got.own got.version got.frontend) got.at.accept_proxy real (length got.own.rows))
 
 -- a piece is used as far as it goes
 pub piece_uses : (q : Plain) (id : ConnId) (got : List ℕ) → Holds q id got → (piece : List ℕ) (reply : Reply) → answer_in q 0 (Piece id piece) ≡ Ok reply → UsesAtMost (length piece) reply.said
 piece_uses q id got h piece reply is =
     subst (λ (r : Reply). UsesAtMost (length piece) r.said) (sym (reply_said q id got h piece reply is))
-    (header_uses (candidate_of q id h.version h.frontend) h.row.real (length piece) (status_on h.rest piece) (goes_on got piece h.rest h.is_rest).used)
+    (header_uses (candidate_of (at_moment 0 q) id h.version h.frontend) h.row.real (length piece) (status_on h.rest piece) (goes_on got piece h.rest h.is_rest).used)
 
 -- The first connection of a listener.
 
@@ -107,16 +107,16 @@ accepted_waits plan listener real reply id count is said well =
     p : Plain
     p = opening plan 0
 
-    got : Accepted p 0 listener real reply
-    got = accepted p 0 listener real reply is
+    got : Accepted (at_moment 0 p) 0 listener real reply
+    got = accepted (at_moment 0 p) 0 listener real reply is
 
-    said_is : (admission (candidate_at p 0 got.at.frontend real got.own got.version got.frontend) got.at.accept_proxy real (length got.own.rows)).said ≡ saids.Wait id count
+    said_is : (admission (candidate_at (at_moment 0 p) 0 got.at.frontend real got.own got.version got.frontend) got.at.accept_proxy real (length got.own.rows)).said ≡ saids.Wait id count
     said_is = ap (λ (r : Reply). r.said) got.reply_is ∙ said
 
     id_is : id ≡ record { frontend = got.at.frontend; serial = got.own.serial + 1 }
     id_is =
         let e : Some id ≡ Some (record { frontend = got.at.frontend; serial = got.own.serial + 1 }) =
-        ap id_of (sym said_is) ∙ admission-id (candidate_at p 0 got.at.frontend real got.own got.version got.frontend) got.at.accept_proxy real (length got.own.rows) in cc
+        ap id_of (sym said_is) ∙ admission-id (candidate_at (at_moment 0 p) 0 got.at.frontend real got.own got.version got.frontend) got.at.accept_proxy real (length got.own.rows) in cc
 
     there : slice_get p.frontends id.frontend ≡ Some got.own
     there = ap (λ (i : ConnId). slice_get p.frontends i.frontend) id_is ∙ got.there
@@ -143,7 +143,7 @@ accepted_waits plan listener real reply id count is said well =
       listeners = p.listeners;
       frontends = slice_set p.frontends id.frontend (record got.own { serial = got.own.serial + 1; rows = got.own.rows ++ rows_left p 0 real reply.tracks.items said });
       versions = with_said (newest_number p) said p.versions;
-      tables = tables_by p.frontends p.tables reply;
+      tables = tables_passed 0 p.frontends p.tables reply;
     }
 
     state : after (opening plan 0) (entry 0 (Accept listener real) reply ∷ []) ≡ record {
@@ -151,7 +151,7 @@ accepted_waits plan listener real reply id count is said well =
       listeners = p.listeners;
       frontends = slice_set p.frontends id.frontend next;
       versions = p.versions;
-      tables = tables_by p.frontends p.tables reply;
+      tables = tables_passed 0 p.frontends p.tables reply;
     }
     state =
         after-accept p (opening_well plan 0) 0 listener real reply id got.own there (ap id_of said) (ap (λ (i : ConnId). i.serial) id_is)

@@ -13,7 +13,7 @@ use Rattle.conn_model.specs.declared.reply.Reply.{Reply}
 use Rattle.conn_model.specs.declared.reply.Said.TheVariants as saids
 use Rattle.conn_model.specs.declared.reply.StepFault.{StepFault}
 use Rattle.conn_model.specs.declared.plain.Plain.{Plain}
-use Rattle.conn_model.specs.Answer.{answer_in, candidate_of, header_reply, reply_of}
+use Rattle.conn_model.specs.Answer.{answer_in, at_moment, candidate_of, header_reply, reply_of}
 use Rattle.plan_types.specs.declared.plan.Plan.{Plan}
 use Rattle.conn_model.specs.History.{after, entry, opening, IsWell}
 use Rattle.pipe_core.proofs.AcceptLemmas.{accepted_waits}
@@ -72,7 +72,7 @@ no_offer first id q old mid new' reading kept = record {
         ap (λ bytes. answer_in first 0 (Piece id bytes)) (sym (append-nil reading.got))
         ∙ reading.waits.same []
         ∙ ap (later (length reading.got))
-        (piece_said q id reading.got h [] ∙ ap (λ s. Ok (header_reply (candidate_of q id h.version h.frontend) h.row.real 0 s)) (status_nothing reading.got h.rest h.is_rest))
+        (piece_said q id reading.got h [] ∙ ap (λ s. Ok (header_reply (candidate_of (at_moment 0 q) id h.version h.frontend) h.row.real 0 s)) (status_nothing reading.got h.rest h.is_rest))
 
 pub unfinished : (first : Plain) (id : ConnId) (q : Plain) (old mid new' : Option (List ℕ)) → IsReading first id q old mid → IsAtEnd mid → Keeps mid new' →
     HasNoOffer (λ bytes. answer_in first 0 (Piece id bytes)) old new' × ReadsAll old new'

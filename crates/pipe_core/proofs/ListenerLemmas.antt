@@ -27,7 +27,7 @@ use Rattle.conn_model.specs.declared.reply.StepFault.{StepFault}
 use Rattle.conn_model.specs.declared.reply.StepFault.TheVariants.{NoMemory}
 use Rattle.conn_model.specs.declared.plain.Version.{Version}
 use Rattle.conn_model.specs.Words.{newest}
-use Rattle.conn_model.specs.Answer.{accept_answer, admission, answer_in, candidate_at, frontend_in}
+use Rattle.conn_model.specs.Answer.{accept_answer, admission, answer_in, at_moment, candidate_at, frontend_in}
 use Rattle.conn_model.specs.History.{listeners_of, new_version, opening, IsFault}
 use Rattle.conn_model.proofs.Lists.{all-more}
 use Rattle.conn_core.specs.Machine.{AreSound}
@@ -174,8 +174,8 @@ has_reply plan name listener real is = by_frontend (frontend_of (opening plan 0)
             let its : own.frontend ≡ number = eqb-true own.frontend number found.1 in
             let named = named_there 0 plan.frontends number within in
             let there : slice_get (opening plan 0).frontends own.frontend ≡ Some (rows_of 0 named.one) = ap (slice_get (opening plan 0).frontends) its ∙ named.there in (
-              admission (candidate_at (opening plan 0) 0 own.frontend real (rows_of 0 named.one) (new_version 1 plan) named.other) own.accept_proxy real 0,
-              accept_ok (opening plan 0) 0 listener real own (rows_of 0 named.one) (new_version 1 plan) named.other listens there refl named.found refl,
+              admission (candidate_at (at_moment 0 (opening plan 0)) 0 own.frontend real (rows_of 0 named.one) (new_version 1 plan) named.other) own.accept_proxy real 0,
+              accept_ok (at_moment 0 (opening plan 0)) 0 listener real own (rows_of 0 named.one) (new_version 1 plan) named.other listens there refl named.found refl,
             )
 
     by_frontend : (o : Option ℕ) → frontend_of (opening plan 0) name ≡ o → (reply : Reply) × (answer_in (opening plan 0) 0 (Accept listener real) ≡ Ok reply)

@@ -21,7 +21,7 @@ use Rattle.conn_model.specs.declared.reply.StepFault.{StepFault}
 use Rattle.conn_model.specs.declared.plain.Plain.{Plain}
 use Rattle.rule_engine.specs.Judging.{no_tracks}
 use Rattle.conn_model.specs.Rules.{Candidate, view_of}
-use Rattle.conn_model.specs.Answer.{answer_in, candidate_of, decision, header_reply, judged_pair, reply_of, reply_with, said_of, verdict, Decision, NumberedServer}
+use Rattle.conn_model.specs.Answer.{answer_in, at_moment, candidate_of, decision, header_reply, judged_pair, reply_of, reply_with, said_of, verdict, Decision, NumberedServer}
 use Rattle.conn_model.specs.History.{after, entry}
 use Rattle.pipe_core.specs.Waiting.{later, with_used, Holds, Waits}
 use Rattle.pipe_core.proofs.StateLemmas.{after_is, holds_on, next_said, piece_said, state_on, view_on}
@@ -111,19 +111,19 @@ pub next_piece : (q : Plain) (id : ConnId) (got : List ℕ) (h : Holds q id got)
     answer_in q 0 (Piece id (piece ++ more)) ≡ later (length piece) (answer_in (state_on q id piece h.own) 0 (Piece id more))
 next_piece q id got h piece more waits =
     piece_said q id got h (piece ++ more)
-    ∙ ap (λ s. Ok (header_reply (candidate_of q id h.version h.frontend) h.row.real (length (piece ++ more)) s)) (status_joined got piece more h.rest h.is_rest waits)
+    ∙ ap (λ s. Ok (header_reply (candidate_of (at_moment 0 q) id h.version h.frontend) h.row.real (length (piece ++ more)) s)) (status_joined got piece more h.rest h.is_rest waits)
     ∙ ap (λ r. Ok r) (by (status_on (rest_on h.rest piece) more))
     ∙ sym (ap (later (length piece)) (next_said q id got h piece more waits))
   where
     now : Plain
-    now = state_on q id piece h.own
+    now = at_moment 0 (state_on q id piece h.own)
 
-    by : (s : Status) → header_reply (candidate_of q id h.version h.frontend) h.row.real (length (piece ++ more)) (shifted (length piece) s)
+    by : (s : Status) → header_reply (candidate_of (at_moment 0 q) id h.version h.frontend) h.row.real (length (piece ++ more)) (shifted (length piece) s)
         ≡ reply_used (length piece) (header_reply (candidate_of now id h.version h.frontend) h.row.real (length more) s)
     by statuses.Wait = let e : length (piece ++ more) ≡ length more + length piece = omega (arith, length-append piece more) in ap (λ n. reply_of (saids.Wait id n)) e
     by (statuses.Fault fault count) = refl
     by (statuses.Whole count meaning) =
-        decision_more (candidate_of q id h.version h.frontend) (candidate_of now id h.version h.frontend) count (length piece) (judged_pair h.row.real meaning) refl refl
+        decision_more (candidate_of (at_moment 0 q) id h.version h.frontend) (candidate_of now id h.version h.frontend) count (length piece) (judged_pair h.row.real meaning) refl refl
         (view_on q id got h piece (judged_pair h.row.real meaning).source.addr)
 
 later_twice : (m n : ℕ) (r : Result Reply StepFault) → later (m + n) r ≡ later m (later n r)
@@ -154,9 +154,9 @@ later_none (Ok reply) = ap (λ s. Ok (record reply { said = s })) (by reply.said
 
 -- the reply to a piece, by what the piece decides
 pub reply_said : (q : Plain) (id : ConnId) (got : List ℕ) (h : Holds q id got) (piece : List ℕ) (reply : Reply) → answer_in q 0 (Piece id piece) ≡ Ok reply →
-    reply ≡ header_reply (candidate_of q id h.version h.frontend) h.row.real (length piece) (status_on h.rest piece)
+    reply ≡ header_reply (candidate_of (at_moment 0 q) id h.version h.frontend) h.row.real (length piece) (status_on h.rest piece)
 reply_said q id got h piece reply is =
-    let same : Ok reply ≡ Ok (header_reply (candidate_of q id h.version h.frontend) h.row.real (length piece) (status_on h.rest piece)) = sym is ∙ piece_said q id got h piece in cc
+    let same : Ok reply ≡ Ok (header_reply (candidate_of (at_moment 0 q) id h.version h.frontend) h.row.real (length piece) (status_on h.rest piece)) = sym is ∙ piece_said q id got h piece in cc
 
 decision_no_wait : (candidate : Candidate) (used : ℕ) (judged : PairValue) (id : ConnId) (count : ℕ) → (decision candidate used judged no_tracks).said ≢ saids.Wait id count
 decision_no_wait candidate used judged id count = by (verdict (view_of candidate judged.source.addr) candidate.frontend no_tracks).result
@@ -177,8 +177,8 @@ pub waits_on : (first : Plain) (id : ConnId) (q : Plain) (got piece : List ℕ) 
 waits_on first id q got piece reply whom count waits is said =
     let h = waits.holds in
     let reply_is = reply_said q id got h piece reply is in
-    let status : status_on h.rest piece ≡ statuses.Wait = wait_said (candidate_of q id h.version h.frontend) h.row.real (length piece) (status_on h.rest piece) whom count (ap (λ r. r.said) (sym reply_is) ∙ said) in
-    let waits_is : reply ≡ reply_of (saids.Wait id (length piece)) = reply_is ∙ ap (λ s. header_reply (candidate_of q id h.version h.frontend) h.row.real (length piece) s) status in
+    let status : status_on h.rest piece ≡ statuses.Wait = wait_said (candidate_of (at_moment 0 q) id h.version h.frontend) h.row.real (length piece) (status_on h.rest piece) whom count (ap (λ r. r.said) (sym reply_is) ∙ said) in
+    let waits_is : reply ≡ reply_of (saids.Wait id (length piece)) = reply_is ∙ ap (λ s. header_reply (candidate_of (at_moment 0 q) id h.version h.frontend) h.row.real (length piece) s) status in
     let state : state_on q id piece h.own ≡ after q (entry 0 (Piece id piece) reply ∷ []) = sym (after_is q id got h piece (length piece)) ∙ ap (λ r. after q (entry 0 (Piece id piece) r ∷ [])) (sym waits_is) in
     subst (λ s. Waits first id s (got ++ piece)) state (record {
       holds = holds_on q id got h piece status;
@@ -196,16 +196,16 @@ pub decided : (first : Plain) (id : ConnId) (q : Plain) (got piece : List ℕ) (
 decided first id q got piece reply waits is said more =
     let h = waits.holds in
     let reply_is = reply_said q id got h piece reply is in
-    let decides : status_on h.rest piece ≢ statuses.Wait = λ none. said id (length piece) (ap (λ r. r.said) reply_is ∙ ap (λ s. (header_reply (candidate_of q id h.version h.frontend) h.row.real (length piece) s).said) none) in
+    let decides : status_on h.rest piece ≢ statuses.Wait = λ none. said id (length piece) (ap (λ r. r.said) reply_is ∙ ap (λ s. (header_reply (candidate_of (at_moment 0 q) id h.version h.frontend) h.row.real (length piece) s).said) none) in
     ap (λ bytes. answer_in first 0 (Piece id bytes)) (append_assoc got piece more)
     ∙ waits.same (piece ++ more)
     ∙ ap (later (length got))
     (piece_said q id got h (piece ++ more)
-    ∙ ap (λ s. Ok (header_reply (candidate_of q id h.version h.frontend) h.row.real (length (piece ++ more)) s)) (status_stays got piece more h.rest h.is_rest decides)
+    ∙ ap (λ s. Ok (header_reply (candidate_of (at_moment 0 q) id h.version h.frontend) h.row.real (length (piece ++ more)) s)) (status_stays got piece more h.rest h.is_rest decides)
     ∙ ap (λ r. Ok r) (by (status_on h.rest piece) decides)
     ∙ ap (λ r. Ok r) (sym reply_is))
   where
-    by : (s : Status) → s ≢ statuses.Wait → header_reply (candidate_of q id waits.holds.version waits.holds.frontend) waits.holds.row.real (length (piece ++ more)) s ≡ header_reply (candidate_of q id waits.holds.version waits.holds.frontend) waits.holds.row.real (length piece) s
+    by : (s : Status) → s ≢ statuses.Wait → header_reply (candidate_of (at_moment 0 q) id waits.holds.version waits.holds.frontend) waits.holds.row.real (length (piece ++ more)) s ≡ header_reply (candidate_of (at_moment 0 q) id waits.holds.version waits.holds.frontend) waits.holds.row.real (length piece) s
     by statuses.Wait some = absurd (some refl)
     by (statuses.Fault fault count) some = refl
     by (statuses.Whole count meaning) some = refl

@@ -1,5 +1,5 @@
 -- A connection that waits, before and after a piece that decides nothing.
-use Rattle.std.proofs.Common.{◌≡◌, ℕ, zero, suc, Bool, true, false, List, [], ◌∷◌, ◌++◌, length, Option, Some, None, Ok, refl, max, ◌∙◌, sym, ap, subst, arith, append-nil}
+use Rattle.std.proofs.Common.{◌≡◌, ◌≤◌, ℕ, zero, suc, Bool, true, false, List, [], ◌∷◌, ◌++◌, length, Option, Some, None, Ok, refl, max, ◌∙◌, sym, ap, subst, arith, append-nil}
 use Rattle.std.specs.Prelude.{slice_get, slice_set, find, filter, flat_map, ◌==◌, if◌then◌else◌}
 use Rattle.std.specs.List.{AllByRecursion}
 use Rattle.std.specs.Option.{option_map_or}
@@ -23,12 +23,14 @@ use Rattle.conn_model.specs.declared.plain.Phase.TheVariants.{Waiting, Offered, 
 use Rattle.conn_model.specs.declared.plain.Row.{Row}
 use Rattle.conn_model.specs.declared.plain.FrontendRows.{FrontendRows}
 use Rattle.conn_model.specs.declared.plain.Plain.{Plain}
+use Rattle.conn_model.specs.declared.plain.TableState.{TableState}
 use Rattle.conn_model.specs.Counts.{change_row, offered_in, offered_to, open_if, open_in, open_named, served_by, served_in, server_of, total}
 use Rattle.conn_model.specs.Rules.{RuleView, view_of}
-use Rattle.conn_model.specs.Answer.{answer_in, candidate_of, header_reply, reply_of, rest_in, row_in, waiting_row}
+use Rattle.conn_model.specs.Answer.{answer_in, at_moment, candidate_of, header_reply, reply_of, rest_in, row_in, waiting_row}
 use Rattle.conn_model.specs.History.{after, by_counter, entry, phase_on, tracks_at, IsFrontendWell, IsWell}
-use Rattle.conn_model.specs.Tables.{open_tracks, tracks_in}
+use Rattle.conn_model.specs.Tables.{open_tracks, tables_alive, tracks_in}
 use Rattle.conn_model.proofs.Lists.{all-at, all-more}
+use Rattle.conn_model.proofs.Moments.{tables-twice}
 use Rattle.conn_model.proofs.Steps.{after-change, row_said}
 use Rattle.conn_model.proofs.Well.{after-nil, well_after}
 use Rattle.list_core.proofs.PlaceLemmas.{get-set}
@@ -37,7 +39,7 @@ use Rattle.pipe_core.specs.Waiting.{Holds}
 
 -- the answer to a piece of a connection that waits
 pub piece_said : (q : Plain) (id : ConnId) (got : List ℕ) (h : Holds q id got) (piece : List ℕ) →
-    answer_in q 0 (Piece id piece) ≡ Ok (header_reply (candidate_of q id h.version h.frontend) h.row.real (length piece) (status_on h.rest piece))
+    answer_in q 0 (Piece id piece) ≡ Ok (header_reply (candidate_of (at_moment 0 q) id h.version h.frontend) h.row.real (length piece) (status_on h.rest piece))
 piece_said q id got h piece =
     let waits : waiting_row q.frontends id ≡ Ok (h.row, h.rest) = rw (h.row_is, h.waits) refl in
     rw (waits, h.there, h.kept, h.found) refl
@@ -61,7 +63,7 @@ state_on q id piece own = record {
   listeners = q.listeners;
   frontends = slice_set q.frontends id.frontend (own_on id piece own);
   versions = q.versions;
-  tables = q.tables;
+  tables = (at_moment 0 q).tables;
 }
 
 find-on : (serial : ℕ) (piece : List ℕ) (rows : List Row) (row : Row) → find (λ row. row.serial == serial) rows ≡ Some row →
@@ -130,7 +132,7 @@ open_tracks-same (f ∷ frontends) (suc n) own next there is = ap (λ ts. tracks
 
 -- rules see the same of the connection
 pub view_on : (q : Plain) (id : ConnId) (got : List ℕ) (h : Holds q id got) (piece : List ℕ) (source : Addr) →
-    view_of (candidate_of (state_on q id piece h.own) id h.version h.frontend) source ≡ view_of (candidate_of q id h.version h.frontend) source
+    view_of (candidate_of (at_moment 0 (state_on q id piece h.own)) id h.version h.frontend) source ≡ view_of (candidate_of (at_moment 0 q) id h.version h.frontend) source
 view_on q id got h piece source = fun_ext by
   where
     own : FrontendRows
@@ -171,12 +173,19 @@ view_on q id got h piece source = fun_ext by
         ∙ ap (λ (o : Option Row). option_map_or (λ (row : Row). row.tracks) o []) (find-on id.serial piece own.rows h.row row)
         ∙ ap (λ (o : Option Row). option_map_or (λ (row : Row). row.tracks) o []) (sym h.row_is)
 
-    seen : List Track → List Track → ℕ → (List ℕ → ℕ) → (List ℕ → ℕ) → (ServerIdentity → ℕ) → List Track → RuleView
-    seen all own count named offered served made = record {
+    tables : tables_alive (max (max q.clock 0) 0) (open_tracks (slice_set q.frontends id.frontend next)) (at_moment 0 q).tables ≡ (at_moment 0 q).tables
+    tables =
+        let now : max (max q.clock 0) 0 ≡ max q.clock 0 = omega arith in
+        let itself : max q.clock 0 ≤ max q.clock 0 = omega arith in
+        ap (λ n. tables_alive n (open_tracks (slice_set q.frontends id.frontend next)) (at_moment 0 q).tables) now
+        ∙ ap (λ ts. tables_alive (max q.clock 0) ts (at_moment 0 q).tables) tracks ∙ tables-twice (max q.clock 0) (max q.clock 0) (open_tracks q.frontends) q.tables itself
+
+    seen : List TableState → List Track → List Track → ℕ → (List ℕ → ℕ) → (List ℕ → ℕ) → (ServerIdentity → ℕ) → List Track → RuleView
+    seen those all own count named offered served made = record {
       source = source;
       version = h.version;
       frontend = h.frontend;
-      tables = q.tables;
+      tables = those;
       tracks = all;
       own = own;
       made = made;
@@ -186,16 +195,17 @@ view_on q id got h piece source = fun_ext by
       served = served;
     }
 
-    by : (made : List Track) → view_of (candidate_of (state_on q id piece own) id h.version h.frontend) source made ≡ view_of (candidate_of q id h.version h.frontend) source made
+    by : (made : List Track) → view_of (candidate_of (at_moment 0 (state_on q id piece own)) id h.version h.frontend) source made ≡ view_of (candidate_of (at_moment 0 q) id h.version h.frontend) source made
     by made =
         let now : List FrontendRows = slice_set q.frontends id.frontend next in
         let before : List FrontendRows = q.frontends in
-        ap (λ ts. seen ts (tracks_at now id) (open_in now id.frontend) (open_named now) (offered_to now) (served_by now) made) tracks
-        ∙ ap (λ ts. seen (open_tracks before) ts (open_in now id.frontend) (open_named now) (offered_to now) (served_by now) made) tracked
-        ∙ ap (λ n. seen (open_tracks before) (tracks_at before id) n (open_named now) (offered_to now) (served_by now) made) open_now
-        ∙ ap (λ f. seen (open_tracks before) (tracks_at before id) (open_in before id.frontend) f (offered_to now) (served_by now) made) (fun_ext named)
-        ∙ ap (λ f. seen (open_tracks before) (tracks_at before id) (open_in before id.frontend) (open_named before) f (served_by now) made) (fun_ext offered)
-        ∙ ap (λ f. seen (open_tracks before) (tracks_at before id) (open_in before id.frontend) (open_named before) (offered_to before) f made) (fun_ext served)
+        ap (λ us. seen us (open_tracks now) (tracks_at now id) (open_in now id.frontend) (open_named now) (offered_to now) (served_by now) made) tables
+        ∙ ap (λ ts. seen (at_moment 0 q).tables ts (tracks_at now id) (open_in now id.frontend) (open_named now) (offered_to now) (served_by now) made) tracks
+        ∙ ap (λ ts. seen (at_moment 0 q).tables (open_tracks before) ts (open_in now id.frontend) (open_named now) (offered_to now) (served_by now) made) tracked
+        ∙ ap (λ n. seen (at_moment 0 q).tables (open_tracks before) (tracks_at before id) n (open_named now) (offered_to now) (served_by now) made) open_now
+        ∙ ap (λ f. seen (at_moment 0 q).tables (open_tracks before) (tracks_at before id) (open_in before id.frontend) f (offered_to now) (served_by now) made) (fun_ext named)
+        ∙ ap (λ f. seen (at_moment 0 q).tables (open_tracks before) (tracks_at before id) (open_in before id.frontend) (open_named before) f (served_by now) made) (fun_ext offered)
+        ∙ ap (λ f. seen (at_moment 0 q).tables (open_tracks before) (tracks_at before id) (open_in before id.frontend) (open_named before) (offered_to before) f made) (fun_ext served)
 
 -- The state after the piece.
 
@@ -243,7 +253,7 @@ holds_on q id got h piece status = record {
     row = ap (row_in id.serial) (sym h.there) ∙ h.row_is
 
     answered : answer_in q 0 (Piece id piece) ≡ Ok (reply_of (saids.Wait id (length piece)))
-    answered = piece_said q id got h piece ∙ ap (λ s. Ok (header_reply (candidate_of q id h.version h.frontend) h.row.real (length piece) s)) status
+    answered = piece_said q id got h piece ∙ ap (λ s. Ok (header_reply (candidate_of (at_moment 0 q) id h.version h.frontend) h.row.real (length piece) s)) status
 
     well_now : IsWell (state_on q id piece h.own)
     well_now =
@@ -253,6 +263,6 @@ holds_on q id got h piece status = record {
 -- the answer to the piece after it
 pub next_said : (q : Plain) (id : ConnId) (got : List ℕ) (h : Holds q id got) (piece more : List ℕ) → status_on h.rest piece ≡ Wait →
     answer_in (state_on q id piece h.own) 0 (Piece id more)
-    ≡ Ok (header_reply (candidate_of (state_on q id piece h.own) id h.version h.frontend) h.row.real (length more) (status_on (rest_on h.rest piece) more))
+    ≡ Ok (header_reply (candidate_of (at_moment 0 (state_on q id piece h.own)) id h.version h.frontend) h.row.real (length more) (status_on (rest_on h.rest piece) more))
 unfolding holds_on
 next_said q id got h piece more status = piece_said (state_on q id piece h.own) id (got ++ piece) (holds_on q id got h piece status) more

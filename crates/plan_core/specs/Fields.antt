@@ -120,6 +120,7 @@ table_with head words = record {
   kind = words.keys;
   size = words.size;
   stores = words.stores;
+  expire = words.expire;
 }
 
 -- the table of a section

@@ -23,6 +23,7 @@ fn table_in(alloc: Global, proxy: &Proxy) -> Result<Option<Table>, AllocError>
             kind: words.keys,
             size: words.size,
             stores: words.stores,
+            expire: words.expire,
         })),
         None => Ok(None),
     }

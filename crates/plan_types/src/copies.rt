@@ -80,6 +80,7 @@ impl Duplicate for Table {
             kind: self.kind,
             size: self.size,
             stores: self.stores,
+            expire: self.expire,
         })
     }
 }

@@ -78,6 +78,8 @@ pub struct Table {
     /// How many entries there may be.
     pub size: u64,
     pub stores: Stores,
+    /// How long an entry is kept that nobody uses, in ms, 0 for any time (HAProxy manual, `stick-table`).
+    pub expire: u64,
 }
 
 /// A `server` line.

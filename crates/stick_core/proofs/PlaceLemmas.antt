@@ -1,10 +1,11 @@
 -- Entries by their places, and the orders of places.
-use Rattle.std.proofs.Common.{◌≡◌, ◌≢◌, ◌<◌, ◌+◌, ◌-◌, ◌⊎◌, ℕ, zero, suc, Bool, true, false, cond, eqb, ltb, List, [], ◌∷◌, ◌++◌, length, map, get_or, set, take, Option, Some, None, inl, inr, refl, sym, ap, subst, ◌∙◌, arith, length-append}
+use Rattle.std.proofs.Common.{◌≡◌, ◌≢◌, ◌<◌, ◌+◌, ◌-◌, ◌⊎◌, ℕ, zero, suc, Bool, true, false, not, cond, eqb, ltb, List, [], ◌∷◌, ◌++◌, length, map, get_or, set, take, Option, Some, None, inl, inr, refl, sym, ap, subst, ◌∙◌, arith, length-append}
 use Rattle.std.specs.Prelude.{filter, find, option_map, option_to_list, position, slice_get, IfSome}
 use Rattle.std.specs.List.{IsDistinct, list_any, swap_remove}
 use Rattle.std.specs.Option.{is_some}
 use Rattle.std.specs.Map.{keys_of, lookup}
 use Rattle.std.proofs.lemmas.List.{get_or-map, append-nil, get_or_append_left}
+use Rattle.std.proofs.lemmas.List.Elements.{filter-append}
 use Rattle.std.proofs.lemmas.List.Quantifiers.{position-Some}
 use Rattle.std.proofs.lemmas.Option.{slice_get-get_or}
 use Rattle.std.proofs.lemmas.Map.Keys.{apart_from_distinct}
@@ -19,11 +20,12 @@ use Rattle.indexmap.proofs.MapLemmas.{absent_from_lookup, insert_entry-absent, s
 use Rattle.indexmap.specs.Layout.{length-set_value_at}
 use Rattle.stick_core.specs.declared.entries.StickEntry.{StickEntry}
 use Rattle.stick_core.specs.declared.touch_list.Counts.{Counts}
-use Rattle.stick_core.specs.Entries.{is_of, is_free, others, touched, without_first_free}
+use Rattle.stick_core.specs.Entries.{is_of, is_free, is_gone, living, others, touched, without_first_free}
 use Rattle.stick_core.specs.Places.{entry_at, entry_of_pair, free_at, nothing, ranked, IsKept}
 use Rattle.stick_core.specs.Ring.{Ranking, Has, Lacks, Distinct, Below, without, first_of, next_of}
-use Rattle.stick_core.specs.PlainEntries.{plain, plain_entry}
+use Rattle.stick_core.specs.PlainEntries.{plain}
 use Rattle.stick_core.proofs.EntryLemmas.{is_some-position}
+use Rattle.stick_core.proofs.PlainLemmas.{plain-append}
 use Rattle.stick_core.proofs.TouchLemmas.{gone-here, gone-past, key-found}
 use Rattle.stick_core.proofs.RingLemmas.{eqb-self, eqb-is, eqb-apart, eqb-differ, lacks-itself, without-lacks, length-without, below-lacks, below-push, below-more, below-without, has-before, has-below, has-moved, has-push, once-push, once-without}
 
@@ -256,8 +258,8 @@ length-map : (f : ℕ → StickEntry) (xs : List ℕ) → length (map f xs) ≡ 
 length-map f [] = refl
 length-map f (x ∷ xs) = ap suc (length-map f xs)
 
-pub set-entry : (es : List (Addr × Counts)) (p : ℕ) (counts : Counts) (e : StickEntry) → p < length es → e.key ≡ (entry_at es p).key → counts.cur ≡ e.cur → counts.cnt ≡ e.cnt → entry_at (set_value_at es p counts) p ≡ e
-set-entry es p counts e less key cur cnt = ap entry_of_pair (at-set es p counts less) ∙ rw (← key, cur, cnt) refl
+pub set-entry : (es : List (Addr × Counts)) (p : ℕ) (counts : Counts) (e : StickEntry) → p < length es → e.key ≡ (entry_at es p).key → counts.cur ≡ e.cur → counts.cnt ≡ e.cnt → counts.last_touch ≡ e.last_touch → entry_at (set_value_at es p counts) p ≡ e
+set-entry es p counts e less key cur cnt last = ap entry_of_pair (at-set es p counts less) ∙ rw (← key, cur, cnt, last) refl
 
 pub set-entry-apart : (es : List (Addr × Counts)) (p : ℕ) (counts : Counts) (q : ℕ) → q ≢ p → entry_at (set_value_at es p counts) q ≡ entry_at es q
 set-entry-apart es p counts q apart = ap entry_of_pair (at-set-apart es p counts q apart)
@@ -317,14 +319,14 @@ pub record IsPut (es es' : List (Addr × Counts)) (t t' f f' : Ranking) (key : A
 
 pub put : (es es' : List (Addr × Counts)) (t t' f f' : Ranking) (key : Addr) (e : StickEntry) (counts : Counts) (p : ℕ) → IsKept es t f
     → IsDistinct eq-value.it (keys_of es) → position (eq-value.it key) (keys_of es) ≡ Some p → e.key ≡ key
-    → counts.cur ≡ e.cur → counts.cnt ≡ e.cnt → es' ≡ set_value_at es p counts
+    → counts.cur ≡ e.cur → counts.cnt ≡ e.cnt → counts.last_touch ≡ e.last_touch → es' ≡ set_value_at es p counts
     → t' ≡ record t { order = without p t.order ++ p ∷ [] }
     → f' ≡ record f { order = without p f.order ++ cond (is_free e) (p ∷ []) [] }
     → IsPut es es' t t' f f' key e
-put es es' t t' f f' key e counts p kept once found own cur cnt written moved freed =
+put es es' t t' f f' key e counts p kept once found own cur cnt last written moved freed =
     let at : (p < length es) × IsAt (λ q. is_of key (entry_at es q)) (length es) p × (is_of key (entry_at es p) ≡ true) = is_at eq-value.it tied es key p once found in
     let its_key : e.key ≡ (entry_at es p).key = own ∙ sym (same_addr-is (entry_at es p).key key at.2) in
-    let here : entry_at es' p ≡ e = ap (λ l. entry_at l p) written ∙ set-entry es p counts e at.0 its_key cur cnt in
+    let here : entry_at es' p ≡ e = ap (λ l. entry_at l p) written ∙ set-entry es p counts e at.0 its_key cur cnt last in
     let apart : (q : ℕ) → q ≢ p → entry_at es' q ≡ entry_at es q = λ q differ. ap (λ l. entry_at l q) written ∙ set-entry-apart es p counts q differ in
     let len : length es' ≡ length es = ap length written ∙ length-set_value_at es p counts in
     let is_kept : IsKept es' t' f' =
@@ -347,14 +349,14 @@ pub record IsChanged (change : StickEntry → StickEntry) (es es' : List (Addr �
 
 pub change-put : (change : StickEntry → StickEntry) → ((e : StickEntry) → (change e).key ≡ e.key) → (es es' : List (Addr × Counts)) (t t' f f' : Ranking) (key : Addr) (e : StickEntry) (p : ℕ)
     → IsKept es t f → IsDistinct eq-value.it (keys_of es) → position (eq-value.it key) (keys_of es) ≡ Some p → e ≡ change (entry_at es p)
-    → es' ≡ set_value_at es p (record { cur = e.cur; cnt = e.cnt })
+    → es' ≡ set_value_at es p (record { cur = e.cur; cnt = e.cnt; last_touch = e.last_touch })
     → t' ≡ record t { order = without p t.order ++ p ∷ [] }
     → f' ≡ record f { order = without p f.order ++ cond (is_free e) (p ∷ []) [] }
     → IsChanged change es es' t t' f' key
 change-put change keeps es es' t t' f f' key e p kept once found is written moved freed =
     let there : find (is_of key) (ranked es t.order) ≡ Some (entry_at es p) = found-entry eq-value.it tied es t f key p kept once found in
     let own : e.key ≡ key = ap (λ x. x.key) is ∙ keeps (entry_at es p) ∙ key-found key (ranked es t.order) (entry_at es p) there in
-    let all : IsPut es es' t t' f f' key e = put es es' t t' f f' key e (record { cur = e.cur; cnt = e.cnt }) p kept once found own refl refl written moved freed in
+    let all : IsPut es es' t t' f f' key e = put es es' t t' f f' key e (record { cur = e.cur; cnt = e.cnt; last_touch = e.last_touch }) p kept once found own refl refl refl written moved freed in
     record {
       kept = all.kept;
       entries =
@@ -447,6 +449,16 @@ any-free es [] = refl
 any-free es (x ∷ xs) = by (free_at es x) refl (any-free es xs)
   where
     by : (t : Bool) → free_at es x ≡ t → is_some (slice_get (filter (free_at es) xs) 0) ≡ list_any is_free (ranked es xs) → is_some (slice_get (filter (free_at es) (x ∷ xs)) 0) ≡ list_any is_free (ranked es (x ∷ xs))
+    by true is more = simp is refl
+    by false is more = simp is more
+
+-- the first free place is that of the first free entry
+pub first-free : (es : List (Addr × Counts)) (xs : List ℕ) → option_map (entry_at es) (slice_get (filter (free_at es) xs) 0) ≡ find is_free (ranked es xs)
+first-free es [] = refl
+first-free es (x ∷ xs) = by (free_at es x) refl (first-free es xs)
+  where
+    by : (t : Bool) → free_at es x ≡ t → option_map (entry_at es) (slice_get (filter (free_at es) xs) 0) ≡ find is_free (ranked es xs)
+        → option_map (entry_at es) (slice_get (filter (free_at es) (x ∷ xs)) 0) ≡ find is_free (ranked es (x ∷ xs))
     by true is more = simp is refl
     by false is more = simp is more
 
@@ -614,21 +626,20 @@ take-at [] n p at = absurd (cc)
 take-at (x ∷ xs) zero p at = let found : Some x ≡ Some p = at in let same : x ≡ p = cc in ap (λ y. y ∷ []) same
 take-at (x ∷ xs) (suc n) p at = ap (λ l. x ∷ l) (take-at xs n p at)
 
-plain-push : (es : List StickEntry) (e : StickEntry) → plain (es ++ e ∷ []) ≡ plain es ++ plain_entry e ∷ []
-plain-push [] e = refl
-plain-push (x ∷ es) e = ap (λ l. plain_entry x ∷ l) (plain-push es e)
-
 -- the place after the one that is reached
 pub step-next : (es : List (Addr × Counts)) (t f : Ranking) (n p : ℕ) → IsKept es t f → slice_get t.order n ≡ Some p → next_of p t.order ≡ slice_get t.order (n + 1)
 step-next es t f n p kept at = next-at t.order n p kept.once at ∙ ap (slice_get t.order) (let one : suc n ≡ n + 1 = omega arith in one)
 
--- the entries that were passed then
-pub step-list : (es : List (Addr × Counts)) (t : Ranking) (n p : ℕ) → slice_get t.order n ≡ Some p
-    → plain (ranked es (take n t.order)) ++ plain_entry (entry_at es p) ∷ [] ≡ plain (ranked es (take (n + 1) t.order))
-step-list es t n p at =
+-- the entries that were passed then, without those that are gone
+pub step-list : (expire moment : ℕ) (es : List (Addr × Counts)) (t : Ranking) (n p : ℕ) → slice_get t.order n ≡ Some p
+    → plain (living expire moment (ranked es (take n t.order))) ++ plain (living expire moment (entry_at es p ∷ [])) ≡ plain (living expire moment (ranked es (take (n + 1) t.order)))
+step-list expire moment es t n p at =
     let one : suc n ≡ n + 1 = omega arith in
-    sym (plain-push (ranked es (take n t.order)) (entry_at es p)) ∙ ap plain (sym (map-push (entry_at es) (take n t.order) p))
-    ∙ ap (λ l. plain (ranked es l)) (sym (take-at t.order n p at)) ∙ ap (λ k. plain (ranked es (take k t.order))) one
+    let passed : ranked es (take n t.order) ++ entry_at es p ∷ [] ≡ ranked es (take (n + 1) t.order) =
+    sym (map-push (entry_at es) (take n t.order) p) ∙ ap (ranked es) (sym (take-at t.order n p at)) ∙ ap (λ k. ranked es (take k t.order)) one in
+    sym (plain-append (living expire moment (ranked es (take n t.order))) (living expire moment (entry_at es p ∷ [])))
+    ∙ ap plain (sym (filter-append (λ e. not (is_gone expire moment e)) (ranked es (take n t.order)) (entry_at es p ∷ [])))
+    ∙ ap (λ l. plain (living expire moment l)) passed
 
 pub step-below : (es : List (Addr × Counts)) (t f : Ranking) (n p : ℕ) → IsKept es t f → slice_get t.order n ≡ Some p → p < length es
 step-below es t f n p kept at = has-below p (length es) t.order (has-at t.order n p at) kept.below

@@ -15,10 +15,14 @@ pub record Touches : Type 0 where
   pub spare : ℕ
 
 abbrev pub entry_of_pair : Addr × Counts → StickEntry
-entry_of_pair pair = record { key = pair.0; cur = pair.1.cur; cnt = pair.1.cnt }
+entry_of_pair pair = record { key = pair.0; cur = pair.1.cur; cnt = pair.1.cnt; last_touch = pair.1.last_touch }
 
 abbrev pub nothing : Addr × Counts
-nothing = (V4 0, record { cur = 0; cnt = 0 })
+nothing = (V4 0, record { cur = 0; cnt = 0; last_touch = 0 })
+
+-- of a key that is tracked for the first time
+abbrev pub first_counts : ℕ → Counts
+first_counts moment = record { cur = 1; cnt = 1; last_touch = moment }
 
 -- the entry at a place
 abbrev pub entry_at : List (Addr × Counts) → ℕ → StickEntry

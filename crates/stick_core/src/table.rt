@@ -1,11 +1,12 @@
 //! A table of tracked sources.
-ghost use Rattle.std.specs.Prelude.{◌≡◌, ◌+◌, ◌<◌, ◌≤◌, ◌^◌, ◌-◌, ℕ, [], Some, length, nat_lt, is_some, IfOk, OnOk, OnErr, IsOk};
+ghost use Rattle.std.specs.Prelude.{◌≡◌, ◌+◌, ◌<◌, ◌≤◌, ◌^◌, ◌-◌, ◌&&◌, ℕ, [], Some, find, length, not, nat_lt, is_some, IfOk, OnOk, OnErr, IsOk};
+ghost use Rattle.std.specs.List.{list_any};
 ghost use Rattle.addr_core.specs.declared.addr.Addr.{Addr};
-ghost use Rattle.stick_core.specs.Entries.{cur_of, released};
-ghost use Rattle.stick_core.specs.Listing.{IsSound, can_list, key_taken, entries_after, cur_at, cnt_at};
+ghost use Rattle.stick_core.specs.Entries.{cur_of, is_free, is_gone, is_of, living, released, AreInTurn, HasKeysOnce};
+ghost use Rattle.stick_core.specs.Listing.{IsSound, can_list, key_taken, entries_after, cur_at, cnt_at, passed, IsShown};
 ghost use Rattle.stick_core.specs.PlainEntries.{plain, AreTrackers, count_at, trackers_at, KeysDiffer, tracked_key, with_trackings, touched, trackings_of};
 
-use crate::entries::{PlainEntry, cnt_in, cur_in};
+use crate::entries::{PlainEntry, StickEntry, cnt_in, cur_in};
 use crate::key::key_of;
 use crate::touch_list::TouchList;
 use addr_core::Addr;
@@ -50,37 +51,46 @@ pub struct KeyCounts {
     pub cnt: u64,
 }
 
-/// A table of tracked sources, whose entries contracts see in the order of their last touch.
+/// A table of tracked sources, whose entries contracts see in the order of their last touch, without those that are gone.
+/// An entry that is gone stays in memory until a call needs its place: no call looks for more than one.
 #[derive(Debug, Drop)]
 pub struct StickTable {
     kind: KeyType,
     size: u64,
     stores: Stores,
+    expire: u64,
+    clock: u64,
     touched: TouchList,
 }
 
 impl Model for StickTable {
+    ghost use Rattle.stick_core.specs.Entries.{living, AreInTurn};
     ghost use Rattle.stick_core.specs.Listing.{Listing, IsSound};
 
     ghost Value = { Listing };
 
-    ghost view = { λ t. record { kind = t.kind; size = t.size; stores = t.stores; entries = t.touched.entries; spare = t.touched.spare } };
+    ghost view = { λ t. record { kind = t.kind; size = t.size; stores = t.stores; expire = t.expire; clock = t.clock; entries = living t.expire t.clock t.touched.entries; spare = t.touched.spare } };
 
-    ghost invariant = { λ t. IsSound t.size t.touched.entries };
+    ghost invariant = { λ t. IsSound t.size t.touched.entries × AreInTurn t.clock t.touched.entries };
 }
 
 impl StickTable {
-    /// An empty table of at most so many entries, which grows by that allocator.
-    pub fn new(alloc: Global, kind: KeyType, size: u64, stores: Stores) -> StickTable
+    /// An empty table of at most so many entries, which grows by that allocator. An entry that nobody tracks is gone so
+    /// many ms after its last touch, 0 for never.
+    pub fn new(alloc: Global, kind: KeyType, size: u64, stores: Stores, expire: u64) -> StickTable
         ensures kind { result.kind ≡ kind }
         ensures size { result.size ≡ size }
         ensures stores { result.stores ≡ stores }
+        ensures expire { result.expire ≡ expire }
+        ensures clock { result.clock ≡ 0 }
         ensures entries { result.entries ≡ [] }
     {
         StickTable {
             kind,
             size,
             stores,
+            expire,
+            clock: 0,
             touched: TouchList::new(alloc),
         }
     }
@@ -123,41 +133,45 @@ impl StickTable {
         }
     }
 
-    /// How often the address was tracked, 2^64 - 1 for more. What is no key never was.
-    pub fn cnt(&self, addr: &Addr) -> u64
-        ensures value { result ≡ cnt_at self.now addr.now }
-        ensures plain_value { result ≡ count_at self.now.kind (plain self.now.entries) addr.now }
+    /// How often the address was tracked, 2^64 - 1 for more, as it is at a moment. What is no key never was.
+    pub fn cnt(&self, addr: &Addr, moment: u64) -> u64
+        requires { self.now.clock ≤ moment }
+        ensures value { result ≡ cnt_at (passed moment self.now) addr.now }
+        ensures plain_value { result ≡ count_at self.now.kind (plain (passed moment self.now).entries) addr.now }
     {
-        self.count_trackings(addr)
+        self.count_trackings(addr, moment)
     }
 
-    fn count_trackings(&self, addr: &Addr) -> u64
-        ensures { result ≡ cnt_at self.now addr.now }
+    fn count_trackings(&self, addr: &Addr, moment: u64) -> u64
+        requires { self.now.clock ≤ moment }
+        ensures { result ≡ cnt_at (passed moment self.now) addr.now }
     {
         match key_of(self.kind, addr) {
-            Some(key) => cnt_in(self.touched.entry(&key)),
+            Some(key) => cnt_in(living_entry(&self.touched, &key, self.expire, moment)),
             None => 0,
         }
     }
 
     /// Both counts of the address, as `cur` and `cnt` have them.
-    pub fn counts(&self, addr: &Addr) -> KeyCounts
+    pub fn counts(&self, addr: &Addr, moment: u64) -> KeyCounts
+        requires { self.now.clock ≤ moment }
         ensures cur { result.cur ≡ cur_at self.now addr.now }
-        ensures cnt { result.cnt ≡ cnt_at self.now addr.now }
+        ensures cnt { result.cnt ≡ cnt_at (passed moment self.now) addr.now }
         ensures plain_cur { (trackers : Addr → ℕ) → AreTrackers trackers self.now.entries → result.cur ≡ trackers_at trackers self.now.kind addr.now }
-        ensures plain_cnt { result.cnt ≡ count_at self.now.kind (plain self.now.entries) addr.now }
+        ensures plain_cnt { result.cnt ≡ count_at self.now.kind (plain (passed moment self.now).entries) addr.now }
     {
-        self.count_both(addr)
+        self.count_both(addr, moment)
     }
 
-    fn count_both(&self, addr: &Addr) -> KeyCounts
+    fn count_both(&self, addr: &Addr, moment: u64) -> KeyCounts
+        requires { self.now.clock ≤ moment }
         ensures cur { result.cur ≡ cur_at self.now addr.now }
-        ensures cnt { result.cnt ≡ cnt_at self.now addr.now }
+        ensures cnt { result.cnt ≡ cnt_at (passed moment self.now) addr.now }
     {
         let Some(key) = key_of(self.kind, addr) else {
             return KeyCounts { cur: 0, cnt: 0 };
         };
-        let entry = self.touched.entry(&key);
+        let entry = living_entry(&self.touched, &key, self.expire, moment);
         KeyCounts {
             cur: cur_in(entry),
             cnt: cnt_in(entry),
@@ -178,13 +192,15 @@ impl StickTable {
         self.listed_key(addr).is_some()
     }
 
-    /// The key under which the address would be tracked, if it could be.
+    /// The key under which the address would be tracked, if it could be. Time makes no difference: an entry that is gone
+    /// gives its place to another key, and one that is not yet gone does so too.
     pub fn key_for(&self, addr: &Addr) -> Option<Addr>
         ensures value { result ≡ key_taken self.now addr.now }
+        ensures later { (moment : ℕ) → result ≡ key_taken (passed moment self.now) addr.now }
 
         // The same of plain entries, where so many track each key.
-        ensures plain_value { (trackers : Addr → ℕ) → AreTrackers trackers self.now.entries →
-            result ≡ tracked_key trackers self.now.kind self.now.size (plain self.now.entries) addr.now }
+        ensures plain_value { (moment : ℕ) (trackers : Addr → ℕ) → AreTrackers trackers self.now.entries →
+            result ≡ tracked_key trackers self.now.kind self.now.size (plain (passed moment self.now).entries) addr.now }
     {
         self.listed_key(addr)
     }
@@ -202,14 +218,16 @@ impl StickTable {
     fn can_list(&self, key: &Addr) -> bool
         ensures { result ≡ can_list self.now.size self.now.entries key.now }
     {
-        self.has_room() || self.touched.has_free() || self.touched.entry(key).is_some()
+        has_place_for(&self.touched, self.size, key)
     }
 
-    /// The keys in the order of their last touch, each with how often it was tracked.
-    pub fn entries(&self, alloc: Global) -> Result<Seq<PlainEntry>, AllocError>
-        ensures { IfOk result (λ list. list ≡ plain self.now.entries) }
+    /// The keys in the order of their last touch, each with its moment and with how often it was tracked, as they are at a
+    /// moment.
+    pub fn entries(&self, alloc: Global, moment: u64) -> Result<Seq<PlainEntry>, AllocError>
+        requires { self.now.clock ≤ moment }
+        ensures { IfOk result (λ list. list ≡ plain (passed moment self.now).entries) }
     {
-        self.touched.listed(alloc)
+        self.touched.listed(alloc, self.expire, moment)
     }
 
     /// Makes room so that the next so many trackings do not lack memory. It may have made some also where it lacks
@@ -240,28 +258,41 @@ impl StickTable {
         usize::try_from(self.size).unwrap_or(usize::MAX)
     }
 
-    /// Tracks an address, if it is a key that can be listed. A new key in a full table removes the
+    /// Lets time pass.
+    fn pass(&mut self, moment: u64)
+        requires { self.old.clock ≤ moment }
+        ensures value { self.new ≡ passed moment self.old }
+        ensures sound { IsSound self.old.size self.old.entries }
+    {
+        self.clock = moment;
+    }
+
+    /// Tracks an address at a moment, if it is a key that can be listed. A new key in a full table removes the
     /// entry without trackers that was touched longest ago; where each has some, nothing is tracked.
-    pub fn track(&mut self, addr: &Addr) -> Result<Option<TrackToken>, AllocError>
-        requires { cur_at self.old addr.now < 2 ^ 64 - 1 }
-        ensures tracked { IfOk result (λ tracked. tracked ≡ key_taken self.old addr.now) }
-        ensures entries { OnOk result (self.new.entries ≡ entries_after self.old addr.now) }
-        ensures same { self.new ≡ record self.old { entries = self.new.entries; spare = self.new.spare } }
+    pub fn track(&mut self, addr: &Addr, moment: u64) -> Result<Option<TrackToken>, AllocError>
+        requires clock { self.old.clock ≤ moment }
+        requires below { cur_at self.old addr.now < 2 ^ 64 - 1 }
+        ensures tracked { IfOk result (λ tracked. tracked ≡ key_taken (passed moment self.old) addr.now) }
+        ensures entries { OnOk result (self.new.entries ≡ entries_after (passed moment self.old) addr.now) }
+        ensures same { self.new ≡ record (passed moment self.old) { entries = self.new.entries; spare = self.new.spare } }
 
         // Each key has one tracker more for each tracking of it.
         ensures counts { IfOk result (λ tracked. (key : Addr) → cur_of key self.new.entries ≡ cur_of key self.old.entries + trackings_of key tracked) }
 
         // The same of plain entries, where so many track each key.
         ensures plain_key { IfOk result (λ tracked. (trackers : Addr → ℕ) → AreTrackers trackers self.old.entries →
-            tracked ≡ tracked_key trackers self.old.kind self.old.size (plain self.old.entries) addr.now) }
+            tracked ≡ tracked_key trackers self.old.kind self.old.size (plain (passed moment self.old).entries) addr.now) }
         ensures plain_entries { IfOk result (λ tracked. (trackers : Addr → ℕ) → AreTrackers trackers self.old.entries →
-            plain self.new.entries ≡ with_trackings trackers self.old.size tracked (plain self.old.entries)) }
+            plain self.new.entries ≡ with_trackings moment trackers self.old.size tracked (plain (passed moment self.old).entries)) }
+
+        ensures shown { IsShown self.new }
 
         // Only here memory is taken, for one entry.
         ensures spare { self.old.spare ≤ self.new.spare + 1 }
         ensures reserved { 0 < self.old.spare → IsOk result }
-        ensures err { OnErr result ((self.new.entries ≡ self.old.entries) × (self.old.spare ≤ self.new.spare)) }
+        ensures err { OnErr result ((self.new.entries ≡ (passed moment self.old).entries) × (self.old.spare ≤ self.new.spare)) }
     {
+        self.pass(moment);
         self.track_key(addr)
     }
 
@@ -273,45 +304,97 @@ impl StickTable {
         ensures spare { self.old.spare ≤ self.new.spare + 1 }
         ensures reserved { 0 < self.old.spare → IsOk result }
         ensures err { OnErr result ((self.new.entries ≡ self.old.entries) × (self.old.spare ≤ self.new.spare)) }
-        ensures sound { IsSound self.old.size self.old.entries }
     {
         let Some(key) = key_of(self.kind, addr) else {
             return Ok(None);
         };
-        if !self.touched.raise(&key) {
-            if self.has_room() {
-                self.touched.add(key)?;
-            } else if !self.touched.replace_first_free(key)? {
+        if !self.touched.raise(&key, self.expire, self.clock) {
+            if has_place(&self.touched, self.size, self.expire, self.clock) {
+                self.touched.add(key, self.clock)?;
+            } else if !self.touched.replace_first_free(key, self.clock)? {
                 return Ok(None);
             }
         }
         Ok(Some(TrackToken { key }))
     }
 
-    /// Ends a tracking, without taking memory.
-    pub fn release(&mut self, tracked: TrackToken)
-        requires { 0 < cur_of tracked self.old.entries }
-        ensures value { self.new ≡ record self.old { entries = released tracked self.old.entries } }
+    /// Ends a tracking at a moment, without taking memory.
+    pub fn release(&mut self, tracked: TrackToken, moment: u64)
+        requires clock { self.old.clock ≤ moment }
+        requires tracked { 0 < cur_of tracked self.old.entries }
+        ensures value { self.new ≡ record (passed moment self.old) { entries = released moment tracked (passed moment self.old).entries } }
 
         // The key has one tracker less, and no other key has.
         ensures counts { (key : Addr) → cur_of key self.new.entries + trackings_of key (Some tracked) ≡ cur_of key self.old.entries }
-        ensures plain_entries { plain self.new.entries ≡ touched tracked (plain self.old.entries) }
+        ensures plain_entries { plain self.new.entries ≡ touched moment tracked (plain (passed moment self.old).entries) }
+        ensures shown { IsShown self.new }
     {
+        self.pass(moment);
         self.release_key(tracked)
     }
 
     fn release_key(&mut self, tracked: TrackToken)
         requires { 0 < cur_of tracked self.old.entries }
-        ensures value { self.new ≡ record self.old { entries = released tracked self.old.entries } }
-        ensures sound { IsSound self.old.size self.old.entries }
+        ensures { self.new ≡ record self.old { entries = released self.old.clock tracked self.old.entries } }
     {
         let TrackToken { key } = tracked;
-        self.touched.lower(&key);
+        self.touched.lower(&key, self.clock);
     }
+}
 
-    fn has_room(&self) -> bool
-        ensures { result ≡ nat_lt (length self.now.entries) self.now.size }
-    {
-        (self.touched.len() as u64) < self.size
+/// Whether there are fewer entries than that, those that are gone counted.
+fn has_room(touched: &TouchList, size: u64) -> bool
+    ensures { result ≡ nat_lt (length touched.now.entries) size }
+{
+    (touched.len() as u64) < size
+}
+
+/// Whether some entry has no trackers.
+fn has_free(touched: &TouchList) -> bool
+    ensures { result ≡ list_any is_free touched.now.entries }
+{
+    touched.first_free().is_some()
+}
+
+/// Whether a key is listed or could be.
+fn has_place_for(touched: &TouchList, size: u64, key: &Addr) -> bool
+    ensures { result ≡ can_list size touched.now.entries key.now }
+{
+    has_room(touched, size) || has_free(touched) || touched.entry(key).is_some()
+}
+
+/// Whether a new key takes nobody's place: there is room, and no entry is gone.
+fn has_place(touched: &TouchList, size: u64, expire: u64, moment: u64) -> bool
+    requires { AreInTurn moment touched.now.entries }
+    ensures { result ≡ (nat_lt (length touched.now.entries) size && not (list_any (is_gone expire moment) touched.now.entries)) }
+{
+    has_room(touched, size) && !has_gone(touched, expire, moment)
+}
+
+/// Whether some entry is gone. The first one without trackers is gone before all others are.
+fn has_gone(touched: &TouchList, expire: u64, moment: u64) -> bool
+    requires { AreInTurn moment touched.now.entries }
+    ensures { result ≡ list_any (is_gone expire moment) touched.now.entries }
+{
+    match touched.first_free() {
+        Some(entry) => entry.is_gone(expire, moment),
+        None => false,
+    }
+}
+
+/// The entry of a key, unless it is gone.
+fn living_entry(touched: &TouchList, key: &Addr, expire: u64, moment: u64) -> Option<StickEntry>
+    requires { HasKeysOnce touched.now.entries }
+    ensures { result ≡ find (is_of key.now) (living expire moment touched.now.entries) }
+{
+    match touched.entry(key) {
+        Some(entry) => {
+            if entry.is_gone(expire, moment) {
+                None
+            } else {
+                Some(entry)
+            }
+        }
+        None => None,
     }
 }

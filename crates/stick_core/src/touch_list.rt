@@ -2,8 +2,8 @@
 ghost use Rattle.std.specs.Prelude.{◌≡◌, ◌+◌, ◌-◌, ◌^◌, ◌<◌, ◌≤◌, ◌++◌, ◌∷◌, [], true, false, cond, find, length, IfOk, OnOk, OnErr, IsOk, None};
 ghost use Rattle.std.specs.List.{list_any};
 ghost use Rattle.indexmap.specs.IndexMap.{index_map_len, with_value_at};
-ghost use Rattle.stick_core.specs.Entries.{is_of, is_free, is_listed, cur_of, added, released, tracked, without_first_free};
-ghost use Rattle.stick_core.specs.Places.{entry_at, IsKept};
+ghost use Rattle.stick_core.specs.Entries.{is_of, is_free, is_listed, cur_of, added, entry_with, living, released, touched, without_first_free};
+ghost use Rattle.stick_core.specs.Places.{entry_at, first_counts, IsKept};
 ghost use Rattle.stick_core.specs.PlainEntries.{plain};
 ghost use Rattle.stick_core.specs.Ring.{Has, Lacks, Distinct, without};
 
@@ -20,18 +20,29 @@ use std::marker::Model;
 pub(crate) struct Counts {
     pub(crate) cur: u64,
     pub(crate) cnt: u64,
+    pub(crate) last_touch: u64,
 }
-
-/// A key that is tracked for the first time.
-const FIRST: Counts = Counts { cur: 1, cnt: 1 };
 
 fn counts_of(entry: StickEntry) -> Counts
     ensures cur { result.cur ≡ entry.cur }
     ensures cnt { result.cnt ≡ entry.cnt }
+    ensures last_touch { result.last_touch ≡ entry.last_touch }
 {
     Counts {
         cur: entry.cur,
         cnt: entry.cnt,
+        last_touch: entry.last_touch,
+    }
+}
+
+/// Of a key that is tracked for the first time.
+fn first_counts(moment: u64) -> Counts
+    ensures { result ≡ first_counts moment }
+{
+    Counts {
+        cur: 1,
+        cnt: 1,
+        last_touch: moment,
     }
 }
 
@@ -45,6 +56,7 @@ fn entry_at_place(index: &IndexMap<Addr, Counts>, place: usize) -> StickEntry
             key: *key,
             cur: counts.cur,
             cnt: counts.cnt,
+            last_touch: counts.last_touch,
         },
         None => unreachable!(),
     }
@@ -103,7 +115,7 @@ fn put_last(
 )
     requires kept { IsKept index.old.entries touched.old free.old }
     requires place { place < index_map_len index.old }
-    ensures index { index.new ≡ with_value_at index.old place (record { cur = entry.cur; cnt = entry.cnt }) }
+    ensures index { index.new ≡ with_value_at index.old place (record { cur = entry.cur; cnt = entry.cnt; last_touch = entry.last_touch }) }
     ensures touched { touched.new ≡ record touched.old { order = without place touched.old.order ++ place ∷ [] } }
     ensures free { free.new ≡ record free.old { order = without place free.old.order ++ cond (is_free entry) (place ∷ []) [] } }
 {
@@ -112,6 +124,22 @@ fn put_last(
     set_counts(index, place, counts_of(entry));
     move_last(touched, place);
     join(free, place, entry.cur == 0);
+}
+
+/// Adds an entry, unless it is gone.
+fn push_living(
+    list: &mut Vec<PlainEntry>,
+    entry: &StickEntry,
+    expire: u64,
+    moment: u64,
+) -> Result<(), AllocError>
+    ensures { OnOk result (list.new.items ≡ list.old.items ++ plain (living expire moment (entry.now ∷ []))) }
+{
+    if entry.is_gone(expire, moment) {
+        return Ok(());
+    }
+    list.push(entry.plain())?;
+    Ok(())
 }
 
 /// Entries found by their keys, in the order of their last touch. A call takes a time that does not grow with
@@ -164,11 +192,14 @@ impl TouchList {
         }
     }
 
-    /// Whether some entry has no trackers.
-    pub(crate) fn has_free(&self) -> bool
-        ensures { result ≡ list_any is_free self.now.entries }
+    /// Of the entries without trackers, the one that was touched longest ago.
+    pub(crate) fn first_free(&self) -> Option<StickEntry>
+        ensures { result ≡ find is_free self.now.entries }
     {
-        self.free.first().is_some()
+        match self.free.first() {
+            Some(place) => Some(entry_at_place(&self.index, place)),
+            None => None,
+        }
     }
 
     /// Makes room for so many more entries. It may have made some also where it lacks memory for all.
@@ -183,12 +214,12 @@ impl TouchList {
         self.free.reserve(more)
     }
 
-    /// Counts one more tracking of a key, as the last one touched. It answers whether the key has an entry; without one
-    /// it changes nothing.
-    pub(crate) fn raise(&mut self, key: &Addr) -> bool
+    /// Counts one more tracking of a key, as the last one touched. An entry that was gone begins again. It answers whether
+    /// the key has an entry; without one it changes nothing.
+    pub(crate) fn raise(&mut self, key: &Addr, expire: u64, moment: u64) -> bool
         requires { cur_of key.now self.old.entries < 2 ^ 64 - 1 }
         ensures answer { result ≡ is_listed key.now self.old.entries }
-        ensures entries { result ≡ true → self.new.entries ≡ tracked key.now self.old.entries }
+        ensures entries { result ≡ true → self.new.entries ≡ touched (entry_with expire moment) key.now self.old.entries }
         ensures same { result ≡ false → self.new ≡ self.old }
         ensures spare { self.new.spare ≡ self.old.spare }
         ensures len { length self.new.entries ≡ length self.old.entries }
@@ -202,15 +233,15 @@ impl TouchList {
             &mut self.touched,
             &mut self.free,
             place,
-            entry.raised(),
+            entry.tracked(expire, moment),
         );
         true
     }
 
     /// Counts the end of a tracking of a key, as the last one touched.
-    pub(crate) fn lower(&mut self, key: &Addr)
+    pub(crate) fn lower(&mut self, key: &Addr, moment: u64)
         requires { 0 < cur_of key.now self.old.entries }
-        ensures entries { self.new.entries ≡ released key.now self.old.entries }
+        ensures entries { self.new.entries ≡ released moment key.now self.old.entries }
         ensures spare { self.new.spare ≡ self.old.spare }
         ensures len { length self.new.entries ≡ length self.old.entries }
     {
@@ -223,20 +254,20 @@ impl TouchList {
             &mut self.touched,
             &mut self.free,
             place,
-            entry.lowered(),
+            entry.lowered(moment),
         );
     }
 
     /// Adds a key that is tracked for the first time, as the last one touched.
-    pub(crate) fn add(&mut self, key: Addr) -> Result<(), AllocError>
+    pub(crate) fn add(&mut self, key: Addr, moment: u64) -> Result<(), AllocError>
         requires { find (is_of key) self.old.entries ≡ None }
-        ensures entries { OnOk result (self.new.entries ≡ added key self.old.entries) }
+        ensures entries { OnOk result (self.new.entries ≡ added moment key self.old.entries) }
         ensures spare { self.old.spare ≤ self.new.spare + 1 }
         ensures reserved { 0 < self.old.spare → IsOk result }
         ensures err { OnErr result ((self.new.entries ≡ self.old.entries) × (self.old.spare ≤ self.new.spare)) }
     {
         self.reserve(1)?;
-        self.index.insert(key, FIRST)?;
+        self.index.insert(key, first_counts(moment))?;
         let place = self.touched.add_place();
         self.touched.push_back(place);
         self.free.add_place();
@@ -245,10 +276,10 @@ impl TouchList {
 
     /// Puts a key that is tracked for the first time, as the last one touched, in place of the entry that was
     /// touched longest ago of those without trackers. Without such an entry it changes nothing.
-    pub(crate) fn replace_first_free(&mut self, key: Addr) -> Result<bool, AllocError>
+    pub(crate) fn replace_first_free(&mut self, key: Addr, moment: u64) -> Result<bool, AllocError>
         requires { find (is_of key) self.old.entries ≡ None }
         ensures answer { IfOk result (λ is. is ≡ list_any is_free self.old.entries) }
-        ensures entries { IfOk result (λ is. is ≡ true → self.new.entries ≡ added key (without_first_free self.old.entries)) }
+        ensures entries { IfOk result (λ is. is ≡ true → self.new.entries ≡ added moment key (without_first_free self.old.entries)) }
         ensures same { IfOk result (λ is. is ≡ false → self.new.entries ≡ self.old.entries) }
         ensures spare { self.old.spare ≤ self.new.spare + 1 }
         ensures reserved { 0 < self.old.spare → IsOk result }
@@ -257,22 +288,28 @@ impl TouchList {
         let Some(place) = self.free.first() else {
             return Ok(false);
         };
-        self.index.insert(key, FIRST)?;
+        self.index.insert(key, first_counts(moment))?;
         self.index.swap_remove_index(place);
         self.free.remove(place);
         move_last(&mut self.touched, place);
         Ok(true)
     }
 
-    /// The keys, with how often each was tracked.
-    pub(crate) fn listed(&self, alloc: Global) -> Result<Seq<PlainEntry>, AllocError>
-        ensures { IfOk result (λ list. list ≡ plain self.now.entries) }
+    /// The entries that are not gone.
+    pub(crate) fn listed(
+        &self,
+        alloc: Global,
+        expire: u64,
+        moment: u64,
+    ) -> Result<Seq<PlainEntry>, AllocError>
+        ensures { IfOk result (λ list. list ≡ plain (living expire moment self.now.entries)) }
     {
         let mut list = Vec::with_capacity(alloc, self.index.len())?;
         let mut next = self.touched.first();
         for _ in 0..self.index.len() {
             if let Some(place) = next {
-                list.push(entry_at_place(&self.index, place).plain())?;
+                let entry = entry_at_place(&self.index, place);
+                push_living(&mut list, &entry, expire, moment)?;
                 next = self.touched.next(place);
             }
         }

@@ -26,7 +26,7 @@ use Rattle.conn_model.specs.declared.reply.Said.{Said}
 use Rattle.conn_model.specs.declared.reply.Said.TheVariants as saids
 use Rattle.conn_model.specs.declared.reply.Said.TheVariants.{Wait, Offer, Refuse, Closed, Reloaded}
 use Rattle.conn_model.specs.Words.{row_at}
-use Rattle.conn_model.specs.Answer.{answer_in, version_at}
+use Rattle.conn_model.specs.Answer.{answer_in, at_moment, version_at}
 use Rattle.conn_model.specs.Counts.{server_of}
 use Rattle.conn_model.specs.Servers.{cursor_after, cursor_at, cursors_after, with_cursor}
 use Rattle.conn_model.specs.History.{accepts, after, arrival, arrivals, ended_by, entry, frontend_after, has_ended, is_last, judging_version, newest_number, phase_by, plan_of, row_after, speaks_to, tracks_of, with_offer, Entry, IsWell}
@@ -37,12 +37,13 @@ use Rattle.conn_model.proofs.Goes.{newest_of, well_at}
 use Rattle.conn_model.proofs.OneTable.{table_by, table_found, table_with-entries, table_with_tracks, table_without_tracks}
 use Rattle.conn_model.proofs.Versions.{version_said}
 use Rattle.tenant_laws.specs.Parts.{owns_backend_at, owns_table, Part}
-use Rattle.tenant_laws.specs.Agreement.{is_own_id, owns_id, Agree, IsAlike, IsApart, IsInside, IsMeant, IsOutside, IsSound}
+use Rattle.tenant_laws.specs.Agreement.{is_own_id, owns_id, Agree, IsAlike, IsApart, IsInside, IsMeant, IsOutside, IsSound, LookAlike}
 use Rattle.tenant_laws.specs.Runs.{frontend_of}
 use Rattle.tenant_laws.proofs.Lists.{any-of, contrary, nothing, slice_get-other, slice_get-set, some_same}
 use Rattle.conn_model.proofs.Trackers.{trackers-append}
 use Rattle.tenant_laws.proofs.Counts.{own-is, tracks-same}
-use Rattle.tenant_laws.proofs.Same.{answers-same, apart-of, newest-there, row_at-same}
+use Rattle.tenant_laws.proofs.Later.{agree-at, answers-same, at-sound, from-apart, look-later}
+use Rattle.tenant_laws.proofs.Same.{apart-of, newest-there, row_at-same}
 use Rattle.tenant_laws.proofs.PartReplies.{part_reply, PartReply}
 use Rattle.tenant_laws.proofs.Step.{all-by_counter, frontend-at, inside-apart, names-after, named-apart, number-after, outside-apart, own-there, plan-kept, plans-apart, rows-after, sound-step, step-own, step-plan, table-stays, version-before}
 
@@ -67,7 +68,7 @@ meant-there part p well k (inr (n, own, in', there, has)) =
     some None e is = absurd (false≢true (rw e at is))
     some (Some v) e is = (v, e)
 
-pub meant-other : (part : Part) (p q : Plain) → Agree part p q → (k : ℕ) → IsMeant part p k → IsMeant part q k
+pub meant-other : (part : Part) (p q : Plain) → LookAlike part p q → (k : ℕ) → IsMeant part p k → IsMeant part q k
 meant-other part p q agree k (inl newest') = inl (newest' ∙ agree.number)
 meant-other part p q agree k (inr (n, own, in', there, has)) = inr (n, own, in', sym (agree.frontends n in') ∙ there, has)
 
@@ -79,14 +80,14 @@ rows-meant part p n own in' there =
 
 -- A table changes alike where its keys are counted alike.
 
-with-same : (a b made : List Track) (table : TableState) → ((key : Addr) → trackers a table.id key ≡ trackers b table.id key) → table_with_tracks a made table ≡ table_with_tracks b made table
-with-same a b [] table same = refl
-with-same a b (t ∷ made) table same =
-    let one : table_with a t table ≡ table_with b t table =
-    ap (λ (f : Addr → ℕ). if same_id table.id t.table then record table { entries = with_tracking f table.table.size t.key table.entries } else table) (fun_ext same) in
-    let id : (table_with b t table).id ≡ table.id = ap (λ (x : TableState). x.id) (table_with-entries b t table) in
-    ap (table_with_tracks (a ++ t ∷ []) made) one
-    ∙ with-same (a ++ t ∷ []) (b ++ t ∷ []) made (table_with b t table)
+with-same : (moment : ℕ) (a b made : List Track) (table : TableState) → ((key : Addr) → trackers a table.id key ≡ trackers b table.id key) → table_with_tracks moment a made table ≡ table_with_tracks moment b made table
+with-same moment a b [] table same = refl
+with-same moment a b (t ∷ made) table same =
+    let one : table_with moment a t table ≡ table_with moment b t table =
+    ap (λ (f : Addr → ℕ). if same_id table.id t.table then record table { entries = with_tracking moment f table.table.size t.key table.entries } else table) (fun_ext same) in
+    let id : (table_with moment b t table).id ≡ table.id = ap (λ (x : TableState). x.id) (table_with-entries moment b t table) in
+    ap (table_with_tracks moment (a ++ t ∷ []) made) one
+    ∙ with-same moment (a ++ t ∷ []) (b ++ t ∷ []) made (table_with moment b t table)
     (λ key. ap (λ i. trackers (a ++ t ∷ []) i key) id ∙ trackers-append a (t ∷ []) table.id key ∙ ap (λ n. n + trackers (t ∷ []) table.id key) (same key)
     ∙ sym (trackers-append b (t ∷ []) table.id key) ∙ sym (ap (λ i. trackers (b ++ t ∷ []) i key) id))
 
@@ -200,13 +201,13 @@ module _ (part : Part) (p : Plain) (sound : IsSound p) (apart : IsApart part p) 
           let row : Row = got.0 in
           subst (IsMeant part p) (eqb-true row.version k got.2) got.1
 
--- In two states that agree.
-module _ (part : Part) (p q : Plain) (sound : IsSound p) (sound' : IsSound q) (agree : Agree part p q) (e : Entry) (is : answer_in p e.moment e.event ≡ Ok e.reply) (is' : answer_in q e.moment e.event ≡ Ok e.reply)
+-- In two states that look alike at the moment of the entry.
+module _ (part : Part) (p q : Plain) (sound : IsSound p) (sound' : IsSound q) (e : Entry) (agree : LookAlike part (at_moment e.moment p) (at_moment e.moment q)) (is : answer_in p e.moment e.event ≡ Ok e.reply) (is' : answer_in q e.moment e.event ≡ Ok e.reply)
     (facts : PartReply part true p e) (facts' : PartReply part true q e) (clocks : max p.clock e.moment ≡ max q.clock e.moment) where
   judging-same : judging_version p.frontends (newest_number p) e.reply.said ≡ judging_version q.frontends (newest_number q) e.reply.said
   judging-same =
       ap (λ (o : Option ConnId). option_map_or (λ (row : Row). row.version) (option_and_then (row_at p.frontends) o) (newest_number p)) facts.says
-      ∙ ap (λ (o : Option Row). option_map_or (λ (row : Row). row.version) o (newest_number p)) (row_at-same part p q sound sound' agree facts.id facts.on)
+      ∙ ap (λ (o : Option Row). option_map_or (λ (row : Row). row.version) o (newest_number p)) (row_at-same part (at_moment e.moment p) (at_moment e.moment q) (at-sound p sound e.moment) (at-sound q sound' e.moment) agree facts.id facts.on)
       ∙ ap (λ n. option_map_or (λ (row : Row). row.version) (row_at q.frontends facts.id) n) agree.number
       ∙ ap (λ (o : Option ConnId). option_map_or (λ (row : Row). row.version) (option_and_then (row_at q.frontends) o) (newest_number q)) (sym facts.says)
 
@@ -214,14 +215,14 @@ module _ (part : Part) (p q : Plain) (sound : IsSound p) (sound' : IsSound q) (a
   ended-same =
       ap (λ (ts : List Track). if is_last e.reply.said then by_counter (ts ++ e.reply.tracks.items) else [])
       (ap (λ (o : Option ConnId). option_map_or (tracks_at p.frontends) o []) facts.says
-      ∙ ap (λ (o : Option Row). option_map_or (λ (row : Row). row.tracks) o []) (row_at-same part p q sound sound' agree facts.id facts.on)
+      ∙ ap (λ (o : Option Row). option_map_or (λ (row : Row). row.tracks) o []) (row_at-same part (at_moment e.moment p) (at_moment e.moment q) (at-sound p sound e.moment) (at-sound q sound' e.moment) agree facts.id facts.on)
       ∙ ap (λ (o : Option ConnId). option_map_or (tracks_at q.frontends) o []) (sym facts.says))
 
   plan-same : (k : ℕ) → IsMeant part p k → plan_of p [] k ≡ plan_of q [] k
   plan-same k meant =
       let v = meant-there part p sound.well k meant in
-      let w = meant-there part q sound'.well k (meant-other part p q agree k meant) in
-      let alike : IsAlike part p.tables q.tables v.0 w.0 = agree.versions k meant v.0 w.0 v.1 w.1 in
+      let w = meant-there part q sound'.well k (meant-other part (at_moment e.moment p) (at_moment e.moment q) agree k meant) in
+      let alike : IsAlike part (at_moment e.moment p).tables (at_moment e.moment q).tables v.0 w.0 = agree.versions k meant v.0 w.0 v.1 w.1 in
       plan-kept p k ∙ ap (option_map (λ (x : Version). x.plan)) v.1 ∙ ap Some alike.plan ∙ sym (plan-kept q k ∙ ap (option_map (λ (x : Version). x.plan)) w.1)
 
   arrivals-same : (n : ℕ) → arrivals p n (e ∷ []) ≡ arrivals q n (e ∷ [])
@@ -257,40 +258,41 @@ module _ (part : Part) (p q : Plain) (sound : IsSound p) (sound' : IsSound q) (a
       by (Some own) there = rw there (ap Some (frontend-same n own in' there))
 
   entries-same : (k : ℕ) (v w v' w' : Version) (id : TableId) → version_at p.versions k ≡ Some v → version_at (after p (e ∷ [])).versions k ≡ Some v' → version_at (after q (e ∷ [])).versions k ≡ Some w' →
-      IsAlike part p.tables q.tables v w → is_own_id part v id ≡ true → is_own_id part v' id ≡ true → is_own_id part w' id ≡ true → table_at (after p (e ∷ [])).tables id ≡ table_at (after q (e ∷ [])).tables id
+      IsAlike part (at_moment e.moment p).tables (at_moment e.moment q).tables v w → is_own_id part v id ≡ true → is_own_id part v' id ≡ true → is_own_id part w' id ≡ true → table_at (after p (e ∷ [])).tables id ≡ table_at (after q (e ∷ [])).tables id
   entries-same k v w v' w' id there there' other' alike own own' own'' =
-      let stays : table_at (after p (e ∷ [])).tables id ≡ option_map (table_by p.frontends e.reply) (table_at p.tables id) =
+      let stays : table_at (after p (e ∷ [])).tables id ≡ option_map (table_by (max p.clock e.moment) p.frontends e.reply) (table_at (at_moment e.moment p).tables id) =
       table-stays p sound.well e facts.brings id (own-there part (after p (e ∷ [])) (sound-step p sound e is facts.brings).well k v' id there' own') in
-      let stays' : table_at (after q (e ∷ [])).tables id ≡ option_map (table_by q.frontends e.reply) (table_at q.tables id) =
+      let stays' : table_at (after q (e ∷ [])).tables id ≡ option_map (table_by (max q.clock e.moment) q.frontends e.reply) (table_at (at_moment e.moment q).tables id) =
       table-stays q sound'.well e facts'.brings id (own-there part (after q (e ∷ [])) (sound-step q sound' e is' facts'.brings).well k w' id other' own'') in
-      stays ∙ by (table_at p.tables id) refl ∙ ap (option_map (table_by q.frontends e.reply)) (alike.entries id own) ∙ sym stays'
+      stays ∙ by (table_at (at_moment e.moment p).tables id) refl ∙ ap (option_map (table_by (max q.clock e.moment) q.frontends e.reply)) (alike.entries id own) ∙ sym stays'
     where
-      owned : owns_id part p.tables id ≡ true
-      owned = own-is part p.tables v id (sound.written k v there) own
+      owned : owns_id part (at_moment e.moment p).tables id ≡ true
+      owned = own-is part (at_moment e.moment p).tables v id ((at-sound p sound e.moment).written k v there) own
 
-      owned' : owns_id part q.tables id ≡ true
+      owned' : owns_id part (at_moment e.moment q).tables id ≡ true
       owned' = ap (λ o. option_map_or (λ (x : TableState). owns_table part x.table) o false) (sym (alike.entries id own)) ∙ owned
 
       counted : (key : Addr) → trackers (open_tracks p.frontends) id key ≡ trackers (open_tracks q.frontends) id key
-      counted = tracks-same part p.tables q.tables p.frontends q.frontends (apart-of part p agree.left) (apart-of part q agree.right) agree.frontends id owned owned'
+      counted = tracks-same part (at_moment e.moment p).tables (at_moment e.moment q).tables p.frontends q.frontends (apart-of part (at_moment e.moment p) agree.left) (apart-of part (at_moment e.moment q) agree.right) agree.frontends id owned owned'
 
-      by : (o : Option TableState) → table_at p.tables id ≡ o → option_map (table_by p.frontends e.reply) (table_at p.tables id) ≡ option_map (table_by q.frontends e.reply) (table_at p.tables id)
+      by : (o : Option TableState) → table_at (at_moment e.moment p).tables id ≡ o → option_map (table_by (max p.clock e.moment) p.frontends e.reply) (table_at (at_moment e.moment p).tables id) ≡ option_map (table_by (max q.clock e.moment) q.frontends e.reply) (table_at (at_moment e.moment p).tables id)
       by None found = rw found refl
       by (Some table) found =
-          let first : table.id ≡ id = table_found p.tables id table found in
-          let made : table_with_tracks (open_tracks p.frontends) e.reply.tracks.items table ≡ table_with_tracks (open_tracks q.frontends) e.reply.tracks.items table =
-          with-same (open_tracks p.frontends) (open_tracks q.frontends) e.reply.tracks.items table
+          let first : table.id ≡ id = table_found (at_moment e.moment p).tables id table found in
+          let made : table_with_tracks (max p.clock e.moment) (open_tracks p.frontends) e.reply.tracks.items table ≡ table_with_tracks (max p.clock e.moment) (open_tracks q.frontends) e.reply.tracks.items table =
+          with-same (max p.clock e.moment) (open_tracks p.frontends) (open_tracks q.frontends) e.reply.tracks.items table
           (λ key. ap (λ i. trackers (open_tracks p.frontends) i key) first ∙ counted key ∙ ap (λ i. trackers (open_tracks q.frontends) i key) (sym first)) in
           rw found (ap Some
-          (ap (table_without_tracks (ended_by p.frontends e.reply)) made
-          ∙ ap (λ ended. table_without_tracks ended (table_with_tracks (open_tracks q.frontends) e.reply.tracks.items table)) ended-same))
+          (ap (table_without_tracks (max p.clock e.moment) (ended_by p.frontends e.reply)) made
+          ∙ ap (λ ended. table_without_tracks (max p.clock e.moment) ended (table_with_tracks (max p.clock e.moment) (open_tracks q.frontends) e.reply.tracks.items table)) ended-same
+          ∙ ap (λ n. table_by n q.frontends e.reply table) clocks))
 
   versions-alike : (k : ℕ) → IsMeant part (after p (e ∷ [])) k → (v' w' : Version) → version_at (after p (e ∷ [])).versions k ≡ Some v' → version_at (after q (e ∷ [])).versions k ≡ Some w' →
       IsAlike part (after p (e ∷ [])).tables (after q (e ∷ [])).tables v' w'
   versions-alike k meant v' w' there' other' =
       let v = version-before p sound.well e facts.brings k v' there' in
       let w = version-before q sound'.well e facts'.brings k w' other' in
-      let alike : IsAlike part p.tables q.tables v.0 w.0 = agree.versions k (meant-before part p sound agree.left e is facts k meant) v.0 w.0 v.1 w.1 in
+      let alike : IsAlike part (at_moment e.moment p).tables (at_moment e.moment q).tables v.0 w.0 = agree.versions k (meant-before part p sound (from-apart part p e.moment agree.left) e is facts k meant) v.0 w.0 v.1 w.1 in
       let parts = step-plan p e v.0 in
       let parts' = step-plan q e w.0 in
       let own-is' : (id : TableId) → is_own_id part v' id ≡ true → is_own_id part v.0 id ≡ true = λ id own. sym (ap (λ (x : Version). is_own_id part x id) v.2 ∙ step-own part p e v.0 id) ∙ own in
@@ -302,7 +304,7 @@ module _ (part : Part) (p q : Plain) (sound : IsSound p) (sound' : IsSound q) (a
         tables = tables;
         cursors = λ n owns.
             ap (λ (x : Version). slice_get x.cursors n) v.2
-            ∙ said-same part p.tables q.tables v.0 w.0 alike (judging_version p.frontends (newest_number p) e.reply.said) e.reply.said n
+            ∙ said-same part (at_moment e.moment p).tables (at_moment e.moment q).tables v.0 w.0 alike (judging_version p.frontends (newest_number p) e.reply.said) e.reply.said n
             (sym (ap (λ (x : Version). owns_backend_at part x.plan n) v.2 ∙ ap (λ (x : Plan). owns_backend_at part x n) parts.1.0) ∙ owns)
             ∙ ap (λ number. slice_get (version_said number e.reply.said w.0).cursors n) judging-same ∙ ap (λ (x : Version). slice_get x.cursors n) (sym w.2);
         entries = λ id own. entries-same k v.0 w.0 v' w' id v.1 there' other' alike (own-is' id own) own (own-turned id v' w' plan tables own);
@@ -313,23 +315,29 @@ module _ (part : Part) (p q : Plain) (sound : IsSound p) (sound' : IsSound q) (a
           ap (λ (x : Plan). list_any (λ (pair : Table × TableId). owns_table part pair.0 && same_id pair.1 id) (zip x.tables w'.tables)) (sym plan)
           ∙ ap (λ ids. list_any (λ (pair : Table × TableId). owns_table part pair.0 && same_id pair.1 id) (zip v'.plan.tables ids)) (sym tables) ∙ own
 
-  pub inside-agrees : Agree part (after p (e ∷ [])) (after q (e ∷ []))
-  inside-agrees = record {
+  pub inside-alike : LookAlike part (after p (e ∷ [])) (after q (e ∷ []))
+  inside-alike = record {
     listeners = agree.listeners;
     names = names-after p (e ∷ []) ∙ agree.names ∙ sym (names-after q (e ∷ []));
     number = number-after p sound.well e facts.brings ∙ agree.number ∙ sym (number-after q sound'.well e facts'.brings);
     frontends = frontends-same;
     versions = versions-alike;
-    left = apart-now part p sound agree.left e is facts;
-    right = apart-now part q sound' agree.right e is' facts';
+    left = apart-now part p sound (from-apart part p e.moment agree.left) e is facts;
+    right = apart-now part q sound' (from-apart part q e.moment agree.right) e is' facts';
   }
 
 -- a step on the part, made in two states that agree
 pub inside-step : (part : Part) (p q : Plain) → IsSound p → IsSound q → Agree part p q → (moment n : ℕ) (event : OwnedEvent) (reply : Reply) → p.clock ≤ moment → q.clock ≤ moment →
     frontend_of p.listeners event ≡ Some n → part.frontends n ≡ true → answer_in p moment event ≡ Ok reply → Agree part (after p (entry moment event reply ∷ [])) (after q (entry moment event reply ∷ []))
 inside-step part p q sound sound' agree moment n event reply late late' is_on in' is =
+    let e : Entry = entry moment event reply in
     let is' : answer_in q moment event ≡ Ok reply = sym (answers-same part p q sound sound' agree moment n event late late' is_on in') ∙ is in
     let is_on' : frontend_of q.listeners event ≡ Some n = ap (λ ls. frontend_of ls event) (sym agree.listeners) ∙ is_on in
-    let clocks : max p.clock moment ≡ max q.clock moment = omega arith in
-    inside-agrees part p q sound sound' agree (entry moment event reply) is is' (part_reply part true p sound agree.left moment n event reply is_on in' is)
-    (part_reply part true q sound' agree.right moment n event reply is_on' in' is') clocks
+    let clocks : max p.clock moment ≡ max q.clock moment = omega (arith, late, late') in
+    let now : ℕ = max (max p.clock moment) (max q.clock moment) in
+    let left : IsApart part p = from-apart part p (max p.clock q.clock) agree.left in
+    let right : IsApart part q = from-apart part q (max p.clock q.clock) agree.right in
+    let facts : PartReply part true p e = part_reply part true p sound left moment n event reply is_on in' is in
+    let facts' : PartReply part true q e = part_reply part true q sound' right moment n event reply is_on' in' is' in
+    look-later part (after p (e ∷ [])) (after q (e ∷ [])) (sound-step p sound e is facts.brings)
+    (inside-alike part p q sound sound' e (agree-at part p q sound agree moment late late') is is' facts facts' clocks) now (ap (λ n. max n now) clocks)

@@ -1,10 +1,12 @@
 pub mod Lists
 pub mod Truth
 pub mod Rules
+pub mod Alive
 pub mod Counts
 pub mod Views
 pub mod Judging
 pub mod Same
+pub mod Later
 pub mod PartReplies
 pub mod Step
 pub mod Outside

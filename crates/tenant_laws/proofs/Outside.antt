@@ -2,7 +2,7 @@
 use Rattle.std.specs.Prelude.{ℕ, zero, suc, Bool, true, false, not, List, [], find, position, slice_get, Option, Some, None, option_map, Ok, refl, ◌≡◌, ◌≢◌, ◌==◌, ◌∷◌, ◌++◌}
 use Rattle.std.specs.List.{AllByRecursion}
 use Rattle.std.specs.Option.{option_map_or}
-use Rattle.std.proofs.Common.{sym, ap, subst, ◌∙◌}
+use Rattle.std.proofs.Common.{max, arith, ◌≤◌, sym, ap, subst, ◌∙◌}
 use Rattle.std.proofs.lemmas.Bool.{eq-eqb, eqb-true}
 use Rattle.proxy_types.specs.declared.balance.Place.{Place}
 use Rattle.proxy_types.specs.declared.server.ServerIdentity.{ServerIdentity}
@@ -26,21 +26,24 @@ use Rattle.conn_model.specs.declared.reply.Said.{Said}
 use Rattle.conn_model.specs.declared.reply.Said.TheVariants as saids
 use Rattle.conn_model.specs.declared.reply.Said.TheVariants.{Wait, Offer, Refuse, Closed, Reloaded}
 use Rattle.conn_model.specs.Words.{row_at}
-use Rattle.conn_model.specs.Answer.{answer_in, version_at}
+use Rattle.conn_model.specs.Answer.{answer_in, at_moment, version_at}
 use Rattle.conn_model.specs.Counts.{server_of}
 use Rattle.conn_model.specs.Servers.{cursor_after, cursor_at, cursors_after, with_cursor}
 use Rattle.conn_model.specs.History.{after, arrivals, ended_by, entry, frontend_after, id_of, identity_at, identity_of, is_last, judging_version, newest_number, nobody, phase_by, phase_on, phase_up, piece_of, plan_of, row_after, speaks_to, with_offer, Entry}
-use Rattle.conn_model.specs.Tables.{open_tracks, same_id, table_at, table_with, table_without, tracks_at}
+use Rattle.conn_model.specs.Tables.{open_tracks, same_id, table_alive, table_at, table_with, table_without, tracks_at}
 use Rattle.conn_model.proofs.Lists.{all-append, all-both, all-found, all-more, any-at, found_there}
 use Rattle.conn_model.proofs.Goes.{well_at}
 use Rattle.conn_model.proofs.OneTable.{same_id-is, table_by, table_found, table_with_tracks, table_without_tracks}
 use Rattle.conn_model.proofs.VersionSteps.{version_step}
 use Rattle.conn_model.proofs.Versions.{version_said}
+use Rattle.conn_model.proofs.Moments.{at-twice}
 use Rattle.tenant_laws.specs.Parts.{keeps_backend, owns_backend_at, owns_table, Part}
-use Rattle.tenant_laws.specs.Agreement.{is_offered_own, is_own_id, owns_id, Agree, IsAlike, IsApart, IsInside, IsOutside, IsSound}
+use Rattle.tenant_laws.specs.Agreement.{is_offered_own, is_own_id, owns_id, Agree, IsAlike, IsApart, IsInside, IsOutside, IsSound, LookAlike}
 use Rattle.tenant_laws.specs.Runs.{frontend_of}
 use Rattle.tenant_laws.proofs.Lists.{contrary, nothing, of_not, slice_get-other, some_same}
+use Rattle.tenant_laws.proofs.Alive.{table-then}
 use Rattle.tenant_laws.proofs.Counts.{own-owned}
+use Rattle.tenant_laws.proofs.Later.{at-apart, at-sound, look-later}
 use Rattle.tenant_laws.proofs.Judging.{IsOfferOn}
 use Rattle.tenant_laws.proofs.Same.{row-own}
 use Rattle.tenant_laws.proofs.PartReplies.{part_reply, PartReply}
@@ -69,17 +72,17 @@ backend-of plan differ k n line backend server there found is =
 
 -- Tracks in other tables leave a table as it is.
 
-with-other : (tracks made : List Track) (table : TableState) → AllByRecursion (λ t. same_id table.id t.table ≡ false) made → table_with_tracks tracks made table ≡ table
-with-other tracks [] table other = refl
-with-other tracks (t ∷ made) table other =
-    let one : table_with tracks t table ≡ table = rw other.0 refl in
-    ap (table_with_tracks (tracks ++ t ∷ []) made) one ∙ with-other (tracks ++ t ∷ []) made table other.1
+with-other : (moment : ℕ) (tracks made : List Track) (table : TableState) → AllByRecursion (λ t. same_id table.id t.table ≡ false) made → table_with_tracks moment tracks made table ≡ table
+with-other moment tracks [] table other = refl
+with-other moment tracks (t ∷ made) table other =
+    let one : table_with moment tracks t table ≡ table = rw other.0 refl in
+    ap (table_with_tracks moment (tracks ++ t ∷ []) made) one ∙ with-other moment (tracks ++ t ∷ []) made table other.1
 
-without-other : (ended : List Track) (table : TableState) → AllByRecursion (λ t. same_id table.id t.table ≡ false) ended → table_without_tracks ended table ≡ table
-without-other [] table other = refl
-without-other (t ∷ ended) table other =
-    let one : table_without t table ≡ table = rw other.0 refl in
-    ap (table_without_tracks ended) one ∙ without-other ended table other.1
+without-other : (moment : ℕ) (ended : List Track) (table : TableState) → AllByRecursion (λ t. same_id table.id t.table ≡ false) ended → table_without_tracks moment ended table ≡ table
+without-other moment [] table other = refl
+without-other moment (t ∷ ended) table other =
+    let one : table_without moment t table ≡ table = rw other.0 refl in
+    ap (table_without_tracks moment ended) one ∙ without-other moment ended table other.1
 
 -- what is not the part's is not in its table
 not-in : (part : Part) (tables : List TableState) (id : TableId) (table : TableState) (ts : List Track) → table_at tables id ≡ Some table → owns_table part table.table ≡ true →
@@ -175,18 +178,20 @@ module _ (part : Part) (p : Plain) (sound : IsSound p) (apart : IsApart part p) 
           (all-append (λ t. owns_id part p.tables t.table ≡ false) (option_map_or (tracks_at p.frontends) (id_of e.reply.said) []) e.reply.tracks.items tracked made-outside))
 
   entries-same : (k : ℕ) (v v' : Version) (id : TableId) → version_at p.versions k ≡ Some v → version_at (after p (e ∷ [])).versions k ≡ Some v' → is_own_id part v id ≡ true → is_own_id part v' id ≡ true →
-      table_at p.tables id ≡ table_at (after p (e ∷ [])).tables id
+      table_at (at_moment e.moment p).tables id ≡ table_at (after p (e ∷ [])).tables id
   entries-same k v v' id there there' own own' =
       let got = own-owned part p.tables v id (sound.written k v there) own in
-      let table : TableState = got.0 in
-      let made : table_with_tracks (open_tracks p.frontends) e.reply.tracks.items table ≡ table = with-other (open_tracks p.frontends) e.reply.tracks.items table (not-in part p.tables id table e.reply.tracks.items got.1 got.2 made-outside) in
-      let ended : table_without_tracks (ended_by p.frontends e.reply) table ≡ table = without-other (ended_by p.frontends e.reply) table (not-in part p.tables id table (ended_by p.frontends e.reply) got.1 got.2 ended-outside) in
-      let same : table_by p.frontends e.reply table ≡ table = ap (table_without_tracks (ended_by p.frontends e.reply)) made ∙ ended in
-      let stays : table_at (after p (e ∷ [])).tables id ≡ option_map (table_by p.frontends e.reply) (table_at p.tables id) =
+      let now : ℕ = max p.clock e.moment in
+      let table : TableState = table_alive now (open_tracks p.frontends) got.0 in
+      let found : table_at (at_moment e.moment p).tables id ≡ Some table = table-then now (open_tracks p.frontends) p.tables id ∙ ap (option_map (table_alive now (open_tracks p.frontends))) got.1 in
+      let made : table_with_tracks now (open_tracks p.frontends) e.reply.tracks.items table ≡ table = with-other now (open_tracks p.frontends) e.reply.tracks.items table (not-in part p.tables id got.0 e.reply.tracks.items got.1 got.2 made-outside) in
+      let ended : table_without_tracks now (ended_by p.frontends e.reply) table ≡ table = without-other now (ended_by p.frontends e.reply) table (not-in part p.tables id got.0 (ended_by p.frontends e.reply) got.1 got.2 ended-outside) in
+      let same : table_by now p.frontends e.reply table ≡ table = ap (table_without_tracks now (ended_by p.frontends e.reply)) made ∙ ended in
+      let stays : table_at (after p (e ∷ [])).tables id ≡ option_map (table_by now p.frontends e.reply) (table_at (at_moment e.moment p).tables id) =
       table-stays p sound.well e facts.brings id (own-there part (after p (e ∷ [])) (sound-step p sound e is facts.brings).well k v' id there' own') in
-      got.1 ∙ ap Some (sym same) ∙ ap (option_map (table_by p.frontends e.reply)) (sym got.1) ∙ sym stays
+      found ∙ ap Some (sym same) ∙ ap (option_map (table_by now p.frontends e.reply)) (sym found) ∙ sym stays
 
-  versions-alike : (k : ℕ) (v v' : Version) → version_at p.versions k ≡ Some v → version_at (after p (e ∷ [])).versions k ≡ Some v' → IsAlike part p.tables (after p (e ∷ [])).tables v v'
+  versions-alike : (k : ℕ) (v v' : Version) → version_at p.versions k ≡ Some v → version_at (after p (e ∷ [])).versions k ≡ Some v' → IsAlike part (at_moment e.moment p).tables (after p (e ∷ [])).tables v v'
   versions-alike k v v' there there' =
       let got = version-before p sound.well e facts.brings k v' there' in
       let first : v ≡ got.0 = some_same (sym there ∙ got.1) in
@@ -277,14 +282,14 @@ module _ (part : Part) (p : Plain) (sound : IsSound p) (apart : IsApart part p) 
       inside-apart part p sound apart e facts.brings own.rows (well_at (after p (e ∷ [])) (sound-step p sound e is facts.brings).well n own there).kept
       (apart.inside n own in' (elsewhere n in' ∙ there))
 
-  pub outside-agrees : Agree part p (after p (e ∷ []))
-  outside-agrees = record {
+  pub outside-alike : LookAlike part (at_moment e.moment p) (after p (e ∷ []))
+  outside-alike = record {
     listeners = refl;
     names = sym (names-after p (e ∷ []));
     number = sym (number-after p sound.well e facts.brings);
     frontends = elsewhere;
     versions = λ k meant v v' there there'. versions-alike k v v' there there';
-    left = apart;
+    left = at-apart part p e.moment apart;
     right = record { plans = plans-apart part p sound apart e facts.brings; named = named-apart part p sound apart e facts.brings; outside = outside-now; inside = inside-now };
   }
 
@@ -292,4 +297,9 @@ module _ (part : Part) (p : Plain) (sound : IsSound p) (apart : IsApart part p) 
 pub outside-step : (part : Part) (p : Plain) → IsSound p → IsApart part p → (moment n : ℕ) (event : OwnedEvent) (reply : Reply) → frontend_of p.listeners event ≡ Some n → part.frontends n ≡ false →
     answer_in p moment event ≡ Ok reply → Agree part p (after p (entry moment event reply ∷ []))
 outside-step part p sound apart moment n event reply is_on out is =
-    outside-agrees part p sound apart (entry moment event reply) is (part_reply part false p sound apart moment n event reply is_on out is)
+    let e : Entry = entry moment event reply in
+    let now : ℕ = max p.clock (max p.clock moment) in
+    let less : moment ≤ max p.clock now = omega arith in
+    subst (λ s. LookAlike part s (at_moment now (after p (e ∷ [])))) (at-twice p moment now less)
+    (look-later part (at_moment moment p) (after p (e ∷ [])) (at-sound p sound moment)
+    (outside-alike part p sound apart e is (part_reply part false p sound apart moment n event reply is_on out is)) now refl)

@@ -29,7 +29,7 @@ use Rattle.conn_model.specs.declared.reply.Said.TheVariants as saids
 use Rattle.conn_model.specs.declared.reply.Said.TheVariants.{Wait, Offer, Refuse, Closed, Reloaded}
 use Rattle.conn_model.specs.declared.reply.StepFault.TheVariants.{NoSuch}
 use Rattle.conn_model.specs.Words.{or_fault, row_at, row_in, Rise}
-use Rattle.conn_model.specs.Answer.{answer_in, candidate_at, reply_of, version_at}
+use Rattle.conn_model.specs.Answer.{answer_in, at_moment, candidate_at, reply_of, version_at}
 use Rattle.conn_model.specs.Counts.{server_of}
 use Rattle.conn_model.specs.History.{after, arrivals, entry, id_of, is_last, judging_version, newest_number, number_said, plan_with, speaks_to, version_of, Entry, IsVersionWell, IsWell}
 use Rattle.conn_model.specs.Tables.{table_at, written_tables}
@@ -191,7 +191,7 @@ module _ (part : Part) (side : Bool) (p : Plain) (sound : IsSound p) (apart : Is
       (reply-open event (reply_of said) id row v.0 old step says on there v.1 (record { tracks = tt; offered = quiet v.0 }) (λ number. none number (reply_of said)))
 
   reply-accept : (listener : ℕ) (real : PairValue) (n : ℕ) (reply : Reply) → option_map (λ at. at.frontend) (slice_get p.listeners listener) ≡ Some n → part.frontends n ≡ side →
-      Accepted p (max p.clock moment) listener real reply → IsNew p reply.said → PartReply part side p (entry moment (Accept listener real) reply)
+      Accepted (at_moment moment p) (max p.clock moment) listener real reply → IsNew p reply.said → PartReply part side p (entry moment (Accept listener real) reply)
   reply-accept listener real n reply is_on in' got new =
       let clock : ℕ = max p.clock moment in
       let at : Listener = got.at in
@@ -199,11 +199,11 @@ module _ (part : Part) (side : Bool) (p : Plain) (sound : IsSound p) (apart : Is
       let v : Version = got.version in
       let f : Frontend = got.frontend in
       let e : Entry = entry moment (Accept listener real) reply in
-      let s : Plain = (candidate_at p clock at.frontend real own v f).state in
+      let s : Plain = (candidate_at (at_moment moment p) clock at.frontend real own v f).state in
       let id : ConnId = record { frontend = at.frontend; serial = own.serial + 1 } in
       let number : at.frontend ≡ n = some_same (ap (option_map (λ (l : Listener). l.frontend)) (sym got.listens) ∙ is_on) in
       let on : part.frontends at.frontend ≡ side = ap part.frontends number ∙ in' in
-      let says : id_of reply.said ≡ Some id = ap (λ (r : Reply). id_of r.said) (sym got.reply_is) ∙ admission-id (candidate_at p clock at.frontend real own v f) at.accept_proxy real (length own.rows) in
+      let says : id_of reply.said ≡ Some id = ap (λ (r : Reply). id_of r.said) (sym got.reply_is) ∙ admission-id (candidate_at (at_moment moment p) clock at.frontend real own v f) at.accept_proxy real (length own.rows) in
       let last = newest-there p sound.well v got.newest_is in
       let keeps : Keeps part side v.plan f = keeps-side part side p at.frontend own v.plan f apart on got.there (apart.plans (newest_number p) v last.1) got.found in
       let judging : judging_version p.frontends (newest_number p) reply.said ≡ newest_number p =
@@ -236,14 +236,14 @@ module _ (part : Part) (side : Bool) (p : Plain) (sound : IsSound p) (apart : Is
           arrival-all (λ (row : Row). (row.version ≡ newest_number p) × ((row.tracks ≡ []) × (server_of row.phase ≡ None))) p k (max p.clock moment) (newest_number p) (Accept listener real) reply.said new
           (λ new' real' here accepting. (refl, (refl, refl)))
 
-  reply-piece : (id : ConnId) (bytes : List ℕ) (reply : Reply) → part.frontends id.frontend ≡ side → Received p id bytes reply → IsOld p id reply.said → PartReply part side p (entry moment (Piece id bytes) reply)
+  reply-piece : (id : ConnId) (bytes : List ℕ) (reply : Reply) → part.frontends id.frontend ≡ side → Received (at_moment moment p) id bytes reply → IsOld p id reply.said → PartReply part side p (entry moment (Piece id bytes) reply)
   reply-piece id bytes reply on got old =
       let v : Version = got.version in
       let f : Frontend = got.frontend in
       let keeps : Keeps part side v.plan f = keeps-side part side p id.frontend got.own v.plan f apart on got.there (apart.plans got.row.version v got.kept) got.found in
       reply-open (Piece id bytes) reply id got.row v tt tt old.speaks on got.row_is got.kept
       (subst (IsSaidOn part side v.plan (IsOnSide part side p.tables v)) got.reply_is
-      (header-on part side p v f id keeps (IsOnSide part side p.tables v) (places-on part side p got.row.version v sound got.kept) got.row.real (length bytes) (status_on got.rest bytes)))
+      (header-on part side (at_moment moment p) v f id keeps (IsOnSide part side p.tables v) (places-on part side p got.row.version v sound got.kept) got.row.real (length bytes) (status_on got.rest bytes)))
       (λ number. refl)
 
   reply-closed : (id : ConnId) (why : Why) (reply : Reply) → part.frontends id.frontend ≡ side → answer_in p moment (Close id why) ≡ Ok reply → PartReply part side p (entry moment (Close id why) reply)
@@ -254,16 +254,16 @@ module _ (part : Part) (side : Bool) (p : Plain) (sound : IsSound p) (apart : Is
 
   pub part_reply : (n : ℕ) (event : OwnedEvent) (reply : Reply) → frontend_of p.listeners event ≡ Some n → part.frontends n ≡ side → answer_in p moment event ≡ Ok reply → PartReply part side p (entry moment event reply)
   part_reply n (Accept listener real) reply is_on in' is =
-      reply-accept listener real n reply is_on in' (accepted p (max p.clock moment) listener real reply is) (answered p moment (Accept listener real) reply is)
-  part_reply n (Piece id bytes) reply is_on in' is = reply-piece id bytes reply (ap part.frontends (some_same is_on) ∙ in') (received p id bytes reply is) (answered p moment (Piece id bytes) reply is)
+      reply-accept listener real n reply is_on in' (accepted (at_moment moment p) (max p.clock moment) listener real reply is) (answered p moment (Accept listener real) reply is)
+  part_reply n (Piece id bytes) reply is_on in' is = reply-piece id bytes reply (ap part.frontends (some_same is_on) ∙ in') (received (at_moment moment p) id bytes reply is) (answered p moment (Piece id bytes) reply is)
   part_reply n (Connected id) reply is_on in' is =
-      let got = server_answered p id (saids.Up id) reply is in
+      let got = server_answered (at_moment moment p) id (saids.Up id) reply is in
       reply-plain (Connected id) (saids.Up id) reply id got.row tt tt refl (ap part.frontends (some_same is_on) ∙ in') got.row_is (λ v. tt) got.reply_is (λ number r. refl)
   part_reply n (ConnectFailed id) reply is_on in' is =
-      let got = server_answered p id (Closed id Failed) reply is in
+      let got = server_answered (at_moment moment p) id (Closed id Failed) reply is in
       reply-plain (ConnectFailed id) (Closed id Failed) reply id got.row tt tt refl (ap part.frontends (some_same is_on) ∙ in') got.row_is (λ v. tt) got.reply_is (λ number r. refl)
   part_reply n (Close id why) reply is_on in' is = reply-closed id why reply (ap part.frontends (some_same is_on) ∙ in') is
   part_reply n (Expire id) reply is_on in' is =
-      let got = expired p (max p.clock moment) id reply is in
+      let got = expired (at_moment moment p) (max p.clock moment) id reply is in
       reply-plain (Expire id) (Refuse id 0 Expired) reply id got.row tt tt refl (ap part.frontends (some_same is_on) ∙ in') got.row_is (λ v. tt) got.reply_is (λ number r. refl)
   part_reply n (Reload text) reply is_on in' is = nothing is_on

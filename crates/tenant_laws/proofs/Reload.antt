@@ -26,11 +26,12 @@ use Rattle.conn_model.specs.declared.plain.Version.{Version}
 use Rattle.conn_model.specs.declared.reply.Reply.{Reply}
 use Rattle.conn_model.specs.declared.reply.Said.TheVariants.{Reloaded}
 use Rattle.conn_model.specs.Words.{newest}
-use Rattle.conn_model.specs.Answer.{answer_in, reply_of, version_at}
+use Rattle.conn_model.specs.Answer.{answer_in, at_moment, reply_of, version_at}
 use Rattle.conn_model.specs.History.{after, entry, has_version, is_needed, newest_number, next_version, tables_of, IsWell}
-use Rattle.conn_model.specs.Tables.{is_new, new_table, new_tables, next_id, same_id, same_kind, same_section, same_stores, same_table, table_at, written_tables, IsTrackListed}
+use Rattle.conn_model.specs.Tables.{is_listed_by, is_new, new_table, new_tables, next_id, same_id, same_kind, same_section, same_stores, same_table, open_tracks, table_alive, table_at, tables_alive, written_tables, IsTrackListed}
 use Rattle.conn_model.proofs.Lists.{all-at, all-both, all-filter, all-found, all-map, all-more, or_left}
 use Rattle.conn_model.proofs.Goes.{newest_of, versions_below, well_at}
+use Rattle.conn_model.proofs.Moments.{at-well, tables-twice}
 use Rattle.conn_model.proofs.OneTable.{same_id-is, same_id-refl, table_found}
 use Rattle.conn_model.proofs.Replies.{followed, Followed}
 use Rattle.conn_model.proofs.Steps.{after-reload, with_reload}
@@ -38,9 +39,10 @@ use Rattle.conn_model.proofs.TableSteps.{listed_there}
 use Rattle.conn_model.proofs.Versions.{newest-end, newest-filter}
 use Rattle.conn_model.proofs.Well.{well_after}
 use Rattle.tenant_laws.specs.Parts.{keeps_apart, owns_table, Part}
-use Rattle.tenant_laws.specs.Agreement.{is_own_id, owns_id, Agree, IsAlike, IsApart, IsInside, IsMeant, IsOutside, IsSound, IsWritten}
+use Rattle.tenant_laws.specs.Agreement.{is_own_id, owns_id, Agree, IsAlike, IsApart, IsInside, IsMeant, IsOutside, IsSound, IsWritten, LookAlike}
 use Rattle.tenant_laws.proofs.Lists.{any-of, both, contrary, find-any, nothing, some_same}
 use Rattle.tenant_laws.proofs.Counts.{text_same}
+use Rattle.tenant_laws.proofs.Later.{agree-at, at-sound}
 use Rattle.tenant_laws.proofs.Same.{newest-alike, newest-there}
 use Rattle.tenant_laws.proofs.Step.{legal_one, listed-there, own-there, table-filter, version-filter}
 
@@ -56,19 +58,21 @@ table-same a b e =
     let stores = both (same_flag a.stores.cur b.stores.cur) (same_flag a.stores.cnt b.stores.cnt) one.4 in
     let cur : a.stores.cur ≡ b.stores.cur = flags a.stores.cur b.stores.cur stores.0 in
     let cnt : a.stores.cnt ≡ b.stores.cnt = flags a.stores.cnt b.stores.cnt stores.1 in
-    λ i. record { section = section i; name = name i; kind = kind i; size = size i; stores = record { cur = cur i; cnt = cnt i } }
+    let expire : a.expire ≡ b.expire = eqb-true a.expire b.expire one.5 in
+    λ i. record { section = section i; name = name i; kind = kind i; size = size i; stores = record { cur = cur i; cnt = cnt i }; expire = expire i }
   where
-    five : (x y z u v : Bool) → (x && y && z && u && v) ≡ true → (x ≡ true) × (y ≡ true) × (z ≡ true) × (u ≡ true) × (v ≡ true)
-    five true true true true true e = (refl, refl, refl, refl, refl)
-    five true true true true false e = contrary false e refl
-    five true true true false v e = contrary false e refl
-    five true true false u v e = contrary false e refl
-    five true false z u v e = contrary false e refl
-    five false y z u v e = contrary false e refl
+    six : (x y z u v w : Bool) → (x && y && z && u && v && w) ≡ true → (x ≡ true) × (y ≡ true) × (z ≡ true) × (u ≡ true) × (v ≡ true) × (w ≡ true)
+    six true true true true true true e = (refl, refl, refl, refl, refl, refl)
+    six true true true true true false e = contrary false e refl
+    six true true true true false w e = contrary false e refl
+    six true true true false v w e = contrary false e refl
+    six true true false u v w e = contrary false e refl
+    six true false z u v w e = contrary false e refl
+    six false y z u v w e = contrary false e refl
 
     parts : same_table a b ≡ true →
-        (same_section a.section b.section ≡ true) × (bytes_eq a.name b.name ≡ true) × (same_kind a.kind b.kind ≡ true) × ((a.size == b.size) ≡ true) × (same_stores a.stores b.stores ≡ true)
-    parts e = five (same_section a.section b.section) (bytes_eq a.name b.name) (same_kind a.kind b.kind) (a.size == b.size) (same_stores a.stores b.stores) e
+        (same_section a.section b.section ≡ true) × (bytes_eq a.name b.name ≡ true) × (same_kind a.kind b.kind ≡ true) × ((a.size == b.size) ≡ true) × (same_stores a.stores b.stores ≡ true) × ((a.expire == b.expire) ≡ true)
+    parts e = six (same_section a.section b.section) (bytes_eq a.name b.name) (same_kind a.kind b.kind) (a.size == b.size) (same_stores a.stores b.stores) (a.expire == b.expire) e
 
     flags : (x y : Bool) → same_flag x y ≡ true → x ≡ y
     flags true true e = refl
@@ -103,8 +107,9 @@ enumerate-get all k (x ∷ xs) same = (
   enumerate-get all (k + 1) xs (λ j. let place : (k + 1) + j ≡ k + suc j = omega arith in ap (slice_get all) place ∙ same (suc j)),
 )
 
--- A reload in one state.
-module _ (p : Plain) (sound : IsSound p) (clock number : ℕ) (plan : Plan) (next : number ≡ newest_number p + 1) (well' : IsWell (with_reload p clock number plan)) where
+-- A reload in one state, of which nothing is gone at that moment.
+module _ (p : Plain) (sound : IsSound p) (clock number : ℕ) (alive : tables_alive clock (open_tracks p.frontends) p.tables ≡ p.tables) (plan : Plan) (next : number ≡ newest_number p + 1)
+    (well' : IsWell (with_reload p clock number plan)) where
   abbrev pub before : List (Table × TableId)
   before = written_tables (newest p.versions)
 
@@ -137,9 +142,9 @@ module _ (p : Plain) (sound : IsSound p) (clock number : ℕ) (plan : Plan) (nex
       (table_at (with_reload p clock number plan).tables id ≡ None)
       ⊎ (table_at (with_reload p clock number plan).tables id ≡ option_or (table_at p.tables id) (table_at (new_tables number (written_tables (newest p.versions)) plan.tables) id))
   table-reload id =
-      elim (table-filter (λ i. list_any (λ (version : Version). list_any (same_id i) version.tables) (with_reload p clock number plan).versions) (p.tables ++ begun) id) [
+      elim (table-filter (λ i. list_any (λ (version : Version). list_any (same_id i) version.tables) (with_reload p clock number plan).versions) (tables_alive clock (open_tracks p.frontends) p.tables ++ begun) id) [
         | inl none ↦ inl none
-        | inr same ↦ inr (same ∙ find-append (λ (t : TableState). same_id t.id id) p.tables begun)
+        | inr same ↦ inr (same ∙ find-append (λ (t : TableState). same_id t.id id) (tables_alive clock (open_tracks p.frontends) p.tables) begun ∙ ap (λ ts. option_or (table_at ts id) (table_at begun id)) alive)
       ]
 
   pub table-stays : (id : TableId) → IsSome (table_at (with_reload p clock number plan).tables id) →
@@ -327,8 +332,9 @@ module _ (p : Plain) (sound : IsSound p) (clock number : ℕ) (plan : Plan) (nex
             | inr new ↦ no-version row.version v e' new.0
           ]
 
--- A reload in two states that agree.
-module _ (part : Part) (p q : Plain) (sound : IsSound p) (sound' : IsSound q) (agree : Agree part p q) (clock clock' number : ℕ) (plan : Plan) (next : number ≡ newest_number p + 1) (next' : number ≡ newest_number q + 1)
+-- A reload in two states that look alike.
+module _ (part : Part) (p q : Plain) (sound : IsSound p) (sound' : IsSound q) (agree : LookAlike part p q) (clock clock' number : ℕ)
+    (alive : tables_alive clock (open_tracks p.frontends) p.tables ≡ p.tables) (alive' : tables_alive clock' (open_tracks q.frontends) q.tables ≡ q.tables) (plan : Plan) (next : number ≡ newest_number p + 1) (next' : number ≡ newest_number q + 1)
     (well : IsWell (with_reload p clock number plan)) (well' : IsWell (with_reload q clock' number plan)) (keeps : keeps_apart part plan ≡ true) where
   before-same : written_tables (newest p.versions) ≡ written_tables (newest q.versions)
   before-same =
@@ -368,8 +374,8 @@ module _ (part : Part) (p q : Plain) (sound : IsSound p) (sound' : IsSound q) (a
           let first : next_id number (written_tables (newest p.versions)) (k, t) ≡ record { version = number; position = k } =
           ap (λ (o : Option (Table × TableId)). option_map_or (λ (id : TableId). id) (option_map (λ (pair : Table × TableId). pair.1) o) (record { version = number; position = k })) e in
           let version : (next_id number (written_tables (newest p.versions)) (k, t)).version ≡ number = ap (λ (i : TableId). i.version) first in
-          none-yet p sound clock number plan next well (next_id number (written_tables (newest p.versions)) (k, t)) version
-          ∙ sym (none-yet q sound' clock' number plan next' well' (next_id number (written_tables (newest p.versions)) (k, t)) version)
+          none-yet p sound clock number alive plan next well (next_id number (written_tables (newest p.versions)) (k, t)) version
+          ∙ sym (none-yet q sound' clock' number alive' plan next' well' (next_id number (written_tables (newest p.versions)) (k, t)) version)
       by owned (Some pair) e =
           let first : next_id number (written_tables (newest p.versions)) (k, t) ≡ pair.1 =
           ap (λ (o : Option (Table × TableId)). option_map_or (λ (id : TableId). id) (option_map (λ (pair : Table × TableId). pair.1) o) (record { version = number; position = k })) e in
@@ -382,10 +388,10 @@ module _ (part : Part) (p q : Plain) (sound : IsSound p) (sound' : IsSound q) (a
       is_own_id part v' id ≡ true → is_own_id part w' id ≡ true → table_at p.tables id ≡ table_at q.tables id →
       table_at (with_reload p clock number plan).tables id ≡ table_at (with_reload q clock' number plan).tables id
   entries-same k v' w' id there there' own own' same =
-      table-stays p sound clock number plan next well id (own-there part (with_reload p clock number plan) well k v' id there own)
+      table-stays p sound clock number alive plan next well id (own-there part (with_reload p clock number plan) well k v' id there own)
       ∙ ap (λ o. option_or o (table_at (new_tables number (written_tables (newest p.versions)) plan.tables) id)) same
       ∙ ap (λ before. option_or (table_at q.tables id) (table_at (new_tables number before plan.tables) id)) before-same
-      ∙ sym (table-stays q sound' clock' number plan next' well' id (own-there part (with_reload q clock' number plan) well' k w' id there' own'))
+      ∙ sym (table-stays q sound' clock' number alive' plan next' well' id (own-there part (with_reload q clock' number plan) well' k w' id there' own'))
 
   -- versions that were kept
   old-alike : (k : ℕ) (v w : Version) → version_at (with_reload p clock number plan).versions k ≡ Some v → version_at (with_reload q clock' number plan).versions k ≡ Some w →
@@ -427,30 +433,30 @@ module _ (part : Part) (p q : Plain) (sound : IsSound p) (sound' : IsSound q) (a
 
   versions-alike : (k : ℕ) → IsMeant part (with_reload p clock number plan) k → (v w : Version) → version_at (with_reload p clock number plan).versions k ≡ Some v →
       version_at (with_reload q clock' number plan).versions k ≡ Some w → IsAlike part (with_reload p clock number plan).tables (with_reload q clock' number plan).tables v w
-  versions-alike k meant v w there there' = by (version-reload p sound clock number plan next well k v there) (version-reload q sound' clock' number plan next' well' k w there')
+  versions-alike k meant v w there there' = by (version-reload p sound clock number alive plan next well k v there) (version-reload q sound' clock' number alive' plan next' well' k w there')
     where
       was : version_at p.versions k ≡ Some v → IsMeant part (with_reload p clock number plan) k → IsMeant part p k
-      was found (inl newest') = no-version p sound clock number plan next well k v found (newest' ∙ number-reload p sound clock number plan next well)
+      was found (inl newest') = no-version p sound clock number alive plan next well k v found (newest' ∙ number-reload p sound clock number alive plan next well)
       was found (inr row) = inr row
 
       by : (version_at p.versions k ≡ Some v) ⊎ ((k ≡ number) × (v ≡ next_version number (written_tables (newest p.versions)) plan)) →
           (version_at q.versions k ≡ Some w) ⊎ ((k ≡ number) × (w ≡ next_version number (written_tables (newest q.versions)) plan)) →
           IsAlike part (with_reload p clock number plan).tables (with_reload q clock' number plan).tables v w
       by (inl old) (inl old') = old-alike k v w there there' (agree.versions k (was old meant) v w old old')
-      by (inl old) (inr (at, new')) = no-version p sound clock number plan next well k v old at
-      by (inr (at, new')) (inl old') = no-version q sound' clock' number plan next' well' k w old' at
+      by (inl old) (inr (at, new')) = no-version p sound clock number alive plan next well k v old at
+      by (inr (at, new')) (inl old') = no-version q sound' clock' number alive' plan next' well' k w old' at
       by (inr (at, new')) (inr (at', new'')) =
           new-alike v w (ap (version_at (with_reload p clock number plan).versions) (sym at) ∙ there) (ap (version_at (with_reload q clock' number plan).versions) (sym at) ∙ there') new' new''
 
-  pub agree-reload : Agree part (with_reload p clock number plan) (with_reload q clock' number plan)
-  agree-reload = record {
+  pub alike-reload : LookAlike part (with_reload p clock number plan) (with_reload q clock' number plan)
+  alike-reload = record {
     listeners = agree.listeners;
     names = agree.names;
-    number = number-reload p sound clock number plan next well ∙ sym (number-reload q sound' clock' number plan next' well');
+    number = number-reload p sound clock number alive plan next well ∙ sym (number-reload q sound' clock' number alive' plan next' well');
     frontends = agree.frontends;
     versions = versions-alike;
-    left = apart-reload p sound clock number plan next well part agree.left keeps;
-    right = apart-reload q sound' clock' number plan next' well' part agree.right keeps;
+    left = apart-reload p sound clock number alive plan next well part agree.left keeps;
+    right = apart-reload q sound' clock' number alive' plan next' well' part agree.right keeps;
   }
 
 -- What an accepted reload is.
@@ -462,7 +468,7 @@ pub record Reloads (p : Plain) (moment : ℕ) (text : List ℕ) (reply : Reply) 
 
 pub reloads : (p : Plain) → IsWell p → (moment : ℕ) (text : List ℕ) (reply : Reply) → answer_in p moment (Reload text) ≡ Ok reply → Reloads p moment text reply
 reloads p well moment text reply is =
-    let got : Followed p text reply = followed p text reply is in
+    let got : Followed (at_moment moment p) text reply = followed (at_moment moment p) text reply is in
     let number : newest_number p ≡ got.version.number = ap (λ o. option_map_or (λ (version : Version). version.number) o 0) got.newest_is in
     let said : reply ≡ reply_of (Reloaded (newest_number p + 1)) = sym got.reply_is ∙ ap (λ n. reply_of (Reloaded (n + 1))) (sym number) in
     let state : after p (entry moment (Reload text) reply ∷ []) ≡ with_reload p (max p.clock moment) (newest_number p + 1) got.plan =
@@ -474,20 +480,75 @@ reloads p well moment text reply is =
       well = subst IsWell state (well_after p well (entry moment (Reload text) reply ∷ []) (legal_one p well (entry moment (Reload text) reply) is));
     }
 
+-- a state after a reload, where those are left of its tables
+abbrev with_tables : Plain → ℕ → ℕ → Plan → List TableState → Plain
+with_tables p clock number plan tables = record (with_reload p clock number plan) {
+  tables = filter (is_listed_by (with_reload p clock number plan).versions) (tables ++ new_tables number (written_tables (newest p.versions)) plan.tables);
+}
+
+-- time makes nothing of tables that begin
+new-alive : (moment : ℕ) (tracks : List Track) (version : ℕ) (places : List (ℕ × Table)) → tables_alive moment tracks (map (new_table version) places) ≡ map (new_table version) places
+new-alive moment tracks version [] = refl
+new-alive moment tracks version (place ∷ places) = ap (λ ts. new_table version place ∷ ts) (new-alive moment tracks version places)
+
+alive-append : (moment : ℕ) (tracks : List Track) (ts us : List TableState) → tables_alive moment tracks (ts ++ us) ≡ tables_alive moment tracks ts ++ tables_alive moment tracks us
+alive-append moment tracks [] us = refl
+alive-append moment tracks (t ∷ ts) us = ap (λ rest. table_alive moment tracks t ∷ rest) (alive-append moment tracks ts us)
+
+alive-listed : (moment : ℕ) (tracks : List Track) (versions : List Version) (ts : List TableState) → tables_alive moment tracks (filter (is_listed_by versions) ts) ≡ filter (is_listed_by versions) (tables_alive moment tracks ts)
+alive-listed moment tracks versions [] = refl
+alive-listed moment tracks versions (t ∷ ts) = by (is_listed_by versions t) refl (alive-listed moment tracks versions ts)
+  where
+    by : (b : Bool) → is_listed_by versions t ≡ b → tables_alive moment tracks (filter (is_listed_by versions) ts) ≡ filter (is_listed_by versions) (tables_alive moment tracks ts) →
+        tables_alive moment tracks (filter (is_listed_by versions) (t ∷ ts)) ≡ filter (is_listed_by versions) (tables_alive moment tracks (t ∷ ts))
+    by true e rest = rw e (ap (λ us. table_alive moment tracks t ∷ us) rest)
+    by false e rest = rw e rest
+
+-- a state after a reload, as it is at a later moment
+reload-at : (p : Plain) (clock moment number : ℕ) (plan : Plan) → clock ≤ moment → p.clock ≤ moment → at_moment moment (with_reload p clock number plan) ≡ with_reload (at_moment moment p) (max p.clock moment) number plan
+reload-at p clock moment number plan less late =
+    let now : ℕ = max p.clock moment in
+    let versions : List Version = (with_reload p clock number plan).versions in
+    let begun : List TableState = new_tables number (written_tables (newest p.versions)) plan.tables in
+    let tracks : List Track = open_tracks p.frontends in
+    let clocks : max clock moment ≡ max p.clock moment = omega (arith, less, late) in
+    let left : tables_alive now tracks (filter (is_listed_by versions) (tables_alive clock tracks p.tables ++ begun)) ≡ filter (is_listed_by versions) (tables_alive now tracks (tables_alive clock tracks p.tables) ++ begun) =
+    alive-listed now tracks versions (tables_alive clock tracks p.tables ++ begun)
+    ∙ ap (filter (is_listed_by versions)) (alive-append now tracks (tables_alive clock tracks p.tables) begun
+    ∙ ap (λ us. tables_alive now tracks (tables_alive clock tracks p.tables) ++ us) (new-alive now tracks number (filter (is_new (written_tables (newest p.versions))) (enumerate_from 0 plan.tables)))) in
+    let same : tables_alive now tracks (tables_alive clock tracks p.tables) ≡ tables_alive now tracks (tables_alive now tracks p.tables) =
+    let before : clock ≤ max p.clock moment = omega (arith, less) in
+    let itself : max p.clock moment ≤ max p.clock moment = omega arith in
+    tables-twice clock now tracks p.tables before ∙ sym (tables-twice now now tracks p.tables itself) in
+    ap (λ n. record (with_reload p clock number plan) { clock = n; tables = tables_alive n tracks (with_reload p clock number plan).tables }) clocks
+    ∙ ap (λ ts. record (with_reload p clock number plan) { clock = now; tables = ts }) (left ∙ ap (λ us. filter (is_listed_by versions) (us ++ begun)) same)
+
 -- an accepted reload, made in two states that agree
 pub reload-step : (part : Part) (p q : Plain) → IsSound p → IsSound q → Agree part p q → (moment : ℕ) (text : List ℕ) (reply : Reply) → ((plan : Plan) → meaning text ≡ Ok plan → keeps_apart part plan ≡ true) →
     answer_in p moment (Reload text) ≡ Ok reply → answer_in q moment (Reload text) ≡ Ok reply → Agree part (after p (entry moment (Reload text) reply ∷ [])) (after q (entry moment (Reload text) reply ∷ []))
 reload-step part p q sound sound' agree moment text reply keeps is is' =
     let one : Reloads p moment text reply = reloads p sound.well moment text reply is in
     let two : Reloads q moment text reply = reloads q sound'.well moment text reply is' in
+    let now : ℕ = max (max p.clock moment) (max q.clock moment) in
+    let late : p.clock ≤ now = omega arith in
+    let late' : q.clock ≤ now = omega arith in
     let plans : one.plan ≡ two.plan = ok_same one.meant two.meant in
     let numbers : newest_number q + 1 ≡ newest_number p + 1 = ap (λ n. n + 1) (sym agree.number) in
-    let same : with_reload q (max q.clock moment) (newest_number q + 1) two.plan ≡ with_reload q (max q.clock moment) (newest_number p + 1) one.plan =
-    ap (λ n. with_reload q (max q.clock moment) n two.plan) numbers ∙ ap (with_reload q (max q.clock moment) (newest_number p + 1)) (sym plans) in
-    let agreed : Agree part (with_reload p (max p.clock moment) (newest_number p + 1) one.plan) (with_reload q (max q.clock moment) (newest_number p + 1) one.plan) =
-    agree-reload part p q sound sound' agree (max p.clock moment) (max q.clock moment) (newest_number p + 1) one.plan refl (sym numbers) one.well (subst IsWell same two.well) (keeps one.plan one.meant) in
-    subst (λ (s : Plain). Agree part s (after q (entry moment (Reload text) reply ∷ []))) (sym one.state)
-    (subst (λ (s : Plain). Agree part (with_reload p (max p.clock moment) (newest_number p + 1) one.plan) s) (sym (two.state ∙ same)) agreed)
+    let left : at_moment now (after p (entry moment (Reload text) reply ∷ [])) ≡ with_reload (at_moment now p) (max p.clock now) (newest_number p + 1) one.plan =
+    ap (at_moment now) one.state ∙ reload-at p (max p.clock moment) now (newest_number p + 1) one.plan (omega arith) late in
+    let right : at_moment now (after q (entry moment (Reload text) reply ∷ [])) ≡ with_reload (at_moment now q) (max q.clock now) (newest_number p + 1) one.plan =
+    ap (at_moment now) two.state ∙ reload-at q (max q.clock moment) now (newest_number q + 1) two.plan (omega arith) late'
+    ∙ ap (λ n. with_reload (at_moment now q) (max q.clock now) n two.plan) numbers ∙ ap (with_reload (at_moment now q) (max q.clock now) (newest_number p + 1)) (sym plans) in
+    let well : IsWell (with_reload (at_moment now p) (max p.clock now) (newest_number p + 1) one.plan) =
+    subst IsWell left (at-well (after p (entry moment (Reload text) reply ∷ [])) (subst IsWell (sym one.state) one.well) now) in
+    let well' : IsWell (with_reload (at_moment now q) (max q.clock now) (newest_number p + 1) one.plan) =
+    subst IsWell right (at-well (after q (entry moment (Reload text) reply ∷ [])) (subst IsWell (sym two.state) two.well) now) in
+    let alike : LookAlike part (with_reload (at_moment now p) (max p.clock now) (newest_number p + 1) one.plan) (with_reload (at_moment now q) (max q.clock now) (newest_number p + 1) one.plan) =
+    alike-reload part (at_moment now p) (at_moment now q) (at-sound p sound now) (at-sound q sound' now) (agree-at part p q sound agree now late late') (max p.clock now) (max q.clock now) (newest_number p + 1)
+    (tables-twice (max p.clock now) (max p.clock now) (open_tracks p.frontends) p.tables (omega arith)) (tables-twice (max q.clock now) (max q.clock now) (open_tracks q.frontends) q.tables (omega arith))
+    one.plan refl (sym numbers) well well' (keeps one.plan one.meant) in
+    subst (λ s. LookAlike part s (at_moment now (after q (entry moment (Reload text) reply ∷ [])))) (sym left)
+    (subst (LookAlike part (with_reload (at_moment now p) (max p.clock now) (newest_number p + 1) one.plan)) (sym right) alike)
   where
     ok_same : {r : Result Plan OpenFault} {a b : Plan} → r ≡ Ok a → r ≡ Ok b → a ≡ b
     ok_same e is = cc
@@ -496,4 +557,8 @@ pub sound-after-reload : (p : Plain) → IsSound p → (moment : ℕ) (text : Li
     IsSound (after p (entry moment (Reload text) reply ∷ []))
 sound-after-reload p sound moment text reply lines is =
     let got : Reloads p moment text reply = reloads p sound.well moment text reply is in
-    subst IsSound (sym got.state) (sound-reload p sound (max p.clock moment) (newest_number p + 1) got.plan refl got.well (lines got.plan got.meant))
+    let now : ℕ = max p.clock moment in
+    let same : with_reload p now (newest_number p + 1) got.plan ≡ with_reload (at_moment moment p) now (newest_number p + 1) got.plan =
+    ap (λ ts. with_tables p now (newest_number p + 1) got.plan ts) (sym (tables-twice now now (open_tracks p.frontends) p.tables (omega arith))) in
+    subst IsSound (sym (got.state ∙ same))
+    (sound-reload (at_moment moment p) (at-sound p sound moment) now (newest_number p + 1) (tables-twice now now (open_tracks p.frontends) p.tables (omega arith)) got.plan refl (subst IsWell same got.well) (lines got.plan got.meant))

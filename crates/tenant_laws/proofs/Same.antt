@@ -1,5 +1,5 @@
 -- An event on a part has one answer in two states that agree on it.
-use Rattle.std.specs.Prelude.{ℕ, Bool, true, false, max, List, [], length, find, slice_get, slice_set, Option, Some, None, option_map, IfSome, IsSome, Result, Ok, Err, refl, ◌+◌, ◌≤◌, ◌≡◌, ◌≢◌, ◌==◌, ◌∷◌, ◌++◌, nat_le, nat_lt, if◌then◌else◌}
+use Rattle.std.specs.Prelude.{ℕ, Bool, true, false, List, [], length, find, slice_get, slice_set, Option, Some, None, option_map, IfSome, IsSome, Result, Ok, Err, refl, ◌+◌, ◌≤◌, ◌≡◌, ◌≢◌, ◌==◌, ◌∷◌, ◌++◌, nat_le, nat_lt, if◌then◌else◌}
 use Rattle.std.specs.List.{AllByRecursion}
 use Rattle.std.specs.Option.{option_map_or}
 use Rattle.std.proofs.Common.{sym, ap, subst, inl, inr, ◌∙◌, arith}
@@ -33,7 +33,7 @@ use Rattle.conn_model.specs.declared.reply.Said.TheVariants.{Closed, Refuse, Rel
 use Rattle.conn_model.specs.declared.reply.StepFault.{StepFault}
 use Rattle.conn_model.specs.declared.reply.StepFault.TheVariants.{NoListener, NoSuch, NotWaiting, NotOffered, NotDue, BindChanged, Exhausted}
 use Rattle.conn_model.specs.Words.{newest, or_fault, row_at, row_in}
-use Rattle.conn_model.specs.Answer.{accept_answer, admission, answer_in, awaits_server, candidate_at, candidate_of, expire_answer, frontend_in, header_reply, new_row, piece_answer, reload_answer, reply_of, rest_in, version_at, waiting_row, with_row}
+use Rattle.conn_model.specs.Answer.{accept_answer, admission, answer_now, awaits_server, candidate_at, candidate_of, expire_answer, frontend_in, header_reply, new_row, piece_answer, reload_answer, reply_of, rest_in, version_at, waiting_row, with_row}
 use Rattle.conn_model.specs.History.{newest_number, IsWell}
 use Rattle.conn_model.specs.Tables.{tracks_at, written_tables}
 use Rattle.conn_model.proofs.Lists.{all-append, all-found, all-more}
@@ -41,7 +41,7 @@ use Rattle.conn_model.proofs.Goes.{newest_of, well_at}
 use Rattle.conn_model.proofs.Replies.{waiting}
 use Rattle.conn_model.proofs.Versions.{newest-at}
 use Rattle.tenant_laws.specs.Parts.{keeps_apart, keeps_frontend, keeps_lines, owns_table, Part}
-use Rattle.tenant_laws.specs.Agreement.{is_own_id, owns_id, Agree, IsAlike, IsApart, IsInside, IsSound, IsWritten}
+use Rattle.tenant_laws.specs.Agreement.{is_own_id, owns_id, IsAlike, IsApart, IsInside, IsSound, IsWritten, LookAlike}
 use Rattle.tenant_laws.specs.Runs.{frontend_of}
 use Rattle.tenant_laws.proofs.Lists.{contrary, find-any, find-passes_all, nothing, slice_get-other, slice_get-set, some_same}
 use Rattle.tenant_laws.proofs.Counts.{backends-same, named-same, own-is, servers-same, text_same, tracks-same, AreApart}
@@ -169,7 +169,7 @@ abbrev expired_by : ℕ → ConnId → Option Row → Result Reply StepFault
 expired_by clock id row = waiting_of row >>= λ waiting.
     if nat_le (waiting.0.accepted + HEADER_WAIT) clock then Ok (reply_of (Refuse id 0 Expired)) else Err NotDue
 
-module _ (part : Part) (p q : Plain) (sound : IsSound p) (sound' : IsSound q) (agree : Agree part p q) where
+module _ (part : Part) (p q : Plain) (sound : IsSound p) (sound' : IsSound q) (agree : LookAlike part p q) where
   pub row_at-same : (id : ConnId) → part.frontends id.frontend ≡ true → row_at p.frontends id ≡ row_at q.frontends id
   row_at-same id in' = ap (row_in id.serial) (agree.frontends id.frontend in')
 
@@ -307,28 +307,24 @@ module _ (part : Part) (p q : Plain) (sound : IsSound p) (sound' : IsSound q) (a
       by (Ok found) e =
           rw e (at_frontend found.0 found.1 (waiting p.frontends id found e).there (slice_get p.frontends id.frontend) refl ∙ ap (piece_at q id piece found.0 found.1) (agree.frontends id.frontend in'))
 
-  -- an event on the part has one answer in both states
-  pub answers-same : (moment n : ℕ) (event : OwnedEvent) → p.clock ≤ moment → q.clock ≤ moment → frontend_of p.listeners event ≡ Some n → part.frontends n ≡ true → answer_in p moment event ≡ answer_in q moment event
-  answers-same moment n (Accept listener real) late late' on in' =
-      let clock : max p.clock moment ≡ moment = omega arith in
-      let clock' : max q.clock moment ≡ moment = omega arith in
-      ap (λ m. accept_answer p m listener real) clock ∙ accept-same moment listener real n on in' ∙ ap (λ m. accept_answer q m listener real) (sym clock')
-  answers-same moment n (Piece id bytes) late late' on in' = piece-same id bytes (ap part.frontends (some_same on) ∙ in')
-  answers-same moment n (Connected id) late late' on in' =
+  -- an event on the part has one answer in both states, where they are of one moment
+  pub answers-now : (n : ℕ) (event : OwnedEvent) → p.clock ≡ q.clock → frontend_of p.listeners event ≡ Some n → part.frontends n ≡ true → answer_now p event ≡ answer_now q event
+  answers-now n (Accept listener real) clock on in' = accept-same p.clock listener real n on in' ∙ ap (λ m. accept_answer q m listener real) clock
+  answers-now n (Piece id bytes) clock on in' = piece-same id bytes (ap part.frontends (some_same on) ∙ in')
+  answers-now n (Connected id) clock on in' =
       ap (λ (o : Option Row). or_fault NoSuch o >>= λ row. if awaits_server row.phase then Ok (reply_of (saids.Up id)) else Err NotOffered) (row_at-same id (ap part.frontends (some_same on) ∙ in'))
-  answers-same moment n (ConnectFailed id) late late' on in' =
+  answers-now n (ConnectFailed id) clock on in' =
       ap (λ (o : Option Row). or_fault NoSuch o >>= λ row. if awaits_server row.phase then Ok (reply_of (Closed id Failed)) else Err NotOffered) (row_at-same id (ap part.frontends (some_same on) ∙ in'))
-  answers-same moment n (Close id why) late late' on in' =
+  answers-now n (Close id why) clock on in' =
       ap (λ (o : Option Row). or_fault NoSuch o >>= λ row. Ok (reply_of (Closed id why))) (row_at-same id (ap part.frontends (some_same on) ∙ in'))
-  answers-same moment n (Expire id) late late' on in' =
-      let clock : max p.clock moment ≡ max q.clock moment = omega arith in
+  answers-now n (Expire id) clock on in' =
       ap (λ m. expire_answer p m id) clock
-      ∙ ap (λ (o : Option Row). expired_by (max q.clock moment) id o) (row_at-same id (ap part.frontends (some_same on) ∙ in'))
-  answers-same moment n (Reload text) late late' on in' = nothing on
+      ∙ ap (λ (o : Option Row). expired_by q.clock id o) (row_at-same id (ap part.frontends (some_same on) ∙ in'))
+  answers-now n (Reload text) clock on in' = nothing on
 
   -- and so has a reload
-  pub reloads-same : (moment : ℕ) (text : List ℕ) → answer_in p moment (Reload text) ≡ answer_in q moment (Reload text)
-  reloads-same moment text =
+  pub reloads-now : (text : List ℕ) → answer_now p (Reload text) ≡ answer_now q (Reload text)
+  reloads-now text =
       let v = newest_of p sound.well in
       let w = newest_of q sound'.well in
       by v.0 w.0 v.1 w.1 (meaning text)

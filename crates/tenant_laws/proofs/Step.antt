@@ -1,5 +1,5 @@
 -- One entry that brings no version: what it leaves of frontends, versions and tables.
-use Rattle.std.specs.Prelude.{ℕ, zero, suc, Bool, true, false, not, List, [], map, filter, find, zip, slice_get, Option, Some, None, option_map, IfSome, IsSome, Ok, refl, ◌⊎◌, ◌+◌, ◌≡◌, ◌==◌, ◌&&◌, ◌∷◌, ◌++◌}
+use Rattle.std.specs.Prelude.{ℕ, max, zero, suc, Bool, true, false, not, List, [], map, filter, find, zip, slice_get, Option, Some, None, option_map, IfSome, IsSome, Ok, refl, ◌⊎◌, ◌+◌, ◌≡◌, ◌==◌, ◌&&◌, ◌∷◌, ◌++◌}
 use Rattle.std.specs.List.{list_any, AllByRecursion}
 use Rattle.std.specs.Option.{option_map_or}
 use Rattle.std.proofs.Common.{sym, ap, subst, inl, inr, ◌∙◌, arith}
@@ -15,9 +15,9 @@ use Rattle.conn_model.specs.declared.plain.Row.{Row}
 use Rattle.conn_model.specs.declared.plain.TableState.{TableState}
 use Rattle.conn_model.specs.declared.plain.Version.{Version}
 use Rattle.conn_model.specs.Words.{map_from}
-use Rattle.conn_model.specs.Answer.{answer_in, version_at}
+use Rattle.conn_model.specs.Answer.{answer_in, at_moment, version_at}
 use Rattle.conn_model.specs.History.{after, arrivals, frontend_after, frontends_after, has_ended, is_needed, judging_version, newest_number, plan_of, row_after, tables_after, version_of, versions_after, Entry, IsLegal, IsWell}
-use Rattle.conn_model.specs.Tables.{by_counter, is_listed_by, same_id, table_at, written_tables}
+use Rattle.conn_model.specs.Tables.{by_counter, is_listed_by, open_tracks, same_id, table_at, written_tables}
 use Rattle.conn_model.proofs.Lists.{all-append, all-both, all-filter, all-found, all-map, all-more}
 use Rattle.conn_model.proofs.Nothing.{after-nil}
 use Rattle.conn_model.proofs.OneTable.{same_id-is, table_at-map, table_by, table_by-entries, tables_by-each}
@@ -28,6 +28,7 @@ use Rattle.conn_model.proofs.VersionSteps.{version_step, version_step-cursors, v
 use Rattle.conn_model.proofs.Well.{well_after}
 use Rattle.tenant_laws.specs.Parts.{keeps_apart, owns_table, Part}
 use Rattle.tenant_laws.specs.Agreement.{is_own_id, owns_id, IsApart, IsInside, IsNamed, IsOutside, IsSound, IsWritten}
+use Rattle.tenant_laws.proofs.Alive.{owns-then, written-then}
 use Rattle.tenant_laws.proofs.Lists.{any-of, both, contrary, nothing, some_same}
 
 -- Lists that are filtered.
@@ -155,16 +156,16 @@ module _ (p : Plain) (well : IsWell p) (e : Entry) (brings : version_of e ≡ No
       by (inr same) there = mapped (version_at p.versions k) refl (sym (version_at-map (version_step p e) (version_step-cursors p e) p.versions k) ∙ sym same ∙ there)
 
   -- a table goes, or changes by itself
-  pub table-after : (id : TableId) → (table_at (after p (e ∷ [])).tables id ≡ None) ⊎ (table_at (after p (e ∷ [])).tables id ≡ option_map (table_by p.frontends e.reply) (table_at p.tables id))
+  pub table-after : (id : TableId) → (table_at (after p (e ∷ [])).tables id ≡ None) ⊎ (table_at (after p (e ∷ [])).tables id ≡ option_map (table_by (max p.clock e.moment) p.frontends e.reply) (table_at (at_moment e.moment p).tables id))
   table-after id =
-      let stepped : tables_after p (e ∷ []) ≡ filter (is_listed_by (versions_after p (e ∷ []))) (map (table_by p.frontends e.reply) p.tables) =
-      tables_quiet p well e brings ∙ ap (filter (is_listed_by (versions_after p (e ∷ [])))) (tables_by-each p.frontends p.tables e.reply) in
-      elim (table-filter (λ i. list_any (λ (version : Version). list_any (same_id i) version.tables) (versions_after p (e ∷ []))) (map (table_by p.frontends e.reply) p.tables) id) [
+      let stepped : tables_after p (e ∷ []) ≡ filter (is_listed_by (versions_after p (e ∷ []))) (map (table_by (max p.clock e.moment) p.frontends e.reply) (at_moment e.moment p).tables) =
+      tables_quiet p well e brings ∙ ap (filter (is_listed_by (versions_after p (e ∷ [])))) (tables_by-each (max p.clock e.moment) p.frontends (at_moment e.moment p).tables e.reply) in
+      elim (table-filter (λ i. list_any (λ (version : Version). list_any (same_id i) version.tables) (versions_after p (e ∷ []))) (map (table_by (max p.clock e.moment) p.frontends e.reply) (at_moment e.moment p).tables) id) [
         | inl none ↦ inl (ap (λ ts. table_at ts id) stepped ∙ none)
-        | inr same ↦ inr (ap (λ ts. table_at ts id) stepped ∙ same ∙ table_at-map (table_by p.frontends e.reply) (table_by-entries p.frontends e.reply) p.tables id)
+        | inr same ↦ inr (ap (λ ts. table_at ts id) stepped ∙ same ∙ table_at-map (table_by (max p.clock e.moment) p.frontends e.reply) (table_by-entries (max p.clock e.moment) p.frontends e.reply) (at_moment e.moment p).tables id)
       ]
 
-  pub table-stays : (id : TableId) → IsSome (table_at (after p (e ∷ [])).tables id) → table_at (after p (e ∷ [])).tables id ≡ option_map (table_by p.frontends e.reply) (table_at p.tables id)
+  pub table-stays : (id : TableId) → IsSome (table_at (after p (e ∷ [])).tables id) → table_at (after p (e ∷ [])).tables id ≡ option_map (table_by (max p.clock e.moment) p.frontends e.reply) (table_at (at_moment e.moment p).tables id)
   table-stays id is = elim (table-after id) [
     | inl none ↦ absurd (false≢true (rw none at is))
     | inr same ↦ same
@@ -193,11 +194,11 @@ sound-step p sound e is brings = record { well = well; written = written; lines 
         subst LinesDiffer (sym (ap (λ (x : Version). x.plan) got.2 ∙ (step-plan p e got.0).1.0)) (sound.lines k got.0 got.1)
 
     one : (id : TableId) (t : Table) → IsSome (table_at (after p (e ∷ [])).tables id) → IsWritten p.tables (t, id) → IsWritten (after p (e ∷ [])).tables (t, id)
-    one id t there was = ap (option_map (λ (s : TableState). s.table)) (table-stays p sound.well e brings id there) ∙ by (table_at p.tables id) ∙ was
+    one id t there was = ap (option_map (λ (s : TableState). s.table)) (table-stays p sound.well e brings id there) ∙ by (table_at (at_moment e.moment p).tables id) ∙ written-then (max p.clock e.moment) (open_tracks p.frontends) p.tables id ∙ was
       where
-        by : (o : Option TableState) → option_map (λ (s : TableState). s.table) (option_map (table_by p.frontends e.reply) o) ≡ option_map (λ (s : TableState). s.table) o
+        by : (o : Option TableState) → option_map (λ (s : TableState). s.table) (option_map (table_by (max p.clock e.moment) p.frontends e.reply) o) ≡ option_map (λ (s : TableState). s.table) o
         by None = refl
-        by (Some s) = ap (λ (x : TableState). Some x.table) (table_by-entries p.frontends e.reply s)
+        by (Some s) = ap (λ (x : TableState). Some x.table) (table_by-entries (max p.clock e.moment) p.frontends e.reply s)
 
     written : (k : ℕ) (v' : Version) → version_at (after p (e ∷ [])).versions k ≡ Some v' → AllByRecursion (IsWritten (after p (e ∷ [])).tables) (written_tables (Some v'))
     written k v' found =
@@ -225,12 +226,13 @@ module _ (part : Part) (p : Plain) (sound : IsSound p) (apart : IsApart part p) 
   pub owns-apart : (id : TableId) → owns_id part p.tables id ≡ false → owns_id part (after p (e ∷ [])).tables id ≡ false
   owns-apart id out = elim (table-after p sound.well e brings id) [
     | inl none ↦ ap (λ o. option_map_or (λ (s : TableState). owns_table part s.table) o false) none
-    | inr same ↦ ap (λ o. option_map_or (λ (s : TableState). owns_table part s.table) o false) same ∙ by (table_at p.tables id) ∙ out
+    | inr same ↦ ap (λ o. option_map_or (λ (s : TableState). owns_table part s.table) o false) same ∙ by (table_at (at_moment e.moment p).tables id)
+        ∙ owns-then part (max p.clock e.moment) (open_tracks p.frontends) p.tables id ∙ out
   ]
     where
-      by : (o : Option TableState) → option_map_or (λ (s : TableState). owns_table part s.table) (option_map (table_by p.frontends e.reply) o) false ≡ option_map_or (λ (s : TableState). owns_table part s.table) o false
+      by : (o : Option TableState) → option_map_or (λ (s : TableState). owns_table part s.table) (option_map (table_by (max p.clock e.moment) p.frontends e.reply) o) false ≡ option_map_or (λ (s : TableState). owns_table part s.table) o false
       by None = refl
-      by (Some s) = ap (λ (x : TableState). owns_table part x.table) (table_by-entries p.frontends e.reply s)
+      by (Some s) = ap (λ (x : TableState). owns_table part x.table) (table_by-entries (max p.clock e.moment) p.frontends e.reply s)
 
   -- rows as they were, by the versions and tables that are left
   pub outside-apart : (rows : List Row) → AllByRecursion (IsOutside part p.tables) rows → AllByRecursion (IsOutside part (after p (e ∷ [])).tables) rows

@@ -2,7 +2,7 @@
 use Rattle.std.specs.Prelude.{ℕ, zero, suc, Bool, true, false, List, [], map, filter, zip, slice_get, Option, Some, None, option_map, is_ok, IsSome, Result, Ok, Err, refl, nat_le, ◌+◌, ◌≤◌, ◌≡◌, ◌==◌, ◌&&◌, ◌∷◌, if◌then◌else◌}
 use Rattle.std.specs.List.{list_any, AllByRecursion, enumerate_from}
 use Rattle.std.specs.Option.{option_map_or}
-use Rattle.std.proofs.Common.{sym, ap, subst, inl, inr, ◌∙◌, arith}
+use Rattle.std.proofs.Common.{max, sym, ap, subst, inl, inr, ◌∙◌, arith}
 use Rattle.std.proofs.lemmas.Bool.{false≢true}
 use Rattle.std.proofs.lemmas.Bool.Decides.{nat_tests}
 use Rattle.plan_types.specs.Lines.{LinesDiffer}
@@ -21,7 +21,7 @@ use Rattle.conn_model.specs.declared.plain.Version.{Version}
 use Rattle.conn_model.specs.declared.reply.Reply.{Reply}
 use Rattle.conn_model.specs.declared.reply.StepFault.{StepFault}
 use Rattle.conn_model.specs.declared.reply.StepFault.TheVariants.{NoListener}
-use Rattle.conn_model.specs.Answer.{answer_in, version_at}
+use Rattle.conn_model.specs.Answer.{answer_in, at_moment, version_at}
 use Rattle.conn_model.specs.History.{after, answer, entry, new_version, number_said, opening, Entry, IsLegal, IsWell}
 use Rattle.conn_model.specs.Tables.{new_id, new_table, same_id, table_at, written_tables}
 use Rattle.conn_model.proofs.Goes.{whole_in_parts}
@@ -30,10 +30,10 @@ use Rattle.conn_model.proofs.Nothing.{after-nil}
 use Rattle.conn_model.proofs.OneTable.{same_id-is}
 use Rattle.conn_model.proofs.Well.{opening_well}
 use Rattle.tenant_laws.specs.Parts.{keeps_apart, owns_backend_at, owns_table, Part}
-use Rattle.tenant_laws.specs.Agreement.{is_own_id, Agree, IsAlike, IsApart, IsInside, IsMeant, IsNamed, IsOutside, IsSound, IsWritten}
+use Rattle.tenant_laws.specs.Agreement.{is_own_id, Agree, IsAlike, IsApart, IsInside, IsMeant, IsNamed, IsOutside, IsSound, IsWritten, LookAlike}
 use Rattle.tenant_laws.specs.Runs.{alone, answers_after, answers_to, frontend_of, is_accepted, is_alone, is_on, is_rising, next_state, part_answers, history_with, Steps, TextKeepsApart, TextsKeepApart}
 use Rattle.tenant_laws.proofs.Lists.{both, nothing, some_same}
-use Rattle.tenant_laws.proofs.Same.{answers-same, reloads-same}
+use Rattle.tenant_laws.proofs.Later.{agree-at, answers-same, at-apart, at-sound, from-apart, reloads-same}
 use Rattle.tenant_laws.proofs.PartReplies.{brings-none}
 use Rattle.tenant_laws.proofs.Step.{listed-there, sound-step}
 use Rattle.tenant_laws.proofs.Outside.{outside-step}
@@ -123,8 +123,8 @@ apart-opening part plan last keeps named = record {
 -- Agreement.
 
 -- of a state with itself
-pub agree-same : (part : Part) (p : Plain) → IsApart part p → Agree part p p
-agree-same part p apart = record {
+alike-same : (part : Part) (p : Plain) → IsApart part p → LookAlike part p p
+alike-same part p apart = record {
   listeners = refl;
   names = refl;
   number = refl;
@@ -135,6 +135,9 @@ agree-same part p apart = record {
   left = apart;
   right = apart;
 }
+
+pub agree-same : (part : Part) (p : Plain) → IsApart part p → Agree part p p
+agree-same part p apart = alike-same part (at_moment (max p.clock p.clock) p) (at-apart part p (max p.clock p.clock) apart)
 
 alike-turn : (part : Part) (ps rs qs : List TableState) (v u w : Version) → IsAlike part ps rs v u → IsAlike part ps qs v w → IsAlike part rs qs u w
 alike-turn part ps rs qs v u w x y = record {
@@ -151,8 +154,8 @@ alike-turn part ps rs qs v u w x y = record {
         ∙ ap (λ ids. list_any (λ (pair : Table × TableId). owns_table part pair.0 && same_id pair.1 id) (zip u.plan.tables ids)) x.tables ∙ own
 
 -- and turned round
-pub agree-turn : (part : Part) (p r q : Plain) → IsSound p → Agree part p r → Agree part p q → Agree part r q
-agree-turn part p r q sound x y = record {
+look-turn : (part : Part) (p r q : Plain) → IsSound p → LookAlike part p r → LookAlike part p q → LookAlike part r q
+look-turn part p r q sound x y = record {
   listeners = sym x.listeners ∙ y.listeners;
   names = sym x.names ∙ y.names;
   number = sym x.number ∙ y.number;
@@ -168,6 +171,13 @@ agree-turn part p r q sound x y = record {
     before : (k : ℕ) → IsMeant part r k → IsMeant part p k
     before k (inl newest') = inl (newest' ∙ sym x.number)
     before k (inr (n, own, in', there, has)) = inr (n, own, in', x.frontends n in' ∙ there, has)
+
+-- where the first is not after the second
+pub agree-turn : (part : Part) (p r q : Plain) → IsSound p → Agree part p r → Agree part p q → p.clock ≤ r.clock → Agree part r q
+agree-turn part p r q sound x y before =
+    let now : ℕ = max r.clock q.clock in
+    look-turn part (at_moment now p) (at_moment now r) (at_moment now q) (at-sound p sound now)
+    (agree-at part p r sound x now (omega (arith, before)) (omega arith)) (agree-at part p q sound y now (omega (arith, before)) (omega arith))
 
 -- One step of the answers to a part.
 
@@ -244,7 +254,7 @@ next-outside : (part : Part) (p q : Plain) (moment n : ℕ) (event : OwnedEvent)
 next-outside part p q moment n event sound agree on out = by (answer_in p moment event) refl
   where
     by : (r : Result Reply StepFault) → answer_in p moment event ≡ r → Agree part (next_state p moment event r) q
-    by (Ok reply) e = agree-turn part p (after p (entry moment event reply ∷ [])) q sound (outside-step part p sound agree.left moment n event reply on out e) agree
+    by (Ok reply) e = agree-turn part p (after p (entry moment event reply ∷ [])) q sound (outside-step part p sound (from-apart part p (max p.clock q.clock) agree.left) moment n event reply on out e) agree (omega arith)
     by (Err fault) e = agree
 
 next-reload : (part : Part) (p q : Plain) (moment : ℕ) (text : List ℕ) → IsSound p → IsSound q → Agree part p q → (is_ok (answer_in p moment (Reload text)) ≡ true → (plan : Plan) → meaning text ≡ Ok plan → keeps_apart part plan ≡ true) →

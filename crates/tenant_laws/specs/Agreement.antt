@@ -1,5 +1,5 @@
 -- When two states of a balancer look the same to a part.
-use Rattle.std.specs.Prelude.{ℕ, Bool, true, false, List, map, slice_get, Some, IfSome, ◌⊎◌, ◌≡◌, ◌&&◌}
+use Rattle.std.specs.Prelude.{ℕ, Bool, true, false, List, map, max, slice_get, Some, IfSome, ◌⊎◌, ◌≡◌, ◌&&◌}
 use Rattle.std.specs.List.{list_any, AllByRecursion}
 use Rattle.std.specs.Option.{option_map, option_map_or}
 use Rattle.plan_types.specs.Lines.{LinesDiffer}
@@ -10,7 +10,7 @@ use Rattle.conn_model.specs.declared.plain.Plain.{Plain}
 use Rattle.conn_model.specs.declared.plain.Row.{Row}
 use Rattle.conn_model.specs.declared.plain.TableState.{TableState}
 use Rattle.conn_model.specs.declared.plain.Version.{Version}
-use Rattle.conn_model.specs.Answer.{version_at}
+use Rattle.conn_model.specs.Answer.{at_moment, version_at}
 use Rattle.conn_model.specs.Counts.{server_of}
 use Rattle.conn_model.specs.History.{has_version, newest_number, IsWell}
 use Rattle.conn_model.specs.Tables.{same_id, table_at, written_tables}
@@ -65,8 +65,8 @@ pub record IsApart (part : Part) (p : Plain) : Type 0 where
   pub outside : (n : ℕ) (own : FrontendRows) → part.frontends n ≡ false → slice_get p.frontends n ≡ Some own → AllByRecursion (IsOutside part p.tables) own.rows
   pub inside : (n : ℕ) (own : FrontendRows) → part.frontends n ≡ true → slice_get p.frontends n ≡ Some own → AllByRecursion (IsInside part p.versions) own.rows
 
--- Two states agree on a part: it is apart in both, and they look the same to it.
-pub record Agree (part : Part) (p q : Plain) : Type 0 where
+-- Two states look the same to a part, which is apart in both.
+pub record LookAlike (part : Part) (p q : Plain) : Type 0 where
   pub listeners : p.listeners ≡ q.listeners
   pub names : map (λ own. own.name) p.frontends ≡ map (λ own. own.name) q.frontends
   pub number : newest_number p ≡ newest_number q
@@ -77,6 +77,10 @@ pub record Agree (part : Part) (p q : Plain) : Type 0 where
       IsAlike part p.tables q.tables v w
   pub left : IsApart part p
   pub right : IsApart part q
+
+-- Two states agree on a part: at the later of their two moments they look the same to it.
+abbrev pub Agree : Part → Plain → Plain → Type 0
+Agree part p q = LookAlike part (at_moment (max p.clock q.clock) p) (at_moment (max p.clock q.clock) q)
 
 -- a table of a version is kept as it was written
 abbrev pub IsWritten : List TableState → Table × TableId → Type 0

@@ -19,7 +19,7 @@ use Rattle.conn_model.specs.declared.reply.Said.{Said}
 use Rattle.conn_model.specs.declared.reply.Said.TheVariants as saids
 use Rattle.conn_model.specs.declared.reply.StepFault.{StepFault}
 use Rattle.conn_model.specs.declared.reply.StepFault.TheVariants.{NoSuch}
-use Rattle.conn_model.specs.Answer.{admission, answer_in, candidate_at, new_row, reply_of, row_at, row_in}
+use Rattle.conn_model.specs.Answer.{admission, answer_in, candidate_at, new_row, reply_of, row_at, row_in, at_moment}
 use Rattle.conn_model.specs.History.{Entry, IsLegal, after, answer, arrival, arrival_of, arrivals, entry, frontend_after, has_ended, id_of, is_accept_at, is_last, leaves_open, opening, row_after, speaks_to}
 use Rattle.conn_model.specs.Words.{is_conn, map_from, or_fault}
 use Rattle.conn_model.proofs.Goes.{whole_in_parts}
@@ -479,8 +479,8 @@ outcome_of n moment event said none agree = by (answer_in n moment event) refl
     by (Ok theirs) is = inr (theirs, is, agree theirs.said)
 
 -- an arrival is of the listener and the frontend that are there
-arrival_is : (m : Plain) (listener : ℕ) (arrival : Arrival m listener) (number serial : ℕ) (reply : Reply) (clock : ℕ) (real : PairValue) (a : Accepted m clock listener real reply) → arrival.own.serial ≡ a.own.serial
-arrival_is m listener arrival number serial reply clock real a =
+arrival_is : (m : Plain) (listener : ℕ) (arrival : Arrival m listener) (number serial : ℕ) (reply : Reply) (moment : ℕ) (real : PairValue) (a : Accepted (at_moment moment m) (max m.clock moment) listener real reply) → arrival.own.serial ≡ a.own.serial
+arrival_is m listener arrival number serial reply moment real a =
     let at_same = one_item (slice_get m.listeners listener) arrival.at a.at arrival.listens a.listens in
     ap (λ (own : FrontendRows). own.serial)
     (one_item (slice_get m.frontends a.at.frontend) arrival.own a.own (ap (λ at. slice_get m.frontends at.frontend) (sym at_same) ∙ arrival.there) a.there)
@@ -495,7 +495,7 @@ pub accept_outcome : (plan : Plan) (h : List Entry) (n : Plain) (moment listener
     → answer_in (after (opening plan 0) h) moment (Accept listener real) ≡ Ok reply → Tied plan (after (opening plan 0) h) n → Outcome n moment (Accept listener real) reply.said
 accept_outcome plan h n moment listener real reply legal is tied =
     let p : Plain = after (opening plan 0) h in
-    let a = accepted p (max p.clock moment) listener real reply is in
+    let a = accepted (at_moment moment p) (max p.clock moment) listener real reply is in
     let listens : slice_get n.listeners listener ≡ Some a.at = ap (λ ls. slice_get ls listener) tied.listeners ∙ a.listens in
     let arrival : Arrival n listener =
     subst (λ m. Arrival m listener) (sym tied.is) (arrives_at plan 0 tied.past tied.legal listener a.at (ap (λ (m : Plain). slice_get m.listeners listener) (sym tied.is) ∙ listens)) in
@@ -506,7 +506,7 @@ accept_outcome plan h n moment listener real reply legal is tied =
     let theirs : Reply = admission (newcomer n moment real listener arrival) arrival.at.accept_proxy real (length arrival.own.rows) in
     let whom : id_of reply.said ≡ Some (record { frontend = a.at.frontend; serial = a.own.serial + 1 }) =
     ap (λ (r : Reply). id_of r.said) (sym a.reply_is)
-    ∙ admission-id (candidate_at p (max p.clock moment) a.at.frontend real a.own a.version a.frontend) a.at.accept_proxy real (length a.own.rows) in
+    ∙ admission-id (candidate_at (at_moment moment p) (max p.clock moment) a.at.frontend real a.own a.version a.frontend) a.at.accept_proxy real (length a.own.rows) in
     let first : Arrival p listener = arrives_at plan 0 h legal listener a.at a.listens in
     inr (
       theirs,
@@ -517,7 +517,7 @@ accept_outcome plan h n moment listener real reply legal is tied =
             ∙ ap (λ s. Some (record { frontend = a.at.frontend; serial = s + 1 })) serial
             ∙ sym whom,
         judged_by (answer_in p moment (Accept listener real)) reply is
-            (accept_judged p moment listener real first (fits_less first.own.serial a.own.serial (arrival_is p listener first 0 0 reply (max p.clock moment) real a) a.fits)),
+            (accept_judged p moment listener real first (fits_less first.own.serial a.own.serial (arrival_is p listener first 0 0 reply moment real a) a.fits)),
         judged_by (answer_in n moment (Accept listener real)) theirs (accept_is n moment listener real arrival (fits_less arrival.own.serial a.own.serial serial a.fits))
             (accept_judged n moment listener real arrival (fits_less arrival.own.serial a.own.serial serial a.fits)),
       ),

@@ -21,7 +21,7 @@ use Rattle.conn_model.specs.declared.reply.Said.{Said}
 use Rattle.conn_model.specs.declared.reply.Said.TheVariants as saids
 use Rattle.conn_model.specs.declared.reply.StepFault.{StepFault}
 use Rattle.conn_model.specs.declared.reply.StepFault.TheVariants.{NoSuch}
-use Rattle.conn_model.specs.Answer.{answer_in, reply_of, rest_in, row_at, row_in}
+use Rattle.conn_model.specs.Answer.{answer_in, at_moment, reply_of, rest_in, row_at, row_in}
 use Rattle.conn_model.specs.History.{Entry, IsFrontendWell, IsLegal, IsWell, accepts, after, arrivals, entry, frontend_after, has_ended, id_of, is_last, is_reload, leaves_open, opening, phase_by, phase_up, phase_on, plan_of, row_after, speaks_to}
 use Rattle.conn_model.specs.Words.{is_conn, or_fault}
 use Rattle.conn_model.proofs.Goes.{whole_in_parts}
@@ -463,8 +463,8 @@ not_again plan p n moment (Accept listener real) reply theirs id is judged whom 
     not_new p p (below_itself p) id past.own past.there past.given reply.said (answered p moment (Accept listener real) reply is) whom
 not_again plan p n moment (Piece own bytes) reply theirs id is judged whom answers past =
     let same : own ≡ id = same_conn own id (id_of reply.said) (answered p moment (Piece own bytes) reply is).speaks whom in
-    let a = received p own bytes reply is in
-    let b = received n own bytes theirs answers in
+    let a = received (at_moment moment p) own bytes reply is in
+    let b = received (at_moment moment n) own bytes theirs answers in
     past.once (ap (waits_at p) (sym same) ∙ waits_here p own a.row a.row_is (ap is_some a.waits)) (ap (waits_at n) (sym same) ∙ waits_here n own b.row b.row_is (ap is_some b.waits))
 not_again plan p n moment (Connected own) reply theirs id is judged whom answers past = not_judged reply.said (saids.Up own) (ap (λ (r : Reply). r.said) (sym (server_answered p own (saids.Up own) reply is).reply_is)) refl judged
 not_again plan p n moment (ConnectFailed own) reply theirs id is judged whom answers past =
@@ -475,8 +475,8 @@ not_again plan p n moment (Close own why) reply theirs id is judged whom answers
     not_judged reply.said (saids.Closed own why) (ap (λ (r : Reply). r.said) (sym same)) refl judged
 not_again plan p n moment (Expire own) reply theirs id is judged whom answers past =
     let same : own ≡ id = same_conn own id (id_of reply.said) (answered p moment (Expire own) reply is).speaks whom in
-    let a = expired p (max p.clock moment) own reply is in
-    let b = expired n (max n.clock moment) own theirs answers in
+    let a = expired (at_moment moment p) (max p.clock moment) own reply is in
+    let b = expired (at_moment moment n) (max n.clock moment) own theirs answers in
     past.once (ap (waits_at p) (sym same) ∙ waits_here p own a.row a.row_is (ap is_some a.waits)) (ap (waits_at n) (sym same) ∙ waits_here n own b.row b.row_is (ap is_some b.waits))
 not_again plan p n moment (Reload text) reply theirs id is judged whom answers past = not_judged reply.said _ (answered p moment (Reload text) reply is).says refl judged
 

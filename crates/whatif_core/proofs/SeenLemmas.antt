@@ -23,7 +23,7 @@ use Rattle.conn_model.specs.declared.reply.Said.{Said}
 use Rattle.conn_model.specs.declared.reply.Said.TheVariants as saids
 use Rattle.conn_model.specs.declared.reply.StepFault.{StepFault}
 use Rattle.conn_model.specs.declared.reply.StepFault.TheVariants.{NoSuch, NotDue}
-use Rattle.conn_model.specs.Answer.{answer_in, awaits_server, new_row, reply_of, rest_in, row_at, row_in}
+use Rattle.conn_model.specs.Answer.{answer_in, at_moment, awaits_server, new_row, reply_of, rest_in, row_at, row_in}
 use Rattle.conn_model.specs.History.{Entry, IsFrontendWell, IsLegal, IsWell, after, arrival_of, arrivals, entry, frontend_after, has_ended, id_of, is_last, is_reload, leaves_open, opening, phase_by, plan_of, row_after, speaks_to}
 use Rattle.conn_model.specs.Words.{is_conn, or_fault}
 use Rattle.conn_model.proofs.Goes.{whole_in_parts}
@@ -511,7 +511,7 @@ seen plan text trial h e id opens legal judged whom = by e.event refl
         of (inl (fault, refused, wrong)) = absurd (cc)
         of (inr (theirs, found, agree)) = inl (ap (λ ev. is_some (decided n e.moment ev)) is ∙ decided_some n e.moment (Accept listener real) theirs found agree.2)
     by (Piece own bytes) is =
-        let got = received p own bytes e.reply (answers (Piece own bytes) is) in
+        let got = received (at_moment e.moment p) own bytes e.reply (answers (Piece own bytes) is) in
         let same : own ≡ id = same_conn own id (id_of e.reply.said) (answered p e.moment (Piece own bytes) e.reply (answers (Piece own bytes) is)).speaks whom in
         elim (waits_in_both plan text trial h id opens legal.0 (ap (waits_at p) (sym same) ∙ waits_here p own got.row got.row_is (ap is_some got.waits))) [
           | inl different ↦ inr (inl different)
@@ -524,7 +524,7 @@ seen plan text trial h e id opens legal judged whom = by e.event refl
         let it : reply_of (saids.Closed own why) ≡ e.reply = let both : Ok (reply_of (saids.Closed own why)) ≡ Ok e.reply = one.2 in cc in
         none (saids.Closed own why) (ap (λ (r : Reply). r.said) it) refl
     by (Expire own) is =
-        let got = expired p (max p.clock e.moment) own e.reply (answers (Expire own) is) in
+        let got = expired (at_moment e.moment p) (max p.clock e.moment) own e.reply (answers (Expire own) is) in
         let same : own ≡ id = same_conn own id (id_of e.reply.said) (answered p e.moment (Expire own) e.reply (answers (Expire own) is)).speaks whom in
         let of_id : e.event ≡ Expire id = is ∙ ap Expire same in
         elim (waits_in_both plan text trial h id opens legal.0 (ap (waits_at p) (sym same) ∙ waits_here p own got.row got.row_is (ap is_some got.waits))) [

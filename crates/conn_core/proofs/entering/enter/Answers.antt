@@ -26,8 +26,8 @@ offer-requires-clause-server c =
 
 pub returns-then-tracks_nothing-clause-ok : goal.returns-then-tracks_nothing-clause-ok
 returns-then-tracks_nothing-clause-ok c =
-    skipped_once c.args.rows.now c.skip.new.self c.args.id c.requires.coming.0 c.args.arrival.now c.args.decision.now c.in-Refuse.field-0 c.requires.coming.1 c.in-Refuse.is
-    (c.tracks_nothing.ensures.0 c.if-tracks_nothing.true) c.skip.ensures
+    skipped_once c.args.rows.now c.pass.new.self c.skip.new.self c.args.id c.requires.coming.0 c.args.arrival.now c.args.decision.now c.in-Refuse.field-0 c.requires.coming.1 c.in-Refuse.is
+    (c.tracks_nothing.ensures.0 c.if-tracks_nothing.true) c.pass.ensures c.skip.ensures
 
 pub returns-in_ok-insert-in-Offer-clause-ok : goal.returns-in_ok-insert-in-Offer-clause-ok
 returns-in_ok-insert-in-Offer-clause-ok c =
@@ -37,4 +37,4 @@ returns-in_ok-insert-in-Offer-clause-ok c =
 pub returns-in_ok-insert-in-Refuse-clause-ok : goal.returns-in_ok-insert-in-Refuse-clause-ok
 returns-in_ok-insert-in-Refuse-clause-ok c =
     removed_once c.args.rows.now c.insert-in-Refuse.new.rows c.remove.new.self c.args.id c.requires.coming.0 c.args.arrival.now c.args.decision.now c.in-Refuse.field-0 c.requires.coming.1 c.in-Refuse.is
-    c.in_ok-insert-in-Refuse.ensures.ok c.remove.ensures
+    c.in_ok-insert-in-Refuse.ensures.ok c.in_ok-insert-in-Refuse.ensures.clock c.remove.ensures

@@ -41,4 +41,4 @@ returns-clause-new c = λ event.
     let reply = some.1 p c.args.used (record { own = refl; named = λ name. refl; offered = λ name. refl; served = λ server. refl; tracks = refl; tracked = refl; tables = refl }) in
     settled_once c.args.rows.now c.track_all.new.rows c.settle.new.rows event c.args.id c.args.version c.args.used c.args.judged decided.result c.in-Some.decision c.reply.result
     (judged_open c.args.rows.now.frontends c.args.id c.args.version c.requires.there)
-    (ap (λ (r : Reply). r.said) reply) c.track_all.ensures.frontends c.track_all.ensures.versions c.track_all.ensures.tables c.settle.ensures c.reply.ensures
+    (ap (λ (r : Reply). r.said) reply) c.track_all.ensures.frontends c.track_all.ensures.versions c.track_all.ensures.clock c.track_all.ensures.tables c.settle.ensures c.reply.ensures

@@ -20,6 +20,7 @@ returns-clause-some c =
     let source = ap (λ e. e.addr) c.source.ensures.value in
     let facts : RuleFacts = record {
       rows = c.args.rows;
+      moment = c.args.moment;
       version = c.in-Some-version.version;
       frontend = c.in-Some-frontend_near.frontend;
       name = c.in-Some.own.name;
@@ -38,6 +39,7 @@ returns-clause-some c =
         found = sym (c.in-Some-frontend_near.ensures ∙ ap (λ n. frontend_in c.in-Some-version.version.now.plan n) sums.name);
       };
       rows_are = refl;
+      moment_is = refl;
       version_is = refl;
       frontend_is = refl;
       tracks = c.tracks_of.ensures;

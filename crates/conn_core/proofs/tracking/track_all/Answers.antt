@@ -37,3 +37,6 @@ loop-slot-preserved c = elim c.match-slot.branch [
 
 pub returns-clause-frontends : goal.returns-clause-frontends
 returns-clause-frontends c = (all_tracked c.args.rows.now c.loop-slot.rows c.args.id c.loop-slot.slot-index c.args.tracks.now c.told-tracks c.loop-slot-test.false c.loop-slot.invariant).0
+
+pub returns-clause-clock : goal.returns-clause-clock
+returns-clause-clock c = c.loop-slot.invariant.clock

@@ -30,7 +30,7 @@ begin-requires-clause-next c =
     )
 
 pub begin-requires-clause-earlier : goal.begin-requires-clause-earlier
-begin-requires-clause-earlier c = tables_earlier c.args.number c.args.tables.now.tables c.requires.next.began
+begin-requires-clause-earlier c = tables_earlier c.args.number c.args.tables.now.clock c.args.tables.now.tables c.requires.next.began
 
 pub returns-in-Ok-clause-tables : goal.returns-in-Ok-clause-tables
 returns-in-Ok-clause-tables c =
@@ -38,7 +38,7 @@ returns-in-Ok-clause-tables c =
     let is = brought_is c.args.kept.now.versions c.as_slice.result.now c.args.number c.args.plan c.in-Some.version.now (c.as_slice.ensures.versions ∙ c.in_ok-push.ensures.ok) c.in-Some.ensures in
     c.in-Ok.ensures.ok before
     (brought_ids c.args.kept.now.versions c.args.number c.args.plan c.in-Some.version.now c.as_slice-2.result.now c.as_slice-ids.result.now is c.as_slice-2.ensures c.as_slice-ids.ensures c.requires.next.written)
-    ∙ ap (λ ts. map plain_table c.args.tables.now.tables ++ new_tables c.args.number before ts) (c.as_slice-2.ensures ∙ ap (λ v. v.plan.tables) is)
+    ∙ ap (λ ts. map (plain_table c.args.tables.now.clock) c.args.tables.now.tables ++ new_tables c.args.number before ts) (c.as_slice-2.ensures ∙ ap (λ v. v.plan.tables) is)
 
 pub returns-in-Err-clause-versions_err : goal.returns-in-Err-clause-versions_err
 returns-in-Err-clause-versions_err c =

@@ -23,9 +23,9 @@ pushed : (P : StoredTable → Type 0) (xs : List StoredTable) (x : StoredTable) 
 pushed P [] x all one = (one, tt)
 pushed P (y ∷ ys) x all one = (all.0, pushed P ys x all.1 one)
 
-moved : (xs : List StoredTable) (x : StoredTable) (rest : List TableState) → map plain_table (xs ++ x ∷ []) ++ rest ≡ map plain_table xs ++ plain_table x ∷ rest
-moved [] x rest = refl
-moved (y ∷ ys) x rest = ap (λ l. plain_table y ∷ l) (moved ys x rest)
+moved : (moment : ℕ) (xs : List StoredTable) (x : StoredTable) (rest : List TableState) → map (plain_table moment) (xs ++ x ∷ []) ++ rest ≡ map (plain_table moment) xs ++ plain_table moment x ∷ rest
+moved moment [] x rest = refl
+moved moment (y ∷ ys) x rest = ap (λ l. plain_table moment y ∷ l) (moved moment ys x rest)
 
 -- the tables from a place on that begin with the version
 abbrev begins : ℕ → List Table → List TableId → List TableState
@@ -66,18 +66,18 @@ loop-place-preserved c =
       | then-id-version+in_ok-with_room+in_ok-push w ↦
           let items : c.if-id-version.begun.items ≡ c.loop-place.begun.items ++ w.in_ok-with_room.field-0 ∷ [] = ap (λ v. v.items) w.begun-is ∙ w.in_ok-push.ensures.items in
           rw items (record {
-            plain =
-                moved c.loop-place.begun.items w.in_ok-with_room.field-0 (begins version (drop (place + 1) tables) (drop (place + 1) ids))
-                ∙ ap (λ t. map plain_table c.loop-place.begun.items ++ t ∷ begins version (drop (place + 1) tables) (drop (place + 1) ids)) w.in_ok-with_room.ensures.plain
-                ∙ ap (λ l. map plain_table c.loop-place.begun.items ++ l) (sym (both ∙ begins-then version table (drop (place + 1) tables) id (drop (place + 1) ids) w.if-id-version.true))
-                ∙ c.loop-place.invariant.plain;
-            each = pushed (IsStored c.args.spare) c.loop-place.begun.items w.in_ok-with_room.field-0 c.loop-place.invariant.each w.in_ok-with_room.ensures.stored;
+            plain = λ moment.
+                moved moment c.loop-place.begun.items w.in_ok-with_room.field-0 (begins version (drop (place + 1) tables) (drop (place + 1) ids))
+                ∙ ap (λ t. map (plain_table moment) c.loop-place.begun.items ++ t ∷ begins version (drop (place + 1) tables) (drop (place + 1) ids)) (w.in_ok-with_room.ensures.plain moment)
+                ∙ ap (λ l. map (plain_table moment) c.loop-place.begun.items ++ l) (sym (both ∙ begins-then version table (drop (place + 1) tables) id (drop (place + 1) ids) w.if-id-version.true))
+                ∙ c.loop-place.invariant.plain moment;
+            each = pushed (IsStored 0 c.args.spare) c.loop-place.begun.items w.in_ok-with_room.field-0 c.loop-place.invariant.each w.in_ok-with_room.ensures.stored;
           })
       | else-id-version w ↦
           rw (ap (λ v. v.items) w.begun-is) (record {
-            plain =
-                ap (λ l. map plain_table c.loop-place.begun.items ++ l) (sym (both ∙ begins-else version table (drop (place + 1) tables) id (drop (place + 1) ids) w.if-id-version.false))
-                ∙ c.loop-place.invariant.plain;
+            plain = λ moment.
+                ap (λ l. map (plain_table moment) c.loop-place.begun.items ++ l) (sym (both ∙ begins-else version table (drop (place + 1) tables) id (drop (place + 1) ids) w.if-id-version.false))
+                ∙ c.loop-place.invariant.plain moment;
             each = c.loop-place.invariant.each;
           })
     ]

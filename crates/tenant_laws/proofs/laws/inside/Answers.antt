@@ -1,4 +1,4 @@
-use Rattle.tenant_laws.proofs.Same.{answers-same}
+use Rattle.tenant_laws.proofs.Later.{answers-same}
 use Rattle.tenant_laws.proofs.Inside.{inside-step}
 use Rattle.tenant_laws.proofs.laws.inside.Goals as goal
 

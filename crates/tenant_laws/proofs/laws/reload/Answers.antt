@@ -1,5 +1,5 @@
 use Rattle.std.proofs.Common.{sym, ◌∙◌}
-use Rattle.tenant_laws.proofs.Same.{reloads-same}
+use Rattle.tenant_laws.proofs.Later.{reloads-same}
 use Rattle.tenant_laws.proofs.Reload.{reload-step}
 use Rattle.tenant_laws.proofs.laws.reload.Goals as goal
 

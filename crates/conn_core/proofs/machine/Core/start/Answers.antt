@@ -7,7 +7,7 @@ use Rattle.conn_core.proofs.machine.Core.start.Goals as goal
 
 pub invariant_of-result : goal.invariant_of-result
 invariant_of-result c =
-    let state : Plain = state_of 0 c.in_ok-listeners.listeners c.in_ok-rows.rows in
+    let state : Plain = state_of c.in_ok-listeners.listeners c.in_ok-rows.rows in
     let same : state ≡ opening c.args.plan c.args.last = search rules in
     subst IsCoreState (sym same) (record { well = opening_well c.args.plan c.args.last; plans = (c.requires, tt) })
 

@@ -3,7 +3,8 @@ use Rattle.std.specs.Prelude.{IfNone, IfSome, IsErr}
 use Rattle.pp_any.specs.declared.rest.Rest.{Rest}
 use Rattle.conn_model.specs.declared.plain.Plain.{Plain}
 use Rattle.conn_model.specs.declared.plain.Row.{Row}
-use Rattle.conn_model.specs.Answer.{piece_answer, version_at, waiting_row}
+use Rattle.conn_model.specs.declared.event.OwnedEvent.TheVariants.{Piece}
+use Rattle.conn_model.specs.Answer.{answer_in, at_moment, piece_answer, version_at, waiting_row}
 use Rattle.conn_model.specs.declared.reply.StepFault.TheVariants.{NoSuch}
 use Rattle.conn_core.specs.declared.facts.RuleFacts.{RuleFacts}
 use Rattle.conn_core.specs.Machine.{state_of}
@@ -22,17 +23,18 @@ if_none P Q None f known = f known
 if_none P Q (Some x) f known = tt
 
 pub returns-clause-kept : goal.returns-clause-kept
-returns-clause-kept c = if_some (SeesOpen c.self.inside.rows c.args.id c.in-Ok.row.version c.args.judged) IsKept c.facts_of.result by c.facts_of.ensures.some
+returns-clause-kept c = if_some (SeesOpen c.self.inside.rows c.args.id c.in-Ok.row.version c.args.judged c.args.moment) IsKept c.facts_of.result by c.facts_of.ensures.some
   where
-    by : (facts : RuleFacts) → SeesOpen c.self.inside.rows c.args.id c.in-Ok.row.version c.args.judged facts → IsKept facts
+    by : (facts : RuleFacts) → SeesOpen c.self.inside.rows c.args.id c.in-Ok.row.version c.args.judged c.args.moment facts → IsKept facts
     by facts sees = rw sees.rows_are (rw sees.version_is (own_number c.self.inside.rows.versions c.in-Ok.row.version sees.judge.version sees.judge.kept))
 
 pub returns-clause-none : goal.returns-clause-none
 returns-clause-none c =
-    if_none (Judge c.self.inside.rows.frontends c.self.inside.rows.versions c.args.id c.in-Ok.row.version → ⊥) ((piece : List ℕ) → IsErr (piece_answer c.args.self.now c.args.id piece)) c.facts_of.result by c.facts_of.ensures.none
+    if_none (Judge c.self.inside.rows.frontends c.self.inside.rows.versions c.args.id c.in-Ok.row.version → ⊥)
+    ((later : ℕ) (piece : List ℕ) → IsErr (answer_in c.args.self.now later (Piece c.args.id piece))) c.facts_of.result by c.facts_of.ensures.none
   where
     q : Plain
-    q = state_of c.self.inside.clock c.self.inside.listeners c.self.inside.rows
+    q = state_of c.self.inside.listeners c.self.inside.rows
 
     found : Row × Rest
     found = c.in-Ok.ensures.ok.0
@@ -43,17 +45,17 @@ returns-clause-none c =
     version : c.in-Ok.row.version ≡ found.0.version
     version = ap (λ s. s.version) c.in-Ok.ensures.ok.2
 
-    by : (Judge c.self.inside.rows.frontends c.self.inside.rows.versions c.args.id c.in-Ok.row.version → ⊥) → (piece : List ℕ) → IsErr (piece_answer c.args.self.now c.args.id piece)
-    by none piece =
+    by : (Judge c.self.inside.rows.frontends c.self.inside.rows.versions c.args.id c.in-Ok.row.version → ⊥) → (later : ℕ) (piece : List ℕ) → IsErr (answer_in c.args.self.now later (Piece c.args.id piece))
+    by none later piece =
         let unjudged : Judge q.frontends q.versions c.args.id found.0.version → ⊥ = subst (λ n. Judge q.frontends q.versions c.args.id n → ⊥) version none in
-        let is : piece_answer q c.args.id piece ≡ Err NoSuch = no_judge q c.args.id piece found waits unjudged in
-        subst (λ (p : Plain). IsErr (piece_answer p c.args.id piece)) c.self.view_is (rw is refl)
+        let is : piece_answer (at_moment later q) c.args.id piece ≡ Err NoSuch = no_judge (at_moment later q) c.args.id piece found waits unjudged in
+        subst (λ (p : Plain). IsErr (answer_in p later (Piece c.args.id piece))) c.self.view_is (rw is refl)
 
 pub returns-clause-some : goal.returns-clause-some
-returns-clause-some c = if_some (SeesOpen c.self.inside.rows c.args.id c.in-Ok.row.version c.args.judged) (SeesWaiting c.args.self.now c.args.id c.args.judged) c.facts_of.result by c.facts_of.ensures.some
+returns-clause-some c = if_some (SeesOpen c.self.inside.rows c.args.id c.in-Ok.row.version c.args.judged c.args.moment) (SeesWaiting (at_moment c.args.moment c.args.self.now) c.args.id c.args.judged) c.facts_of.result by c.facts_of.ensures.some
   where
     q : Plain
-    q = state_of c.self.inside.clock c.self.inside.listeners c.self.inside.rows
+    q = state_of c.self.inside.listeners c.self.inside.rows
 
     found : Row × Rest
     found = c.in-Ok.ensures.ok.0
@@ -64,8 +66,8 @@ returns-clause-some c = if_some (SeesOpen c.self.inside.rows c.args.id c.in-Ok.r
     version : c.in-Ok.row.version ≡ found.0.version
     version = ap (λ s. s.version) c.in-Ok.ensures.ok.2
 
-    by : (facts : RuleFacts) → SeesOpen c.self.inside.rows c.args.id c.in-Ok.row.version c.args.judged facts → SeesWaiting c.args.self.now c.args.id c.args.judged facts
-    by facts sees = subst (λ p. SeesWaiting p c.args.id c.args.judged facts) c.self.view_is (record {
+    by : (facts : RuleFacts) → SeesOpen c.self.inside.rows c.args.id c.in-Ok.row.version c.args.judged c.args.moment facts → SeesWaiting (at_moment c.args.moment c.args.self.now) c.args.id c.args.judged facts
+    by facts sees = subst (λ p. SeesWaiting (at_moment c.args.moment p) c.args.id c.args.judged facts) c.self.view_is (record {
       found = found;
       waits = waits;
       judge = record {
@@ -78,5 +80,5 @@ returns-clause-some c = if_some (SeesOpen c.self.inside.rows c.args.id c.in-Ok.r
       };
       version_is = sees.version_is;
       frontend_is = sees.frontend_is;
-      view = sees.view q (record { own = refl; named = λ name. refl; offered = λ name. refl; served = λ server. refl; tracks = refl; tracked = refl; tables = refl });
+      view = sees.view (at_moment c.args.moment q) (record { own = refl; named = λ name. refl; offered = λ name. refl; served = λ server. refl; tracks = refl; tracked = refl; tables = refl });
     })

@@ -33,7 +33,7 @@ invariant_of-self-2 c =
       served =
           arrived_served c.self.inside.frontends.items c.self.inside.kept c.enter.new.self c.from.result own c.insert.new.self row (ap (slice_get c.self.inside.frontends.items) c.from.ensures ∙ there c)
           (ap (λ f. f.rows) c.in_ok-serial.ensures.ok) refl c.enter.ensures.versions c.enter.ensures.counts c.enter.ensures.judged c.self.invariant.served;
-      listed = subst (λ versions. AreTablesListed versions (map plain_table c.self.inside.tables.tables)) (sym c.enter.ensures.versions) c.self.invariant.listed;
+      listed = subst (λ versions. AreTablesListed versions (map (plain_table c.self.inside.tables.clock) c.self.inside.tables.tables)) (sym c.enter.ensures.versions) c.self.invariant.listed;
     }
 
 pub returns-clause-serial : goal.returns-clause-serial

@@ -7,4 +7,4 @@ use Rattle.conn_rows.proofs.rows.Rows.key_for.Goals as goal
 pub returns : goal.returns
 returns c =
     rw (← c.self.view_is)
-    (c.key_for.ensures (open_tracks (map (plain_frontend c.self.inside.kept.versions) c.self.inside.frontends.items)) (are_counted c.self.inside.kept.versions c.self.inside.frontends.items c.self.inside.tables.tables c.self.invariant.rows))
+    (λ moment later. c.key_for.ensures moment (open_tracks (map (plain_frontend c.self.inside.kept.versions) c.self.inside.frontends.items)) later (are_counted c.self.inside.kept.versions c.self.inside.frontends.items c.self.inside.tables.tables c.self.invariant.rows))

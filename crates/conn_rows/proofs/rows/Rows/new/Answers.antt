@@ -16,7 +16,7 @@ end_all_empty-requires c =
     ap (total (λ (own : StoredFrontend). length own.rows)) all ∙ total-empty c.args.plan.frontends c.args.last
 
 pub returns-in-Ok : goal.returns-in-Ok
-returns-in-Ok c = opened c.args.plan c.args.last c.in_ok-frontends.frontends.items c.in-Ok.kept.versions c.in_ok-tables.tables (search rules) (search rules) (search rules) (search rules)
+returns-in-Ok c = opened c.args.plan c.args.last c.in_ok-frontends.frontends.items c.in-Ok.kept.versions c.in_ok-tables.tables (search rules) (search rules) (search rules) (search rules) c.in_ok-tables.ensures.clock
 
 pub invariant_of-result : goal.invariant_of-result
 invariant_of-result c =
@@ -32,5 +32,5 @@ invariant_of-result c =
         judged = λ number some. c.in-Ok.ensures.judged number ∙ sym (ap (rows_total (row_judged number)) all ∙ rows-empty (row_judged number) c.args.plan.frontends c.args.last);
         slots = rw all (none-served c.in-Ok.kept c.args.plan.frontends c.args.last);
       };
-      listed = listed-opened c.args.plan c.in-Ok.kept.versions (map plain_table c.in_ok-tables.tables.tables) (search rules) (search rules);
+      listed = listed-opened c.args.plan c.in-Ok.kept.versions (map (plain_table c.in_ok-tables.tables.clock) c.in_ok-tables.tables.tables) (search rules) (search rules);
     }

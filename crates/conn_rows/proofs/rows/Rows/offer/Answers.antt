@@ -70,5 +70,5 @@ invariant_of-self c =
           offered_has kept rest c.args.version c.args.seat c.offer-slot.result c.offer-slot.ensures.versions has.0 has.1 (c.offer-slot.ensures.slot has.0) row
           (judged_there frontends kept.versions c.self.inside.tables c.args.self.now c.args.id own row c.args.version c.self.view_is (there_after c) found c.requires.judged)))
           (slots-offer frontends kept rest c.args.version c.args.seat.line c.args.seat.server c.offer-slot.ensures.versions c.offer-slot.ensures.identities c.self.invariant.served.slots) c.self.invariant.served;
-      listed = listed-offer c.args.version c.args.seat.line c.args.seat.server kept.versions rest.versions (map plain_table c.self.inside.tables.tables) c.offer-slot.ensures.versions c.self.invariant.listed;
+      listed = listed-offer c.args.version c.args.seat.line c.args.seat.server kept.versions rest.versions (map (plain_table c.self.inside.tables.clock) c.self.inside.tables.tables) c.offer-slot.ensures.versions c.self.invariant.listed;
     }

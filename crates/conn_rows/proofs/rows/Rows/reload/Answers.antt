@@ -55,7 +55,7 @@ returns-clause-ok c =
     ok_both c.install_version.result
     (λ versions tables.
     brought_value c.self.inside.frontends.items c.self.inside.kept.versions c.install_version.new.kept.versions c.self.inside.tables c.install_version.new.tables c.args.self.now c.args.number c.args.plan c.self.view_is
-    (alike c) versions tables c.install_version.ensures.spare)
+    (alike c) versions tables c.install_version.ensures.spare c.install_version.ensures.clock)
     c.install_version.ensures.versions c.install_version.ensures.tables
 
 pub returns-clause-err : goal.returns-clause-err

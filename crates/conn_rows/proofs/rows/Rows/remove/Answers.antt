@@ -37,12 +37,12 @@ pub returns-in-Some : goal.returns-in-Some
 returns-in-Some c =
     rw (c.leave.ensures.versions, c.give_back.ensures.versions)
     (removed c.self.inside.frontends.items c.take_conn.new.frontends.items c.self.inside.kept.versions c.self.inside.tables c.release.new.self c.args.self.now c.args.id c.take_conn.result c.self.view_is
-    c.take_conn.ensures.row (c.take_conn.ensures.left c.self.inside.kept.versions) (rw (c.in-Some.is, ← c.end-tracks.ensures.tracks) c.release.ensures.plain) c.release.ensures.spare)
+    c.take_conn.ensures.row (c.take_conn.ensures.left c.self.inside.kept.versions) (rw (c.in-Some.is, ← c.end-tracks.ensures.tracks) c.release.ensures.plain) c.release.ensures.spare c.release.ensures.clock)
 
 pub returns-in_default : goal.returns-in_default
 returns-in_default c =
     removed c.self.inside.frontends.items c.take_conn.new.frontends.items c.self.inside.kept.versions c.self.inside.tables c.self.inside.tables c.args.self.now c.args.id c.take_conn.result c.self.view_is
-    c.take_conn.ensures.row (c.take_conn.ensures.left c.self.inside.kept.versions) (rw c.in_default.is refl) refl
+    c.take_conn.ensures.row (c.take_conn.ensures.left c.self.inside.kept.versions) (rw c.in_default.is refl) refl refl
 
 pub invariant_of-self : goal.invariant_of-self
 invariant_of-self c = record {
@@ -65,7 +65,7 @@ invariant_of-self c = record {
       (λ number some. c.leave.ensures.judged number (subst (λ vs. IsSome (version_at vs number)) (sym c.give_back.ensures.versions) some) ∙ c.give_back.ensures.judged number)
       c.self.invariant.served;
   listed =
-      listed-ended c.self.inside.kept.versions c.leave.new.self.versions (plain_tracks c.end-tracks.result.tracks) (map plain_table c.self.inside.tables.tables) (map plain_table c.release.new.self.tables) (c.leave.ensures.versions ∙ c.give_back.ensures.versions)
+      listed-ended c.self.inside.kept.versions c.leave.new.self.versions c.self.inside.tables.clock (plain_tracks c.end-tracks.result.tracks) (map (plain_table c.self.inside.tables.clock) c.self.inside.tables.tables) (map (plain_table c.release.new.self.clock) c.release.new.self.tables) (c.leave.ensures.versions ∙ c.give_back.ensures.versions)
       c.release.ensures.plain c.self.invariant.listed;
 }
 

@@ -50,7 +50,7 @@ invariant_of-self c = record {
       still_served c.self.inside.frontends.items c.self.inside.kept c.from.result c.index_mut.result.now c.track.new.self (ap (slice_get c.self.inside.frontends.items) c.from.ensures ∙ there_after c)
       c.track.ensures.slots c.track.ensures.judged (c.track.ensures.each c.self.inside.kept) c.self.invariant.served;
   listed =
-      listed-track c.self.inside.kept.versions (open_tracks (map (plain_frontend c.self.inside.kept.versions) c.self.inside.frontends.items)) c.args.track (map plain_table c.self.inside.tables.tables) (map plain_table c.track-tracking.new.self.tables)
+      listed-track c.self.inside.kept.versions c.self.inside.tables.clock (open_tracks (map (plain_frontend c.self.inside.kept.versions) c.self.inside.frontends.items)) c.args.track (map (plain_table c.self.inside.tables.clock) c.self.inside.tables.tables) (map (plain_table c.track-tracking.new.self.clock) c.track-tracking.new.self.tables)
       (c.track-tracking.ensures.plain (open_tracks (map (plain_frontend c.self.inside.kept.versions) c.self.inside.frontends.items))
       (are_counted c.self.inside.kept.versions c.self.inside.frontends.items c.self.inside.tables.tables c.self.invariant.rows) c.args.track.counter) c.self.invariant.listed;
 }
@@ -60,7 +60,7 @@ returns-clause-value c =
     tracking_value c.self.inside.frontends.items c.self.inside.kept.versions c.self.inside.tables c.track-tracking.new.self c.args.self.now c.from.result c.args.id c.index_mut.result.now c.track.new.self c.args.track c.self.view_is
     c.from.ensures (there_after c) (rw c.track-tracking.ensures.tracking at (c.track.ensures.plain c.self.inside.kept.versions))
     (c.track-tracking.ensures.plain (open_tracks (map (plain_frontend c.self.inside.kept.versions) c.self.inside.frontends.items))
-    (are_counted c.self.inside.kept.versions c.self.inside.frontends.items c.self.inside.tables.tables c.self.invariant.rows) c.args.track.counter) c.track-tracking.ensures.spare
+    (are_counted c.self.inside.kept.versions c.self.inside.frontends.items c.self.inside.tables.tables c.self.invariant.rows) c.args.track.counter) c.track-tracking.ensures.spare c.track-tracking.ensures.clock
 
 pub returns-clause-trackers : goal.returns-clause-trackers
 returns-clause-trackers c =

@@ -13,11 +13,11 @@ returns-in_err-stored c =
     let none : find (is_table c.args.id) c.self.inside.tables.items ≡ None =
     ap (λ xs. find (is_table c.args.id) xs) (sym c.as_slice.ensures.value) ∙ sym c.find_table.ensures ∙ ap option_copied c.in_err-stored.was in
     rw (← c.self.view_is)
-    (ap option_copied c.from_residual.ensures ∙ sym (ap (option_map (λ table. table.table)) (table_nowhere c.args.id c.self.inside.tables.items none)))
+    (ap option_copied c.from_residual.ensures ∙ sym (ap (option_map (λ table. table.table)) (table_nowhere c.self.inside.clock c.args.id c.self.inside.tables.items none)))
 
 pub returns : goal.returns
 returns c =
     let there : find (is_table c.args.id) c.self.inside.tables.items ≡ Some c.in_ok-stored.stored.now =
     ap (λ xs. find (is_table c.args.id) xs) (sym c.as_slice.ensures.value) ∙ sym c.find_table.ensures ∙ ap option_copied c.in_ok-stored.was in
     rw (← c.self.view_is)
-    (sym (ap (option_map (λ table. table.table)) (table_there c.args.id c.self.inside.tables.items c.in_ok-stored.stored.now there)))
+    (sym (ap (option_map (λ table. table.table)) (table_there c.self.inside.clock c.args.id c.self.inside.tables.items c.in_ok-stored.stored.now there)))

@@ -1,7 +1,6 @@
 use Rattle.std.proofs.Common.{◌++◌, refl, ap, ◌∙◌}
 use Rattle.conn_model.specs.declared.event.OwnedEvent.TheVariants.{Accept}
 use Rattle.conn_model.specs.Answer.{answer_in}
-use Rattle.std.proofs.Common.{max}
 use Rattle.explain_core.specs.Text.{accept_text}
 use Rattle.explain_core.proofs.OpeningLemmas.{no_fault}
 use Rattle.explain_core.proofs.showing.Shower.explain_accept.Goals as goal
@@ -9,7 +8,7 @@ use Rattle.explain_core.proofs.showing.Shower.explain_accept.Goals as goal
 pub unreachable-requires : goal.unreachable-requires
 unreachable-requires c =
     no_fault (answer_in c.args.core.now 0 (Accept c.args.number c.args.real)) c.requires
-    (let none = c.in_default.ensures.none (max c.args.core.now.clock 0) in rw none refl)
+    (let none = c.in_default.ensures.none 0 in rw none refl)
 
 pub returns : goal.returns
 returns c = (

@@ -2,7 +2,7 @@ use Rattle.std.proofs.Common.{◌≡◌, [], ◌++◌, None, Some, refl, sym, ap
 use Rattle.pp_any.specs.NextPiece.{status_on}
 use Rattle.pp_any.specs.Status.{Status, Wait, Whole, Fault}
 use Rattle.conn_model.specs.declared.event.OwnedEvent.TheVariants.{Piece}
-use Rattle.conn_model.specs.Answer.{answer_in, judged_pair}
+use Rattle.conn_model.specs.Answer.{answer_in, at_moment, judged_pair}
 use Rattle.conn_core.specs.Seeing.{SeesWaiting}
 use Rattle.explain_core.specs.Explained.{header_status, AreTriedLater}
 use Rattle.explain_core.specs.Text.{header_text, trials_text}
@@ -10,7 +10,7 @@ use Rattle.explain_core.proofs.OpeningLemmas.{no_fault}
 use Rattle.explain_core.proofs.showing.Shower.explain_header.Goals as goal
 
 pub unreachable-requires : goal.unreachable-requires
-unreachable-requires c = no_fault (answer_in c.args.core.now 0 (Piece c.args.id c.args.header.now)) c.requires (c.in_default.ensures.none c.args.header.now)
+unreachable-requires c = no_fault (answer_in c.args.core.now 0 (Piece c.args.id c.args.header.now)) c.requires (c.in_default.ensures.none 0 c.args.header.now)
 
 pub returns-in-More : goal.returns-in-More
 returns-in-More c =
@@ -43,7 +43,7 @@ returns-in_ok-show_trials-in-Whole c =
           ∙ append_assoc c.args.text.now.items (header_text header c.in-Whole.used (judged_pair c.args.real c.in-Whole.meaning)) tried,
       subst (λ (s : Status). AreTriedLater c.args.core.now lines c.args.id c.args.real header s (Some trials) more) (sym whole) (record {
         facts = facts;
-        sees = subst (λ judged. SeesWaiting c.args.core.now c.args.id judged facts) c.judged_pair-judged.ensures c.in-Some.ensures.some;
+        sees = subst (λ judged. SeesWaiting (at_moment 0 c.args.core.now) c.args.id judged facts) c.judged_pair-judged.ensures c.in-Some.ensures.some;
         tried = c.in_ok-trials-in-Whole.ensures;
         text_is = refl;
       }),

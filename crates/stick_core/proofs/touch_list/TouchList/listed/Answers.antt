@@ -1,13 +1,14 @@
 use Rattle.std.proofs.Common.{◌≡◌, Some, take, sym, ap, ◌∙◌, ◌++◌, ◌∷◌, [], arith}
 use Rattle.std.specs.Prelude.{slice_get}
-use Rattle.stick_core.specs.Places.{entry_at, ranked}
-use Rattle.stick_core.specs.PlainEntries.{plain, plain_entry}
+use Rattle.stick_core.specs.Entries.{living}
+use Rattle.stick_core.specs.Places.{ranked}
+use Rattle.stick_core.specs.PlainEntries.{plain}
 use Rattle.stick_core.proofs.PlaceLemmas.{has-at, step-below, step-list, step-missing, step-next}
 use Rattle.stick_core.proofs.touch_list.TouchList.listed.Goals as goal
-use Rattle.stick_core.proofs.touch_list.TouchList.listed.Goals.{in-Some+in_ok-push, in_default}
+use Rattle.stick_core.proofs.touch_list.TouchList.listed.Goals.{in-Some+in_ok-push_living, in_default}
 
-pub entry_at_place-requires : goal.entry_at_place-requires
-entry_at_place-requires c =
+pub entry_at_place-entry-requires : goal.entry_at_place-entry-requires
+entry_at_place-entry-requires c =
     step-below c.self.inside.index.entries c.self.inside.touched c.self.inside.free c.loop.counter c.in-Some.place c.self.invariant (sym c.loop.invariant.1 ∙ c.in-Some.is)
 
 pub next-next-requires : goal.next-next-requires
@@ -16,13 +17,14 @@ next-next-requires c = has-at c.self.inside.touched.order c.loop.counter c.in-So
 pub loop-preserved : goal.loop-preserved
 loop-preserved c =
     elim c.match-next.branch [
-      | in-Some+in_ok-push w ↦
+      | in-Some+in_ok-push_living w ↦
           let entries = c.self.inside.index.entries in
           let touched = c.self.inside.touched in
-          let at : slice_get touched.order c.loop.counter ≡ Some w.in-Some.place = sym c.loop.invariant.1 ∙ w.in-Some.is in
-          let entry : w.plain.result ≡ plain_entry (entry_at entries w.in-Some.place) = w.plain.ensures ∙ ap plain_entry w.entry_at_place.ensures in (
-            ap (λ l. l.items) w.list-is ∙ w.in_ok-push.ensures.items ∙ ap (λ l. l ++ w.plain.result ∷ []) c.loop.invariant.0
-                ∙ ap (λ e. plain (ranked entries (take c.loop.counter touched.order)) ++ e ∷ []) entry ∙ step-list entries touched c.loop.counter w.in-Some.place at,
+          let at : slice_get touched.order c.loop.counter ≡ Some w.in-Some.place = sym c.loop.invariant.1 ∙ w.in-Some.is in (
+            ap (λ l. l.items) w.list-is ∙ w.in_ok-push_living.ensures
+                ∙ ap (λ l. l ++ plain (living c.args.expire c.args.moment (w.entry_at_place-entry.result ∷ []))) c.loop.invariant.0
+                ∙ ap (λ e. plain (living c.args.expire c.args.moment (ranked entries (take c.loop.counter touched.order))) ++ plain (living c.args.expire c.args.moment (e ∷ []))) w.entry_at_place-entry.ensures
+                ∙ step-list c.args.expire c.args.moment entries touched c.loop.counter w.in-Some.place at,
             w.next-is ∙ w.next-next.ensures ∙ step-next entries touched c.self.inside.free c.loop.counter w.in-Some.place c.self.invariant at,
           )
       | in_default w ↦

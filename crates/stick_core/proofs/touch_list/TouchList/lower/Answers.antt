@@ -24,18 +24,18 @@ lowered-requires c =
     omega (arith, cur, c.requires)
 
 -- what the index and both orders are then
-all : (c : goal.After-put_last) → IsChanged once_less c.self.inside.index.entries c.put_last.new.index.entries c.self.inside.touched c.put_last.new.touched c.put_last.new.free c.args.key.now
+all : (c : goal.After-put_last) → IsChanged (once_less c.args.moment) c.self.inside.index.entries c.put_last.new.index.entries c.self.inside.touched c.put_last.new.touched c.put_last.new.free c.args.key.now
 all c =
-    change-put once_less (λ e. refl) c.self.inside.index.entries c.put_last.new.index.entries c.self.inside.touched c.put_last.new.touched c.self.inside.free c.put_last.new.free
+    change-put (once_less c.args.moment) (λ e. refl) c.self.inside.index.entries c.put_last.new.index.entries c.self.inside.touched c.put_last.new.touched c.self.inside.free c.put_last.new.free
     c.args.key.now c.lowered.result c.in-Some.place c.self.invariant c.in-Some.ensures.unique (sym c.in-Some.ensures.index)
-    (c.lowered.ensures ∙ ap once_less c.entry_at_place-entry.ensures)
+    (c.lowered.ensures ∙ ap (once_less c.args.moment) c.entry_at_place-entry.ensures)
     (ap (λ m. m.entries) c.put_last.ensures.index) c.put_last.ensures.touched c.put_last.ensures.free
 
 pub invariant_of-self : goal.invariant_of-self
 invariant_of-self c = (all c).kept
 
 pub returns-clause-entries : goal.returns-clause-entries
-returns-clause-entries c = (all c).entries ∙ ap (λ t. released c.args.key.now t.entries) c.self.view_is
+returns-clause-entries c = (all c).entries ∙ ap (λ t. released c.args.moment c.args.key.now t.entries) c.self.view_is
 
 pub returns-clause-len : goal.returns-clause-len
 returns-clause-len c = (all c).len ∙ ap (λ t. length t.entries) c.self.view_is

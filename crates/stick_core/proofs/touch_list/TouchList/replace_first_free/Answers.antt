@@ -2,8 +2,8 @@ use Rattle.std.proofs.Common.{◌≡◌, ◌<◌, ◌++◌, ◌∷◌, [], None,
 use Rattle.std.specs.Prelude.{slice_get}
 use Rattle.std.specs.List.{list_any}
 use Rattle.std.specs.Option.{is_some}
-use Rattle.stick_core.specs.declared.touch_list.Counts.{Counts}
-use Rattle.stick_core.specs.Entries.{is_of, is_free, added, without_first_free}
+use Rattle.stick_core.specs.Entries.{is_of, is_free, added, first_entry, without_first_free}
+use Rattle.stick_core.specs.Places.{first_counts}
 use Rattle.stick_core.proofs.PlaceLemmas.{IsReplaced, any-free, free-below, free-first, inserted, replace, taken-over}
 use Rattle.stick_core.proofs.touch_list.TouchList.replace_first_free.Goals as goal
 
@@ -25,21 +25,19 @@ move_last-requires-clause-has c =
     c.self.invariant.each c.in-Some.place
     (free-below c.self.inside.index.entries c.self.inside.touched c.self.inside.free c.in-Some.place c.self.invariant (sym c.in-Some.ensures))
 
-abbrev first : Counts
-first = record { cur = 1; cnt = 1 }
-
 -- what the index and both orders are then
-all : (c : goal.After-move_last) → IsReplaced c.self.inside.index.entries c.swap_remove_index.new.self.entries c.self.inside.touched c.move_last.new.order c.remove.new.self (record { key = c.args.key; cur = 1; cnt = 1 })
+all : (c : goal.After-move_last) → IsReplaced c.self.inside.index.entries c.swap_remove_index.new.self.entries c.self.inside.touched c.move_last.new.order c.remove.new.self (first_entry c.args.moment c.args.key)
 all c =
     let entries = c.self.inside.index.entries in
     let at : slice_get c.self.inside.free.order 0 ≡ Some c.in-Some.place = sym c.in-Some.ensures in
     let less : c.in-Some.place < length entries = free-below entries c.self.inside.touched c.self.inside.free c.in-Some.place c.self.invariant at in
-    let pushed : c.insert.new.self.entries ≡ entries ++ (c.args.key, first) ∷ [] =
+    let pushed : c.insert.new.self.entries ≡ entries ++ (c.args.key, first_counts c.args.moment) ∷ [] =
     c.in_ok-insert.ensures.entries
-    ∙ inserted entries c.self.inside.touched c.self.inside.free c.args.key first c.self.invariant (ap (λ t. find (is_of c.args.key) t.entries) c.self.view_is ∙ c.requires) in
-    replace entries c.swap_remove_index.new.self.entries c.self.inside.touched c.move_last.new.order c.self.inside.free c.remove.new.self (c.args.key, first) c.in-Some.place
+    ∙ inserted entries c.self.inside.touched c.self.inside.free c.args.key c.first_counts.result c.self.invariant (ap (λ t. find (is_of c.args.key) t.entries) c.self.view_is ∙ c.requires)
+    ∙ ap (λ x. entries ++ (c.args.key, x) ∷ []) c.first_counts.ensures in
+    replace entries c.swap_remove_index.new.self.entries c.self.inside.touched c.move_last.new.order c.self.inside.free c.remove.new.self (c.args.key, first_counts c.args.moment) c.in-Some.place
     c.self.invariant refl at
-    (taken-over entries c.insert.new.self.entries c.swap_remove_index.new.self.entries (c.args.key, first) c.in-Some.place c.swap_remove_index.result less pushed
+    (taken-over entries c.insert.new.self.entries c.swap_remove_index.new.self.entries (c.args.key, first_counts c.args.moment) c.in-Some.place c.swap_remove_index.result less pushed
     c.swap_remove_index.ensures.entry c.swap_remove_index.ensures.entries)
     c.move_last.ensures c.remove.ensures
 
@@ -52,4 +50,4 @@ returns-clause-answer c =
     ∙ any-free c.self.inside.index.entries c.self.inside.touched.order ∙ ap (λ t. list_any is_free t.entries) c.self.view_is
 
 pub returns-clause-entries : goal.returns-clause-entries
-returns-clause-entries c = λ _. (all c).entries ∙ ap (λ t. added c.args.key (without_first_free t.entries)) c.self.view_is
+returns-clause-entries c = λ _. (all c).entries ∙ ap (λ t. added c.args.moment c.args.key (without_first_free t.entries)) c.self.view_is

@@ -1,0 +1,10 @@
+use Rattle.std.proofs.Common.{map}
+use Rattle.conn_model.specs.Tables.{open_tracks}
+use Rattle.conn_rows.specs.Stored.{plain_frontend}
+use Rattle.conn_rows.proofs.Counted.{are_counted}
+use Rattle.conn_rows.proofs.rows.Rows.clock.Goals as goal
+
+pub returns-clause-alive : goal.returns-clause-alive
+returns-clause-alive c =
+    rw (← c.self.view_is)
+    (c.clock.ensures.alive (open_tracks (map (plain_frontend c.self.inside.kept.versions) c.self.inside.frontends.items)) (are_counted c.self.inside.kept.versions c.self.inside.frontends.items c.self.inside.tables.tables c.self.invariant.rows))
