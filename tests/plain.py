@@ -40,7 +40,7 @@ class Frontend:
 class Config:
     def __init__(self):
         self.frontends, self.backends = [], []
-        self.tables = []  # the kind and the name of the section, the type, the size and what is stored
+        self.tables = []  # the kind and the name of the section, the type, the size, what is stored and when entries expire
 
     def frontend(self, name):
         return next(frontend for frontend in self.frontends if frontend.name == name)
@@ -186,17 +186,19 @@ def read_table(kind, name, words):
     found, stores = {}, set()
     need(len(words) % 2 == 0)
     for option, value in zip(words[::2], words[1::2]):
-        need(option in ('type', 'size', 'store') and option not in found)
+        need(option in ('type', 'size', 'store', 'expire') and option not in found)
         if option == 'store':
             need(all(count in ('conn_cur', 'conn_cnt') for count in value.split(',')))
             stores.update(count[5:] for count in value.split(','))
         else:
             found[option] = value
+    expire = time_of(found.pop('expire')) if 'expire' in found else None
+    need(expire != 0)
     need(set(found) == {'type', 'size'} and found['type'] in ('ip', 'ipv6'))
     scale = found['size'][-1] if found['size'][-1] in 'km' else ''
     size = number(found['size'].removesuffix(scale), 1) * SCALES[scale]
     need(size <= LIMIT)
-    return kind, name, found['type'], size, frozenset(stores)
+    return kind, name, found['type'], size, frozenset(stores), expire or 0
 
 
 def read_server(name, to, *options):
@@ -428,9 +430,9 @@ class Balancer:
     def add(self, number_of_version, config, before):
         """Brings a configuration into force, where the tables before have those incarnations."""
         ids = [before.get(table, (number_of_version, place)) for place, table in enumerate(config.tables)]
-        for id_of_table, (_, _, kind, size, stores) in zip(ids, config.tables):
+        for id_of_table, (_, _, kind, size, stores, expire) in zip(ids, config.tables):
             if id_of_table not in before.values():
-                self.tables[id_of_table] = tables.Table(kind, size, stores)
+                self.tables[id_of_table] = tables.Table(kind, size, stores, expire)
         self.versions.append(Version(number_of_version, config, ids))
 
     def reload(self, text):
@@ -478,7 +480,7 @@ class Balancer:
         if name == 'be_conn':
             return self.of_backend(argument)
         if name.startswith('src_'):
-            return self.tables[self.table(one.version, own, argument)].count(source, name[9:])
+            return self.tables[self.table(one.version, own, argument)].count(source, name[9:], self.clock)
         if int(name[2]) not in one.tracks:
             return None
         id_of_table, key = one.tracks[int(name[2])]
@@ -528,7 +530,7 @@ class Balancer:
             counter, name = action
             id_of_table = self.table(one.version, own, name)
             key = self.tables[id_of_table].key(source)
-            if counter not in one.tracks and key and self.tables[id_of_table].track(key):
+            if counter not in one.tracks and key and self.tables[id_of_table].track(key, self.clock):
                 one.tracks[counter] = made[counter] = id_of_table, key
         return applies
 
@@ -579,7 +581,7 @@ class Balancer:
     def finish(self, one, end):
         del self.open[one.name]
         for _, (id_of_table, key) in sorted(one.tracks.items()):
-            self.tables[id_of_table].end(key)
+            self.tables[id_of_table].end(key, self.clock)
         self.ended.append(f'conn {one.name} real {one.pair[0]} {end}')
 
     def refuse(self, one, used, cause, made):
@@ -633,7 +635,7 @@ class Balancer:
             if place >= len(version.ids):
                 return 'count none'
             table = self.tables[version.ids[place]]
-            return f'count {table.count(canonical(more), "cur")} {table.count(canonical(more), "cnt")}'
+            return f'count {table.count(canonical(more), "cur", self.clock)} {table.count(canonical(more), "cnt", self.clock)}'
         if place >= len(version.config.backends):
             return 'count none'
         backend = version.config.backends[place]

@@ -1,20 +1,26 @@
 #!/usr/bin/env python3
-"""A long script with tables, and its answers by a plain model of them: two frontends, three small tables in common.
+"""Long scripts with tables, and their answers by a plain model of them: two frontends, three small tables in common.
 
 Sources of both families come, wait for headers, are refused and end, drawn by a fixed seed. The tables are so small that
-they are full of tracked entries at times, and of free ones at others."""
+they are full of tracked entries at times, and of free ones at others. In one script of 100,000 events their entries expire,
+and moments stay, jump and go back."""
 import pathlib
 import random
 import sys
 
 STEPS = 3000
+EXPIRY_STEPS = 100_000
 MOST_OPEN = 12
+JUMPS = [0, 0, 1, 1, 1, 2, 3, 9, 30, -4]  # ms from one event to the next
 FOURS = [f'192.0.2.{last}' for last in range(1, 8)]
 SIXES = ['2001:db8::1', '2001:db8::2', '::ffff:c000:201']
 PEERS = ['10.0.0.1', '10.0.0.2']
 
 # The tables in the order in which they are written: type, size and what is stored.
 TABLES = {'f': ('ip', 4, ('cur', 'cnt')), 'g': ('ipv6', 3, ('cnt',)), 'all': ('ipv6', 6, ('cur', 'cnt'))}
+
+# When their entries expire, in ms.
+EXPIRES = {'f': 20, 'g': 1, 'all': 55}
 
 # The rules of the frontends: the list, the action and the alternatives of the condition, each a criterion, an operator and
 # a number. What is tracked is a counter and a table; a criterion is a counter or a table, and a count.
@@ -55,32 +61,38 @@ def endpoint(source, port):
 
 
 class Table:
-    def __init__(self, kind, size, stores):
-        self.kind, self.size, self.stores = kind, size, stores
+    def __init__(self, kind, size, stores, expire=0):
+        self.kind, self.size, self.stores, self.expire = kind, size, stores, expire
         self.counts = {}  # of each key, the one that was touched longest ago first
+
+    def alive(self, moment):
+        """The entries that are not gone by then."""
+        return {key: counts for key, counts in self.counts.items()
+                if counts['cur'] or not self.expire or counts['touch'] + self.expire > moment}
 
     def key(self, source):
         if self.kind == 'ip':
             return None if ':' in source else source
         return source if ':' in source else mapped(source)
 
-    def count(self, source, kind):
-        return self.counts.get(self.key(source), {'cur': 0, 'cnt': 0})[kind]
+    def count(self, source, kind, moment):
+        return self.alive(moment).get(self.key(source), {'cur': 0, 'cnt': 0})[kind]
 
-    def track(self, key):
+    def track(self, key, moment):
         """Whether the key is tracked once more."""
+        self.counts = self.alive(moment)
         if key not in self.counts and len(self.counts) == self.size:
             free = [other for other, counts in self.counts.items() if counts['cur'] == 0]
             if not free:
                 return False
             del self.counts[free[0]]
         counts = self.counts.pop(key, {'cur': 0, 'cnt': 0})
-        self.counts[key] = {'cur': counts['cur'] + 1, 'cnt': counts['cnt'] + 1}
+        self.counts[key] = {'cur': counts['cur'] + 1, 'cnt': counts['cnt'] + 1, 'touch': moment}
         return True
 
-    def end(self, key):
+    def end(self, key, moment):
         counts = self.counts.pop(key)
-        self.counts[key] = {**counts, 'cur': counts['cur'] - 1}
+        self.counts[key] = {**counts, 'cur': counts['cur'] - 1, 'touch': moment}
 
 
 class Connection:
@@ -90,8 +102,10 @@ class Connection:
 
 
 class Model:
-    def __init__(self):
-        self.tables = {name: Table(*words) for name, words in TABLES.items()}
+    def __init__(self, expires):
+        self.expires = expires
+        self.tables = {name: Table(*words, expires.get(name, 0)) for name, words in TABLES.items()}
+        self.clock = 0  # the greatest moment so far
         self.lines, self.config = {}, []
         self.serials = dict.fromkeys(RULES, 0)
         self.script, self.answers = [], []
@@ -109,7 +123,8 @@ class Model:
 
     def stick_table(self, name):
         kind, size, stores = TABLES[name]
-        return f'stick-table type {kind} size {size} store ' + ','.join(f'conn_{count}' for count in stores)
+        expire = f' expire {self.expires[name]}' if name in self.expires else ''
+        return f'stick-table type {kind} size {size}{expire} store ' + ','.join(f'conn_{count}' for count in stores)
 
     def rule(self, frontend, rules, action, tests):
         """The line of a rule."""
@@ -132,7 +147,7 @@ class Model:
     def value(self, criterion, connection, source):
         place, kind = criterion
         if isinstance(place, str):
-            return self.tables[place].count(source, kind)
+            return self.tables[place].count(source, kind, self.clock)
         if place not in connection.tracks:
             return None
         name, key = connection.tracks[place]
@@ -148,13 +163,13 @@ class Model:
                 return action, self.lines[connection.frontend, number], made
             counter, name = action
             key = self.tables[name].key(source)
-            if counter not in connection.tracks and key and self.tables[name].track(key):
+            if counter not in connection.tracks and key and self.tables[name].track(key, self.clock):
                 connection.tracks[counter] = made[counter] = name, key
         return None, 0, made
 
     def end(self, connection):
         for _, (name, key) in sorted(connection.tracks.items()):
-            self.tables[name].end(key)
+            self.tables[name].end(key, self.clock)
 
     def answer(self, line, said, made):
         self.script.append(line)
@@ -203,13 +218,14 @@ class Model:
 
     def ask(self, number, source):
         table = self.tables[list(TABLES)[number]]
-        self.answer(f'ask entry {number} {source}', f'count {table.count(source, "cur")} {table.count(source, "cnt")}', {})
+        self.answer(f'ask entry {number} {source}', f'count {table.count(source, "cur", self.clock)} {table.count(source, "cnt", self.clock)}', {})
 
 
-def run(model, draw):
+def run(model, draw, moments):
     """Draws the steps: what comes, waits and is open."""
     waiting, opened = [], []
-    for moment in range(STEPS):
+    for moment in moments:
+        model.clock = max(model.clock, moment)
         if len(waiting) + len(opened) >= draw.randrange(2, MOST_OPEN):
             among = draw.choice([some for some in (waiting, opened) if some])
             model.close(moment, among.pop(draw.randrange(len(among))))
@@ -225,12 +241,23 @@ def run(model, draw):
             model.ask(draw.randrange(3), draw.choice(FOURS + SIXES + PEERS))
 
 
+def jumping(draw):
+    """The moments of the script in which entries expire."""
+    moment = 0
+    for _ in range(EXPIRY_STEPS):
+        moment = max(moment + draw.choice(JUMPS), 0)
+        yield moment
+
+
 def main():
-    file = pathlib.Path(sys.argv[1]) / 'tables-drawn'
-    model = Model()
-    run(model, random.Random(5))
-    for suffix, lines in ('.cfg', model.config), ('.script', model.script), ('.answers', model.answers):
-        file.with_suffix(suffix).write_text('\n'.join(lines) + '\n')
+    for name, seed, expires, moments in (
+        ('tables-drawn', 5, {}, range(STEPS)),
+        ('expiry-drawn', 6, EXPIRES, jumping(random.Random(7))),
+    ):
+        model = Model(expires)
+        run(model, random.Random(seed), moments)
+        for suffix, lines in ('.cfg', model.config), ('.script', model.script), ('.answers', model.answers):
+            (pathlib.Path(sys.argv[1]) / name).with_suffix(suffix).write_text('\n'.join(lines) + '\n')
 
 
 if __name__ == '__main__':
