@@ -6,7 +6,7 @@ ghost use Rattle.text_core.specs.Decimal.{decimal};
 ghost use Rattle.conn_model.specs.declared.event.TheConstants.{PIECE_LIMIT};
 ghost use Rattle.conn_model.specs.Answer.{answer_in, row_at};
 ghost use Rattle.conn_model.specs.Counts.{server_of, total, open_connections};
-ghost use Rattle.conn_rows.specs.Summaries.{names_in, names_of};
+ghost use Rattle.conn_core.specs.Summaries.{names_in, names_of};
 ghost use Rattle.conn_model.specs.HandedIn.{HasPieceInLimit};
 ghost use Rattle.conn_model.specs.History.{owned_event};
 ghost use Rattle.event_text.specs.Script.{event_read, head_read, with_text, words_of, HasLines};

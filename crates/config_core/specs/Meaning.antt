@@ -1,11 +1,8 @@
 -- What a configuration means: its plan, or its fault.
 use Rattle.std.specs.Prelude.{ℕ, List, Result, Ok, Err}
-use Rattle.conf_line.specs.declared.fault.ConfFault.{ConfFault}
-use Rattle.conf_tree.specs.declared.tree.ConfigLine.{ConfigLine}
-use Rattle.conf_tree.specs.Config.{items_of}
+use Rattle.plan_core.specs.Config.{items_of}
 use Rattle.plan_core.specs.declared.fault.PlanFault.{PlanFault}
-use Rattle.plan_types.specs.declared.plan.Plan.{Plan}
-use Rattle.plan_core.specs.Compiled.{plan_of}
+use Rattle.plan_core.specs.Compiled.{plan_of, ConfFault, ConfigLine, Plan}
 use Rattle.config_core.specs.declared.fault.OpenFault.{OpenFault}
 use Rattle.config_core.specs.declared.fault.OpenFault.TheVariants as opens
 

@@ -1,8 +1,7 @@
 -- How a fault of a configuration is printed.
 use Rattle.std.specs.Prelude.{ℕ, List, ◌++◌, codes}
 use Rattle.std.specs.Fmt.{decimal}
-use Rattle.conf_line.specs.Names.{conf_name}
-use Rattle.plan_core.specs.Names.{plan_name}
+use Rattle.plan_core.specs.Names.{conf_name, plan_name}
 use Rattle.config_core.specs.declared.fault.OpenFault.{OpenFault}
 use Rattle.config_core.specs.declared.fault.OpenFault.TheVariants.{Config, Plan, NoMemory}
 

@@ -1,6 +1,5 @@
 //! Why a text opens no balancer.
-use conf_tree::ConfFault;
-use plan_core::PlanFault;
+use plan_core::{ConfFault, PlanFault};
 use std::alloc::AllocError;
 use std::error::Error;
 use std::fmt;

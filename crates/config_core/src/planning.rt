@@ -1,12 +1,11 @@
 //! The plan of a text.
 ghost use Rattle.std.specs.Prelude.{◌≡◌, ◌⊎◌, IfOk, IfErr, Ok, Err};
 ghost use Rattle.plan_core.specs.Compiled.{plan_of};
-ghost use Rattle.plan_types.specs.Sound.{IsSoundPlan};
+ghost use Rattle.plan_core.specs.Sound.{IsSoundPlan};
 ghost use Rattle.config_core.specs.Meaning.{opened, meaning};
 
 use crate::fault::OpenFault;
-use conf_tree::{ConfKind, Tree, read_config};
-use plan_core::{Plan, PlanKind, compile};
+use plan_core::{ConfKind, Plan, PlanKind, Tree, compile, read_config};
 use std::alloc::Global;
 
 /// The plan of a configuration whose lines are right.

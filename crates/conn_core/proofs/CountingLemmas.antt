@@ -13,7 +13,7 @@ use Rattle.conn_model.specs.declared.plain.TableState.{TableState}
 use Rattle.conn_model.specs.Rules.{RuleView, current_of, key_in_table, key_of, total_of}
 use Rattle.plan_types.specs.declared.track.Track.{Track}
 use Rattle.conn_model.specs.Tables.{entry_counts, table_alive, table_at, tables_alive, trackers}
-use Rattle.conn_tables.specs.Tables.{key_at, table_key}
+use Rattle.conn_rows.specs.Tables.{key_at, table_key}
 use Rattle.conn_model.proofs.Trackers.{trackers-append}
 use Rattle.conn_core.specs.Judging.{counts_of}
 use Rattle.conn_model.proofs.Moments.{table_alive-entries}

@@ -26,7 +26,7 @@ use Rattle.conn_model.proofs.Lists.{all-at, all-both, all-filter, all-found, all
 use Rattle.conn_model.proofs.OneTable.{same_id-is}
 use Rattle.conn_model.proofs.TableSteps.{listed_in, newest-all}
 use Rattle.conn_model.proofs.Versions.{last_no_offer, version_at-filter, version_at-with, versions_kept}
-use Rattle.conn_tables.specs.Tables.{is_listed_in}
+use Rattle.conn_rows.specs.Tables.{is_listed_in}
 use Rattle.conn_model.specs.Changes.{without_conn}
 use Rattle.conn_rows.specs.Needed.{versions_needed, AreTracksHeld, AreVersionsKept, IsNextNumber}
 use Rattle.conn_core.specs.Changes.{spoken}

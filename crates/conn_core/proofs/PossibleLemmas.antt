@@ -15,7 +15,7 @@ use Rattle.conn_model.specs.declared.plain.TableState.{TableState}
 use Rattle.conn_model.specs.Tables.{same_id, table_at, table_with, trackers, with_track, with_tracks}
 use Rattle.conn_model.proofs.Entries.{in-tracked}
 use Rattle.conn_model.proofs.OneTable.{same_id-is, table_at-map, table_found, table_with-entries, tracked_is, trackers_besides}
-use Rattle.conn_tables.specs.Tables.{key_at, table_key}
+use Rattle.conn_rows.specs.Tables.{key_at, table_key}
 use Rattle.conn_model.proofs.Trackers.{trackers-append}
 
 -- Keys.

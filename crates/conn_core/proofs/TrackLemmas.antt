@@ -14,7 +14,7 @@ use Rattle.conn_model.specs.declared.plain.TableState.{TableState}
 use Rattle.conn_model.specs.Rules.{RuleView, key_in_table, numbered_table, own_track, scene_of}
 use Rattle.conn_model.specs.Tables.{open_tracks, table_at, trackers}
 use Rattle.conn_model.proofs.OneTable.{table_found}
-use Rattle.conn_tables.specs.Tables.{key_at}
+use Rattle.conn_rows.specs.Tables.{key_at}
 use Rattle.conn_core.specs.Judging.{facts_view, rows_at, AreAllowed}
 use Rattle.conn_core.specs.Tracking.{IsPossible}
 use Rattle.conn_core.specs.declared.facts.RuleFacts.{RuleFacts}

@@ -22,8 +22,8 @@ use Rattle.conn_model.specs.Tables.{by_counter, open_tracks, tracks_at, with_tra
 use Rattle.conn_model.specs.Words.{row_at}
 use Rattle.conn_model.proofs.Parts.{by_counter-append, by_counter-twice}
 use Rattle.conn_model.specs.Changes.{row_tracking, with_conn, with_row}
-use Rattle.conn_tables.specs.Tables.{key_at}
-use Rattle.conn_tables.specs.Tracks.{track_of}
+use Rattle.conn_rows.specs.Tables.{key_at}
+use Rattle.conn_rows.specs.Tracks.{track_of}
 use Rattle.conn_rows.specs.Value.{RowsValue}
 use Rattle.conn_model.proofs.Changes.{changed_twice, own_changed, row_changed}
 use Rattle.conn_core.specs.Counts.{IsSorted}

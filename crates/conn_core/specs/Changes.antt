@@ -19,7 +19,7 @@ use Rattle.conn_rows.specs.Changes.{row_offered}
 use Rattle.conn_rows.specs.Needed.{versions_needed}
 use Rattle.conn_rows.specs.Stored.{plan_at}
 use Rattle.conn_rows.specs.Value.{RowsValue}
-use Rattle.conn_versions.specs.Versions.{HasServer}
+use Rattle.conn_rows.specs.Versions.{HasServer}
 use Rattle.conn_core.specs.Tracking.{row_with}
 use Rattle.conn_core.specs.declared.entering.SessionStart.{SessionStart}
 use Rattle.conn_core.specs.declared.outcome.TrackedOutcome.{TrackedOutcome}

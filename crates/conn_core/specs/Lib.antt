@@ -6,3 +6,4 @@ pub mod Changes
 pub mod Counts
 pub mod Machine
 pub use Rattle.config_core.specs.Meaning
+pub use Rattle.conn_rows.specs.Summaries

@@ -6,7 +6,7 @@ use Rattle.conn_model.specs.declared.plain.Listener.{Listener}
 use Rattle.conn_model.specs.declared.plain.Plain.{Plain}
 use Rattle.conn_model.specs.History.{newest_number, opening, IsWell}
 use Rattle.conn_rows.specs.Value.{RowsValue}
-pub use Rattle.conn_versions.specs.Versions.{AreSound}
+pub use Rattle.conn_rows.specs.Versions.{AreSound}
 use Rattle.config_core.specs.Meaning.{meaning}
 use Rattle.conn_core.specs.declared.machine.Admission.{Admission}
 

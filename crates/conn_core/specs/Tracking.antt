@@ -11,7 +11,7 @@ use Rattle.conn_model.specs.declared.plain.Row.{Row}
 use Rattle.conn_model.specs.declared.plain.TableState.{TableState}
 use Rattle.conn_model.specs.Tables.{by_counter, open_tracks}
 use Rattle.conn_rows.specs.Value.{RowsValue}
-use Rattle.conn_tables.specs.Tables.{key_at}
+use Rattle.conn_rows.specs.Tables.{key_at}
 
 -- a counter may track that: it is one of three and tracks nothing, and the key of the source can be listed
 pub record IsPossible (tracks : List Track) (tables : List TableState) (own : List Track) (source : Addr) (counter : ℕ) (track : Track) : Type 0 where

@@ -15,7 +15,7 @@ use crate::outcome::{Outcome, TrackedOutcome, offer_of};
 use acl_core::When;
 use addr_core::Pair;
 use conn_model::reply::Cause;
-use conn_versions::item;
+use conn_rows::item;
 use plan_types::{Backend, Choice, Frontend, Server};
 use rule_engine::{Judged, NO_TRACKS, Tracks, TracksSoFar, judge, judge_after};
 

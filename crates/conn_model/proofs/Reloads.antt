@@ -5,8 +5,8 @@ use Rattle.std.specs.Option.{option_and_then}
 use Rattle.std.proofs.Common.{sym, ap, ◌∙◌, subst}
 use Rattle.std.proofs.lemmas.Bool.{eqb-true}
 use Rattle.plan_types.specs.declared.plan.Plan.{Plan}
-use Rattle.plan_core.specs.Binds.{same_binds, SameBinds}
-use Rattle.plan_core.proofs.BindLemmas.{both_ways}
+use Rattle.config_core.specs.Binds.{same_binds, SameBinds}
+use Rattle.config_core.proofs.BindLemmas.{both_ways}
 use Rattle.config_core.specs.Meaning.{meaning}
 use Rattle.conn_model.specs.declared.event.ConnId.{ConnId}
 use Rattle.conn_model.specs.declared.event.OwnedEvent.{OwnedEvent}

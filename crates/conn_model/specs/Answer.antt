@@ -20,7 +20,7 @@ use Rattle.plan_types.specs.declared.plan.Server.{Server}
 use Rattle.plan_types.specs.declared.plan.Backend.{Backend}
 use Rattle.plan_types.specs.declared.plan.Frontend.{Frontend}
 use Rattle.plan_types.specs.declared.plan.Plan.{Plan}
-use Rattle.plan_core.specs.Binds.{same_binds}
+use Rattle.config_core.specs.Binds.{same_binds}
 use Rattle.config_core.specs.Meaning.{meaning}
 use Rattle.config_core.specs.declared.fault.OpenFault.{OpenFault}
 use Rattle.conn_model.specs.declared.event.ConnId.{ConnId}

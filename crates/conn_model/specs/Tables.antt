@@ -12,7 +12,7 @@ use Rattle.stick_core.specs.PlainEntries.{alive, with_tracking, touched, count_a
 use Rattle.plan_types.specs.declared.plan.Section.{Section}
 use Rattle.plan_types.specs.declared.plan.Table.{Table}
 use Rattle.plan_types.specs.Tables.{is_frontend_section}
-use Rattle.plan_core.specs.Binds.{same_flag}
+use Rattle.config_core.specs.Binds.{same_flag}
 use Rattle.plan_types.specs.declared.track.TableId.{TableId}
 use Rattle.plan_types.specs.declared.track.Track.{Track}
 use Rattle.conn_model.specs.declared.ask.Counts.{Counts}

@@ -11,7 +11,7 @@ ghost use Rattle.addr_core.specs.declared.addr.Endpoint.{Endpoint};
 ghost use Rattle.addr_core.specs.PairValue.{PairValue};
 ghost use Rattle.arrayvec.specs.ArrayVec.{ArrayVec};
 ghost use Rattle.proxy_types.specs.declared.server.ServerIdentity.{ServerIdentity};
-ghost use Rattle.plan_core.specs.Binds.{same_binds, SameBinds};
+ghost use Rattle.config_core.specs.Binds.{same_binds, SameBinds};
 ghost use Rattle.config_core.specs.Meaning.{meaning};
 ghost use Rattle.plan_types.specs.Lines.{LinesDiffer};
 ghost use Rattle.plan_types.specs.Sound.{IsSoundPlan};

@@ -7,3 +7,6 @@ pub mod Packed
 pub mod Stored
 pub mod Summaries
 pub mod Value
+pub use Rattle.conn_tables.specs.Tables
+pub use Rattle.conn_tables.specs.Tracks
+pub use Rattle.conn_versions.specs.Versions

@@ -1,6 +1,7 @@
 //! The open connections of all frontends, with what they track, and the versions and tables that are kept.
 #![tactic(auto)]
 
+pub use conn_versions::item;
 pub use frontend::HeaderStatus;
 pub use row::{RowSummary, ServerChoice, ServerNames};
 pub use rows::{FrontendSummary, Rows, RowsState};

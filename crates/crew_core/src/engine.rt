@@ -2,7 +2,7 @@
 ghost use Rattle.std.specs.Prelude.{◌≡◌, ◌⊎◌, ◌≤◌, ◌-◌, ◌^◌, [], Err, IfOk, IfErr, OnErr, OnOk, Some, vec_capacity, vec_len};
 ghost use Rattle.rtrb.specs.Ring.{received, IsPair};
 ghost use Rattle.proxy_types.specs.declared.limits.TheConstants.{MOST_WORKERS};
-ghost use Rattle.config_core.specs.Meaning.{meaning};
+ghost use Rattle.conn_core.specs.Meaning.{meaning};
 ghost use Rattle.conn_core.specs.Machine.{IsOpened};
 ghost use Rattle.book_core.specs.Book.{new_book};
 ghost use Rattle.conn_model.specs.Counts.{open_connections};

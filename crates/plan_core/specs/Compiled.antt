@@ -1,13 +1,14 @@
 -- The plan of what the lines of a configuration say, or its fault.
 use Rattle.std.specs.Prelude.{ℕ, List, [], map, option_and_then, Option, Some, None, Result, Ok, Err}
-use Rattle.conf_tree.specs.declared.tree.ConfigLine.{ConfigLine}
+pub use Rattle.conf_line.specs.declared.fault.ConfFault.{ConfFault}
+pub use Rattle.conf_tree.specs.declared.tree.ConfigLine.{ConfigLine}
 use Rattle.conf_line.specs.declared.statement.Ruleset.TheVariants.{Connection, Session}
 use Rattle.conf_line.specs.declared.statement.TimeoutKind.TheVariants as timeouts
 use Rattle.plan_core.specs.declared.fault.PlanFault.{PlanFault}
 use Rattle.plan_core.specs.declared.fields.Named.{Named}
 use Rattle.plan_types.specs.declared.plan.Backend.{Backend}
 use Rattle.plan_types.specs.declared.plan.Frontend.{Frontend}
-use Rattle.plan_types.specs.declared.plan.Plan.{Plan}
+pub use Rattle.plan_types.specs.declared.plan.Plan.{Plan}
 use Rattle.plan_types.specs.declared.plan.Table.{Table}
 use Rattle.plan_core.specs.declared.proxies.Proxy.{Proxy}
 use Rattle.plan_core.specs.Proxies.{proxies, frontends, backends}

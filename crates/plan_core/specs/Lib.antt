@@ -1,7 +1,9 @@
 pub mod Binds
+pub use Rattle.conf_tree.specs.Config
 pub mod Compiled
 pub mod Faults
 pub mod Fields
 pub use Rattle.plan_types.specs.Lines
+pub use Rattle.plan_types.specs.Sound
 pub mod Names
 pub mod Proxies

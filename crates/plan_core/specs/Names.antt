@@ -1,5 +1,6 @@
 -- The names of the faults.
 use Rattle.std.specs.Prelude.{ℕ, List, codes}
+pub use Rattle.conf_line.specs.Names.{conf_name}
 use Rattle.plan_core.specs.declared.fault.PlanKind.{PlanKind}
 use Rattle.plan_core.specs.declared.fault.PlanKind.TheVariants as plans
 

@@ -2,6 +2,7 @@
 #![tactic(auto)]
 
 pub use binds::same_binds;
+pub use conf_tree::{ConfFault, ConfKind, Tree, read_config};
 pub use fault::{PlanFault, PlanKind};
 pub use plan_types::{
     Action, Backend, Bind, Choice, Frontend, KeyType, Method, Plan, Rule, Section, Server, Stores,

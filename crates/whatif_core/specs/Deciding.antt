@@ -16,7 +16,7 @@ use Rattle.conn_model.specs.declared.reply.StepFault.{StepFault}
 use Rattle.conn_model.specs.Answer.{answer_in, row_at}
 use Rattle.conn_model.specs.Counts.{server_of}
 use Rattle.conn_model.specs.History.{id_of, is_reload}
-use Rattle.conn_rows.specs.Summaries.{names_of}
+use Rattle.conn_core.specs.Summaries.{names_of}
 use Rattle.event_text.specs.Replies.{cause_text}
 use Rattle.replay_core.specs.Turns.{plain_after}
 use Rattle.whatif_core.specs.declared.decision.ComparedDecision.{ComparedDecision}

@@ -2,7 +2,7 @@
 ghost use Rattle.std.specs.Prelude.{◌≡◌, Some, IfOk, option_map};
 ghost use Rattle.whatif_core.specs.Deciding.{alike, decision_with, is_other_server, offer_of, same_kind};
 ghost use Rattle.conn_model.specs.History.{id_of};
-ghost use Rattle.conn_rows.specs.Summaries.{names_in};
+ghost use Rattle.conn_core.specs.Summaries.{names_in};
 
 use conn_core::ServerNames;
 use conn_model::event::ConnId;

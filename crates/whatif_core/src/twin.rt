@@ -4,7 +4,7 @@ ghost use Rattle.line_reader.specs.declared.lines.TheConstants.{MOST_LINE_BYTES}
 ghost use Rattle.conn_model.specs.declared.event.TheConstants.{PIECE_LIMIT};
 ghost use Rattle.conn_model.specs.HandedIn.{HasPieceInLimit};
 ghost use Rattle.conn_model.specs.History.{id_of, owned_event};
-ghost use Rattle.conn_rows.specs.Summaries.{names_in};
+ghost use Rattle.conn_core.specs.Summaries.{names_in};
 ghost use Rattle.event_text.specs.Script.{head_read, words_of};
 ghost use Rattle.audit_core.specs.Printing.{due_reply};
 ghost use Rattle.audit_core.specs.Record.{numbered_head};

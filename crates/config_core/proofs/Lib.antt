@@ -1,0 +1,1 @@
+pub use Rattle.plan_core.proofs.BindLemmas
