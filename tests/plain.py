@@ -19,8 +19,6 @@ DEFAULT_LIMIT = 2000
 HEADER_WAIT = 3000
 GREATEST = (1 << 64) - 1
 MOST_RETRIES = 100
-MOST_INTERVAL = 86400000
-MOST_CHECKS = 255
 KEYWORDS = {'frontend': ('bind', 'maxconn', 'acl', 'tcp-request', 'use_backend', 'default_backend', 'stick-table'),
             'backend': ('balance', 'server', 'stick-table')}
 SCALES = {'': 1, 'k': 1 << 10, 'm': 1 << 20}
@@ -204,21 +202,14 @@ def read_table(kind, name, words):
 
 
 def read_server(name, to, *options):
-    found, flags, rest = {'weight': 1, 'maxconn': 0, 'inter': 2000, 'fall': 3, 'rise': 2}, set(), list(options)
+    found, flags, rest = {'weight': 1, 'maxconn': 0}, set(), list(options)
     while rest:
         option = rest.pop(0)
         if option in found:
             need(rest)
-            word = rest.pop(0)
-            if option == 'inter':
-                found[option] = time_of(word)
-                need(1 <= found[option] <= MOST_INTERVAL)
-            elif option in ('fall', 'rise'):
-                found[option] = number(word, 1, MOST_CHECKS)
-            else:
-                found[option] = number(word, 0, 256 if option == 'weight' else LIMIT)
+            found[option] = number(rest.pop(0), 0, 256 if option == 'weight' else LIMIT)
         else:
-            need(option in ('disabled', 'send-proxy', 'send-proxy-v2', 'check'))
+            need(option in ('disabled', 'send-proxy', 'send-proxy-v2'))
             flags.add(option)
     need(NAME.fullmatch(name))
     server = servers.Server(name, bound(to), found['weight'], found['maxconn'], 'disabled' in flags)
@@ -250,7 +241,7 @@ class Reader:
             self.section = keyword, (Frontend if keyword == 'frontend' else Backend)(rest[0], at)
             own.append(self.section[1])
             return
-        need(keyword in ('timeout', 'retries', 'option') or any(keyword in words for words in KEYWORDS.values()), f'line {at}: UnknownKeyword')
+        need(keyword in ('timeout', 'retries') or any(keyword in words for words in KEYWORDS.values()), f'line {at}: UnknownKeyword')
         need(self.section, f'line {at}: NoSection')
         if keyword == 'timeout':
             need(rest and rest[0] in ('connect', 'client', 'server') and len(rest) == 2)
@@ -259,11 +250,6 @@ class Reader:
         if keyword == 'retries':
             need(len(rest) == 1)
             number(rest[0], 0, MOST_RETRIES)
-            return
-        if keyword == 'option':
-            need(rest and rest[0] == 'redispatch' and len(rest) <= 2)
-            for word in rest[1:]:
-                number(word, 0, MOST_RETRIES)
             return
         need(keyword in KEYWORDS[self.section[0]], f'line {at}: Unsupported')
         getattr(self, keyword.replace('-', '_'))(at, self.section[1], *rest)

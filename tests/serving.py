@@ -279,11 +279,6 @@ class Conn:
         return next((found.groups() for reply in self.replies if (found := OFFER.fullmatch(reply))), None)
 
     @property
-    def offers(self):
-        """The parts of each of its offers."""
-        return [found.groups() for reply in self.replies if (found := OFFER.fullmatch(reply))]
-
-    @property
     def line(self):
         """The line of the server that it was offered, or None."""
         return int(self.offer[1]) if self.offer else None
@@ -303,7 +298,7 @@ class Record:
     """The entries of a record."""
 
     def __init__(self, text):
-        self.text, self.entries, self.conns, self.reloads, self.marks = text, [], {}, [], []
+        self.text, self.entries, self.conns, self.reloads = text, [], {}, []
         event, body = None, []
         for line in text.split('\n')[:-1]:
             if line.startswith('|'):
@@ -321,9 +316,6 @@ class Record:
         self.entries.append((what, reply))
         if what.startswith('reload '):
             self.reloads.append((len(self.entries), '\n'.join(body), reply))
-            return
-        if what.startswith('server '):
-            self.marks.append((int(moment), what, reply))
             return
         name = reply.split()[1]
         accepted = ACCEPT.fullmatch(what)

@@ -83,7 +83,6 @@ fn place_of<'a>(
         | Statement::MaxConn(_)
         | Statement::Timeout(..)
         | Statement::Retries(_)
-        | Statement::Redispatch(_)
         | Statement::DefaultBackend(_)
         | Statement::Balance(_)
         | Statement::Bind(_, _)
@@ -243,7 +242,6 @@ fn is_full(kept: &Kept, place: &SectionPlace, statement: &Statement) -> bool
         | Statement::MaxConn(_)
         | Statement::Timeout(..)
         | Statement::Retries(_)
-        | Statement::Redispatch(_)
         | Statement::DefaultBackend(_)
         | Statement::Balance(_)
         | Statement::StickTable(_) => false,

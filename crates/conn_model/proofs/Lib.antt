@@ -25,4 +25,3 @@ pub mod Joined
 pub mod Cursors
 pub mod Offers
 pub mod Counted
-pub mod Marks

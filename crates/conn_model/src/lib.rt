@@ -4,8 +4,6 @@
 //! what a list of answered events leaves of one.
 #![tactic(auto)]
 
-pub use copies::copy_of_lines;
-
 pub mod ask;
 mod copies;
 pub mod event;

@@ -2,12 +2,10 @@
 //! server.
 #![tactic(auto)]
 
-pub use barred::Barred;
 pub use loads::item;
 pub use slot_core::Slot;
-pub use versions::{Versions, has_line, line_place};
+pub use versions::{Versions, has_line};
 
-mod barred;
 mod loads;
 mod opening;
 mod picks;

@@ -178,8 +178,7 @@ fn waiting_in(reply: &Reply) -> Option<ConnId>
         | Said::Refuse { .. }
         | Said::Up { .. }
         | Said::Closed { .. }
-        | Said::Reloaded { .. }
-        | Said::Marked { .. } => None,
+        | Said::Reloaded { .. } => None,
     }
 }
 

@@ -64,11 +64,9 @@ fn status_of(reply: &Reply) -> u8 {
     match &reply.said {
         Said::Offer { .. } => DONE,
         Said::Wait { .. } => WAITS,
-        Said::Refuse { .. }
-        | Said::Up { .. }
-        | Said::Closed { .. }
-        | Said::Reloaded { .. }
-        | Said::Marked { .. } => REFUSED,
+        Said::Refuse { .. } | Said::Up { .. } | Said::Closed { .. } | Said::Reloaded { .. } => {
+            REFUSED
+        }
     }
 }
 

@@ -91,9 +91,7 @@ fn judge_piece(core: &mut Core, id: ConnId, piece: &[u8]) -> Result<Judgement, P
             used: used as usize,
         }),
         Said::Refuse { cause, .. } => Ok(Judgement::Refused(cause)),
-        Said::Up { .. } | Said::Closed { .. } | Said::Reloaded { .. } | Said::Marked { .. } => {
-            unreachable!()
-        }
+        Said::Up { .. } | Said::Closed { .. } | Said::Reloaded { .. } => unreachable!(),
     }
 }
 
@@ -195,8 +193,6 @@ pub fn judge<I: Input>(
             to: 0,
         })),
         Said::Refuse { cause, .. } => Ok(HeaderVerdict::Refused(cause)),
-        Said::Up { .. } | Said::Closed { .. } | Said::Reloaded { .. } | Said::Marked { .. } => {
-            unreachable!()
-        }
+        Said::Up { .. } | Said::Closed { .. } | Said::Reloaded { .. } => unreachable!(),
     }
 }

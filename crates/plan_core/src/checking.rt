@@ -160,7 +160,6 @@ fn line_fault(
         | Statement::MaxConn(_)
         | Statement::Timeout(..)
         | Statement::Retries(_)
-        | Statement::Redispatch(_)
         | Statement::DefaultBackend(_)
         | Statement::Balance(_)
         | Statement::Bind(_, _)

@@ -1,4 +1,3 @@
 pub mod Lines
 pub mod Tables
 pub mod Sound
-pub mod Moves

@@ -4,7 +4,6 @@
 #![tactic(auto)]
 
 pub use alarm::Alarm;
-pub use check_plan::CheckPlan;
 pub use clock::SystemClock;
 pub use commands::{Command, CommandSender};
 pub use dial::SocketDial;
@@ -16,8 +15,6 @@ pub use pace::Pace;
 
 mod addresses;
 mod alarm;
-mod check_plan;
-mod checks;
 mod clock;
 mod commands;
 mod dial;
@@ -28,7 +25,6 @@ mod link;
 mod listeners;
 mod pace;
 mod ports;
-mod trend;
 
 use mio::Token;
 

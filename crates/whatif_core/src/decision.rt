@@ -38,7 +38,7 @@ pub fn named(said: &Said) -> Option<ConnId>
         | Said::Refuse { id, .. }
         | Said::Up { id }
         | Said::Closed { id, .. } => Some(*id),
-        Said::Reloaded { .. } | Said::Marked { .. } => None,
+        Said::Reloaded { .. } => None,
     }
 }
 
@@ -79,9 +79,7 @@ pub fn decision_in(
             Ok(Some(offered))
         }
         Said::Refuse { cause, .. } => Ok(Some(ComparedDecision::Refuse(*cause))),
-        Said::Up { .. } | Said::Closed { .. } | Said::Reloaded { .. } | Said::Marked { .. } => Ok(
-            None,
-        ),
+        Said::Up { .. } | Said::Closed { .. } | Said::Reloaded { .. } => Ok(None),
     }
 }
 
