@@ -13,7 +13,7 @@ import time
 ROOT = pathlib.Path(__file__).resolve().parent.parent
 COSTS = ROOT / 'out' / 'costs.txt'
 PARTS = ('rt ci', 'tests/texts', 'tests/names', 'must-not-compile/run', 'tests/run', 'tests/pipe/run', 'tests/serve',
-         'tests/memory', 'tests/terminal', 'tests/hostile --random 1000')
+         'tests/health', 'tests/memory', 'tests/terminal', 'tests/hostile --random 1000')
 
 
 def processor_seconds():

@@ -19,6 +19,9 @@ DEFAULT_LIMIT = 2000
 HEADER_WAIT = 3000
 GREATEST = (1 << 64) - 1
 MOST_RETRIES = 100
+MOST_INTERVAL = 86400000
+MOST_CHECKS = 255
+MOST_MOVES = 8
 KEYWORDS = {'frontend': ('bind', 'maxconn', 'acl', 'tcp-request', 'use_backend', 'default_backend', 'stick-table'),
             'backend': ('balance', 'server', 'stick-table')}
 SCALES = {'': 1, 'k': 1 << 10, 'm': 1 << 20}
@@ -44,6 +47,9 @@ class Config:
 
     def frontend(self, name):
         return next(frontend for frontend in self.frontends if frontend.name == name)
+
+    def backend(self, name):
+        return next(backend for backend in self.backends if backend.name == name)
 
     def table(self, name, kinds=('frontend', 'backend')):
         """The number of the table of that name, or None."""
@@ -202,25 +208,44 @@ def read_table(kind, name, words):
 
 
 def read_server(name, to, *options):
-    found, flags, rest = {'weight': 1, 'maxconn': 0}, set(), list(options)
+    found, flags, rest = {'weight': 1, 'maxconn': 0, 'inter': 2000, 'fall': 3, 'rise': 2}, set(), list(options)
     while rest:
         option = rest.pop(0)
         if option in found:
             need(rest)
-            found[option] = number(rest.pop(0), 0, 256 if option == 'weight' else LIMIT)
+            word = rest.pop(0)
+            if option == 'inter':
+                found[option] = time_of(word)
+                need(1 <= found[option] <= MOST_INTERVAL)
+            elif option in ('fall', 'rise'):
+                found[option] = number(word, 1, MOST_CHECKS)
+            else:
+                found[option] = number(word, 0, 256 if option == 'weight' else LIMIT)
         else:
-            need(option in ('disabled', 'send-proxy', 'send-proxy-v2'))
+            need(option in ('disabled', 'send-proxy', 'send-proxy-v2', 'check'))
             flags.add(option)
     need(NAME.fullmatch(name))
     server = servers.Server(name, bound(to), found['weight'], found['maxconn'], 'disabled' in flags)
-    return server, 2 if 'send-proxy-v2' in flags else 1 if 'send-proxy' in flags else 0
+    return server, 2 if 'send-proxy-v2' in flags else 1 if 'send-proxy' in flags else 0, 'check' in flags
 
 
 class Backend:
-    """A backend with its servers, each with its line and the version of the header that it is sent."""
+    """A backend with its servers, each with its line, the version of the header that it is sent and whether it is checked."""
 
     def __init__(self, name, line):
         self.name, self.line, self.method, self.servers, self.lines, self.headers = name, line, 'roundrobin', [], [], []
+        self.checked, self.retries, self.redispatch = [], None, 0
+
+    def moves(self):
+        """How often a connection may be moved to another server."""
+        retries = 3 if self.retries is None else self.retries
+        if self.redispatch == 'last':
+            return min(retries, 1)
+        return min(retries // self.redispatch, MOST_MOVES) if self.redispatch else 0
+
+    def identity(self, place):
+        """What a server is known by through all versions."""
+        return self.name, self.servers[place].name, self.servers[place].to
 
     def picks(self):
         """The choice among its servers, where nothing was used yet."""
@@ -241,7 +266,7 @@ class Reader:
             self.section = keyword, (Frontend if keyword == 'frontend' else Backend)(rest[0], at)
             own.append(self.section[1])
             return
-        need(keyword in ('timeout', 'retries') or any(keyword in words for words in KEYWORDS.values()), f'line {at}: UnknownKeyword')
+        need(keyword in ('timeout', 'retries', 'option') or any(keyword in words for words in KEYWORDS.values()), f'line {at}: UnknownKeyword')
         need(self.section, f'line {at}: NoSection')
         if keyword == 'timeout':
             need(rest and rest[0] in ('connect', 'client', 'server') and len(rest) == 2)
@@ -249,7 +274,11 @@ class Reader:
             return
         if keyword == 'retries':
             need(len(rest) == 1)
-            number(rest[0], 0, MOST_RETRIES)
+            self.section[1].retries = number(rest[0], 0, MOST_RETRIES)
+            return
+        if keyword == 'option':
+            need(rest and rest[0] == 'redispatch' and len(rest) <= 2)
+            self.section[1].redispatch = number(rest[1], 0, MOST_RETRIES) if rest[1:] else 'last'
             return
         need(keyword in KEYWORDS[self.section[0]], f'line {at}: Unsupported')
         getattr(self, keyword.replace('-', '_'))(at, self.section[1], *rest)
@@ -301,10 +330,10 @@ class Reader:
 
     def server(self, at, own, *words):
         need(len(words) > 1)
-        server, header = read_server(*words)
+        server, header, is_checked = read_server(*words)
         need(all(other.name != server.name for other in own.servers), f'line {at}: Duplicate')
         need(len(own.servers) < 64)
-        for part, value in (own.servers, server), (own.lines, at), (own.headers, header):
+        for part, value in (own.servers, server), (own.lines, at), (own.headers, header), (own.checked, is_checked):
             part.append(value)
 
     def condition(self, at, own, words):
@@ -371,6 +400,7 @@ class Connection:
         self.frontend, self.name, self.version, self.pair, self.accepted = frontend, f'{frontend}.{serial}', version, pair, accepted
         self.bytes, self.tracks, self.server, self.is_up, self.end = b'', {}, None, False, ''
         self.is_expected = False  # whether a rule that was tried expects its header
+        self.judged, self.lines = None, []  # the pair that was judged, and the line of each server that it was offered
 
 
 def status(text):
@@ -425,6 +455,7 @@ class Balancer:
         self.listeners = [(place, proxied) for place, frontend in enumerate(config.frontends) for _, proxied in frontend.binds]
         self.serials, self.open, self.tables, self.versions = [0] * len(self.names), {}, {}, []
         self.ended = []  # the lines of `audit`
+        self.down = set()  # what the servers that are down are known by
         self.add(1, config, {})
 
     def add(self, number_of_version, config, before):
@@ -564,16 +595,24 @@ class Balancer:
         chosen = self.decides('use', one, source, made) or own.default
         if chosen is None:
             return self.refuse(one, used, f'nobackend line {own.line}', made)
-        backend = next(backend for backend in one.version.config.backends if backend.name == chosen[1])
+        backend = one.version.config.backend(chosen[1])
+        one.judged = pair
+        return self.offer(one, backend, used, made) or self.refuse(one, used, f'noserver line {backend.line}', made)
+
+    def offer(self, one, backend, used, made):
+        """The offer of a server that is not down and that the connection was not offered before, or None."""
         opened = [self.of_server(backend.name, server) for server in backend.servers]
-        place = one.version.picks[backend.name].pick(source, opened)
+        barred = {place for place, line in enumerate(backend.lines)
+                  if line in one.lines or backend.checked[place] and backend.identity(place) in self.down}
+        place = one.version.picks[backend.name].pick(host_of(one.judged[0]), opened, barred)
         if place is None:
-            return self.refuse(one, used, f'noserver line {backend.line}', made)
-        server = backend.servers[place]
-        one.server = backend.name, server.name, server.to
-        one.end = f'src {pair[0]} line {backend.lines[place]} '
-        said = f'offer {one.name} used {used} line {backend.lines[place]} to {server.to} src {pair[0]} dst {pair[1]}'
-        return f'{said} send {header_sent(backend.headers[place], *pair)}' + self.said_of(made)
+            return None
+        line, (source, to) = backend.lines[place], one.judged
+        one.server = backend.identity(place)
+        one.lines.append(line)
+        one.end = f'src {source} line {line} '
+        said = f'offer {one.name} used {used} line {line} to {backend.servers[place].to} src {source} dst {to}'
+        return f'{said} send {header_sent(backend.headers[place], source, to)}' + self.said_of(made)
 
     def said_of(self, made):
         return ''.join(f' sc{counter}={version}.{place}/{key}' for counter, ((version, place), key) in sorted(made.items()))
@@ -612,7 +651,25 @@ class Balancer:
         one = self.open.get(name)
         if one is None or one.server is None or one.is_up:
             return 'fault NoSuch' if one is None else 'fault NotOffered'
-        return self.close(name, 'failed')
+        backend = one.version.config.backend(one.server[0])
+        other = self.offer(one, backend, 0, {}) if len(one.lines) <= backend.moves() else None
+        return other or self.close(name, 'failed')
+
+    def server(self, number_of_backend, place, how):
+        """A server of the newest version is reported down or up."""
+        found = self.reported(number_of_backend, place)
+        if found is None:
+            return 'fault NotChecked'
+        (self.down.add if how == 'down' else self.down.discard)(found[:3])
+        return f'marked line {found[3]} {how}'
+
+    def reported(self, number_of_backend, place):
+        """What the server of those numbers is known by, and its line, if it is there and checked."""
+        backends, place = self.versions[-1].config.backends, int(place)
+        backend = backends[int(number_of_backend)] if int(number_of_backend) < len(backends) else None
+        if backend is None or place >= len(backend.servers) or not backend.checked[place]:
+            return None
+        return *backend.identity(place), backend.lines[place]
 
     def close(self, name, why):
         if name not in self.open:

@@ -279,6 +279,11 @@ class Conn:
         return next((found.groups() for reply in self.replies if (found := OFFER.fullmatch(reply))), None)
 
     @property
+    def offers(self):
+        """The parts of each of its offers."""
+        return [found.groups() for reply in self.replies if (found := OFFER.fullmatch(reply))]
+
+    @property
     def line(self):
         """The line of the server that it was offered, or None."""
         return int(self.offer[1]) if self.offer else None
@@ -298,7 +303,7 @@ class Record:
     """The entries of a record."""
 
     def __init__(self, text):
-        self.text, self.entries, self.conns, self.reloads = text, [], {}, []
+        self.text, self.entries, self.conns, self.reloads, self.marks = text, [], {}, [], []
         event, body = None, []
         for line in text.split('\n')[:-1]:
             if line.startswith('|'):
@@ -316,6 +321,9 @@ class Record:
         self.entries.append((what, reply))
         if what.startswith('reload '):
             self.reloads.append((len(self.entries), '\n'.join(body), reply))
+            return
+        if what.startswith('server '):
+            self.marks.append((int(moment), what, reply))
             return
         name = reply.split()[1]
         accepted = ACCEPT.fullmatch(what)

@@ -55,10 +55,13 @@ class Tenant:
         self.backends = {}
         for name in f'{self.name}p', f'{self.name}q':
             lines = [f'balance {draw.choice(["roundrobin", "leastconn", "source"])}'] if draw.random() < 0.8 else []
+            lines += draw.choice([[], [], ['retries 1'], ['retries 3'], ['retries 9']])
+            lines += draw.choice([[], ['option redispatch'], ['option redispatch 1'], ['option redispatch 1'], ['option redispatch 2']])
             for number in sorted(draw.sample(range(4), draw.choice([0, 1, 2, 3, 3, 4]))):
                 weight, limit = draw.choice([1, 1, 2, 5, 3, 0]), draw.choice([0, 0, 0, 2, 3])
                 options = [f'weight {weight}'] * (weight != 1) + [f'maxconn {limit}'] * (limit > 0)
                 options += ['disabled'] * (draw.random() < 0.1) + draw.sample(['send-proxy', 'send-proxy-v2'], draw.choice([0, 0, 1]))
+                options += draw.choice([[], ['check'], ['check', 'inter 5s', 'fall 2'], ['rise 4', 'check'], ['fall 9']])
                 lines.append(' '.join([f'server s{number} 10.{self.port}.0.{number + draw.choice([1, 1, 1, 11])}:80', *options]))
             self.backends[name] = lines
 
@@ -179,13 +182,22 @@ class Drawn:
         words = [str(word) for word in self.draw.choice(asked)]
         self.add(tenant, [' '.join(['ask', *words])], self.model.ask(*words))
 
+    def report(self):
+        """A server is reported down or up, or a number that no server has."""
+        config, tenant = self.model.versions[-1].config, self.draw.choice(self.tenants).name
+        backends = [number for number, backend in enumerate(config.backends) if backend.name in (f'{tenant}p', f'{tenant}q')]
+        how = self.draw.choice(['down', 'down', 'up'])
+        self.event(tenant, 'server', str(self.draw.choice(backends)), str(self.draw.choice([0, 0, 1, 1, 2, 3, 4])), how)
+
     def step(self):
         opened, chance = list(self.model.open.values()), self.draw.random()
         self.moment += self.draw.choice([0, 1, 50, 400])
         if chance < 0.06:
             return self.drawn_reload()
-        if chance < 0.25:
+        if chance < 0.22:
             return self.ask()
+        if chance < 0.3:
+            return self.report()
         if len(opened) > self.draw.randrange(4, MOST_OPEN):
             one = self.draw.choice(opened)
             return self.event(self.model.names[one.frontend], 'close', one.name, self.draw.choice(['done', 'fault', 'stopped']))
@@ -193,7 +205,7 @@ class Drawn:
             one = self.draw.choice(opened)
             if one.server is None and self.draw.random() < 0.8:
                 return self.piece(one)
-            verb = self.draw.choice(['connected', 'failed', 'expire', 'connected'])
+            verb = self.draw.choice(['connected', 'failed', 'expire', 'failed'])
             return self.event(self.model.names[one.frontend], verb, one.name)
         return self.accept()
 

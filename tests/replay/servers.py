@@ -67,19 +67,20 @@ class Backend:
         self.round = [number for _, number in sorted(turns)]
         self.last = None  # the place of the round that was last used, or the server that was last offered
 
-    def ready(self, number, opened):
+    def ready(self, number, opened, barred):
         server = self.servers[number]
-        return self.weights[number] > 0 and (server.limit == 0 or opened[number] < server.limit)
+        return number not in barred and self.weights[number] > 0 and (server.limit == 0 or opened[number] < server.limit)
 
-    def pick(self, source, opened):
-        """The number of the server that a connection of that source gets, where so many are open to each; or None."""
+    def pick(self, source, opened, barred=frozenset()):
+        """The number of the server that a connection of that source gets, where so many are open to each and those are left
+        out; or None."""
         if self.method == 'source':
-            return self.of_source(source, opened)
+            return self.of_source(source, opened, barred)
         if self.method == 'leastconn':
-            ready = [number for number in self.going_round(len(self.servers)) if self.ready(number, opened)]
+            ready = [number for number in self.going_round(len(self.servers)) if self.ready(number, opened, barred)]
             self.last = min(ready, key=lambda number: fractions.Fraction(opened[number], self.weights[number]), default=self.last)
             return self.last if ready else None
-        place = next((place for place in self.going_round(len(self.round)) if self.ready(self.round[place], opened)), None)
+        place = next((place for place in self.going_round(len(self.round)) if self.ready(self.round[place], opened, barred)), None)
         self.last = self.last if place is None else place
         return None if place is None else self.round[place]
 
@@ -88,13 +89,13 @@ class Backend:
         first = 0 if self.last is None else self.last + 1
         return itertools.chain(range(first, count), range(first))
 
-    def of_source(self, source, opened):
+    def of_source(self, source, opened, barred):
         mixed, address = 0, ipaddress.ip_address(source).packed
         for at in range(0, len(address), 4):
             mixed ^= int.from_bytes(address[at:at + 4], 'big')
-        shares = [number for number, weight in enumerate(self.weights) for _ in range(weight)]
+        shares = [number for number, weight in enumerate(self.weights) for _ in range(weight) if number not in barred]
         number = shares[mixed % len(shares)] if shares else None
-        return number if shares and self.ready(number, opened) else None
+        return number if shares and self.ready(number, opened, barred) else None
 
 
 class Connection:

@@ -81,16 +81,27 @@ class Twin:
         self.lines, self.pairs, self.kinds = [], {}, collections.Counter()
         self.changed = self.other_server = self.let_in = self.accepted = 0
 
-    def turn(self, moment, verb, words, said, decision, real):
-        """An event with the reply and the decision of the record, and the peer of its connection."""
+    def turn(self, moment, verb, words, said, decision, real, identity):
+        """An event with the reply and the decision of the record, the peer of its connection, and what the server is known by
+        that is reported."""
         self.accepted += verb == 'accept'
         name = said.split(' ')[1]
+        if verb == 'server':
+            return self.report(moment, words[2], identity)
         if verb != 'reload':
             answer = self.balancer.step(moment, verb, *words)
-            self.compare(f'conn {name} at {moment} real {real}', decision, Decision.of(answer, self.balancer))
+            if verb != 'failed':
+                self.compare(f'conn {name} at {moment} real {real}', decision, Decision.of(answer, self.balancer))
             self.let_in += said.startswith('refuse ') and name in self.balancer.open
         if said.startswith(('refuse ', 'closed ')):
             self.balancer.step(moment, 'close', name, 'done')
+
+    def report(self, moment, how, identity):
+        """A server is down or up, which may have other numbers here, or none."""
+        for number, backend in enumerate(self.balancer.versions[-1].config.backends):
+            for place in range(len(backend.servers)):
+                if backend.identity(place) == identity[:3]:
+                    self.balancer.step(moment, 'server', str(number), str(place), how)
 
     def compare(self, front, was, would):
         if was is None or would is None:
@@ -121,6 +132,7 @@ class Played:
         for first, *more in requests:
             moment, verb, *words = first.split(' ')
             words = ['\n'.join(bar[1:] for bar in more).encode()] if verb == 'reload' else words
+            reported = balancer.reported(*words[:2]) if verb == 'server' else None
             said = balancer.step(int(moment), verb, *words)
             if said.startswith('fault '):
                 continue
@@ -130,7 +142,7 @@ class Played:
                 peers[name] = plain.endpoint(words[1])
             decision = Decision.of(said, balancer)
             for twin in self.twins:
-                twin.turn(int(moment), verb, words, said, decision, peers.get(name))
+                twin.turn(int(moment), verb, words, said, decision, peers.get(name), reported)
 
 
 def of_tenants(draw, events):

@@ -8,7 +8,7 @@ use Rattle.plan_types.specs.declared.plan.Frontend.{Frontend}
 use Rattle.plan_types.specs.declared.plan.Plan.{Plan}
 use Rattle.conn_model.specs.declared.event.ConnId.{ConnId}
 use Rattle.conn_model.specs.declared.event.OwnedEvent.{OwnedEvent}
-use Rattle.conn_model.specs.declared.event.OwnedEvent.TheVariants.{Accept, Piece, Connected, ConnectFailed, Close, Expire, Reload}
+use Rattle.conn_model.specs.declared.event.OwnedEvent.TheVariants.{Accept, Piece, Connected, ConnectFailed, Close, Expire, Reload, Mark}
 use Rattle.conn_model.specs.declared.plain.FrontendRows.{FrontendRows}
 use Rattle.conn_model.specs.declared.plain.Plain.{Plain}
 use Rattle.conn_model.specs.declared.plain.Row.{Row}
@@ -77,6 +77,7 @@ one_arrives clock version (ConnectFailed id) said = (0, λ n. omega arith)
 one_arrives clock version (Close id why) said = (0, λ n. omega arith)
 one_arrives clock version (Expire id) said = (0, λ n. omega arith)
 one_arrives clock version (Reload text) said = (0, λ n. omega arith)
+one_arrives clock version (Mark backend n health) said = (0, λ n. omega arith)
 
 -- at most one connection more is open
 pub open_after : (p : Plain) (e : Entry) → open_connections (after p (e ∷ [])) ≤ open_connections p + 1

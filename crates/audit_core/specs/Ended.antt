@@ -9,7 +9,7 @@ use Rattle.config_core.specs.declared.fault.OpenFault.{OpenFault}
 use Rattle.conn_model.specs.declared.event.ConnId.{ConnId}
 use Rattle.conn_model.specs.declared.plain.Plain.{Plain}
 use Rattle.conn_model.specs.declared.reply.Said.{Said}
-use Rattle.conn_model.specs.declared.reply.Said.TheVariants.{Wait, Offer, Refuse, Up, Closed, Reloaded}
+use Rattle.conn_model.specs.declared.reply.Said.TheVariants.{Wait, Offer, Refuse, Up, Closed, Reloaded, Marked}
 use Rattle.conn_model.specs.History.{Entry, opening, speaks_to, IsLegal}
 use Rattle.audit_core.specs.Audit.{fault_text}
 use Rattle.audit_core.specs.Line.{audit_text, event_peer}
@@ -33,6 +33,7 @@ known_by peer before (Refuse id used cause) = None
 known_by peer before (Up id) = before
 known_by peer before (Closed id why) = None
 known_by peer before (Reloaded version) = before
+known_by peer before (Marked line health) = before
 
 -- what is known of each connection after a reply
 abbrev pub known_on : (ConnId → Option Known) → Option Endpoint → Said → ConnId → Option Known
@@ -59,6 +60,7 @@ line_on known peer (Refuse id used cause) = line_by (brought peer (known id)) (R
 line_on known peer (Up id) = []
 line_on known peer (Closed id why) = line_by (brought peer (known id)) (Closed id why)
 line_on known peer (Reloaded version) = []
+line_on known peer (Marked line health) = []
 
 -- the line of each connection of a history that ended, in the order in which they did
 abbrev pub ended_text : List Entry → List ℕ

@@ -5,9 +5,9 @@ use Rattle.addr_core.specs.Text.{endpoint_text}
 use Rattle.addr_core.specs.declared.addr.Endpoint.{Endpoint}
 use Rattle.conn_model.specs.declared.event.ConnId.{ConnId}
 use Rattle.conn_model.specs.declared.event.OwnedEvent.{OwnedEvent}
-use Rattle.conn_model.specs.declared.event.OwnedEvent.TheVariants.{Accept, Piece, Connected, ConnectFailed, Close, Expire, Reload}
+use Rattle.conn_model.specs.declared.event.OwnedEvent.TheVariants.{Accept, Piece, Connected, ConnectFailed, Close, Expire, Reload, Mark}
 use Rattle.conn_model.specs.declared.reply.Said.{Said}
-use Rattle.conn_model.specs.declared.reply.Said.TheVariants.{Wait, Offer, Refuse, Up, Closed, Reloaded}
+use Rattle.conn_model.specs.declared.reply.Said.TheVariants.{Wait, Offer, Refuse, Up, Closed, Reloaded, Marked}
 use Rattle.event_text.specs.Script.{id_text, why_text}
 use Rattle.event_text.specs.Replies.{cause_text}
 
@@ -20,6 +20,7 @@ event_peer (ConnectFailed id) = None
 event_peer (Close id why) = None
 event_peer (Expire id) = None
 event_peer (Reload text) = None
+event_peer (Mark backend n health) = None
 
 -- the connection and its peer
 abbrev pub front_text : ConnId → Endpoint → List ℕ
@@ -38,6 +39,7 @@ audit_text peer offered (Refuse id used cause) = Some (front_text id peer ++ cod
 audit_text peer offered (Up id) = None
 audit_text peer offered (Closed id why) = Some (front_text id peer ++ offer_text offered ++ codes "closed " ++ why_text why)
 audit_text peer offered (Reloaded version) = None
+audit_text peer offered (Marked line health) = None
 
 -- what is written of a line, if there is one
 abbrev pub written_line : Option (List ℕ) → List ℕ

@@ -4,8 +4,9 @@ ghost use Rattle.std.specs.Str.{bytes_eq};
 ghost use Rattle.line_reader.specs.declared.lines.TheConstants.{MOST_LINE_BYTES};
 ghost use Rattle.text_core.specs.Decimal.{decimal};
 ghost use Rattle.conn_model.specs.declared.event.TheConstants.{PIECE_LIMIT};
-ghost use Rattle.conn_model.specs.Answer.{answer_in, row_at};
+ghost use Rattle.conn_model.specs.Answer.{answer_in, checked_server, row_at};
 ghost use Rattle.conn_model.specs.Counts.{server_of, total, open_connections};
+ghost use Rattle.conn_core.specs.Checked.{checked_in};
 ghost use Rattle.conn_core.specs.Summaries.{names_in, names_of};
 ghost use Rattle.conn_model.specs.HandedIn.{HasPieceInLimit};
 ghost use Rattle.conn_model.specs.History.{owned_event};
@@ -24,7 +25,7 @@ ghost use Rattle.audit_core.specs.declared.fault.TheConstants.{MOST_RECORD_LINES
 use crate::due::{Awaited, NextLine};
 use crate::fault::{CheckFault, CheckKind, MOST_RECORD_LINES};
 use addr_core::Endpoint;
-use conn_core::{Core, ServerNames};
+use conn_core::{CheckedServer, Core, ServerNames};
 use conn_model::ask::Ask;
 use conn_model::event::{ConnId, Event};
 use conn_model::plain::FrontendRows;
@@ -124,7 +125,8 @@ fn peer_of(event: &EventRequest) -> Option<Endpoint>
         | EventRequest::Connected(_)
         | EventRequest::ConnectFailed(_)
         | EventRequest::Close(..)
-        | EventRequest::Expire(_) => None,
+        | EventRequest::Expire(_)
+        | EventRequest::Mark(..) => None,
     }
 }
 
@@ -332,6 +334,13 @@ impl Auditor {
         ensures { option_map names_in result ≡ option_map names_of (option_and_then (λ row. server_of row.phase) (row_at self.now.plain.frontends id)) }
     {
         self.core.server(id)
+    }
+
+    /// The server of that number in the backend of that number, in the newest version, if it is checked.
+    pub fn checked(&self, number: u16, place: u16) -> Option<CheckedServer<'_>>
+        ensures { option_map checked_in result ≡ checked_server self.now.plain.versions number place }
+    {
+        self.core.checked(number, place)
     }
 
     /// How many entries came.

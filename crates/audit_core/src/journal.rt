@@ -93,7 +93,7 @@ impl AuditJournal {
                 judged,
                 ..
             } => self.note_offer(id, peer, (judged.source(), *line)),
-            Said::Up { .. } | Said::Reloaded { .. } => Ok(()),
+            Said::Up { .. } | Said::Reloaded { .. } | Said::Marked { .. } => Ok(()),
             Said::Refuse { id, .. } | Said::Closed { id, .. } => self.note_end(id, peer, reply),
         }
     }

@@ -45,9 +45,11 @@ pub fn write_audit_line(
     ensures text { OnOk result (out.new.items ≡ out.old.items ++ written_line (audit_text real.now offered reply.now.said)) }
 {
     match &reply.said {
-        Said::Wait { .. } | Said::Offer { .. } | Said::Up { .. } | Said::Reloaded { .. } => {
-            Ok(false)
-        }
+        Said::Wait { .. }
+        | Said::Offer { .. }
+        | Said::Up { .. }
+        | Said::Reloaded { .. }
+        | Said::Marked { .. } => Ok(false),
         Said::Refuse { id, used: _, cause } => {
             write_front(out, id, real)?;
             out.extend_from_slice(b"refuse ")?;

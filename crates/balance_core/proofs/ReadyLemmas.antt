@@ -101,7 +101,7 @@ round_ready servers last turn is =
 
 -- By source.
 
-share_weighs : (servers : List ServerLoad) (m first count k : ℕ) → total_weight (take first servers) ≤ m →
+pub share_weighs : (servers : List ServerLoad) (m first count k : ℕ) → total_weight (take first servers) ≤ m →
     find (λ n. nat_lt m (total_weight (take (n + 1) servers))) (range_with_len first count) ≡ Some k → 0 < weight_at servers k
 share_weighs servers m first zero k low is = absurd (let wrong : None ≡ Some k = is in cc)
 share_weighs servers m first (suc count) k low is = by (nat_lt m (total_weight (take (first + 1) servers))) refl (λ above found. share_weighs servers m (first + 1) count k above found)

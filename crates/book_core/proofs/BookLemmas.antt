@@ -1,14 +1,17 @@
 -- Books: how they begin, and how they go on.
-use Rattle.std.specs.Prelude.{◌≡◌, ◌<◌, ◌≤◌, ℕ, ◌+◌, ◌-◌, ◌^◌, Bool, true, false, List, [], ◌∷◌, ◌++◌, length, Ok, refl, if◌then◌else◌}
-use Rattle.std.proofs.Common.{arith, ap, append-nil, append_assoc, subst, sym, ◌∙◌}
+use Rattle.std.specs.Prelude.{◌≡◌, ◌<◌, ◌≤◌, ℕ, ◌+◌, ◌-◌, ◌^◌, Bool, true, false, List, [], ◌∷◌, ◌++◌, length, Ok, refl, nat_lt, if◌then◌else◌}
+use Rattle.std.proofs.Common.{arith, ap, append-nil, append_assoc, inl, inr, subst, sym, ◌∙◌}
+use Rattle.std.proofs.lemmas.Bool.Decides.{nat_tests}
 use Rattle.std.proofs.lemmas.List.{length-append}
 use Rattle.conn_model.specs.declared.event.OwnedEvent.{OwnedEvent}
 use Rattle.conn_model.specs.declared.plain.Plain.{Plain}
 use Rattle.conn_model.specs.declared.reply.Reply.{Reply}
-use Rattle.conn_model.specs.declared.event.OwnedEvent.TheVariants.{Accept, Piece, Connected, ConnectFailed, Close, Expire, Reload}
+use Rattle.conn_model.specs.declared.event.OwnedEvent.TheVariants.{Accept, Piece, Connected, ConnectFailed, Close, Expire, Reload, Mark}
 use Rattle.conn_model.specs.declared.reply.Said.{Said}
+use Rattle.conn_model.specs.declared.reply.StepFault.{StepFault}
+use Rattle.conn_model.specs.Answer.{answer_in}
 use Rattle.conn_model.specs.HandedIn.{IsHandedIn}
-use Rattle.conn_model.specs.History.{after, answer, entry, leaves_open, Entry, IsLegal, IsWell}
+use Rattle.conn_model.specs.History.{after, answer, entry, leaves_open, Entry, IsFault, IsLegal, IsWell}
 use Rattle.conn_model.proofs.Goes.{legal_both, whole_in_parts}
 use Rattle.conn_model.proofs.Well.{after-nil, well_after}
 use Rattle.record_core.specs.declared.record.Record.{Record}
@@ -18,7 +21,7 @@ use Rattle.record_core.proofs.Chaining.{chained_appended, joined_appended, numbe
 use Rattle.rtrb.specs.Ring.{sent}
 use Rattle.conn_model.specs.Counts.{open_connections}
 use Rattle.book_core.specs.Open.{connections_opened}
-use Rattle.book_core.specs.Book.{after_cut, new_book, segment_of, state_of, with_entry, with_ring, BookState, IsBook, SegmentProducer}
+use Rattle.book_core.specs.Book.{after_cut, book_answer, new_book, segment_of, state_of, with_entry, with_ring, BookState, IsBook, IsBookFault, SegmentProducer, MOST_RECORDS}
 use Rattle.book_core.proofs.OpenLemmas.{open_after_answer}
 
 pub book_begins : (p : Plain) (segments : SegmentProducer) → IsWell p → sent segments ≡ [] → IsBook (new_book p segments)
@@ -150,6 +153,7 @@ open_few p well (e ∷ h) legal =
     opens_one (Close id why) said = omega arith
     opens_one (Expire id) said = omega arith
     opens_one (Reload text) said = omega arith
+    opens_one (Mark backend n health) said = omega arith
 
 history_length : (h : List Entry) (records : List Record) → length (history_on h records) ≡ length h + length records
 history_length h [] = omega arith
@@ -159,3 +163,15 @@ pub state_few : (b : BookState) → IsBook b → open_connections b.state ≤ op
 state_few b book =
     let same : open_connections b.state ≡ open_connections (after b.base (history_of b.records)) = ap open_connections book.state in
     omega (arith, same, book.made, history_length [] b.records, open_few b.base book.well (history_of b.records) book.legal)
+
+-- a fault of the core is one of the book
+pub fault_in_book : (b : BookState) (moment : ℕ) (event : OwnedEvent) (fault : StepFault) → b.made < MOST_RECORDS → IsFault event (answer_in b.state moment event) fault →
+    IsBookFault b (book_answer b moment event) fault
+fault_in_book b moment event fault few is = by is
+  where
+    stepped : book_answer b moment event ≡ answer_in b.state moment event
+    stepped = let fits : nat_lt b.made MOST_RECORDS ≡ true = grind (arith, nat_tests, few) in rw fits refl
+
+    by : IsFault event (answer_in b.state moment event) fault → IsBookFault b (book_answer b moment event) fault
+    by (inl answer) = inl (stepped ∙ answer)
+    by (inr none) = inr (none.0, few)

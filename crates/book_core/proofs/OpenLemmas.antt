@@ -11,13 +11,13 @@ use Rattle.plan_types.specs.declared.plan.Frontend.{Frontend}
 use Rattle.plan_types.specs.declared.plan.Plan.{Plan}
 use Rattle.conn_model.specs.declared.event.ConnId.{ConnId}
 use Rattle.conn_model.specs.declared.event.OwnedEvent.{OwnedEvent}
-use Rattle.conn_model.specs.declared.event.OwnedEvent.TheVariants.{Accept, Piece, Connected, ConnectFailed, Close, Expire, Reload}
+use Rattle.conn_model.specs.declared.event.OwnedEvent.TheVariants.{Accept, Piece, Connected, ConnectFailed, Close, Expire, Reload, Mark}
 use Rattle.conn_model.specs.declared.plain.FrontendRows.{FrontendRows}
 use Rattle.conn_model.specs.declared.plain.Plain.{Plain}
 use Rattle.conn_model.specs.declared.plain.Row.{Row}
 use Rattle.conn_model.specs.declared.reply.Reply.{Reply}
 use Rattle.conn_model.specs.declared.reply.Said.{Said}
-use Rattle.conn_model.specs.declared.reply.Said.TheVariants.{Wait, Offer, Refuse, Up, Closed, Reloaded}
+use Rattle.conn_model.specs.declared.reply.Said.TheVariants.{Wait, Offer, Refuse, Up, Closed, Reloaded, Marked}
 use Rattle.conn_model.specs.Answer.{answer_in, row_at, row_in}
 use Rattle.conn_model.specs.Counts.{total, open_connections}
 use Rattle.conn_model.specs.History.{after, arrival, entry, frontend_after, has_ended, id_of, is_last, leaves_open, newest_number, opening, row_after, speaks_to, Entry, IsFrontendWell, IsWell}
@@ -89,6 +89,7 @@ none_comes p number e id whom differs = by e.event
     by (Close other why) = refl
     by (Expire other) = refl
     by (Reload text) = refl
+    by (Mark backend n health) = refl
 
 elsewhere : (p : Plain) (number : ℕ) (e : Entry) (id : ConnId) (own : FrontendRows) → id_of e.reply.said ≡ Some id → number ≢ id.frontend →
     length (frontend_after p (e ∷ []) number own).rows ≡ length own.rows
@@ -111,6 +112,7 @@ not_last (Refuse id used cause) is = absurd (false≢true is)
 not_last (Up id) is = refl
 not_last (Closed id why) is = absurd (false≢true is)
 not_last (Reloaded version) is = absurd (false≢true is)
+not_last (Marked line health) is = absurd (false≢true is)
 
 accept_here : (p : Plain) (moment listener : ℕ) (real : PairValue) (reply : Reply) (id : ConnId) (own : FrontendRows) → IsFrontendWell p.versions own → id_of reply.said ≡ Some id → id.serial ≡ own.serial + 1 →
     length (frontend_after p (entry moment (Accept listener real) reply ∷ []) id.frontend own).rows + 0 ≡ length own.rows + (if leaves_open reply.said then 1 else 0)
@@ -199,9 +201,9 @@ old_answer p well e id nothing said =
     (rw zero_plus (old_here p e id found.0 said.row (well_at p well id.frontend found.0 found.1) said.speaks (nothing id.frontend) found.2))
     (λ n o differs. elsewhere p n e id o said.speaks (λ is. differs (is ∙ sym zero_plus)))
 
--- a reload leaves the open connections as they are
-reload_here : (p : Plain) (e : Entry) (number : ℕ) (own : FrontendRows) → id_of e.reply.said ≡ None → comes p number e ≡ [] → length (frontend_after p (e ∷ []) number own).rows ≡ length own.rows
-reload_here p e number own none nothing =
+-- what names no connection leaves the open ones as they are
+unnamed_here : (p : Plain) (e : Entry) (number : ℕ) (own : FrontendRows) → id_of e.reply.said ≡ None → comes p number e ≡ [] → length (frontend_after p (e ∷ []) number own).rows ≡ length own.rows
+unnamed_here p e number own none nothing =
     let free : (row : Row) → speaks_to number row.serial e.reply.said ≡ false = λ row. rw none refl in
     let left : length (filter (stays number e) own.rows) ≡ length own.rows = keeps_all (stays number e) own.rows (each own.rows free) in
     let new : length (filter (stays number e) (comes p number e)) ≡ 0 = ap (λ rows. length (filter (stays number e) rows)) nothing in
@@ -211,10 +213,10 @@ reload_here p e number own none nothing =
     each [] free = tt
     each (row ∷ rows) free = (unspoken_stays number e row (free row), each rows free)
 
-reload_answer : (p : Plain) (e : Entry) (start : ℕ) (owns : List FrontendRows) → id_of e.reply.said ≡ None → ((number : ℕ) → comes p number e ≡ []) →
+unnamed_answer : (p : Plain) (e : Entry) (start : ℕ) (owns : List FrontendRows) → id_of e.reply.said ≡ None → ((number : ℕ) → comes p number e ≡ []) →
     total (λ own. length own.rows) (map_from (frontend_after p (e ∷ [])) start owns) ≡ total (λ own. length own.rows) owns
-reload_answer p e start [] none nothing = refl
-reload_answer p e start (own ∷ owns) none nothing = omega (arith, reload_here p e start own none (nothing start), reload_answer p e (start + 1) owns none nothing)
+unnamed_answer p e start [] none nothing = refl
+unnamed_answer p e start (own ∷ owns) none nothing = omega (arith, unnamed_here p e start own none (nothing start), unnamed_answer p e (start + 1) owns none nothing)
 
 pub open_after_answer : (p : Plain) → IsWell p → (moment : ℕ) (event : OwnedEvent) (reply : Reply) → answer_in p moment event ≡ Ok reply →
     open_connections (after p (entry moment event reply ∷ [])) + connections_ended event reply.said ≡ open_connections p + connections_opened event reply.said
@@ -227,7 +229,11 @@ open_after_answer p well moment (Expire id) reply is = old_answer p well (entry 
 open_after_answer p well moment (Reload text) reply is =
     let said = answered p moment (Reload text) reply is in
     let none : id_of reply.said ≡ None = ap id_of said.says in
-    omega (arith, reload_answer p (entry moment (Reload text) reply) 0 p.frontends none (λ number. refl))
+    omega (arith, unnamed_answer p (entry moment (Reload text) reply) 0 p.frontends none (λ number. refl))
+open_after_answer p well moment (Mark backend n health) reply is =
+    let said = answered p moment (Mark backend n health) reply is in
+    let none : id_of reply.said ≡ None = ap id_of said.says in
+    omega (arith, unnamed_answer p (entry moment (Mark backend n health) reply) 0 p.frontends none (λ number. refl))
 
 -- Nothing is open at first.
 

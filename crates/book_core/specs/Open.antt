@@ -5,7 +5,7 @@ use Rattle.conn_model.specs.History.{is_last, leaves_open}
 use Rattle.conn_model.specs.declared.ask.Ask.{Ask}
 use Rattle.conn_model.specs.declared.ask.Counts.{Counts}
 use Rattle.conn_model.specs.declared.event.OwnedEvent.{OwnedEvent}
-use Rattle.conn_model.specs.declared.event.OwnedEvent.TheVariants.{Accept, Piece, Connected, ConnectFailed, Close, Expire, Reload}
+use Rattle.conn_model.specs.declared.event.OwnedEvent.TheVariants.{Accept, Piece, Connected, ConnectFailed, Close, Expire, Reload, Mark}
 use Rattle.conn_model.specs.declared.plain.Plain.{Plain}
 use Rattle.conn_model.specs.declared.reply.Said.{Said}
 
@@ -22,6 +22,7 @@ connections_opened (ConnectFailed id) said = 0
 connections_opened (Close id why) said = 0
 connections_opened (Expire id) said = 0
 connections_opened (Reload text) said = 0
+connections_opened (Mark backend n health) said = 0
 
 -- another event of a connection ends it where the reply is a last one
 abbrev pub connections_ended : OwnedEvent → Said → ℕ
@@ -32,3 +33,4 @@ connections_ended (ConnectFailed id) said = if is_last said then 1 else 0
 connections_ended (Close id why) said = if is_last said then 1 else 0
 connections_ended (Expire id) said = if is_last said then 1 else 0
 connections_ended (Reload text) said = 0
+connections_ended (Mark backend n health) said = 0

@@ -3,17 +3,19 @@ use Rattle.std.proofs.Common.{◌≡◌, ℕ, suc, ◌+◌, ◌≤◌, ◌-◌, 
 use native.Mathlib.Omega.{arith}
 use Rattle.std.specs.Prelude.{is_some, IfSome}
 use Rattle.std.proofs.Math.Seq.{take-length}
-use Rattle.std.specs.List.{list_any}
+use Rattle.std.specs.List.{list_any, AllByRecursion}
 use Rattle.std.specs.Option.{option_or}
 use Rattle.std.proofs.lemmas.Bool.Decides.{nat_tests}
 use Rattle.proxy_types.specs.declared.table.KeyType.{KeyType}
 use Rattle.conf_line.specs.declared.statement.TableOption.{TableOption}
 use Rattle.conf_line.specs.declared.statement.TableOption.TheVariants as options
 use Rattle.list_core.specs.Each.{◌>>=◌}
-use Rattle.conf_line.specs.Servers.{has_value, server_flag, server_options, is_excess, option_limit}
+use Rattle.conf_line.specs.Servers.{has_value, server_flag, server_options, is_check, is_disabled, is_excess, is_send_proxy, is_send_proxy_v2, option_fall, option_inter, option_limit, option_rise, option_weight, options_of, with_option}
 use Rattle.conf_line.specs.declared.statement.ServerOption.{ServerOption}
 use Rattle.conf_line.specs.declared.statement.ServerOption.TheVariants as flags
-use Rattle.conf_line.specs.Sound.{IsSoundLimit}
+use Rattle.conf_line.specs.Sound.{AreSoundChecks, AreSoundOptions, IsSoundInterval, IsSoundLimit, IsSoundOption, IsSoundWeight, IsWithin}
+use Rattle.conf_line.specs.declared.statement.TheConstants.{MOST_CHECKS, MOST_INTERVAL}
+use Rattle.proxy_types.specs.declared.limits.TheConstants.{GREATEST_WEIGHT, MOST_CONNECTIONS}
 use Rattle.conf_line.specs.Words.{last_of, onto, after}
 use Rattle.conf_line.specs.Tables.{option_keys, option_size, option_expire, is_keys, is_size, is_expire, has_repeat}
 
@@ -194,13 +196,63 @@ pub or_sound : (P : ℕ → Type 0) (a b : Option ℕ) → IfSome a P → IfSome
 or_sound P None b one other = other
 or_sound P (Some n) b one other = one
 
-pub limit_sound : (option : ServerOption) → is_excess option ≡ false → IsSoundLimit (option_limit option)
-limit_sound (flags.Weight weight) is = tt
-limit_sound (flags.MaxConn limit) is = grind (arith, nat_tests)
-limit_sound flags.Disabled is = tt
-limit_sound flags.SendProxy is = tt
-limit_sound flags.SendProxyV2 is = tt
-
 pub neither : (a b : Bool) → (a || b) ≡ false → (a ≡ false) × (b ≡ false)
 neither true b is = absurd cc
 neither false b is = (refl, is)
+
+pub all_more : {X : Type 0} (P : X → Type 0) (xs : List X) (x : X) → AllByRecursion P xs → P x → AllByRecursion P (xs ++ x ∷ [])
+all_more P [] x each one = (one, tt)
+all_more P (y ∷ xs) x (first, each) one = (first, all_more P xs x each one)
+
+weight_sound : (option : ServerOption) → IsSoundOption option → is_excess option ≡ false → IsSoundWeight (option_weight option)
+weight_sound (flags.Weight weight) sound is = sound
+weight_sound other sound is = tt
+
+limit_sound : (option : ServerOption) → IsSoundOption option → is_excess option ≡ false → IsSoundLimit (option_limit option)
+limit_sound (flags.MaxConn limit) sound is = grind (arith, nat_tests)
+limit_sound other sound is = tt
+
+inter_sound : (option : ServerOption) → IsSoundOption option → is_excess option ≡ false → IsSoundInterval (option_inter option)
+inter_sound (flags.Inter ms) sound is = (sound, grind (arith, nat_tests))
+inter_sound other sound is = tt
+
+fall_sound : (option : ServerOption) → IsSoundOption option → is_excess option ≡ false → AreSoundChecks (option_fall option)
+fall_sound (flags.Fall count) sound is = (sound, grind (arith, nat_tests))
+fall_sound other sound is = tt
+
+rise_sound : (option : ServerOption) → IsSoundOption option → is_excess option ≡ false → AreSoundChecks (option_rise option)
+rise_sound (flags.Rise count) sound is = (sound, grind (arith, nat_tests))
+rise_sound other sound is = tt
+
+last_sound : (P : ℕ → Type 0) (value : ServerOption → Option ℕ) → ((option : ServerOption) → IsSoundOption option → is_excess option ≡ false → IfSome (value option) P) →
+    (all : List ServerOption) → AllByRecursion IsSoundOption all → list_any is_excess all ≡ false → IfSome (last_of value all) P
+last_sound P value each [] sound none = tt
+last_sound P value each (option ∷ all) (one, sound) none =
+    let parts = neither (is_excess option) (list_any is_excess all) none in
+    or_sound P (last_of value all) (value option) (last_sound P value each all sound parts.1) (each option one parts.0)
+
+-- Options of a server together.
+
+pub options_sound : (all : List ServerOption) → AllByRecursion IsSoundOption all → list_any is_excess all ≡ false → AreSoundOptions (options_of all)
+options_sound all sound none = (
+  last_sound (λ w. w ≤ GREATEST_WEIGHT) option_weight weight_sound all sound none,
+  last_sound (λ l. l ≤ MOST_CONNECTIONS) option_limit limit_sound all sound none,
+  last_sound (IsWithin MOST_INTERVAL) option_inter inter_sound all sound none,
+  last_sound (IsWithin MOST_CHECKS) option_fall fall_sound all sound none,
+  last_sound (IsWithin MOST_CHECKS) option_rise rise_sound all sound none,
+)
+
+pub options_more : (all : List ServerOption) (option : ServerOption) → options_of (all ++ option ∷ []) ≡ with_option (options_of all) option
+options_more all option =
+    rw (
+      last_more option_weight all option,
+      last_more option_limit all option,
+      last_more option_inter all option,
+      last_more option_fall all option,
+      last_more option_rise all option,
+      any_more is_disabled all option,
+      any_more is_send_proxy all option,
+      any_more is_send_proxy_v2 all option,
+      any_more is_check all option,
+      any_more is_excess all option,
+    ) refl

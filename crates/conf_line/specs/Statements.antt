@@ -1,5 +1,5 @@
 -- What a line says by its words alone, or the first word that is wrong.
-use Rattle.std.specs.Prelude.{ℕ, Bool, true, false, ◌||◌, ◌==◌, ◌∷◌, nat_lt, List, [], Result, Ok, Err, codes, if◌then◌else◌}
+use Rattle.std.specs.Prelude.{ℕ, Bool, true, false, ◌||◌, ◌==◌, ◌∷◌, nat_lt, List, [], Some, None, Result, Ok, Err, codes, if◌then◌else◌}
 use Rattle.std.specs.Str.{bytes_eq}
 use Rattle.list_core.specs.Each.{◌>>=◌}
 use Rattle.conf_line.specs.declared.fault.ConfKind.{ConfKind}
@@ -23,6 +23,11 @@ use Rattle.conf_line.specs.Acls.{acl_of}
 use Rattle.conf_line.specs.Rules.{rule_of, choice_of}
 use Rattle.conf_line.specs.Servers.{server_of}
 use Rattle.conf_line.specs.Tables.{table_of}
+
+-- a line in which nothing is given twice, and no number is greater than its limit
+abbrev pub plain_reading : Result Statement ConfKind → Result LineReading ConfKind
+plain_reading (Err kind) = Err kind
+plain_reading (Ok reading) = Ok (record { statement = reading; repeats = false; exceeds = false })
 
 -- a name, and no further word
 abbrev pub only_name : List (List ℕ) → Result (List ℕ) ConfKind
@@ -103,6 +108,19 @@ retries_of words = do
   _ ← end_at word.1
   Ok (record { statement = statements.Retries count; repeats = false; exceeds = nat_lt MOST_RETRIES count })
 
+-- a number from 0 on; a negative one is not taken
+abbrev pub every_at : List ℕ → Result ℕ ConfKind
+every_at [] = number_at []
+every_at (first ∷ rest) = if first == 45 then (number_at rest >>= λ _. Err Unsupported) else number_at (first ∷ rest)
+
+-- which of these times go to another server; a number need not be given
+abbrev pub redispatch_of : List (List ℕ) → Result LineReading ConfKind
+redispatch_of [] = Ok (record { statement = statements.Redispatch None; repeats = false; exceeds = false })
+redispatch_of (word ∷ rest) = do
+  every ← every_at word
+  _ ← end_at rest
+  Ok (record { statement = statements.Redispatch (Some every); repeats = false; exceeds = nat_lt MOST_RETRIES every })
+
 -- Lines that are read and have no effect; the words after those offered are not read.
 
 abbrev pub without_effect_if : (List ℕ → Bool) → List (List ℕ) → Result Statement ConfKind
@@ -115,6 +133,11 @@ is_global word = bytes_eq word (codes "global")
 
 abbrev pub is_option : List ℕ → Bool
 is_option word = bytes_eq word (codes "tcplog") || bytes_eq word (codes "dontlognull")
+
+abbrev pub option_of : List (List ℕ) → Result LineReading ConfKind
+option_of words = do
+  word ← word_at words
+  if bytes_eq word.0 (codes "redispatch") then redispatch_of word.1 else plain_reading (without_effect_if is_option words)
 
 -- in global all words after `log` are free
 abbrev pub log_of : SectionKind → List (List ℕ) → Result Statement ConfKind
@@ -145,11 +168,6 @@ timeout_of words = do
 
 -- All lines.
 
--- a line in which nothing is given twice, and no number is greater than its limit
-abbrev pub plain_reading : Result Statement ConfKind → Result LineReading ConfKind
-plain_reading (Err kind) = Err kind
-plain_reading (Ok reading) = Ok (record { statement = reading; repeats = false; exceeds = false })
-
 -- what a line says after its keyword, where those names are known; some of the language's lines are not taken
 abbrev pub keyword_reading : SectionKind → List (List ℕ) → Keyword → List (List ℕ) → Result LineReading ConfKind
 keyword_reading kind known k.Global words = plain_reading (global_of words)
@@ -167,7 +185,7 @@ keyword_reading kind known k.UseBackend words = plain_reading (choice_of known w
 keyword_reading kind known k.StickTable words = table_of words
 keyword_reading kind known k.Server words = server_of words
 keyword_reading kind known k.Log words = plain_reading (log_of kind words)
-keyword_reading kind known k.Option words = plain_reading (without_effect_if is_option words)
+keyword_reading kind known k.Option words = option_of words
 keyword_reading kind known k.Timeout words = plain_reading (timeout_of words)
 keyword_reading kind known k.Retries words = retries_of words
 keyword_reading kind known k.Daemon words = plain_reading (Ok statements.Nothing)

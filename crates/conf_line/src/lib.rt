@@ -5,8 +5,8 @@ pub use fault::{ConfFault, ConfKind};
 pub use proxy_types::{KeyType, Method, Stores};
 pub use reading::read_line;
 pub use statement::{
-    ActionWords, LineReading, MOST_RETRIES, Ruleset, SectionKind, ServerOption, ServerWords,
-    Statement, TableOption, TableWords, TimeoutKind, TrackWords,
+    ActionWords, LineReading, MOST_CHECKS, MOST_INTERVAL, MOST_RETRIES, Ruleset, SectionKind,
+    ServerOption, ServerWords, Statement, TableOption, TableWords, TimeoutKind, TrackWords,
 };
 
 mod acl;

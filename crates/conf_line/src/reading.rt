@@ -2,7 +2,7 @@
 ghost use Rattle.std.specs.Prelude.{◌≡◌, IfOk, Result, Ok};
 ghost use Rattle.list_core.specs.Each.{Gives};
 ghost use Rattle.conf_line.specs.Keywords.{keyword_of, check_keyword};
-ghost use Rattle.conf_line.specs.Statements.{only_name, global_of, defaults_of, frontend_of, backend_of, mode_of, default_backend_of, method_of, balance_of, accepts_proxy, bind_of, max_conn_of, retries_of, without_effect_if, is_global, is_option, timeout_kind, timeout_of, log_of, plain_reading, keyword_reading, line_reading};
+ghost use Rattle.conf_line.specs.Statements.{only_name, global_of, defaults_of, frontend_of, backend_of, mode_of, default_backend_of, method_of, balance_of, accepts_proxy, bind_of, max_conn_of, retries_of, every_at, redispatch_of, option_of, without_effect_if, is_global, timeout_kind, timeout_of, log_of, plain_reading, keyword_reading, line_reading};
 ghost use Rattle.conf_line.specs.Sound.{IsSoundStatement, IsSoundReading};
 ghost use Rattle.conf_line.specs.Acls.{acl_of};
 ghost use Rattle.conf_line.specs.Rules.{rule_of, choice_of};
@@ -181,14 +181,57 @@ fn global_log<'a>(words: &[Word<'a>]) -> Result<Statement<'a>, ConfKind>
     Err(ConfKind::Unsupported)
 }
 
-/// An option without effect.
-fn option<'a>(words: &[Word<'a>]) -> Result<Statement<'a>, ConfKind>
-    ensures value { result ≡ without_effect_if is_option words.now }
-    ensures sound { IfOk result IsSoundStatement }
+/// A number from 0 on. A negative one is not taken.
+fn every_at(word: &[u8]) -> Result<u64, ConfKind>
+    ensures { result ≡ every_at word.now }
 {
-    let (word, _rest) = word_at(words)?;
+    match word {
+        [b'-', digits @ ..] => {
+            number_at(digits)?;
+            Err(ConfKind::Unsupported)
+        }
+        _ => number_at(word),
+    }
+}
+
+/// Which of the times that a server is dialled again go to another server. A number need not be given.
+fn redispatch<'a>(words: &[Word<'a>]) -> Result<LineReading<'a>, ConfKind>
+    ensures value { result ≡ redispatch_of words.now }
+    ensures sound { IfOk result IsSoundReading }
+{
+    match words {
+        [] => Ok(LineReading {
+            statement: Statement::Redispatch(None),
+            repeats: false,
+            exceeds: false,
+        }),
+        [word, rest @ ..] => {
+            let every = every_at(word.bytes())?;
+            end_at(rest)?;
+            Ok(LineReading {
+                statement: Statement::Redispatch(Some(every)),
+                repeats: false,
+                exceeds: every > MOST_RETRIES,
+            })
+        }
+    }
+}
+
+/// `option redispatch`, or an option without effect.
+fn option<'a>(words: &[Word<'a>]) -> Result<LineReading<'a>, ConfKind>
+    ensures value { result ≡ option_of words.now }
+    ensures sound { IfOk result IsSoundReading }
+{
+    let (word, rest) = word_at(words)?;
+    if word.is(b"redispatch") {
+        return redispatch(rest);
+    }
     if word.is(b"tcplog") || word.is(b"dontlognull") {
-        return Ok(Statement::Nothing);
+        return Ok(LineReading {
+            statement: Statement::Nothing,
+            repeats: false,
+            exceeds: false,
+        });
     }
     Err(ConfKind::Unsupported)
 }
@@ -308,7 +351,7 @@ fn keyword_reading<'a>(
         Keyword::StickTable => without_memory(table(words)),
         Keyword::Server => without_memory(server(words)),
         Keyword::Log => plain_reading(log(kind, words)),
-        Keyword::Option => plain_reading(option(words)),
+        Keyword::Option => without_memory(option(words)),
         Keyword::Timeout => plain_reading(timeout(words)),
         Keyword::Retries => without_memory(retries(words)),
         Keyword::Daemon

@@ -1,26 +1,32 @@
 //! Servers.
-ghost use Rattle.std.specs.Prelude.{◌≡◌, ◌≤◌, ◌∷◌, ◌||◌, false, length, IfOk, IfErr, Err};
-ghost use Rattle.std.specs.Option.{option_or};
-ghost use Rattle.conf_line.specs.Sound.{IsSoundWeight, IsSoundLimit, IsSoundReading};
+ghost use Rattle.std.specs.Prelude.{◌≡◌, ◌≤◌, ◌∷◌, false, length, IfOk, IfErr, Err};
+ghost use Rattle.conf_line.specs.Sound.{AreSoundOptions, IsSoundOption, IsSoundReading};
 ghost use Rattle.conf_line.specs.Words.{onto};
-ghost use Rattle.conf_line.specs.Servers.{has_value, words_after, server_flag, server_number, server_value, server_options, option_weight, option_limit, is_excess, is_disabled, is_send_proxy, is_send_proxy_v2, IsServer, server_of};
+ghost use Rattle.conf_line.specs.Servers.{has_value, words_after, server_flag, check_number, server_number, value_at, server_value, server_options, with_option, IsServer, server_of};
 
 use crate::fault::ConfKind;
-use crate::statement::{LineReading, ServerOption, ServerWords, Statement};
+use crate::statement::{
+    LineReading, MOST_CHECKS, MOST_INTERVAL, ServerOption, ServerWords, Statement,
+};
+use crate::times::time_at;
 use crate::words::{address_at, after_first, name_at, number_at, word_at};
 use proxy_types::{GREATEST_WEIGHT, MOST_CONNECTIONS};
 use text_core::Word;
 
-/// Whether a number comes after the word.
+/// Whether a value comes after the word.
 fn has_value(word: &Word) -> bool
     ensures { result ≡ has_value word.now }
 {
-    word.is(b"weight") || word.is(b"maxconn")
+    word.is(b"weight")
+        || word.is(b"maxconn")
+        || word.is(b"inter")
+        || word.is(b"fall")
+        || word.is(b"rise")
 }
 
 fn flag(word: &Word) -> Result<ServerOption, ConfKind>
     ensures value { result ≡ server_flag word.now }
-    ensures sound { IfOk result (λ option. IsSoundWeight (option_weight option)) }
+    ensures sound { IfOk result IsSoundOption }
 {
     if word.is(b"disabled") {
         Ok(ServerOption::Disabled)
@@ -28,17 +34,39 @@ fn flag(word: &Word) -> Result<ServerOption, ConfKind>
         Ok(ServerOption::SendProxy)
     } else if word.is(b"send-proxy-v2") {
         Ok(ServerOption::SendProxyV2)
+    } else if word.is(b"check") {
+        Ok(ServerOption::Check)
     } else {
         Err(ConfKind::Unsupported)
     }
 }
 
+/// The time between two checks, or how many of them fail or succeed.
+fn of_checks(name: &Word, number: u64) -> Result<ServerOption, ConfKind>
+    ensures value { result ≡ check_number name.now number }
+    ensures sound { IfOk result IsSoundOption }
+{
+    if number == 0 {
+        return Err(ConfKind::BadNumber);
+    }
+    if name.is(b"inter") {
+        Ok(ServerOption::Inter(number))
+    } else if name.is(b"fall") {
+        Ok(ServerOption::Fall(number))
+    } else {
+        Ok(ServerOption::Rise(number))
+    }
+}
+
 fn numeric(name: &Word, number: u64) -> Result<ServerOption, ConfKind>
     ensures value { result ≡ server_number name.now number }
-    ensures sound { IfOk result (λ option. IsSoundWeight (option_weight option)) }
+    ensures sound { IfOk result IsSoundOption }
 {
     if name.is(b"maxconn") {
         return Ok(ServerOption::MaxConn(number));
+    }
+    if !name.is(b"weight") {
+        return of_checks(name, number);
     }
     if number > GREATEST_WEIGHT {
         return Err(ConfKind::BadNumber);
@@ -46,11 +74,21 @@ fn numeric(name: &Word, number: u64) -> Result<ServerOption, ConfKind>
     Ok(ServerOption::Weight(number as u16))
 }
 
+/// The value of an option: a time or a number.
+fn value_at(name: &Word, value: &Word) -> Result<u64, ConfKind>
+    ensures { result ≡ value_at name.now value.now }
+{
+    if name.is(b"inter") {
+        return time_at(value.bytes());
+    }
+    number_at(value.bytes())
+}
+
 fn numeric_option(name: &Word, value: &Word) -> Result<ServerOption, ConfKind>
     ensures value { result ≡ server_value name.now value.now }
-    ensures sound { IfOk result (λ option. IsSoundWeight (option_weight option)) }
+    ensures sound { IfOk result IsSoundOption }
 {
-    let number = number_at(value.bytes())?;
+    let number = value_at(name, value)?;
     numeric(name, number)
 }
 
@@ -58,7 +96,7 @@ fn numeric_option(name: &Word, value: &Word) -> Result<ServerOption, ConfKind>
 fn option_at(name: &Word, after: &[Word]) -> Result<ServerOption, ConfKind>
     ensures ok { IfOk result (λ option. server_options (name.now ∷ after.now) ≡ onto option (server_options (words_after name.now after.now))) }
     ensures err { IfErr result (λ kind. server_options (name.now ∷ after.now) ≡ Err kind) }
-    ensures sound { IfOk result (λ option. IsSoundWeight (option_weight option)) }
+    ensures sound { IfOk result IsSoundOption }
 {
     if !has_value(name) {
         return flag(name);
@@ -82,24 +120,23 @@ fn words_after<'a, 'w>(name: &Word<'a>, after: &'w [Word<'a>]) -> &'w [Word<'a>]
 
 /// What the options say together.
 #[derive(Clone, Copy)]
-struct Options {
+pub struct Options {
     weight: Option<u16>,
     limit: Option<u64>,
     disabled: bool,
     send_proxy: bool,
     send_proxy_v2: bool,
-    /// A limit is greater than any that is taken.
+    check: bool,
+    inter: Option<u64>,
+    fall: Option<u64>,
+    rise: Option<u64>,
+    /// A number is greater than any that is taken.
     exceeds: bool,
 }
 
 /// The same with one option more, which counts before those.
 fn with_option(options: Options, option: &ServerOption) -> Options
-    ensures weight { result.weight ≡ option_or (option_weight option.now) options.weight }
-    ensures limit { result.limit ≡ option_or (option_limit option.now) options.limit }
-    ensures disabled { result.disabled ≡ (options.disabled || is_disabled option.now) }
-    ensures send_proxy { result.send_proxy ≡ (options.send_proxy || is_send_proxy option.now) }
-    ensures send_proxy_v2 { result.send_proxy_v2 ≡ (options.send_proxy_v2 || is_send_proxy_v2 option.now) }
-    ensures exceeds { result.exceeds ≡ (options.exceeds || is_excess option.now) }
+    ensures { result ≡ with_option options option.now }
 {
     match option {
         ServerOption::Weight(weight) => Options {
@@ -123,14 +160,33 @@ fn with_option(options: Options, option: &ServerOption) -> Options
             send_proxy_v2: true,
             ..options
         },
+        ServerOption::Check => Options {
+            check: true,
+            ..options
+        },
+        ServerOption::Inter(ms) => Options {
+            inter: Some(*ms),
+            exceeds: options.exceeds || *ms > MOST_INTERVAL,
+            ..options
+        },
+        ServerOption::Fall(count) => Options {
+            fall: Some(*count),
+            exceeds: options.exceeds || *count > MOST_CHECKS,
+            ..options
+        },
+        ServerOption::Rise(count) => Options {
+            rise: Some(*count),
+            exceeds: options.exceeds || *count > MOST_CHECKS,
+            ..options
+        },
     }
 }
 
 /// What all options of the words say together.
 fn all_options<'a, 'w>(words: &'w [Word<'a>]) -> Result<Options, ConfKind>
-    ensures ok { IfOk result (λ o. IsServer words.now o.weight o.limit o.disabled o.send_proxy o.send_proxy_v2 o.exceeds) }
+    ensures ok { IfOk result (IsServer words.now) }
     ensures err { IfErr result (λ kind. server_options words.now ≡ Err kind) }
-    ensures sound { IfOk result (λ o. IsSoundWeight o.weight × (o.exceeds ≡ false → IsSoundLimit o.limit)) }
+    ensures sound { IfOk result (λ options. options.exceeds ≡ false → AreSoundOptions options) }
 {
     let mut options = Options {
         weight: None,
@@ -138,6 +194,10 @@ fn all_options<'a, 'w>(words: &'w [Word<'a>]) -> Result<Options, ConfKind>
         disabled: false,
         send_proxy: false,
         send_proxy_v2: false,
+        check: false,
+        inter: None,
+        fall: None,
+        rise: None,
         exceeds: false,
     };
     let mut rest: &'w [Word<'a>] = words;
@@ -167,6 +227,10 @@ pub fn server<'a>(words: &[Word<'a>]) -> Result<LineReading<'a>, ConfKind>
             disabled: options.disabled,
             send_proxy: options.send_proxy,
             send_proxy_v2: options.send_proxy_v2,
+            check: options.check,
+            inter: options.inter,
+            fall: options.fall,
+            rise: options.rise,
         }),
         repeats: false,
         exceeds: options.exceeds,

@@ -70,6 +70,11 @@ pub enum ServerOption {
     Disabled,
     SendProxy,
     SendProxyV2,
+    Check,
+    /// In ms.
+    Inter(u64),
+    Fall(u64),
+    Rise(u64),
 }
 
 /// The words of a `server` line.
@@ -84,6 +89,14 @@ pub struct ServerWords<'a> {
     pub disabled: bool,
     pub send_proxy: bool,
     pub send_proxy_v2: bool,
+    /// Whether the server is checked (HAProxy manual, `check`).
+    pub check: bool,
+    /// How much time is between two checks, in ms, from 1 on.
+    pub inter: Option<u64>,
+    /// How many checks in a row fail until the server is down, from 1 on.
+    pub fall: Option<u64>,
+    /// How many succeed until it is up again, from 1 on.
+    pub rise: Option<u64>,
 }
 
 /// What a `timeout` line bounds (HAProxy manual, `timeout client`, `timeout connect`, `timeout server`).
@@ -97,8 +110,14 @@ pub enum TimeoutKind {
     Server,
 }
 
-/// Of the number of a `retries` line.
+/// Of the number of a `retries` line, and of that after `option redispatch`.
 pub const MOST_RETRIES: u64 = 100;
+
+/// Of `inter`, in ms: a day.
+pub const MOST_INTERVAL: u64 = 86_400_000;
+
+/// Of `fall` and `rise`.
+pub const MOST_CHECKS: u64 = 255;
 
 /// What a line says.
 #[derive(Drop)]
@@ -115,6 +134,9 @@ pub enum Statement<'a> {
     Timeout(TimeoutKind, u64),
     /// How often a server that is out of reach may be dialled again (HAProxy manual, `retries`).
     Retries(u64),
+    /// Of these times the last one goes to another server, or each of that number does, where one is given; none for 0
+    /// (HAProxy manual, `option redispatch`).
+    Redispatch(Option<u64>),
     DefaultBackend(Word<'a>),
     Balance(Method),
     /// Where connections are accepted, and whether each begins with a PROXY header.

@@ -48,6 +48,7 @@ names_after known statements.Nothing = known
 names_after known (statements.MaxConn limit) = known
 names_after known (statements.Timeout kind ms) = known
 names_after known (statements.Retries count) = known
+names_after known (statements.Redispatch every) = known
 names_after known (statements.DefaultBackend name) = known
 names_after known (statements.Balance method) = known
 names_after known (statements.Bind at proxy) = known

@@ -15,6 +15,7 @@ opens statements.Nothing = false
 opens (statements.MaxConn limit) = false
 opens (statements.Timeout kind ms) = false
 opens (statements.Retries count) = false
+opens (statements.Redispatch every) = false
 opens (statements.DefaultBackend name) = false
 opens (statements.Balance method) = false
 opens (statements.Acl name test) = false

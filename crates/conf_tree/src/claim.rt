@@ -40,6 +40,7 @@ pub fn claim_of<'a>(place: &SectionPlace<'a>, statement: &Statement<'a>) -> Opti
         | Statement::MaxConn(_)
         | Statement::Timeout(..)
         | Statement::Retries(_)
+        | Statement::Redispatch(_)
         | Statement::DefaultBackend(_)
         | Statement::Balance(_)
         | Statement::Acl(_, _)

@@ -57,6 +57,7 @@ fn names_after<'a>(
         | Statement::MaxConn(_)
         | Statement::Timeout(..)
         | Statement::Retries(_)
+        | Statement::Redispatch(_)
         | Statement::DefaultBackend(_)
         | Statement::Balance(_)
         | Statement::Bind(_, _)

@@ -24,6 +24,7 @@ fn acl_name<'a>(statement: &Statement<'a>) -> Option<Word<'a>>
         | Statement::MaxConn(_)
         | Statement::Timeout(..)
         | Statement::Retries(_)
+        | Statement::Redispatch(_)
         | Statement::DefaultBackend(_)
         | Statement::Balance(_)
         | Statement::Bind(_, _)

@@ -83,6 +83,7 @@ fn place_of<'a>(
         | Statement::MaxConn(_)
         | Statement::Timeout(..)
         | Statement::Retries(_)
+        | Statement::Redispatch(_)
         | Statement::DefaultBackend(_)
         | Statement::Balance(_)
         | Statement::Bind(_, _)
@@ -242,6 +243,7 @@ fn is_full(kept: &Kept, place: &SectionPlace, statement: &Statement) -> bool
         | Statement::MaxConn(_)
         | Statement::Timeout(..)
         | Statement::Retries(_)
+        | Statement::Redispatch(_)
         | Statement::DefaultBackend(_)
         | Statement::Balance(_)
         | Statement::StickTable(_) => false,

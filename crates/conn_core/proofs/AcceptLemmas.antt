@@ -58,7 +58,7 @@ row_is p arrival tracks (Offer offer) id version =
       version = v;
       real = arrival.real;
       accepted = arrival.accepted;
-      phase = phases.Offered (record { server = identity_of plan offer.seat.line offer.seat.server offer.seat.to; line = offer.seat.line; judged = offer.seat.judged });
+      phase = phases.Offered (record { server = identity_of plan offer.seat.line offer.seat.server offer.seat.to; line = offer.seat.line; judged = offer.seat.judged; failed = [] });
       tracks = by_counter tracks;
     } ∷ []
 row_is p arrival tracks (Refuse cause) id version = refl
@@ -79,6 +79,7 @@ pub accepted : (p : Plain) → IsCoreState p → (moment listener : ℕ) (arriva
       frontends = with_item id.frontend (entered p.versions arrival decision) p.frontends;
       versions = settled_versions arrival.version decision.outcome p.versions;
       tables = tables_passed (max p.clock moment) p.frontends p.tables (reply_by id 0 decision);
+      down = p.down;
     })
 accepted p known moment listener arrival decision id own there next version clock is =
     is_after p known (entry moment (Accept listener arrival.real) (reply_by id 0 decision)) _ (brings_none (entry moment (Accept listener arrival.real) (reply_by id 0 decision)) refl) is
@@ -91,6 +92,7 @@ accepted p known moment listener arrival decision id own there next version cloc
       frontends = slice_set p.frontends id.frontend (record own { serial = own.serial + 1; rows = own.rows ++ rs });
       versions = vs;
       tables = tables_passed (max p.clock moment) p.frontends p.tables (reply_by id 0 decision);
+      down = p.down;
     }
 
     versions : settled_versions arrival.version decision.outcome p.versions ≡ with_said (newest_number p) (said_by id 0 decision.outcome) p.versions

@@ -161,6 +161,7 @@ pub record HasEntered (old now : RowsValue) (id : ConnId) (arrival : SessionStar
   pub versions : now.versions ≡ old.versions
   pub tables : now.tables ≡ tables_alive arrival.accepted (open_tracks old.frontends) old.tables
   pub clock : now.clock ≡ arrival.accepted
+  pub down : now.down ≡ old.down
   pub spare : 3 ≤ now.spare
 
 pub has_entered : (old ready came now : RowsValue) (id : ConnId) (own : FrontendRows) (arrival : SessionStart) → IsComing old.frontends id own → 3 ≤ ready.spare → ready ≡ record old { spare = ready.spare } →
@@ -173,6 +174,7 @@ has_entered old ready came now id own arrival coming room same ok passed = recor
       ∙ ap (λ ts. tables_alive arrival.accepted ts came.tables) (arrival_tracks old.frontends id own arrival coming)
       ∙ ap (tables_alive arrival.accepted (open_tracks old.frontends)) (ap (λ (r : RowsValue). r.tables) ok ∙ ap (λ (r : RowsValue). r.tables) same);
   clock = ap (λ (r : RowsValue). r.clock) passed;
+  down = ap (λ (r : RowsValue). r.down) passed ∙ ap (λ (r : RowsValue). r.down) ok ∙ ap (λ (r : RowsValue). r.down) same;
   spare = subst (λ n. 3 ≤ n) (sym (ap (λ (r : RowsValue). r.spare) passed ∙ ap (λ (r : RowsValue). r.spare) ok)) room;
 }
   where
@@ -199,9 +201,9 @@ possible_once old now id own arrival slots coming is can =
 
 -- and then it tracks those
 pub tracking_once : (old now after : RowsValue) (id : ConnId) (own : FrontendRows) (arrival : SessionStart) (tracks : List Track) → IsComing old.frontends id own → HasEntered old now id arrival →
-    after.frontends ≡ with_conn id (row_with tracks) now.frontends → after.versions ≡ now.versions → after.tables ≡ with_tracks now.clock (open_tracks now.frontends) tracks now.tables →
+    after.frontends ≡ with_conn id (row_with tracks) now.frontends → after.versions ≡ now.versions → after.tables ≡ with_tracks now.clock (open_tracks now.frontends) tracks now.tables → after.down ≡ now.down →
     state_of after ≡ record (state_of old) { frontends = with_item id.frontend (with_newcomer arrival tracks) old.frontends; tables = with_tracks arrival.accepted (open_tracks old.frontends) tracks (tables_alive arrival.accepted (open_tracks old.frontends) old.tables) }
-tracking_once old now after id own arrival tracks coming is fronts versions tables =
+tracking_once old now after id own arrival tracks coming is fronts versions tables down =
     let opens : open_tracks now.frontends ≡ open_tracks old.frontends = ap open_tracks is.frontends ∙ arrival_tracks old.frontends id own arrival coming in
     let f : after.frontends ≡ with_item id.frontend (with_newcomer arrival tracks) old.frontends =
     fronts ∙ ap (with_conn id (row_with tracks)) is.frontends ∙ arrival_tracking old.frontends id own arrival tracks coming in
@@ -209,7 +211,8 @@ tracking_once old now after id own arrival tracks coming is fronts versions tabl
     let t : after.tables ≡ with_tracks arrival.accepted (open_tracks old.frontends) tracks (tables_alive arrival.accepted (open_tracks old.frontends) old.tables) =
     tables ∙ ap (λ n. with_tracks n (open_tracks now.frontends) tracks now.tables) is.clock ∙ ap (λ ts. with_tracks arrival.accepted ts tracks now.tables) opens
     ∙ ap (with_tracks arrival.accepted (open_tracks old.frontends) tracks) is.tables in
-    cc (f, v, t)
+    let d : after.down ≡ old.down = down ∙ is.down in
+    cc (f, v, t, d)
 
 -- Decisions.
 
@@ -282,7 +285,8 @@ offered_once old now after id own arrival decision offer coming is came offered 
     ap (λ (r : RowsValue). r.versions) offered ∙ ap (map (with_offer arrival.version offer.seat.line offer.seat.server)) versions ∙ ap (λ o. settled_versions arrival.version o old.versions) (sym is) in
     let t : after.tables ≡ tables_by arrival.accepted old.frontends (tables_then old arrival) (reply_by id 0 decision) =
     ap (λ (r : RowsValue). r.tables) offered ∙ ap (λ (s : RowsState). s.tables) came ∙ tables_offer arrival.accepted old.frontends (tables_then old arrival) id decision offer is in
-    cc (f, v, t)
+    let d : after.down ≡ old.down = ap (λ (r : RowsValue). r.down) offered ∙ ap (λ (s : RowsState). s.down) came in
+    cc (f, v, t, d)
 
 -- a refused connection that tracks nothing
 pub skipped_once : (old passed after : RowsValue) (id : ConnId) (own : FrontendRows) (arrival : SessionStart) (decision : TrackedOutcome) (cause : Cause) → IsComing old.frontends id own → decision.outcome ≡ outcomes.Refuse cause →
@@ -296,7 +300,8 @@ skipped_once old passed after id own arrival decision cause coming is none passi
     ap (λ (r : RowsValue). r.tables) skipped ∙ ap (λ (r : RowsValue). r.tables) passing
     ∙ ap (λ ts. without_tracks arrival.accepted (by_counter ts) (with_tracks arrival.accepted (open_tracks old.frontends) ts (tables_then old arrival))) (sym none)
     ∙ tables_refused arrival.accepted old.frontends (tables_then old arrival) id own decision cause coming is in
-    cc (f, v, t)
+    let d : after.down ≡ old.down = ap (λ (r : RowsValue). r.down) skipped ∙ ap (λ (r : RowsValue). r.down) passing in
+    cc (f, v, t, d)
 
 -- a refused connection that tracks some
 pub removed_once : (old now after : RowsValue) (id : ConnId) (own : FrontendRows) (arrival : SessionStart) (decision : TrackedOutcome) (cause : Cause) → IsComing old.frontends id own → decision.outcome ≡ outcomes.Refuse cause →
@@ -314,4 +319,5 @@ removed_once old now after id own arrival decision cause coming is came clock re
     ap (λ (r : RowsValue). r.tables) removed ∙ ap (λ n. without_tracks n (tracks_at now.frontends id) now.tables) clock ∙ ap (λ ts. without_tracks arrival.accepted ts now.tables) made
     ∙ ap (λ (s : RowsState). without_tracks arrival.accepted (by_counter tracks) s.tables) came
     ∙ tables_refused arrival.accepted old.frontends (tables_then old arrival) id own decision cause coming is in
-    cc (f, v, t)
+    let d : after.down ≡ old.down = ap (λ (r : RowsValue). r.down) removed ∙ ap (λ (s : RowsState). s.down) came in
+    cc (f, v, t, d)

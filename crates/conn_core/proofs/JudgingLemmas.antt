@@ -42,6 +42,9 @@ use Rattle.conn_core.specs.Judging.{decided, facts_view, AreAllowed, rows_at}
 use Rattle.conn_core.specs.Outcome.{header_in, outcome_of, reply_by, said_by}
 use Rattle.conn_core.specs.Tracking.{IsPossible}
 use Rattle.conn_core.proofs.TrackLemmas.{allowed_after}
+use Rattle.conn_model.specs.Servers.{is_down}
+use Rattle.plan_types.specs.declared.plan.Backend.{Backend}
+use Rattle.plan_types.specs.declared.plan.Server.{Server}
 
 -- the header of the form that a server wants is the one that it is sent
 header_is : (version2 version1 : Bool) (judged : PairValue) →
@@ -50,7 +53,7 @@ header_is true version1 judged = refl
 header_is false true judged = refl
 header_is false false judged = refl
 
-said_of_outcome : (id : ConnId) (used : ℕ) (judged : PairValue) (result : Result NumberedServer Cause) → said_by id used (outcome_of judged result) ≡ said_of id used judged result
+pub said_of_outcome : (id : ConnId) (used : ℕ) (judged : PairValue) (result : Result NumberedServer Cause) → said_by id used (outcome_of judged result) ≡ said_of id used judged result
 said_of_outcome id used judged (Ok given) = ap (λ (items : List ℕ). GiveServer id used given.server.line given.number given.server.to judged (record { items = items })) (header_is given.server.send_proxy_v2 given.server.send_proxy judged)
 said_of_outcome id used judged (Err cause) = refl
 
@@ -61,22 +64,22 @@ own_number versions number version there =
     ap (version_at versions) is ∙ there
 
 -- a decision offers a server of the version that judges, where the plans are sound
-pub can_offer : (served : ServerIdentity → ℕ) (versions : List Version) (number : ℕ) (version : Version) (id : ConnId) (used : ℕ) (outcome : Outcome) → AreSound versions → version_at versions number ≡ Some version →
-    OffersWell served version.plan (said_by id used outcome) → CanOffer versions number outcome
-can_offer served versions number version id used outcomes.Wait sound there offers = tt
-can_offer served versions number version id used (outcomes.Offer offer) sound there offers =
+pub can_offer : (served : ServerIdentity → ℕ) (barred : Backend → Server → Bool) (versions : List Version) (number : ℕ) (version : Version) (id : ConnId) (used : ℕ) (outcome : Outcome) → AreSound versions → version_at versions number ≡ Some version →
+    OffersWell served barred version.plan (said_by id used outcome) → CanOffer versions number outcome
+can_offer served barred versions number version id used outcomes.Wait sound there offers = tt
+can_offer served barred versions number version id used (outcomes.Offer offer) sound there offers =
     let plan = (all-found (λ v. IsSoundPlan v.plan) (λ v. v.number == number) versions version sound there).0 in (
       record {
         kept = version;
         backend = offers.backend;
         server = offers.server;
         version_is = there;
-        backend_is = offered_backend served version.plan offer.seat.line offer.seat.server offer.seat.to offers plan.lines;
+        backend_is = offered_backend served barred version.plan offer.seat.line offer.seat.server offer.seat.to offers plan.lines;
         server_is = offers.found;
       },
       offers.to_is,
     )
-can_offer served versions number version id used (outcomes.Refuse cause) sound there offers = tt
+can_offer served barred versions number version id used (outcomes.Refuse cause) sound there offers = tt
 
 -- so does one at an accept
 pub accept_offers : (q : Plain) → IsCoreState q → (clock listener : ℕ) (real : PairValue) (id : ConnId) (decision : TrackedOutcome) (version : Version) → newest q.versions ≡ Some version →
@@ -85,11 +88,12 @@ accept_offers q known clock listener real id decision version newest_is answer =
     let got : Accepted q clock listener real (reply_by id 0 decision) = accepted q clock listener real (reply_by id 0 decision) answer in
     let candidate : Candidate = candidate_at q clock got.at.frontend real got.own got.version got.frontend in
     let served : ServerIdentity → ℕ = served_by candidate.state.frontends in
+    let barred : Backend → Server → Bool = is_down candidate.state.down in
     let same : got.version ≡ version = let it : Some got.version ≡ Some version = sym got.newest_is ∙ newest_is in cc in
-    let offers : OffersWell served got.version.plan (said_by id 0 decision.outcome) =
-    subst (λ (r : Reply). OffersWell served got.version.plan r.said) got.reply_is (admission-offers candidate got.at.accept_proxy real (length got.own.rows)) in
-    can_offer served q.versions version.number version id 0 decision.outcome known.plans (newest-at q.versions version known.well.rise newest_is)
-    (subst (λ (v : Version). OffersWell served v.plan (said_by id 0 decision.outcome)) same offers)
+    let offers : OffersWell served barred got.version.plan (said_by id 0 decision.outcome) =
+    subst (λ (r : Reply). OffersWell served barred got.version.plan r.said) got.reply_is (admission-offers candidate got.at.accept_proxy real (length got.own.rows)) in
+    can_offer served barred q.versions version.number version id 0 decision.outcome known.plans (newest-at q.versions version known.well.rise newest_is)
+    (subst (λ (v : Version). OffersWell served barred v.plan (said_by id 0 decision.outcome)) same offers)
 
 -- the reply of what the session rules and then the backend decide
 pub decided_by : (views : List Track → RuleView) (frontend : Frontend) (earlier : TrackSlots) (judged : PairValue) (says : Judged) (result : Result NumberedServer Cause) (outcome : Outcome) →

@@ -5,6 +5,7 @@ pub mod RowLemmas
 pub mod SeenLemmas
 pub mod NeededLemmas
 pub mod StateLemmas
+pub mod MovedLemmas
 pub mod PossibleLemmas
 pub mod TrackedLemmas
 pub mod EnterLemmas

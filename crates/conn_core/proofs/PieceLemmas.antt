@@ -240,11 +240,11 @@ no_wait id other used count judged (Ok given) is = let wrong : saids.Wait other 
 no_wait id other used count judged (Err cause) is = let wrong : saids.Wait other count ≡ said_of id used judged (Err cause) = is in cc
 
 -- the open connections once a decision is kept
-frontends_settled : (versions : List Version) (event : OwnedEvent) (id : ConnId) (used : ℕ) (outcome : Outcome) (slots : TrackSlots) (frontends : List FrontendRows) → ((other : ConnId) (count : ℕ) → said_by id used outcome ≡ saids.Wait other count → ⊥) →
-    settled versions id outcome (with_conn id (row_with (present slots)) frontends) ≡ spoken versions event id (reply_with (said_by id used outcome) slots) frontends
-frontends_settled versions event id used outcomes.Wait slots frontends decides = absurd (decides id used refl)
-frontends_settled versions event id used (outcomes.Offer offer) slots frontends decides = changed_twice id (row_with (present slots)) (row_offered versions offer.seat) frontends (λ row. refl)
-frontends_settled versions event id used (outcomes.Refuse cause) slots frontends decides = changed_gone id (row_with (present slots)) frontends (λ row. refl)
+frontends_settled : (versions : List Version) (bytes : List ℕ) (id : ConnId) (used : ℕ) (outcome : Outcome) (slots : TrackSlots) (frontends : List FrontendRows) → ((other : ConnId) (count : ℕ) → said_by id used outcome ≡ saids.Wait other count → ⊥) →
+    settled versions id outcome (with_conn id (row_with (present slots)) frontends) ≡ spoken versions (Piece id bytes) id (reply_with (said_by id used outcome) slots) frontends
+frontends_settled versions bytes id used outcomes.Wait slots frontends decides = absurd (decides id used refl)
+frontends_settled versions bytes id used (outcomes.Offer offer) slots frontends decides = changed_twice id (row_with (present slots)) (row_offered versions offer.seat) frontends (λ row. refl)
+frontends_settled versions bytes id used (outcomes.Refuse cause) slots frontends decides = changed_gone id (row_with (present slots)) frontends (λ row. refl)
 
 -- what a connection tracks, once it tracks those too
 tracks_with : (frontends : List FrontendRows) (id : ConnId) (tracks : List Track) → IsSome (row_at frontends id) → tracks_at (with_conn id (row_with tracks) frontends) id ≡ by_counter (tracks_at frontends id ++ tracks)
@@ -265,23 +265,23 @@ tables_settled moment id used (outcomes.Offer offer) slots frontends tables deci
 tables_settled moment id used (outcomes.Refuse cause) slots frontends tables decides there =
     ap (λ ts. without_tracks moment ts (with_tracks moment (open_tracks frontends) (present slots) tables)) (tracks_with frontends id (present slots) there)
 
-pub settled_once : (old now after : RowsValue) (event : OwnedEvent) (id : ConnId) (version used : ℕ) (judged : PairValue) (result : Result NumberedServer Cause) (decided : TrackedOutcome) (reply : Reply) → IsSome (row_at old.frontends id) →
+pub settled_once : (old now after : RowsValue) (bytes : List ℕ) (id : ConnId) (version used : ℕ) (judged : PairValue) (result : Result NumberedServer Cause) (decided : TrackedOutcome) (reply : Reply) → IsSome (row_at old.frontends id) →
     said_by id used decided.outcome ≡ said_of id used judged result →
-    now.frontends ≡ with_conn id (row_with (present decided.tracks)) old.frontends → now.versions ≡ old.versions → now.clock ≡ old.clock → now.tables ≡ with_tracks old.clock (open_tracks old.frontends) (present decided.tracks) old.tables →
+    now.frontends ≡ with_conn id (row_with (present decided.tracks)) old.frontends → now.versions ≡ old.versions → now.clock ≡ old.clock → now.tables ≡ with_tracks old.clock (open_tracks old.frontends) (present decided.tracks) old.tables → now.down ≡ old.down →
     after ≡ record now { frontends = settled now.versions id decided.outcome now.frontends; versions = settled_versions version decided.outcome now.versions; tables = settled_tables now.clock id decided.outcome now.frontends now.tables } →
-    reply ≡ reply_by id used decided → state_of after ≡ state_spoken old event id version reply
-settled_once old now after event id version used judged result decided reply there said fronts versions clock tables kept reply_is =
-    let f : after.frontends ≡ spoken old.versions event id (reply_by id used decided) old.frontends =
+    reply ≡ reply_by id used decided → state_of after ≡ state_spoken old (Piece id bytes) id version reply
+settled_once old now after bytes id version used judged result decided reply there said fronts versions clock tables down kept reply_is =
+    let f : after.frontends ≡ spoken old.versions (Piece id bytes) id (reply_by id used decided) old.frontends =
     ap (λ (r : RowsValue). r.frontends) kept ∙ ap (λ vs. settled vs id decided.outcome now.frontends) versions ∙ ap (settled old.versions id decided.outcome) fronts
-    ∙ frontends_settled old.versions event id used decided.outcome decided.tracks old.frontends decides in
+    ∙ frontends_settled old.versions bytes id used decided.outcome decided.tracks old.frontends decides in
     let v : after.versions ≡ with_said version (said_by id used decided.outcome) old.versions =
     ap (λ (r : RowsValue). r.versions) kept ∙ ap (settled_versions version decided.outcome) versions ∙ versions_are id used version decided.outcome old.versions in
     let t : after.tables ≡ tables_by old.clock old.frontends old.tables (reply_by id used decided) =
     ap (λ (r : RowsValue). r.tables) kept ∙ ap (λ n. settled_tables n id decided.outcome now.frontends now.tables) clock ∙ ap (λ fs. settled_tables old.clock id decided.outcome fs now.tables) fronts
     ∙ ap (settled_tables old.clock id decided.outcome (with_conn id (row_with (present decided.tracks)) old.frontends)) tables
     ∙ tables_settled old.clock id used decided.outcome decided.tracks old.frontends old.tables decides there in
-    let all : state_of after ≡ state_spoken old event id version (reply_by id used decided) = cc (f, v, t) in
-    all ∙ ap (state_spoken old event id version) (sym reply_is)
+    let all : state_of after ≡ state_spoken old (Piece id bytes) id version (reply_by id used decided) = let d : after.down ≡ old.down = ap (λ (r : RowsValue). r.down) kept ∙ down in cc (f, v, t, d) in
+    all ∙ ap (state_spoken old (Piece id bytes) id version) (sym reply_is)
   where
     decides : (other : ConnId) (count : ℕ) → said_by id used decided.outcome ≡ saids.Wait other count → ⊥
     decides other count waits = no_wait id other used count judged result (sym waits ∙ said)
@@ -289,11 +289,11 @@ settled_once old now after event id version used judged result decided reply the
 -- A header that is whole.
 
 -- what is said once the header is whole ends the connection or gives it a server, and either replaces what the piece left
-spoken_fed : (frontends : List FrontendRows) (versions : List Version) (event : OwnedEvent) (id : ConnId) (piece : List ℕ) (used : ℕ) (judged : PairValue) (result : Result NumberedServer Cause) (made : TrackSlots) →
-    spoken versions event id (reply_with (said_of id used judged result) made) (with_conn id (row_fed piece) frontends) ≡ spoken versions event id (reply_with (said_of id used judged result) made) frontends
-spoken_fed frontends versions event id piece used judged (Ok given) made =
-    changed_twice id (row_fed piece) (row_by versions event (reply_with (said_of id used judged (Ok given)) made)) frontends (λ row. refl)
-spoken_fed frontends versions event id piece used judged (Err cause) made = changed_gone id (row_fed piece) frontends (λ row. refl)
+spoken_fed : (frontends : List FrontendRows) (versions : List Version) (bytes : List ℕ) (id : ConnId) (piece : List ℕ) (used : ℕ) (judged : PairValue) (result : Result NumberedServer Cause) (made : TrackSlots) →
+    spoken versions (Piece id bytes) id (reply_with (said_of id used judged result) made) (with_conn id (row_fed piece) frontends) ≡ spoken versions (Piece id bytes) id (reply_with (said_of id used judged result) made) frontends
+spoken_fed frontends versions bytes id piece used judged (Ok given) made =
+    changed_twice id (row_fed piece) (row_by versions (Piece id bytes) (reply_with (said_of id used judged (Ok given)) made)) frontends (λ row. refl)
+spoken_fed frontends versions bytes id piece used judged (Err cause) made = changed_gone id (row_fed piece) frontends (λ row. refl)
 
 tables_fed : (moment : ℕ) (frontends : List FrontendRows) (tables : List TableState) (id : ConnId) (piece : List ℕ) (used : ℕ) (judged : PairValue) (result : Result NumberedServer Cause) (made : TrackSlots) →
     tables_by moment (with_conn id (row_fed piece) frontends) tables (reply_with (said_of id used judged result) made) ≡ tables_by moment frontends tables (reply_with (said_of id used judged result) made)
@@ -302,16 +302,16 @@ tables_fed moment frontends tables id piece used judged (Err cause) made =
     ap (λ ts. without_tracks moment (by_counter (tracks_at (with_conn id (row_fed piece) frontends) id ++ present made)) (with_tracks moment ts (present made) tables)) (open_tracks-same id (row_fed piece) frontends (fed_unseen piece))
     ∙ ap (λ ts. without_tracks moment (by_counter (ts ++ present made)) (with_tracks moment (open_tracks frontends) (present made) tables)) (tracks_at-same id (row_fed piece) frontends (fed_unseen piece))
 
-pub decided_once : (old fed after : RowsValue) (event : OwnedEvent) (id : ConnId) (number : ℕ) (piece : List ℕ) (p : Plain) (version : Version) (frontend : Frontend) (used : ℕ) (judged : PairValue) (reply : Reply) →
-    reply ≡ decision (candidate_of p id version frontend) used judged no_tracks → fed ≡ record old { frontends = with_conn id (row_fed piece) old.frontends } → state_of after ≡ state_spoken fed event id number reply →
-    state_of after ≡ state_spoken old event id number reply
-decided_once old fed after event id number piece p version frontend used judged reply reply_is fed_is after_is =
+pub decided_once : (old fed after : RowsValue) (bytes : List ℕ) (id : ConnId) (number : ℕ) (piece : List ℕ) (p : Plain) (version : Version) (frontend : Frontend) (used : ℕ) (judged : PairValue) (reply : Reply) →
+    reply ≡ decision (candidate_of p id version frontend) used judged no_tracks → fed ≡ record old { frontends = with_conn id (row_fed piece) old.frontends } → state_of after ≡ state_spoken fed (Piece id bytes) id number reply →
+    state_of after ≡ state_spoken old (Piece id bytes) id number reply
+decided_once old fed after bytes id number piece p version frontend used judged reply reply_is fed_is after_is =
     after_is
-    ∙ ap (λ (r : RowsValue). state_spoken r event id number reply) fed_is
-    ∙ ap (λ (r : Reply). state_spoken fed_rows event id number r) reply_is
-    ∙ ap (λ fs. record (state_of old) { frontends = fs; versions = with_said number said.said old.versions; tables = tables_by old.clock fed_rows.frontends old.tables said }) (spoken_fed old.frontends old.versions event id piece used judged decided.result decided.made)
-    ∙ ap (λ ts. record (state_of old) { frontends = spoken old.versions event id said old.frontends; versions = with_said number said.said old.versions; tables = ts }) (tables_fed old.clock old.frontends old.tables id piece used judged decided.result decided.made)
-    ∙ ap (state_spoken old event id number) (sym reply_is)
+    ∙ ap (λ (r : RowsValue). state_spoken r (Piece id bytes) id number reply) fed_is
+    ∙ ap (λ (r : Reply). state_spoken fed_rows (Piece id bytes) id number r) reply_is
+    ∙ ap (λ fs. record (state_of old) { frontends = fs; versions = with_said number said.said old.versions; tables = tables_by old.clock fed_rows.frontends old.tables said }) (spoken_fed old.frontends old.versions bytes id piece used judged decided.result decided.made)
+    ∙ ap (λ ts. record (state_of old) { frontends = spoken old.versions (Piece id bytes) id said old.frontends; versions = with_said number said.said old.versions; tables = ts }) (tables_fed old.clock old.frontends old.tables id piece used judged decided.result decided.made)
+    ∙ ap (state_spoken old (Piece id bytes) id number) (sym reply_is)
   where
     fed_rows : RowsValue
     fed_rows = record old { frontends = with_conn id (row_fed piece) old.frontends }

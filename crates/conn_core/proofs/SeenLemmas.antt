@@ -39,6 +39,9 @@ use Rattle.conn_core.specs.Counts.{IsSeen}
 use Rattle.conn_core.specs.Judging.{arrival_in, facts_view, rows_at}
 use Rattle.conn_core.specs.Seeing.{SeesNext}
 use Rattle.conn_core.proofs.EnterLemmas.{find-new, flat_map-set, tracks-new}
+use Rattle.conn_model.specs.Servers.{is_down}
+use Rattle.plan_types.specs.declared.plan.Backend.{Backend}
+use Rattle.plan_types.specs.declared.plan.Server.{Server}
 
 -- a total with one item in place of another that counts for some more
 total-gain : {X : Type 0} (f : X → ℕ) (xs : List X) (n : ℕ) (x y : X) (more : ℕ) → slice_get xs n ≡ Some x → f y ≡ f x + more → total f (slice_set xs n y) ≡ total f xs + more
@@ -69,16 +72,17 @@ counted-arrival test rows row none = ap length (filter-append test rows (row ∷
 -- Views.
 
 -- views are equal by their parts
-view_is : {s s' : Addr} {v v' : Version} {f f' : Frontend} {ts ts' : List TableState} {os os' ms ms' : List Track} {n n' : ℕ} {named named' offered offered' : List ℕ → ℕ} {served served' : ServerIdentity → ℕ} {made : List Track} →
-    s ≡ s' → v ≡ v' → f ≡ f' → ts ≡ ts' → os ≡ os' → ms ≡ ms' → n ≡ n' → named ≡ named' → offered ≡ offered' → served ≡ served' →
+view_is : {s s' : Addr} {v v' : Version} {f f' : Frontend} {ts ts' : List TableState} {os os' ms ms' : List Track} {n n' : ℕ} {named named' offered offered' : List ℕ → ℕ} {served served' : ServerIdentity → ℕ} {barred barred' : Backend → Server → Bool} {made : List Track} →
+    s ≡ s' → v ≡ v' → f ≡ f' → ts ≡ ts' → os ≡ os' → ms ≡ ms' → n ≡ n' → named ≡ named' → offered ≡ offered' → served ≡ served' → barred ≡ barred' →
     ◌≡◌ {A = RuleView}
-    (record { source = s; version = v; frontend = f; tables = ts; tracks = os; own = ms; made = made; connections = n; named = named; offered = offered; served = served })
-    (record { source = s'; version = v'; frontend = f'; tables = ts'; tracks = os'; own = ms'; made = made; connections = n'; named = named'; offered = offered'; served = served' })
-view_is e1 e2 e3 e4 e5 e6 e7 e8 e9 e10 = cc (e1, e2, e3, e4, e5, e6, e7, e8, e9, e10)
+    (record { source = s; version = v; frontend = f; tables = ts; tracks = os; own = ms; made = made; connections = n; named = named; offered = offered; served = served; barred = barred })
+    (record { source = s'; version = v'; frontend = f'; tables = ts'; tracks = os'; own = ms'; made = made; connections = n'; named = named'; offered = offered'; served = served'; barred = barred' })
+view_is e1 e2 e3 e4 e5 e6 e7 e8 e9 e10 e11 = cc (e1, e2, e3, e4, e5, e6, e7, e8, e9, e10, e11)
 
 pub record SeesArrival (p : Plain) (own : FrontendRows) (version : Version) (frontend : Frontend) (facts : RuleFacts) (source : Addr) : Type 0 where
   pub rows : facts.rows.now.frontends ≡ p.frontends
   pub tables : (rows_at facts.moment facts.rows.now).tables ≡ p.tables
+  pub down : facts.rows.now.down ≡ p.down
   pub version_is : facts.version.now ≡ version
   pub frontend_is : facts.frontend.now ≡ frontend
   pub name : facts.name.now ≡ own.name
@@ -130,7 +134,7 @@ view_at_accept p clock number real own version frontend facts there given sees =
     count = ap (λ o. option_map_or (λ f. length f.rows) o 0) (get-set p.frontends number own after there) ∙ longer ∙ sym sees.connections
 
     by : (made : List Track) → view_of (candidate_at p clock number real own version frontend) real.source.addr made ≡ facts_view facts made
-    by made = view_is (sym sees.judged) (sym sees.version_is) (sym sees.frontend_is) (sym sees.tables) tracks nothing count (fun_ext named) (fun_ext offered) served
+    by made = view_is (sym sees.judged) (sym sees.version_is) (sym sees.frontend_is) (sym sees.tables) tracks nothing count (fun_ext named) (fun_ext offered) served (ap is_down (sym sees.down))
 
 -- what rules see of the one that comes next
 pub sees_next : {facts : RuleFacts} (p : Plain) (listener : ℕ) (at : Listener) (real : PairValue) (own : FrontendRows) (version : Version) (frontend : Frontend) →
@@ -172,7 +176,7 @@ view_later state id version frontend facts source same own sees = fun_ext by
         ∙ ap (λ b. open_named facts.rows.now.frontends name + arrival_in b facts.name.now name) (sym sees.arriving)
 
     by : (made : List Track) → view_of (candidate_of state id version frontend) source made ≡ facts_view facts made
-    by made = view_is (sym sees.judged) (sym sees.version_is) (sym sees.frontend_is) same.tables same.tracks (same.tracked ∙ sym own) (same.own ∙ sym sees.connections) (fun_ext named) (fun_ext same.offered) (fun_ext same.served)
+    by made = view_is (sym sees.judged) (sym sees.version_is) (sym sees.frontend_is) same.tables same.tracks (same.tracked ∙ sym own) (same.own ∙ sym sees.connections) (fun_ext named) (fun_ext same.offered) (fun_ext same.served) (ap is_down same.down)
 
 -- At the moment up to which time has passed, rules see the rows as they are.
 pub rows_now : (moment : ℕ) (rows : RowsValue) → moment ≡ rows.clock → tables_alive rows.clock (open_tracks rows.frontends) rows.tables ≡ rows.tables → rows_at moment rows ≡ rows
@@ -228,9 +232,9 @@ tracks_at-same id change frontends unseen = ap (λ o. option_map_or (λ (row : R
     by (Some row) = unseen.tracks row
 
 -- rules see the same after it
-seen_changed : (id : ConnId) (change : Row → Row) (state : Plain) (rows : RowsValue) → IsUnseen change → state.frontends ≡ rows.frontends → state.tables ≡ rows.tables →
+seen_changed : (id : ConnId) (change : Row → Row) (state : Plain) (rows : RowsValue) → IsUnseen change → state.frontends ≡ rows.frontends → state.tables ≡ rows.tables → state.down ≡ rows.down →
     IsSeen id state (record rows { frontends = with_conn id change rows.frontends })
-seen_changed id change state rows unseen same tables = record {
+seen_changed id change state rows unseen same tables down = record {
   own = ap (λ fs. open_in fs id.frontend) same ∙ sym (ap (λ o. option_map_or (λ f. length f.rows) o 0) (own_changed id change rows.frontends) ∙ by (slice_get rows.frontends id.frontend));
   named = λ name. ap (λ fs. open_named fs name) same ∙ sym (total-item (open_if name) (with_row id.serial change) rows.frontends id.frontend (λ own. ap (λ n. if bytes_eq own.name name then n else 0) (many own.rows)));
   offered = λ name. ap (λ fs. offered_to fs name) same ∙ sym (total-item (offered_in name) (with_row id.serial change) rows.frontends id.frontend (λ own. counted-same (λ row. is_offered_to name row.phase) id.serial change own.rows
@@ -240,6 +244,7 @@ seen_changed id change state rows unseen same tables = record {
   tracks = ap open_tracks same ∙ sym (open_tracks-same id change rows.frontends unseen);
   tracked = ap (λ fs. tracks_at fs id) same ∙ sym (tracks_at-same id change rows.frontends unseen);
   tables = tables;
+  down = down;
 }
   where
     many : (list : List Row) → length (change_row id.serial change list) ≡ length list
@@ -258,6 +263,6 @@ fed_unseen piece = record { serial = λ row. refl; tracks = λ row. refl; server
     by (Offered assignment) = refl
     by (Up assignment) = refl
 
-pub seen_fed : (id : ConnId) (piece : List ℕ) (state : Plain) (rows : RowsValue) → state.frontends ≡ rows.frontends → state.tables ≡ rows.tables →
+pub seen_fed : (id : ConnId) (piece : List ℕ) (state : Plain) (rows : RowsValue) → state.frontends ≡ rows.frontends → state.tables ≡ rows.tables → state.down ≡ rows.down →
     IsSeen id state (record rows { frontends = with_conn id (row_fed piece) rows.frontends })
-seen_fed id piece state rows same tables = seen_changed id (row_fed piece) state rows (fed_unseen piece) same tables
+seen_fed id piece state rows same tables down = seen_changed id (row_fed piece) state rows (fed_unseen piece) same tables down

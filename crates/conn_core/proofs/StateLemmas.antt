@@ -10,10 +10,10 @@ use Rattle.config_core.specs.Meaning.{meaning}
 use Rattle.config_core.specs.declared.fault.OpenFault.{OpenFault}
 use Rattle.conn_model.specs.declared.event.ConnId.{ConnId}
 use Rattle.conn_model.specs.declared.event.OwnedEvent.{OwnedEvent}
-use Rattle.conn_model.specs.declared.event.OwnedEvent.TheVariants.{Accept, Piece, Connected, ConnectFailed, Close, Expire, Reload}
+use Rattle.conn_model.specs.declared.event.OwnedEvent.TheVariants.{Accept, Piece, Connected, ConnectFailed, Close, Expire, Reload, Mark}
 use Rattle.conn_model.specs.declared.reply.Reply.{Reply}
 use Rattle.conn_model.specs.declared.reply.Said.{Said}
-use Rattle.conn_model.specs.declared.reply.Said.TheVariants.{Reloaded, Up}
+use Rattle.conn_model.specs.declared.reply.Said.TheVariants.{Reloaded, Up, Marked}
 use Rattle.conn_model.specs.declared.plain.Row.{Row}
 use Rattle.conn_model.specs.declared.plain.FrontendRows.{FrontendRows}
 use Rattle.conn_model.specs.declared.plain.Listener.{Listener}
@@ -21,8 +21,8 @@ use Rattle.conn_model.specs.declared.plain.TableState.{TableState}
 use Rattle.conn_model.specs.declared.plain.Version.{Version}
 use Rattle.conn_model.specs.declared.plain.Plain.{Plain}
 use Rattle.conn_model.specs.Counts.{change_row}
-use Rattle.conn_model.specs.Answer.{answer_in, at_moment, reply_of, row_at, row_in}
-use Rattle.conn_model.specs.History.{after, by_counter, entry, id_of, is_last, judging_version, needed_versions, newest_number, next_version, number_said, phase_by, phase_up, plan_in, plan_of, plan_with, tables_passed, tables_with, tracks_at, version_of, with_said, with_version, Entry}
+use Rattle.conn_model.specs.Answer.{answer_in, at_moment, reply_of, row_at, row_in, checked_server, mark_answer}
+use Rattle.conn_model.specs.History.{after, by_counter, entry, id_of, is_last, judging_version, needed_versions, newest_number, next_version, number_said, phase_by, phase_up, plan_in, plan_of, plan_with, tables_passed, tables_with, tracks_at, version_of, with_said, with_version, Entry, marked_by}
 use Rattle.plan_types.specs.declared.plan.Table.{Table}
 use Rattle.plan_types.specs.declared.track.Track.{Track}
 use Rattle.conn_model.specs.Tables.{is_listed_by, is_new, new_table, table_alive, tables_alive, without_tracks, written_tables}
@@ -31,7 +31,7 @@ use Rattle.conn_model.proofs.Goes.{well_at}
 use Rattle.conn_model.proofs.Lists.{all-more}
 use Rattle.conn_model.proofs.Trackings.{tables_ended, tables_kept}
 use Rattle.conn_model.proofs.Well.{after-nil, well_after}
-use Rattle.conn_model.proofs.Steps.{after-change, after-end, after-reload, judging-old, last_no_offer, row_said, versions_kept, IsOfOpen}
+use Rattle.conn_model.proofs.Steps.{after-change, after-end, after-reload, judging-old, last_no_offer, row_said, versions_kept, IsOfOpen, after-mark}
 use Rattle.conn_model.proofs.Versions.{newest-end}
 use Rattle.conn_model.proofs.VersionSteps.{plans_stay}
 use Rattle.conn_model.specs.Changes.{row_up, with_conn, without_conn}
@@ -40,6 +40,11 @@ use Rattle.conn_rows.specs.Stored.{plan_at}
 use Rattle.conn_rows.specs.Value.{RowsValue}
 use Rattle.conn_core.specs.Changes.{forgotten, row_by, spoken}
 use Rattle.conn_core.specs.Machine.{state_of, IsCoreState}
+use Rattle.conn_model.specs.declared.event.Health.{Health}
+use Rattle.plan_types.specs.declared.plan.Backend.{Backend}
+use Rattle.plan_types.specs.declared.plan.Server.{Server}
+use Rattle.proxy_types.specs.declared.server.ServerIdentity.{ServerIdentity}
+use Rattle.conn_model.specs.Servers.{identity_in}
 
 -- an event with no plan brings no version
 no_version : (e : Entry) → plan_with e.event ≡ None → version_of e ≡ None
@@ -116,6 +121,7 @@ frontend_of frontends id row is = by (slice_get frontends id.frontend) refl
 -- an event of an open connection comes with no plan
 open_no_plan : (event : OwnedEvent) → IsOfOpen event → plan_with event ≡ None
 open_no_plan (Accept listener real) old = absurd old
+open_no_plan (Mark number n health) old = absurd old
 open_no_plan (Piece id bytes) old = refl
 open_no_plan (Connected id) old = refl
 open_no_plan (ConnectFailed id) old = refl
@@ -132,6 +138,7 @@ pub after_spoken : (p : Plain) → IsCoreState p → (moment : ℕ) (event : Own
       frontends = spoken p.versions event id reply p.frontends;
       versions = with_said row.version reply.said p.versions;
       tables = tables_passed (max p.clock moment) p.frontends p.tables reply;
+      down = p.down;
     }))
 after_spoken p known moment event id reply row open_now old whom is =
     is_after p known (entry moment event reply) _ (brings_none (entry moment event reply) (open_no_plan event old)) is (by (is_last reply.said) refl)
@@ -149,6 +156,7 @@ after_spoken p known moment event id reply row open_now old whom is =
       frontends = frontends;
       versions = versions;
       tables = tables_passed (max p.clock moment) p.frontends p.tables reply;
+      down = p.down;
     }
 
     judges : judging_version p.frontends (newest_number p) reply.said ≡ row.version
@@ -180,12 +188,13 @@ pub after_last : (p : Plain) → IsCoreState p → (moment : ℕ) (event : Owned
       frontends = without_conn id p.frontends;
       versions = p.versions;
       tables = without_tracks (max p.clock moment) (tracks_at p.frontends id) (at_moment moment p).tables;
+      down = p.down;
     }))
 after_last p known moment event id said row open_now old whom last is =
     subst (IsAfter p (entry moment event (reply_of said))) same (after_spoken p known moment event id (reply_of said) row open_now old whom is)
   where
     state : List FrontendRows → List Version → List TableState → Plain
-    state frontends versions tables = record { clock = max p.clock moment; listeners = p.listeners; frontends = frontends; versions = versions; tables = tables }
+    state frontends versions tables = record { clock = max p.clock moment; listeners = p.listeners; frontends = frontends; versions = versions; tables = tables; down = p.down }
 
     versions : with_said row.version said p.versions ≡ p.versions
     versions = versions_kept row.version said p.versions (last_no_offer said last)
@@ -219,6 +228,7 @@ pub after_up : (p : Plain) → IsCoreState p → (moment : ℕ) (id : ConnId) (r
       frontends = with_conn id row_up p.frontends;
       versions = p.versions;
       tables = (at_moment moment p).tables;
+      down = p.down;
     })
 after_up p known moment id row open_now is =
     subst (IsAfter p (entry moment (Connected id) (reply_of (Up id)))) same (after_spoken p known moment (Connected id) id (reply_of (Up id)) row open_now tt refl is)
@@ -241,7 +251,7 @@ after_up p known moment id row open_now is =
     frontends = rw there (ap (λ rows. slice_set p.frontends id.frontend (record own { rows = rows })) (rows-alike id.serial said_up row_up own.rows each))
 
     state : List FrontendRows → List TableState → Plain
-    state fs tables = record { clock = max p.clock moment; listeners = p.listeners; frontends = fs; versions = p.versions; tables = tables }
+    state fs tables = record { clock = max p.clock moment; listeners = p.listeners; frontends = fs; versions = p.versions; tables = tables; down = p.down }
 
     same : state (with_conn id said_up p.frontends) (tables_passed (max p.clock moment) p.frontends p.tables (reply_of (Up id))) ≡ state (with_conn id row_up p.frontends) (at_moment moment p).tables
     same = ap (λ fs. state fs (tables_passed (max p.clock moment) p.frontends p.tables (reply_of (Up id)))) frontends ∙ ap (state (with_conn id row_up p.frontends)) (tables_kept (max p.clock moment) (at_moment moment p).tables p (Up id) refl)
@@ -273,6 +283,7 @@ pub after_reload : (p : Plain) → IsCoreState p → (moment number : ℕ) (text
       frontends = p.frontends;
       versions = with_version p.versions (Some (number, plan));
       tables = (at_moment moment p).tables ++ tables_with (newest p.versions) (Some (number, plan));
+      down = p.down;
     }))
 after_reload p known moment number text plan meant sound is =
     is_after p known e _ brings is (ap pruned_to (newest_last p.versions next) ∙ sym (after-reload p known.well moment number text plan meant))
@@ -290,6 +301,7 @@ after_reload p known moment number text plan meant sound is =
       frontends = p.frontends;
       versions = needed_versions p.frontends force (p.versions ++ next ∷ []);
       tables = filter (is_listed_by (needed_versions p.frontends force (p.versions ++ next ∷ []))) ((at_moment moment p).tables ++ tables_with (newest p.versions) (Some (number, plan)));
+      down = p.down;
     }
 
     brings : BringsSound e
@@ -298,3 +310,26 @@ after_reload p known moment number text plan meant sound is =
         let both : Some (number, plan) ≡ Some (n, other) = sym it ∙ brought in
         let same : (number, plan) ≡ (n, other) = cc in
         subst IsSoundPlan (ap (λ (pair : ℕ × Plan). pair.1) same) sound
+
+-- A report of a server.
+
+-- its answer
+pub mark_answered : (p : Plain) (number n : ℕ) (health : Health) (found : Backend × Server) → checked_server p.versions number n ≡ Some found → mark_answer p number n health ≡ Ok (reply_of (Marked found.1.line health))
+mark_answered p number n health found there = rw there refl
+
+-- the state once a server that is checked was reported
+pub after_marked : (p : Plain) → IsCoreState p → (moment number n : ℕ) (health : Health) (found : Backend × Server) → checked_server p.versions number n ≡ Some found →
+    IsAfter p (entry moment (Mark number n health) (reply_of (Marked found.1.line health)))
+    (record p { clock = max p.clock moment; tables = (at_moment moment p).tables; down = marked_by (Some (identity_in found.0 found.1, health)) p.down })
+after_marked p known moment number n health found there =
+    is_after p known e _ (brings_none e refl) (mark_answered p number n health found there)
+    (ap left (sym there) ∙ sym (after-mark p known.well moment number n found.1.line health))
+  where
+    e : Entry
+    e = entry moment (Mark number n health) (reply_of (Marked found.1.line health))
+
+    reported : Backend × Server → ServerIdentity × Health
+    reported checked = (identity_in checked.0 checked.1, health)
+
+    left : Option (Backend × Server) → Plain
+    left checked = record p { clock = max p.clock moment; tables = (at_moment moment p).tables; down = marked_by (option_map reported checked) p.down }

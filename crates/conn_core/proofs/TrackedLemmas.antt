@@ -188,6 +188,7 @@ can_next moment frontends after tables id source from slots track can is made al
 pub record IsTracked (start now : RowsValue) (id : ConnId) (from : ℕ) (slots : TrackSlots) : Type 0 where
   pub frontends : with_conn id (row_with (present (drop from slots))) now.frontends ≡ with_conn id (row_with (present slots)) start.frontends
   pub versions : now.versions ≡ start.versions
+  pub down : now.down ≡ start.down
   pub clock : now.clock ≡ start.clock
   pub tables : with_tracks now.clock (open_tracks now.frontends) (present (drop from slots)) now.tables ≡ with_tracks start.clock (open_tracks start.frontends) (present slots) start.tables
   pub can : (source : Addr) × CanTrack now.frontends now.tables id source from slots
@@ -215,6 +216,7 @@ none_yet rows id slots there sorted can room = record {
   frontends = refl;
   versions = refl;
   clock = refl;
+  down = refl;
   tables = refl;
   can = (can.0, record { there = there; sorted = sorted; each = λ counter track less is. can.1.each counter track is });
   room = omega (arith, room);
@@ -256,6 +258,7 @@ after_empty_slot start now id from slots next known =
     record {
       frontends = ap (λ ts. with_conn id (row_with ts) now.frontends) (sym same) ∙ known.frontends;
       versions = known.versions;
+      down = known.down;
       clock = known.clock;
       tables = ap (λ ts. with_tracks now.clock (open_tracks now.frontends) ts now.tables) (sym same) ∙ known.tables;
       can = (known.can.0, next_slots now.frontends now.tables id known.can.0 from slots known.can.1);
@@ -277,6 +280,7 @@ after_slot start now after id from slots track next made alike known =
     record {
       frontends = ap (with_conn id (row_with rest)) fronts ∙ one_then_more id track rest now.frontends ∙ ap (λ ts. with_conn id (row_with ts) now.frontends) (sym same) ∙ known.frontends;
       versions = ap (λ (r : RowsValue). r.versions) made ∙ known.versions;
+      down = ap (λ (r : RowsValue). r.down) made ∙ known.down;
       clock = clock ∙ known.clock;
       tables = ap (λ n. with_tracks n (open_tracks after.frontends) rest after.tables) clock ∙ ap (with_tracks now.clock (open_tracks after.frontends) rest) tables
           ∙ with_tracks-alike now.clock (open_tracks after.frontends) (open_tracks now.frontends ++ track ∷ []) rest (with_track now.clock (open_tracks now.frontends) track now.tables) alike

@@ -19,12 +19,14 @@ pub record IsSeen (id : ConnId) (state : Plain) (rows : RowsValue) : Type 0 wher
   pub tracks : open_tracks state.frontends ≡ open_tracks rows.frontends
   pub tracked : tracks_at state.frontends id ≡ tracks_at rows.frontends id
   pub tables : state.tables ≡ rows.tables
+  pub down : state.down ≡ rows.down
 
 -- the rows are those of the state
 pub record IsStateOf (p : Plain) (rows : RowsValue) : Type 0 where
   pub frontends : p.frontends ≡ rows.frontends
   pub versions : p.versions ≡ rows.versions
   pub tables : p.tables ≡ rows.tables
+  pub down : p.down ≡ rows.down
 
 -- the serials of the rows rise, and the tracks of each are by counter
 pub record IsSorted (own : FrontendRows) : Type 0 where

@@ -26,6 +26,7 @@ use Rattle.conn_core.specs.Tracking.{ArePossible}
 use Rattle.conn_core.specs.declared.facts.RuleFacts.{RuleFacts}
 use Rattle.conn_core.specs.declared.judging.ServerVerdict.{ServerVerdict}
 use Rattle.conn_core.specs.declared.judging.ServerVerdict.TheVariants.{Assigned, Refused}
+use Rattle.conn_model.specs.Servers.{is_down}
 
 -- one more, where the connection comes to the frontend of that name and is not among the rows yet
 abbrev pub arrival_in : Bool → List ℕ → List ℕ → ℕ
@@ -49,6 +50,7 @@ facts_view facts made = record {
   named = λ name. open_named facts.rows.now.frontends name + arrival_in facts.arriving facts.name.now name;
   offered = offered_to facts.rows.now.frontends;
   served = served_by facts.rows.now.frontends;
+  barred = is_down facts.rows.now.down;
 }
 
 -- how many track an address in a table and how often it was tracked, this step included: both are 0 where it is no key

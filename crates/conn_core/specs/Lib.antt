@@ -6,4 +6,6 @@ pub mod Changes
 pub mod Counts
 pub mod Machine
 pub use Rattle.config_core.specs.Meaning
+pub mod Checked
+pub mod Moving
 pub use Rattle.conn_rows.specs.Summaries

@@ -11,7 +11,7 @@ use Rattle.config_core.specs.Meaning.{meaning}
 use Rattle.conn_core.specs.declared.machine.Admission.{Admission}
 
 abbrev pub state_of : List Listener → RowsValue → Plain
-state_of listeners rows = record { clock = rows.clock; listeners = listeners; frontends = rows.frontends; versions = rows.versions; tables = rows.tables }
+state_of listeners rows = record { clock = rows.clock; listeners = listeners; frontends = rows.frontends; versions = rows.versions; tables = rows.tables; down = rows.down }
 
 -- a state that a core can be in
 pub record IsCoreState (p : Plain) : Type 0 where

@@ -1,16 +1,19 @@
 //! The decisions of a balancer: what each event is answered, and what is kept for it.
 #![tactic(auto)]
 
+pub use checked::{CheckedServer, ServerNumbers};
 pub use config_core::OpenFault;
 pub use conn_rows::ServerNames;
 pub use facts::RuleFacts;
 pub use machine::Core;
 
+mod checked;
 mod counting;
 mod entering;
 mod facts;
 mod judging;
 mod machine;
+mod moving;
 mod opening;
 mod outcome;
 mod receiving;

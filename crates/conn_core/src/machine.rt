@@ -1,5 +1,5 @@
 //! The decision core.
-ghost use Rattle.std.specs.Prelude.{◌≡◌, ◌≢◌, ◌⊎◌, ◌+◌, ◌-◌, ◌^◌, ◌<◌, ◌≤◌, ℕ, true, List, [], ◌∷◌, option_and_then, option_map, Option, Some, IfSome, IfNone, IfOk, IfErr, IsErr, OnOk, OnErr, nat_le, Ok, Err};
+ghost use Rattle.std.specs.Prelude.{◌≡◌, ◌≢◌, ◌⊎◌, ◌+◌, ◌-◌, ◌^◌, ◌<◌, ◌≤◌, ℕ, true, List, [], ◌∷◌, option_and_then, option_map, Option, Some, IfSome, IfNone, IfOk, IfErr, IsErr, OnOk, OnErr, nat_le, Ok, Err, None};
 ghost use Rattle.std.specs.Option.{option_copied};
 ghost use Rattle.plan_types.specs.Sound.{IsSoundPlan};
 ghost use Rattle.pp_any.specs.declared.rest.Rest.{Rest};
@@ -7,8 +7,9 @@ ghost use Rattle.conn_model.specs.declared.event.TheConstants.{HEADER_WAIT};
 ghost use Rattle.conn_model.specs.declared.plain.Row.{Row};
 ghost use Rattle.conn_model.specs.declared.reply.Said.{Said};
 ghost use Rattle.conn_model.specs.declared.reply.Said.TheVariants.{Reloaded};
+ghost use Rattle.conn_model.specs.Servers.{identity_in};
 ghost use Rattle.conn_model.specs.HandedIn.{HasPieceInLimit};
-ghost use Rattle.conn_model.specs.Answer.{answer_in, at_moment, reload_answer, reply_of, row_at, server_answer, waiting_row};
+ghost use Rattle.conn_model.specs.Answer.{answer_in, at_moment, reload_answer, reply_of, row_at, server_answer, waiting_row, checked_server, failure_answer};
 ghost use Rattle.conn_rows.specs.Needed.{versions_needed, AreTracksHeld};
 ghost use Rattle.conn_rows.specs.Summaries.{names_in, names_of, summary_of};
 ghost use Rattle.conn_model.specs.Counts.{counts_in, newest_backend, server_of};
@@ -22,27 +23,32 @@ ghost use Rattle.conn_model.specs.Tables.{open_tracks};
 ghost use Rattle.conn_core.specs.Changes.{forgotten, CanOffer};
 ghost use Rattle.conn_core.specs.Outcome.{reply_by};
 ghost use Rattle.conn_core.specs.Tracking.{ArePossible};
+ghost use Rattle.conn_core.specs.Checked.{checked_in, checked_numbers, known_by};
+ghost use Rattle.conn_core.specs.Moving.{HasOther};
 ghost use Rattle.conn_core.specs.Machine.{AreSound, IsOpened, IsNext, IsNextVersion};
 ghost use Rattle.conn_core.specs.Seeing.{IsKept, SeesNext, SeesWaiting};
 
+use crate::checked::{CheckedServer, ServerNumbers, numbers_in};
 use crate::entering::{SessionStart, enter};
 use crate::facts::RuleFacts;
 use crate::judging::admission;
+use crate::moving::other_offer;
 use crate::opening::listeners;
-use crate::outcome::{Outcome, TrackedOutcome, plain_reply, reply};
+use crate::outcome::{Offer, Outcome, TrackedOutcome, offer_said, plain_reply, reply};
 use crate::receiving::{can_judge, facts_of, receive};
 use crate::tracking::STEP_TRACKS;
 use addr_core::Pair;
 use config_core::{OpenFault, read_plan};
 use conn_model::ask::{Ask, Counts};
-use conn_model::event::{ConnId, Event, HEADER_WAIT, Why};
+use conn_model::event::{ConnId, Event, HEADER_WAIT, Health, Why};
 use conn_model::plain::{Listener, Plain};
 use conn_model::reply::{Cause, Reply, Said, StepFault};
 use conn_model::settings::Settings;
 use conn_rows::{RowSummary, Rows, ServerNames, frontend_near, item};
 use list_core::{Duplicate, Seq};
 use plan_core::same_binds;
-use plan_types::{Backend, Plan};
+use plan_types::{Backend, Plan, Server};
+use proxy_types::ServerIdentity;
 use rule_engine::NO_TRACKS;
 use std::alloc::{AllocError, Global};
 use std::marker::Model;
@@ -180,6 +186,30 @@ impl Core {
         self.rows.settings(id)
     }
 
+    /// The server of that number in the backend of that number, in the newest version, if it is checked.
+    pub fn checked(&self, number: u16, place: u16) -> Option<CheckedServer<'_>>
+        ensures { option_map checked_in result ≡ checked_server self.now.versions number place }
+    {
+        let Some(backend) = self.backend(number) else {
+            return None;
+        };
+        let Some(server) = item(backend.servers.as_slice(), place) else {
+            return None;
+        };
+        let Some(_check) = server.check else {
+            return None;
+        };
+        Some(CheckedServer { backend, server })
+    }
+
+    /// The numbers, in the newest version, of the checked server that is known by the names and the address of that one.
+    pub fn checked_numbers(&self, known: &CheckedServer<'_>) -> Option<ServerNumbers>
+        ensures { result ≡ checked_numbers self.now.versions (known_by known.now) }
+    {
+        let version = self.rows.newest()?;
+        numbers_in(&version.plan, known)
+    }
+
     /// What rules see of the connection of that pair, if it comes to that listener next, at that moment. None exactly
     /// where its accept has no listener.
     pub fn arriving(&self, listener: u16, real: Pair, moment: u64) -> Option<RuleFacts<'_>>
@@ -242,6 +272,7 @@ impl Core {
             frontends: rows.frontends,
             versions: rows.versions,
             tables: rows.tables,
+            down: rows.down,
         })
     }
 
@@ -289,6 +320,7 @@ impl Core {
             Event::Close(id, why) => self.close(moment, id, why),
             Event::Expire(id) => self.expire(moment, id),
             Event::Reload(text) => self.reload(moment, text),
+            Event::Mark(number, place, health) => self.mark(moment, number, place, health),
         }
     }
 
@@ -439,6 +471,28 @@ impl Core {
         Ok(plain_reply(Said::Up { id }))
     }
 
+    /// What a connection was offered, which has to wait for its server to take it, and another server for it, if it may be
+    /// moved.
+    fn other_offer(&self, id: ConnId) -> Result<Option<MovedOffer>, StepFault>
+        ensures ok { IfOk result (HasOther self.now id) }
+        ensures fault { IfErr result (λ f. failure_answer self.now id ≡ Err f) }
+        ensures no_memory { result ≢ Err StepFault.NoMemory }
+    {
+        let Some(_open) = self.rows.row(id) else {
+            return Err(StepFault::NoSuch);
+        };
+        let Some(pending) = self.rows.pending(id) else {
+            return Err(StepFault::NotOffered);
+        };
+        match other_offer(&self.rows, &pending) {
+            Some(offer) => Ok(Some(MovedOffer {
+                version: pending.version,
+                offer,
+            })),
+            None => Ok(None),
+        }
+    }
+
     #[inline(always)]
     fn connect_failed(&mut self, moment: u64, id: ConnId) -> Result<Reply, StepFault>
         ensures reply { IfOk result (λ r. answer_in self.old moment (owned.ConnectFailed id) ≡ Ok r) }
@@ -448,14 +502,18 @@ impl Core {
         ensures err { OnErr result (self.new ≡ self.old) }
     {
         let now = self.clock().max(moment);
-        self.check_awaits_server(id)?;
+        let other = self.other_offer(id)?;
         self.rows.pass(now);
-        self.rows.remove(id);
-        self.rows.forget();
-        Ok(plain_reply(Said::Closed {
-            id,
-            why: Why::Failed,
-        }))
+        let Some(MovedOffer { version, offer }) = other else {
+            self.rows.remove(id);
+            self.rows.forget();
+            return Ok(plain_reply(Said::Closed {
+                id,
+                why: Why::Failed,
+            }));
+        };
+        self.rows.move_to(id, version, offer.seat);
+        Ok(plain_reply(offer_said(id, 0, &offer)))
     }
 
     #[inline(always)]
@@ -517,6 +575,34 @@ impl Core {
         Ok(plain_reply(Said::Reloaded { version }))
     }
 
+    /// A server of the newest version that is checked is down from now on, or is not.
+    fn mark(
+        &mut self,
+        moment: u64,
+        number: u16,
+        place: u16,
+        health: Health,
+    ) -> Result<Reply, StepFault>
+        ensures reply { IfOk result (λ r. answer_in self.old moment (owned.Mark number place health) ≡ Ok r) }
+        ensures new { IfOk result (λ r. self.new ≡ after self.old (entry moment (owned.Mark number place health) r ∷ [])) }
+        ensures fault { IfErr result (λ f. IsFault (owned.Mark number place health) (answer_in self.old moment (owned.Mark number place health)) f) }
+        ensures err { OnErr result (self.new ≡ self.old) }
+    {
+        let Some(found) = self.checked(number, place) else {
+            return Err(StepFault::NotChecked);
+        };
+        let line = found.server.line;
+        let Ok(identity) = identity_of(self.alloc, found.backend, found.server) else {
+            return Err(StepFault::NoMemory);
+        };
+        let now = self.clock().max(moment);
+        let Ok(()) = self.rows.mark(health, identity) else {
+            return Err(StepFault::NoMemory);
+        };
+        self.rows.pass(now);
+        Ok(plain_reply(Said::Marked { line, health }))
+    }
+
     /// The number that a plan gets if it follows the newest version.
     fn next_version(&self, plan: &Plan) -> Result<u64, StepFault>
         ensures ok { IfOk result (λ n. reload_answer self.now (Ok plan.now) ≡ Ok (reply_of (Reloaded n))) }
@@ -534,6 +620,21 @@ impl Core {
             None => Err(StepFault::Exhausted),
         }
     }
+}
+
+/// The name of a server, by which it is known through all versions.
+fn identity_of(
+    alloc: Global,
+    backend: &Backend,
+    server: &Server,
+) -> Result<ServerIdentity, AllocError>
+    ensures { IfOk result (λ identity. identity ≡ identity_in backend.now server.now) }
+{
+    Ok(ServerIdentity {
+        backend: backend.name.duplicate(alloc)?,
+        name: server.name.duplicate(alloc)?,
+        to: server.to,
+    })
 }
 
 /// The plan of a configuration that is to come into force.
@@ -583,6 +684,13 @@ fn is_due(accepted: u64, now: u64) -> bool
         Some(waited) => waited >= HEADER_WAIT,
         None => false,
     }
+}
+
+/// Another server for a connection that the version of that number judges.
+#[derive(Drop)]
+pub struct MovedOffer {
+    pub version: u64,
+    pub offer: Offer,
 }
 
 /// The name that a connection gets at its accept.

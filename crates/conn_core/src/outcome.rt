@@ -76,20 +76,29 @@ fn said(id: ConnId, used: u64, outcome: &Outcome) -> Said
 {
     match outcome {
         Outcome::Wait => Said::Wait { id, used },
-        Outcome::Offer(Offer { seat, header: form }) => Said::Offer {
-            id,
-            used,
-            line: seat.line,
-            server: seat.server,
-            to: seat.to,
-            judged: seat.judged,
-            send: header(*form, seat.judged),
-        },
+        Outcome::Offer(offer) => offer_said(id, used, offer),
         Outcome::Refuse(cause) => Said::Refuse {
             id,
             used,
             cause: *cause,
         },
+    }
+}
+
+/// The same where that is an offer.
+#[inline(always)]
+pub fn offer_said(id: ConnId, used: u64, offer: &Offer) -> Said
+    ensures { result ≡ said_by id used (Outcome.Offer offer.now) }
+{
+    let Offer { seat, header: form } = offer;
+    Said::Offer {
+        id,
+        used,
+        line: seat.line,
+        server: seat.server,
+        to: seat.to,
+        judged: seat.judged,
+        send: header(*form, seat.judged),
     }
 }
 

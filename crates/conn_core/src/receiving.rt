@@ -1,5 +1,5 @@
 //! Pieces of the headers of connections that wait.
-ghost use Rattle.std.specs.Prelude.{◌≡◌, ◌≤◌, ℕ, true, false, Ok, Some, IfSome, IfNone, IsSome, slice_get};
+ghost use Rattle.std.specs.Prelude.{◌≡◌, ◌≤◌, ℕ, true, false, List, Ok, Some, IfSome, IfNone, IsSome, slice_get};
 ghost use Rattle.pp_any.specs.declared.rest.Rest.{Rest};
 ghost use Rattle.rule_engine.specs.Judging.{no_tracks};
 ghost use Rattle.rule_engine.specs.Meaning.{present};
@@ -136,8 +136,8 @@ fn decide(rows: &mut Rows, id: ConnId, version: u64, judged: Pair, used: u64) ->
     ensures reply { (judge : Judge rows.old.frontends rows.old.versions id version) (state : Plain) → IsSeen id state rows.old →
         result ≡ decision (candidate_of state id judge.version judge.frontend) used judged no_tracks }
     ensures clock { rows.new.clock ≡ rows.old.clock }
-    ensures new { (event : OwnedEvent) → state_of rows.new ≡ record (state_of rows.old) {
-      frontends = spoken rows.old.versions event id result rows.old.frontends;
+    ensures new { (bytes : List ℕ) → state_of rows.new ≡ record (state_of rows.old) {
+      frontends = spoken rows.old.versions (Piece id bytes) id result rows.old.frontends;
       versions = with_said version result.said rows.old.versions;
       tables = tables_by rows.old.clock rows.old.frontends rows.old.tables result;
     } }

@@ -89,6 +89,7 @@ pub fn track_all(rows: &mut Rows, id: ConnId, tracks: &Tracks)
     ensures versions { rows.new.versions ≡ rows.old.versions }
     ensures clock { rows.new.clock ≡ rows.old.clock }
     ensures tables { rows.new.tables ≡ with_tracks rows.old.clock (open_tracks rows.old.frontends) (present tracks.now) rows.old.tables }
+    ensures down { rows.new.down ≡ rows.old.down }
 {
     for slot in tracks {
         if let Some(track) = slot {

@@ -25,7 +25,7 @@ use Rattle.config_core.specs.Meaning.{meaning, meant, opened}
 use Rattle.config_core.specs.declared.fault.OpenFault.{OpenFault}
 use Rattle.conn_model.specs.declared.event.ConnId.{ConnId}
 use Rattle.conn_model.specs.declared.event.OwnedEvent.{OwnedEvent}
-use Rattle.conn_model.specs.declared.event.OwnedEvent.TheVariants.{Accept, Piece, Connected, ConnectFailed, Close, Expire, Reload}
+use Rattle.conn_model.specs.declared.event.OwnedEvent.TheVariants.{Accept, Piece, Connected, ConnectFailed, Close, Expire, Reload, Mark}
 use Rattle.conn_model.specs.declared.plain.Plain.{Plain}
 use Rattle.conn_model.specs.History.{after, number_said, opening, plan_in, plan_with, Entry, IsLegal, IsWell}
 use Rattle.conn_model.proofs.Goes.{whole_in_parts}
@@ -61,6 +61,7 @@ some_choice backends line (statements.Backend name) = tt
 some_choice backends line (statements.MaxConn limit) = tt
 some_choice backends line (statements.Timeout kind ms) = tt
 some_choice backends line (statements.Retries count) = tt
+some_choice backends line (statements.Redispatch every) = tt
 some_choice backends line (statements.DefaultBackend name) = tt
 some_choice backends line (statements.Balance method) = tt
 some_choice backends line (statements.Bind endpoint flag) = tt
@@ -116,6 +117,7 @@ brought_names (Connected id) plan is = absurd (let wrong : None ≡ Some plan = 
 brought_names (ConnectFailed id) plan is = absurd (let wrong : None ≡ Some plan = is in cc)
 brought_names (Close id why) plan is = absurd (let wrong : None ≡ Some plan = is in cc)
 brought_names (Expire id) plan is = absurd (let wrong : None ≡ Some plan = is in cc)
+brought_names (Mark number n health) plan is = absurd (let wrong : None ≡ Some plan = is in cc)
 brought_names (Reload text) plan is = by (meaning text) refl is
   where
     by : (r : Result Plan OpenFault) → meaning text ≡ r → plan_in r ≡ Some plan → NamesOwn plan

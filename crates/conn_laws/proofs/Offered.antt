@@ -18,7 +18,7 @@ use Rattle.plan_types.specs.declared.plan.Plan.{Plan}
 use Rattle.plan_types.specs.declared.track.Track.{Track}
 use Rattle.conn_model.specs.declared.event.ConnId.{ConnId}
 use Rattle.conn_model.specs.declared.event.OwnedEvent.{OwnedEvent}
-use Rattle.conn_model.specs.declared.event.OwnedEvent.TheVariants.{Accept, Piece, Connected, ConnectFailed, Close, Expire, Reload}
+use Rattle.conn_model.specs.declared.event.OwnedEvent.TheVariants.{Accept, Piece, Connected, ConnectFailed, Close, Expire, Reload, Mark}
 use Rattle.conn_model.specs.declared.event.Why.TheVariants.{Failed}
 use Rattle.conn_model.specs.declared.reply.Cause.{Cause}
 use Rattle.conn_model.specs.declared.reply.Cause.TheVariants.{Line, NoBackend, NoServer}
@@ -32,12 +32,14 @@ use Rattle.conn_model.specs.declared.plain.Plain.{Plain}
 use Rattle.conn_model.specs.Words.{or_fault, row_at}
 use Rattle.conn_model.specs.Servers.{cursor_at, pick_in}
 use Rattle.conn_model.specs.Rules.{backend_for, rejection, scene_of, view_of, worth, Candidate, RuleView}
-use Rattle.conn_model.specs.Answer.{admission, answer_in, decision, demands_header, entry_reply, entry_rules, header_reply, judged_pair, numbered_server, reply_of, rest_in, said_of, server_for, server_unless, NumberedServer, at_moment}
+use Rattle.conn_model.specs.Answer.{admission, answer_in, decision, demands_header, entry_reply, entry_rules, header_reply, judged_pair, numbered_server, reply_of, rest_in, said_of, server_for, server_unless, NumberedServer, at_moment, failure_said, other_server}
 use Rattle.conn_model.specs.History.{after, answer, joined, opening, Entry, IsLegal}
 use Rattle.conn_model.proofs.Joined.{decides_joined}
-use Rattle.conn_model.proofs.Replies.{accepted, bind-ok, expired, followed, or_fault-ok, received, server_answered, Accepted, Received}
-use Rattle.conn_laws.specs.Deciding.{choice_view, entry_tracks, is_offer, is_wait, may_offer, newcomer, reply_saying, session_rules, session_tracks, waiting, Arrival, HasServer, IsAdmitted, IsGiven, IsLeftWaiting, IsLetWait, IsOfferedAtAccept, IsOfferedAtPiece, Says, Waiter}
+use Rattle.conn_model.proofs.Replies.{accepted, bind-ok, expired, followed, or_fault-ok, received, server_answered, Accepted, Received, has_failed, HasFailed, reported}
+use Rattle.conn_laws.specs.Deciding.{choice_view, entry_tracks, is_offer, is_wait, may_offer, tries_rules, newcomer, reply_saying, session_rules, session_tracks, waiting, Arrival, HasServer, IsAdmitted, IsGiven, IsLeftWaiting, IsLetWait, IsOfferedAtAccept, IsOfferedAtPiece, Says, Waiter, IsMoved}
 use Rattle.conn_laws.proofs.Rules.{no_rejection, not_rejected}
+use Rattle.conn_model.proofs.Offers.{failure_answers, offer-phase, other_is, IsOther}
+use Rattle.plan_types.specs.Moves.{moves_of}
 
 -- A server that is picked.
 
@@ -47,7 +49,7 @@ server_given view given is =
     let number : ℕ = one.0 in
     let two = bind-ok (or_fault (NoBackend view.frontend.line) (slice_get view.version.plan.backends number)) _ given one.2 in
     let backend : Backend = two.0 in
-    let three = bind-ok (or_fault (NoServer backend.line) (pick_in view.served backend (cursor_at view.version.cursors number) view.source)) _ given two.2 in
+    let three = bind-ok (or_fault (NoServer backend.line) (pick_in view.served view.barred backend (cursor_at view.version.cursors number) view.source)) _ given two.2 in
     let place : Place = three.0 in
     record {
       number = number;
@@ -55,7 +57,7 @@ server_given view given is =
       place = place;
       chosen = or_fault-ok (NoBackend view.frontend.line) (backend_for (worth view) view.frontend) number one.1;
       backend_is = or_fault-ok (NoBackend view.frontend.line) (slice_get view.version.plan.backends number) backend two.1;
-      picked = or_fault-ok (NoServer backend.line) (pick_in view.served backend (cursor_at view.version.cursors number) view.source) place three.1;
+      picked = or_fault-ok (NoServer backend.line) (pick_in view.served view.barred backend (cursor_at view.version.cursors number) view.source) place three.1;
       server_is = or_fault-ok (NoServer backend.line) (numbered_server backend place.server) given three.2;
     }
 
@@ -400,6 +402,55 @@ waits_on plan last h legal moment id piece said tracks waits = (
   λ is. waits_says (after (opening plan last) h) moment id piece (joined id h ++ piece) (length (joined id h)) is.0 said tracks (piece_status plan last h legal id piece is.0) is.1,
 )
 
+-- Where a server is out of reach.
+
+said_at_failure : (q : Plain) (moment : ℕ) (id : ConnId) (said : Said) (tracks : List Track) → is_offer said ≡ true → Says (answer_in q moment (ConnectFailed id)) said tracks → IsMoved q id said tracks
+said_at_failure q moment id said tracks offers says = by (other_server q got.row got.given) refl
+  where
+    got : HasFailed (at_moment moment q) id (reply_saying said tracks)
+    got = has_failed (at_moment moment q) id (reply_saying said tracks) says
+
+    said_is : failure_said id got.given (other_server q got.row got.given) ≡ said
+    said_is = ap (λ (r : Reply). r.said) got.reply_is
+
+    by : (o : Option NumberedServer) → other_server q got.row got.given ≡ o → IsMoved q id said tracks
+    by None none = absurd (false≢true (ap is_offer (sym (ap (failure_said id got.given) none) ∙ said_is) ∙ offers))
+    by (Some other) some =
+        let at : IsOther q got.row got.given other = other_is q got.row got.given other some in
+        let fewer : nat_lt (length got.given.failed) (moves_of at.backend.retries at.backend.redispatch) ≡ true = at.moves in
+        record {
+          row = got.row;
+          given = got.given;
+          version = at.version;
+          number = at.number;
+          backend = at.backend;
+          place = at.turn;
+          other = other;
+          row_is = got.row_is;
+          offered = offer-phase got.row.phase got.given got.offered;
+          of_accept = at.of_accept;
+          backend_is = rw (at.has_line, at.among) refl;
+          moves = grind (arith, nat_tests, fewer);
+          picked = at.picked;
+          server_is = at.server_is;
+          said_is = sym said_is ∙ ap (failure_said id got.given) some;
+          tracks_are = ap (λ (r : Reply). r.tracks.items) (sym got.reply_is);
+        }
+
+failure_says : (q : Plain) (moment : ℕ) (id : ConnId) (said : Said) (tracks : List Track) → IsMoved q id said tracks → Says (answer_in q moment (ConnectFailed id)) said tracks
+failure_says q moment id said tracks is =
+    let less : length is.given.failed < moves_of is.backend.retries is.backend.redispatch = is.moves in
+    let fewer : nat_lt (length is.given.failed) (moves_of is.backend.retries is.backend.redispatch) ≡ true = grind (arith, nat_tests, less) in
+    let some : other_server q is.row is.given ≡ Some is.other = rw (is.of_accept, is.backend_is, fewer, is.picked, is.server_is) refl in
+    failure_answers (at_moment moment q) id is.row is.given is.row_is is.offered
+    ∙ ap (λ o. Ok (reply_of (failure_said id is.given o))) some
+    ∙ ap (λ s. Ok (reply_saying s [])) (sym is.said_is)
+    ∙ ap (λ t. Ok (reply_saying said t)) (sym is.tracks_are)
+
+pub at_failure : (p : Plain) (h : List Entry) (moment : ℕ) (id : ConnId) (said : Said) (tracks : List Track) → is_offer said ≡ true →
+    Says (answer p h moment (ConnectFailed id)) said tracks ↔ IsMoved (after p h) id said tracks
+at_failure p h moment id said tracks offers = (said_at_failure (after p h) moment id said tracks offers, failure_says (after p h) moment id said tracks)
+
 -- Nothing else offers, or tracks.
 
 offers_not : (reply : Reply) (said : Said) → reply_of said ≡ reply → is_offer said ≡ false → is_offer reply.said ≡ true → false ≡ true
@@ -409,23 +460,25 @@ pub nothing_else : (q : Plain) (moment : ℕ) (event : OwnedEvent) (reply : Repl
 nothing_else q moment (Accept listener real) reply is offers = refl
 nothing_else q moment (Piece id bytes) reply is offers = refl
 nothing_else q moment (Connected id) reply is offers = offers_not reply (saids.Up id) (server_answered (at_moment moment q) id (saids.Up id) reply is).reply_is refl offers
-nothing_else q moment (ConnectFailed id) reply is offers = offers_not reply (saids.Closed id Failed) (server_answered (at_moment moment q) id (saids.Closed id Failed) reply is).reply_is refl offers
+nothing_else q moment (ConnectFailed id) reply is offers = refl
 nothing_else q moment (Close id why) reply is offers =
     let one = bind-ok (or_fault NoSuch (row_at q.frontends id)) _ reply is in
     offers_not reply (saids.Closed id why) (let it : Ok (reply_of (saids.Closed id why)) ≡ Ok reply = one.2 in cc) refl offers
 nothing_else q moment (Expire id) reply is offers = let got = expired (at_moment moment q) (max q.clock moment) id reply is in offers_not reply _ got.reply_is refl offers
 nothing_else q moment (Reload text) reply is offers = let got = followed (at_moment moment q) text reply is in offers_not reply _ got.reply_is refl offers
+nothing_else q moment (Mark number n health) reply is offers = let got = reported (at_moment moment q) number n health reply is in offers_not reply _ got.reply_is refl offers
 
 no_track : (reply : Reply) (said : Said) → reply_of said ≡ reply → reply.tracks.items ≡ []
 no_track reply said is = ap (λ (r : Reply). r.tracks.items) (sym is)
 
-pub tracks_nothing : (q : Plain) (moment : ℕ) (event : OwnedEvent) (reply : Reply) → answer_in q moment event ≡ Ok reply → may_offer event ≡ false → reply.tracks.items ≡ []
+pub tracks_nothing : (q : Plain) (moment : ℕ) (event : OwnedEvent) (reply : Reply) → answer_in q moment event ≡ Ok reply → tries_rules event ≡ false → reply.tracks.items ≡ []
 tracks_nothing q moment (Accept listener real) reply is other = absurd (false≢true (sym other))
 tracks_nothing q moment (Piece id bytes) reply is other = absurd (false≢true (sym other))
 tracks_nothing q moment (Connected id) reply is other = no_track reply (saids.Up id) (server_answered (at_moment moment q) id (saids.Up id) reply is).reply_is
-tracks_nothing q moment (ConnectFailed id) reply is other = no_track reply (saids.Closed id Failed) (server_answered (at_moment moment q) id (saids.Closed id Failed) reply is).reply_is
+tracks_nothing q moment (ConnectFailed id) reply is other = no_track reply _ (has_failed (at_moment moment q) id reply is).reply_is
 tracks_nothing q moment (Close id why) reply is other =
     let one = bind-ok (or_fault NoSuch (row_at q.frontends id)) _ reply is in
     no_track reply (saids.Closed id why) (let it : Ok (reply_of (saids.Closed id why)) ≡ Ok reply = one.2 in cc)
 tracks_nothing q moment (Expire id) reply is other = let got = expired (at_moment moment q) (max q.clock moment) id reply is in no_track reply _ got.reply_is
 tracks_nothing q moment (Reload text) reply is other = let got = followed (at_moment moment q) text reply is in no_track reply _ got.reply_is
+tracks_nothing q moment (Mark number n health) reply is other = let got = reported (at_moment moment q) number n health reply is in no_track reply _ got.reply_is

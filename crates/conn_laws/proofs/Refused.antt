@@ -15,7 +15,7 @@ use Rattle.plan_types.specs.declared.track.Track.{Track}
 use Rattle.config_core.specs.Meaning.{meaning}
 use Rattle.conn_model.specs.declared.event.ConnId.{ConnId}
 use Rattle.conn_model.specs.declared.event.OwnedEvent.{OwnedEvent}
-use Rattle.conn_model.specs.declared.event.OwnedEvent.TheVariants.{Accept, Piece, Connected, ConnectFailed, Close, Expire, Reload}
+use Rattle.conn_model.specs.declared.event.OwnedEvent.TheVariants.{Accept, Piece, Connected, ConnectFailed, Close, Expire, Reload, Mark}
 use Rattle.conn_model.specs.declared.event.Why.TheVariants.{Failed}
 use Rattle.conn_model.specs.declared.reply.Cause.{Cause}
 use Rattle.conn_model.specs.declared.reply.Cause.TheVariants.{Line, Header, Expired, NoBackend, NoServer}
@@ -27,14 +27,15 @@ use Rattle.conn_model.specs.declared.reply.StepFault.TheVariants.{NoSuch}
 use Rattle.conn_model.specs.declared.plain.Plain.{Plain}
 use Rattle.conn_model.specs.Words.{or_fault, row_at}
 use Rattle.conn_model.specs.Rules.{rejection, scene_of, view_of, Candidate, RuleView}
-use Rattle.conn_model.specs.Answer.{admission, decision, demands_header, entry_reply, entry_rules, header_reply, judged_pair, reply_of, said_of, server_for, server_unless, NumberedServer, at_moment}
+use Rattle.conn_model.specs.Answer.{admission, decision, demands_header, entry_reply, entry_rules, header_reply, judged_pair, reply_of, said_of, server_for, server_unless, NumberedServer, at_moment, failure_said, other_server}
 use Rattle.conn_model.specs.History.{after, answer, id_of, joined, opening, Entry, IsLegal}
-use Rattle.conn_model.proofs.Replies.{accepted, admission-id, bind-ok, expired, followed, header_reply-id, received, server_answered}
+use Rattle.conn_model.proofs.Replies.{accepted, admission-id, bind-ok, expired, followed, header_reply-id, received, server_answered, has_failed, reported}
 use Rattle.conn_laws.specs.Deciding.{choice_view, newcomer, session_rules, session_tracks, waiting, Arrival, IsCause, IsNotRejected, IsRefusedAtAccept, IsRefusedAtPiece, IsWithheld, Waiter}
 use Rattle.conn_laws.proofs.Rules.{not_rejected, rejected}
 use Rattle.conn_laws.proofs.Named.{arrival_names, waiter_names, NamesBackends}
 use Rattle.conn_laws.proofs.Unserved.{lacks, Lacks}
 use Rattle.conn_laws.proofs.Offered.{arrival_of, piece_status, waiter_of}
+use Rattle.conn_model.specs.declared.plain.Assignment.{Assignment}
 
 -- A decision that refuses.
 
@@ -180,6 +181,10 @@ refused_at_piece q moment id waiter bytes piece before other used cause (statuse
 no_refusal : (reply : Reply) (said : Said) (id : ConnId) (used : ℕ) (cause : Cause) → reply_of said ≡ reply → reply.said ≡ Refuse id used cause → said ≡ Refuse id used cause
 no_refusal reply said id used cause is refused = ap (λ (r : Reply). r.said) is ∙ refused
 
+failure_refuses_none : (own : ConnId) (given : Assignment) (other : Option NumberedServer) (id : ConnId) (used : ℕ) (cause : Cause) → failure_said own given other ≡ Refuse id used cause → ⊥
+failure_refuses_none own given None id used cause is = let wrong : saids.Closed own Failed ≡ Refuse id used cause = is in cc
+failure_refuses_none own given (Some other) id used cause is = let wrong : said_of own 0 given.judged (Ok other) ≡ Refuse id used cause = is in cc
+
 pub refused_for_cause : (text : List ℕ) (plan : Plan) (last : ℕ) (h : List Entry) → meaning text ≡ Ok plan → IsLegal (opening plan last) h → (moment : ℕ) (event : OwnedEvent) (reply : Reply) (id : ConnId) (used : ℕ) (cause : Cause) →
     answer (opening plan last) h moment event ≡ Ok reply → reply.said ≡ Refuse id used cause → IsCause (after (opening plan last) h) (λ id. joined id h) moment event id used cause reply.tracks.items
 refused_for_cause text plan last h meant legal moment (Accept listener real) reply id used cause is said_is =
@@ -214,7 +219,8 @@ refused_for_cause text plan last h meant legal moment (Connected own) reply id u
     absurd (let wrong : saids.Up own ≡ Refuse id used cause = no_refusal reply (saids.Up own) id used cause (server_answered (at_moment moment q) own (saids.Up own) reply is).reply_is said_is in cc)
 refused_for_cause text plan last h meant legal moment (ConnectFailed own) reply id used cause is said_is =
     let q : Plain = after (opening plan last) h in
-    absurd (let wrong : saids.Closed own Failed ≡ Refuse id used cause = no_refusal reply (saids.Closed own Failed) id used cause (server_answered (at_moment moment q) own (saids.Closed own Failed) reply is).reply_is said_is in cc)
+    let got = has_failed (at_moment moment q) own reply is in
+    absurd (failure_refuses_none own got.given (other_server q got.row got.given) id used cause (ap (λ (r : Reply). r.said) got.reply_is ∙ said_is))
 refused_for_cause text plan last h meant legal moment (Close own why) reply id used cause is said_is =
     let q : Plain = after (opening plan last) h in
     let one = bind-ok (or_fault NoSuch (row_at q.frontends own)) _ reply is in
@@ -234,3 +240,7 @@ refused_for_cause text plan last h meant legal moment (Reload config) reply id u
     let q : Plain = after (opening plan last) h in
     let got = followed (at_moment moment q) config reply is in
     absurd (let wrong : saids.Reloaded (got.version.number + 1) ≡ Refuse id used cause = no_refusal reply (saids.Reloaded (got.version.number + 1)) id used cause got.reply_is said_is in cc)
+refused_for_cause text plan last h meant legal moment (Mark number n health) reply id used cause is said_is =
+    let q : Plain = after (opening plan last) h in
+    let got = reported (at_moment moment q) number n health reply is in
+    absurd (let wrong : saids.Marked got.found.1.line health ≡ Refuse id used cause = no_refusal reply (saids.Marked got.found.1.line health) id used cause got.reply_is said_is in cc)

@@ -11,6 +11,7 @@ use Rattle.balance_core.specs.Loads.{has_room_at, is_ready_at, total_weight, wei
 use Rattle.balance_core.specs.Orders.{lesser, least}
 use Rattle.balance_core.specs.Rounds.{can_take, comes_before, is_after, next_of, next_turn, turn_of, turns, turns_from, weights_of}
 use Rattle.balance_core.specs.Source.{mixed, of_source, share_of}
+use Rattle.balance_core.proofs.ReadyLemmas.{share_weighs}
 
 -- Round robin.
 
@@ -108,6 +109,7 @@ pub record IsShareFull (servers : List ServerLoad) (source : Addr) : Type 0 wher
   pub number : ℕ
   pub of_source : share_of servers (mixed source % total_weight servers) ≡ Some number
   pub there : number < length servers
+  pub weighs : 0 < weight_at servers number
   pub full : has_room_at servers number ≡ false
 
 pub source_none : (servers : List ServerLoad) (source : Addr) → of_source servers source ≡ None →
@@ -129,7 +131,7 @@ source_none servers source is = by (total_weight servers == 0) refl
         absurd (omega (arith, high, low))
     share (Some n) e some given =
         let below : n < 0 + length servers = found_within (λ k. nat_lt place (total_weight (take (k + 1) servers))) 0 (length servers) n e in
-        inr (record { number = n; of_source = e; there = omega (arith, below); full = room n (has_room_at servers n) refl given })
+        inr (record { number = n; of_source = e; there = omega (arith, below); weighs = share_weighs servers place 0 (length servers) n (omega arith) e; full = room n (has_room_at servers n) refl given })
 
     by : (b : Bool) → (total_weight servers == 0) ≡ b → (total_weight servers ≡ 0) ⊎ IsShareFull servers source
     by true e = inl (grind (arith, nat_tests, e))

@@ -25,7 +25,7 @@ use Rattle.plan_types.specs.declared.plan.Server.{Server}
 use Rattle.plan_types.specs.declared.track.Track.{Track}
 use Rattle.conn_model.specs.declared.event.ConnId.{ConnId}
 use Rattle.conn_model.specs.declared.event.OwnedEvent.{OwnedEvent}
-use Rattle.conn_model.specs.declared.event.OwnedEvent.TheVariants.{Accept, Piece, Connected, ConnectFailed, Close, Expire, Reload}
+use Rattle.conn_model.specs.declared.event.OwnedEvent.TheVariants.{Accept, Piece, Connected, ConnectFailed, Close, Expire, Reload, Mark}
 use Rattle.conn_model.specs.declared.event.TheConstants.{HEADER_WAIT}
 use Rattle.conn_model.specs.declared.reply.Cause.{Cause}
 use Rattle.conn_model.specs.declared.reply.Cause.TheVariants.{Line, Header, Expired, NoBackend, NoServer}
@@ -41,7 +41,11 @@ use Rattle.conn_model.specs.declared.plain.Version.{Version}
 use Rattle.conn_model.specs.Words.{newest, row_at}
 use Rattle.conn_model.specs.Servers.{cursor_at, identity_in, loads_of, pick_in}
 use Rattle.conn_model.specs.Rules.{backend_for, scene_of, view_of, worth, Candidate, RuleView}
-use Rattle.conn_model.specs.Answer.{candidate_at, candidate_of, demands_header, entry_rules, frontend_in, judged_pair, numbered_server, rest_in, said_of, version_at, NumberedServer, at_moment}
+use Rattle.conn_model.specs.Answer.{candidate_at, candidate_of, demands_header, entry_rules, frontend_in, judged_pair, numbered_server, rest_in, said_of, version_at, NumberedServer, at_moment, barred_for, backend_at}
+use Rattle.conn_model.specs.declared.plain.Assignment.{Assignment}
+use Rattle.conn_model.specs.declared.plain.Phase.TheVariants.{Offered}
+use Rattle.plan_types.specs.Moves.{moves_of}
+use Rattle.conn_model.specs.Counts.{served_by}
 
 -- What judges a connection.
 
@@ -108,14 +112,15 @@ session_tracks candidate judged made = present (session_rules candidate judged m
 abbrev pub choice_view : Candidate → PairValue → TrackSlots → RuleView
 choice_view candidate judged made = view_of candidate judged.source.addr (session_tracks candidate judged made)
 
--- the backend that the lines choose has that server for it, by the counts of the open connections
+-- the backend that the lines choose has that server for it, by the counts of the open connections and by what was
+-- reported of its servers
 pub record HasServer (view : RuleView) (given : NumberedServer) : Type 0 where
   pub number : ℕ
   pub backend : Backend
   pub place : Place
   pub chosen : backend_for (worth view) view.frontend ≡ Some number
   pub backend_is : slice_get view.version.plan.backends number ≡ Some backend
-  pub picked : pick_in view.served backend (cursor_at view.version.cursors number) view.source ≡ Some place
+  pub picked : pick_in view.served view.barred backend (cursor_at view.version.cursors number) view.source ≡ Some place
   pub server_is : numbered_server backend place.server ≡ Some given
 
 -- no session rule rejects its judged source, and its backend has that server for it
@@ -170,6 +175,27 @@ pub record IsLeftWaiting (id : ConnId) (bytes : List ℕ) (count : ℕ) (said : 
   pub said_is : said ≡ saids.Wait id count
   pub tracks_are : tracks ≡ []
 
+-- Where its server is out of reach, it is moved: the backend of that server has another one for it, by the version of its
+-- accept, that is not down and was not out of reach for it; and it was moved fewer times than the backend says. No rule is
+-- tried again, and what is sent first states the same pair.
+pub record IsMoved (p : Plain) (id : ConnId) (said : Said) (tracks : List Track) : Type 0 where
+  pub row : Row
+  pub given : Assignment
+  pub version : Version
+  pub number : ℕ
+  pub backend : Backend
+  pub place : Place
+  pub other : NumberedServer
+  pub row_is : row_at p.frontends id ≡ Some row
+  pub offered : row.phase ≡ Offered given
+  pub of_accept : version_at p.versions row.version ≡ Some version
+  pub backend_is : backend_at version.plan given.line ≡ Some (number, backend)
+  pub moves : length given.failed < moves_of backend.retries backend.redispatch
+  pub picked : pick_in (served_by p.frontends) (barred_for p.down given) backend (cursor_at version.cursors number) given.judged.source.addr ≡ Some place
+  pub server_is : numbered_server backend place.server ≡ Some other
+  pub said_is : said ≡ said_of id 0 given.judged (Ok other)
+  pub tracks_are : tracks ≡ []
+
 abbrev pub is_wait : Said → Bool
 is_wait (saids.Wait id used) = true
 is_wait (saids.Offer id used line server to judged send) = false
@@ -177,6 +203,7 @@ is_wait (saids.Refuse id used cause) = false
 is_wait (saids.Up id) = false
 is_wait (saids.Closed id why) = false
 is_wait (saids.Reloaded version) = false
+is_wait (saids.Marked line health) = false
 
 abbrev pub is_offer : Said → Bool
 is_offer (saids.Wait id used) = false
@@ -185,6 +212,7 @@ is_offer (saids.Refuse id used cause) = false
 is_offer (saids.Up id) = false
 is_offer (saids.Closed id why) = false
 is_offer (saids.Reloaded version) = false
+is_offer (saids.Marked line health) = false
 
 -- it waits, is offered a server, or is refused
 abbrev pub is_judgement : Said → Bool
@@ -194,20 +222,33 @@ is_judgement (saids.Refuse id used cause) = true
 is_judgement (saids.Up id) = false
 is_judgement (saids.Closed id why) = false
 is_judgement (saids.Reloaded version) = false
+is_judgement (saids.Marked line health) = false
 
 -- the answer is one of these
 abbrev pub IsJudged : Result Reply StepFault → Type 0
 IsJudged answer = (reply : Reply) × (answer ≡ Ok reply) × (is_judgement reply.said ≡ true)
 
--- the event is an accept, or a piece of a header
+-- the event is an accept, a piece of a header, or a server out of reach
 abbrev pub may_offer : OwnedEvent → Bool
 may_offer (Accept listener real) = true
 may_offer (Piece id bytes) = true
 may_offer (Connected id) = false
-may_offer (ConnectFailed id) = false
+may_offer (ConnectFailed id) = true
 may_offer (Close id why) = false
 may_offer (Expire id) = false
 may_offer (Reload text) = false
+may_offer (Mark number n health) = false
+
+-- rules are tried at the event: it is an accept or a piece of a header
+abbrev pub tries_rules : OwnedEvent → Bool
+tries_rules (Accept listener real) = true
+tries_rules (Piece id bytes) = true
+tries_rules (Connected id) = false
+tries_rules (ConnectFailed id) = false
+tries_rules (Close id why) = false
+tries_rules (Expire id) = false
+tries_rules (Reload text) = false
+tries_rules (Mark number n health) = false
 
 -- Refusals.
 
@@ -235,35 +276,41 @@ pub record IsFull (served : ServerIdentity → ℕ) (backend : Backend) (server 
   pub limited : 0 < server.limit
   pub reached : server.limit ≤ served (identity_in backend server)
 
--- each server that may be used is full
-abbrev pub NoneHasRoom : (ServerIdentity → ℕ) → Backend → Type 0
-NoneHasRoom served backend = AllByRecursion (λ server. IsUsable server → IsFull served backend server) backend.servers
+-- it may be used, and is not barred
+pub record IsLeft (barred : Backend → Server → Bool) (backend : Backend) (server : Server) : Type 0 where
+  pub usable : IsUsable server
+  pub stands : barred backend server ≡ false
 
--- no server may be used
-abbrev pub NoneIsUsable : Backend → Type 0
-NoneIsUsable backend = AllByRecursion (λ server. IsUsable server → ⊥) backend.servers
+-- each server that is left is full
+abbrev pub NoneHasRoom : (ServerIdentity → ℕ) → (Backend → Server → Bool) → Backend → Type 0
+NoneHasRoom served barred backend = AllByRecursion (λ server. IsLeft barred backend server → IsFull served backend server) backend.servers
 
--- the server of the source, into whose part of the weights it falls, is full
-pub record SourceIsFull (served : ServerIdentity → ℕ) (backend : Backend) (source : Addr) : Type 0 where
+-- no server is left
+abbrev pub NoneIsLeft : (Backend → Server → Bool) → Backend → Type 0
+NoneIsLeft barred backend = AllByRecursion (λ server. IsLeft barred backend server → ⊥) backend.servers
+
+-- the server of the source, into whose part of the weights of those that are left it falls, is full
+pub record SourceIsFull (served : ServerIdentity → ℕ) (barred : Backend → Server → Bool) (backend : Backend) (source : Addr) : Type 0 where
   pub number : ℕ
   pub server : Server
-  pub of_source : share_of (loads_of served backend) (mixed source % total_weight (loads_of served backend)) ≡ Some number
+  pub of_source : share_of (loads_of served barred backend) (mixed source % total_weight (loads_of served barred backend)) ≡ Some number
   pub server_is : slice_get backend.servers number ≡ Some server
   pub full : IsFull served backend server
 
 -- by that method the backend has no server for the source
-abbrev pub HasNoServer : (ServerIdentity → ℕ) → Backend → Addr → Method → Type 0
-HasNoServer served backend source RoundRobin = NoneHasRoom served backend
-HasNoServer served backend source LeastConn = NoneHasRoom served backend
-HasNoServer served backend source Source = NoneIsUsable backend ⊎ SourceIsFull served backend source
+abbrev pub HasNoServer : (ServerIdentity → ℕ) → (Backend → Server → Bool) → Backend → Addr → Method → Type 0
+HasNoServer served barred backend source RoundRobin = NoneHasRoom served barred backend
+HasNoServer served barred backend source LeastConn = NoneHasRoom served barred backend
+HasNoServer served barred backend source Source = NoneIsLeft barred backend ⊎ SourceIsFull served barred backend source
 
--- the backend that the lines choose has no server for it, by the counts of the open connections
+-- the backend that the lines choose has no server for it, by the counts of the open connections and by what was reported
+-- of its servers
 pub record LacksServer (view : RuleView) (line : ℕ) : Type 0 where
   pub number : ℕ
   pub backend : Backend
   pub chosen : backend_for (worth view) view.frontend ≡ Some number
   pub backend_is : slice_get view.version.plan.backends number ≡ Some backend
-  pub none : HasNoServer view.served backend view.source backend.method
+  pub none : HasNoServer view.served view.barred backend view.source backend.method
   pub line_is : backend.line ≡ line
 
 -- it is judged by that pair, and gets no server for that cause
@@ -342,3 +389,4 @@ IsCause p before moment (ConnectFailed own) id used cause tracks = ⊥
 IsCause p before moment (Close own why) id used cause tracks = ⊥
 IsCause p before moment (Expire own) id used cause tracks = (id ≡ own) × (used ≡ 0) × IsLate p moment own cause tracks
 IsCause p before moment (Reload text) id used cause tracks = ⊥
+IsCause p before moment (Mark number n health) id used cause tracks = ⊥

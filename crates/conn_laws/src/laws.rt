@@ -7,7 +7,7 @@ ghost use Rattle.plan_types.specs.declared.track.Track.{Track};
 ghost use Rattle.config_core.specs.Meaning.{meaning};
 ghost use Rattle.conn_model.specs.declared.event.ConnId.{ConnId};
 ghost use Rattle.conn_model.specs.declared.event.OwnedEvent.{OwnedEvent};
-ghost use Rattle.conn_model.specs.declared.event.OwnedEvent.TheVariants.{Accept, Piece};
+ghost use Rattle.conn_model.specs.declared.event.OwnedEvent.TheVariants.{Accept, Piece, ConnectFailed};
 ghost use Rattle.conn_model.specs.declared.plain.Listener.{Listener};
 ghost use Rattle.conn_model.specs.declared.plain.Plain.{Plain};
 ghost use Rattle.conn_model.specs.declared.plain.Row.{Row};
@@ -18,7 +18,7 @@ ghost use Rattle.conn_model.specs.declared.reply.Said.TheVariants.{Refuse};
 ghost use Rattle.conn_model.specs.Words.{row_at};
 ghost use Rattle.conn_model.specs.Answer.{rest_in};
 ghost use Rattle.conn_model.specs.History.{after, answer, joined, opening, Entry, IsLegal};
-ghost use Rattle.conn_laws.specs.Deciding.{is_offer, is_wait, may_offer, Arrival, IsCause, IsJudged, IsLeftWaiting, IsLetWait, IsOfferedAtAccept, IsOfferedAtPiece, Says, Waiter};
+ghost use Rattle.conn_laws.specs.Deciding.{is_offer, is_wait, may_offer, tries_rules, Arrival, IsCause, IsJudged, IsLeftWaiting, IsLetWait, IsOfferedAtAccept, IsOfferedAtPiece, Says, Waiter, IsMoved};
 
 /// After each legal history the version in force has the frontend of each listener, and the version of its accept that of
 /// each connection that waits. So while the frontend has a serial left each client that comes is let in to wait, offered a
@@ -37,6 +37,7 @@ pub fn each_is_judged()
 /// its header is well formed, where one is demanded, and the backend that the lines choose has that server for it. A
 /// connection is judged at its accept where neither its listener nor a connection rule demands a header. Else the limit
 /// and the connection rules let it in there to wait for its header, and the piece that ends the header decides the rest.
+/// Where the server that it was offered is out of reach, it is offered another one exactly when its backend has one for it.
 /// Each of these answers names its connection, and tracks what the rules that were tried track.
 pub fn offered_exactly_when()
     ensures at_accept { (p : Plain) (h : List Entry) (moment listener : ℕ) (real : PairValue)
@@ -62,12 +63,15 @@ pub fn offered_exactly_when()
         Says (answer (opening plan last) h moment (Piece id piece)) said tracks
         ↔ (Waiter (after (opening plan last) h) id
         × IsLeftWaiting id (joined id h ++ piece) (length piece) said tracks) }
+    ensures at_failure { (p : Plain) (h : List Entry) (moment : ℕ) (id : ConnId) (said : Said) (tracks : List Track)
+        → is_offer said ≡ true →
+        Says (answer p h moment (ConnectFailed id)) said tracks ↔ IsMoved (after p h) id said tracks }
     ensures nothing_else { (p : Plain) (h : List Entry) (moment : ℕ) (event : OwnedEvent)
         (reply : Reply) → answer p h moment event ≡ Ok reply →
         is_offer reply.said ≡ true → may_offer event ≡ true }
     ensures tracks_nothing { (p : Plain) (h : List Entry) (moment : ℕ) (event : OwnedEvent)
         (reply : Reply) → answer p h moment event ≡ Ok reply →
-        may_offer event ≡ false → reply.tracks.items ≡ [] }
+        tries_rules event ≡ false → reply.tracks.items ≡ [] }
 {}
 
 /// Each refusal names the connection that it is of, and the line that decided, or the fault of the header, or that no

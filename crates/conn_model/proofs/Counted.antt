@@ -1,7 +1,7 @@
 -- How the open connections of a server change with a reply.
 use Rattle.std.specs.Prelude.{ℕ, Bool, true, false, not, List, [], length, map, max, filter, find, slice_get, slice_set, Option, Some, None, option_map, option_and_then, Ok, refl, ◌+◌, ◌≤◌, ◌<◌, ◌≡◌, ◌==◌, ◌∷◌, ◌++◌, if◌then◌else◌}
 use Rattle.std.specs.List.{AllByRecursion}
-use Rattle.std.proofs.Common.{sym, ap, ◌∙◌, subst, arith}
+use Rattle.std.proofs.Common.{sym, ap, ◌∙◌, subst, arith, ◌&&◌}
 use Rattle.std.proofs.lemmas.Bool.{false≢true, eqb-true}
 use Rattle.std.proofs.lemmas.Bool.Decides.{nat_tests}
 use Rattle.std.proofs.lemmas.List.{length-append}
@@ -14,12 +14,12 @@ use Rattle.plan_types.specs.declared.plan.Plan.{Plan}
 use Rattle.plan_types.specs.declared.track.Track.{Track}
 use Rattle.conn_model.specs.declared.event.ConnId.{ConnId}
 use Rattle.conn_model.specs.declared.event.OwnedEvent.{OwnedEvent}
-use Rattle.conn_model.specs.declared.event.OwnedEvent.TheVariants.{Accept, Piece, Connected, ConnectFailed, Close, Expire, Reload}
+use Rattle.conn_model.specs.declared.event.OwnedEvent.TheVariants.{Accept, Piece, Connected, ConnectFailed, Close, Expire, Reload, Mark}
 use Rattle.conn_model.specs.declared.event.Why.TheVariants.{Failed}
 use Rattle.conn_model.specs.declared.reply.Reply.{Reply}
 use Rattle.conn_model.specs.declared.reply.Said.{Said}
 use Rattle.conn_model.specs.declared.reply.Said.TheVariants as saids
-use Rattle.conn_model.specs.declared.reply.Said.TheVariants.{Wait, Offer, Refuse, Closed, Reloaded}
+use Rattle.conn_model.specs.declared.reply.Said.TheVariants.{Wait, Offer, Refuse, Closed, Reloaded, Marked}
 use Rattle.conn_model.specs.declared.reply.StepFault.TheVariants.{NoSuch}
 use Rattle.conn_model.specs.declared.plain.Phase.{Phase}
 use Rattle.conn_model.specs.declared.plain.Phase.TheVariants.{Waiting, Offered, Up}
@@ -30,15 +30,15 @@ use Rattle.conn_model.specs.declared.plain.Version.{Version}
 use Rattle.conn_model.specs.Words.{or_fault, row_at, row_in, Rise}
 use Rattle.conn_model.specs.Counts.{change_row, is_served_by, served_by, served_in, total}
 use Rattle.conn_model.specs.Answer.{answer_in, at_moment, reply_of, rest_in, version_at}
-use Rattle.conn_model.specs.History.{after, by_counter, entry, id_of, identity_of, is_last, judging_version, newest_number, opening, phase_by, phase_on, phase_up, plan_of, served_less, served_more, version_for, Entry, IsLegal, IsWell}
-use Rattle.conn_model.proofs.Replies.{answered, bind-ok, expired, followed, received, server_answered, Followed, IsNew, IsOld, Received}
+use Rattle.conn_model.specs.History.{after, by_counter, entry, id_of, identity_of, is_last, judging_version, newest_number, opening, phase_by, phase_on, phase_up, plan_of, served_less, served_more, version_for, Entry, IsLegal, IsWell, leaves_server}
+use Rattle.conn_model.proofs.Replies.{answered, bind-ok, expired, followed, received, server_answered, Followed, IsNew, IsOld, Received, IsReported, reported}
 use Rattle.conn_model.proofs.Goes.{well_at, whole_in_parts}
 use Rattle.conn_model.proofs.Well.{opening_well, well_after}
 use Rattle.conn_model.proofs.Trackings.{row_unused}
 use Rattle.conn_model.proofs.Versions.{is_offer}
 use Rattle.conn_model.proofs.VersionSteps.{judging-new, judging-old}
 use Rattle.conn_model.proofs.Totals.{total-set}
-use Rattle.conn_model.proofs.Steps.{after-accept, after-change, after-end, after-reload, row_said, rows_left, IsOfOpen}
+use Rattle.conn_model.proofs.Steps.{after-accept, after-change, after-end, after-reload, row_said, rows_left, IsOfOpen, after-mark}
 
 -- Sums.
 
@@ -159,16 +159,18 @@ left-counts q server clock real tracks (Offer id used line n to judged send) jud
       version = newest_number q;
       real = real;
       accepted = clock;
-      phase = Offered (record { server = identity_of (plan_of q [] (newest_number q)) line n to; line = line; judged = judged });
+      phase = Offered (record { server = identity_of (plan_of q [] (newest_number q)) line n to; line = line; judged = judged; failed = [] });
       tracks = by_counter tracks;
     } in
     let count : passing (λ row. is_served_by server row.phase) (rows_left q clock real tracks said) ≡ one_if (same_server server (identity_of (plan_of q [] (newest_number q)) line n to)) + 0 =
     passing-cons (λ row. is_served_by server row.phase) row [] in
-    omega (arith, count) ∙ ap (λ p. one_if (same_server server (identity_of p line n to))) plan
+    let less : served_less q said server ≡ 0 = rw none refl in
+    omega (arith, count, less) ∙ ap (λ p. one_if (same_server server (identity_of p line n to))) plan
 left-counts q server clock real tracks (Refuse id used cause) judges none = rw none refl
 left-counts q server clock real tracks (saids.Up id) judges none = refl
 left-counts q server clock real tracks (Closed id why) judges none = rw none refl
 left-counts q server clock real tracks (Reloaded version) judges none = refl
+left-counts q server clock real tracks (Marked line health) judges none = refl
 
 accept_counts : (q : Plain) → IsWell q → (moment listener : ℕ) (real : PairValue) (reply : Reply) → IsNew q reply.said → (server : ServerIdentity) →
     served_by (after q (entry moment (Accept listener real) reply ∷ [])).frontends server + served_less q reply.said server ≡ served_by q.frontends server + served_more q reply.said server
@@ -203,35 +205,6 @@ found_row frontends id row is = by (slice_get frontends id.frontend) refl
     by None none = absurd (let wrong : None ≡ Some row = ap (row_in id.serial) (sym none) ∙ is in cc)
     by (Some own) there = record { own = own; there = there; found = ap (row_in id.serial) (sym there) ∙ is }
 
-waiting_unserved : (server : ServerIdentity) (phase : Phase) (rest : Rest) → rest_in phase ≡ Some rest → is_served_by server phase ≡ false
-waiting_unserved server (Waiting held) rest is = refl
-waiting_unserved server (Offered assignment) rest is = absurd (let wrong : None ≡ Some rest = is in cc)
-waiting_unserved server (Up assignment) rest is = absurd (let wrong : None ≡ Some rest = is in cc)
-
-no_offer : (said : Said) (reply : Reply) → reply_of said ≡ reply → is_offer said ≡ false → is_offer reply.said ≡ true → ⊥
-no_offer said reply same other is = false≢true (sym other ∙ ap (λ r. is_offer r.said) same ∙ is)
-
--- it is offered a server only where it waits
-offered_waits : (q : Plain) (moment : ℕ) (event : OwnedEvent) (reply : Reply) (id : ConnId) (row : Row) (server : ServerIdentity) → IsOfOpen event → answer_in q moment event ≡ Ok reply →
-    id_of reply.said ≡ Some id → row_at q.frontends id ≡ Some row → is_offer reply.said ≡ true → is_served_by server row.phase ≡ false
-offered_waits q moment (Accept listener real) reply id row server old answer whom there is = absurd old
-offered_waits q moment (Piece id' bytes) reply id row server old answer whom there is =
-    let got : Received (at_moment moment q) id' bytes reply = received (at_moment moment q) id' bytes reply answer in
-    let speaks : IsOld q id' reply.said = answered q moment (Piece id' bytes) reply answer in
-    let same : id' ≡ id = let it : Some id' ≡ Some id = sym speaks.speaks ∙ whom in cc in
-    let rows : got.row ≡ row = let it : Some got.row ≡ Some row = sym got.row_is ∙ ap (row_at q.frontends) same ∙ there in cc in
-    waiting_unserved server row.phase got.rest (ap (λ r. rest_in r.phase) (sym rows) ∙ got.waits)
-offered_waits q moment (Connected id') reply id row server old answer whom there is =
-    absurd (no_offer (saids.Up id') reply (server_answered (at_moment moment q) id' (saids.Up id') reply answer).reply_is refl is)
-offered_waits q moment (ConnectFailed id') reply id row server old answer whom there is =
-    absurd (no_offer (Closed id' Failed) reply (server_answered (at_moment moment q) id' (Closed id' Failed) reply answer).reply_is refl is)
-offered_waits q moment (Close id' why) reply id row server old answer whom there is =
-    let one = bind-ok (or_fault NoSuch (row_at q.frontends id')) _ reply answer in
-    let same : reply_of (Closed id' why) ≡ reply = let it : Ok (reply_of (Closed id' why)) ≡ Ok reply = one.2 in cc in
-    absurd (no_offer (Closed id' why) reply same refl is)
-offered_waits q moment (Expire id') reply id row server old answer whom there is = absurd (no_offer _ reply (expired (at_moment moment q) (max q.clock moment) id' reply answer).reply_is refl is)
-offered_waits q moment (Reload text) reply id row server old answer whom there is = absurd old
-
 on-served : (server : ServerIdentity) (piece : List ℕ) (phase : Phase) → is_served_by server (phase_on piece phase) ≡ is_served_by server phase
 on-served server piece (Waiting rest) = refl
 on-served server piece (Offered assignment) = refl
@@ -242,24 +215,33 @@ up-served server (Waiting rest) = refl
 up-served server (Offered assignment) = refl
 up-served server (Up assignment) = refl
 
-plus_zero : (a b : Bool) → a ≡ b → one_if a ≡ one_if b + 0
-plus_zero a b same = let it : one_if a ≡ one_if b = ap one_if same in omega (arith, it)
+plus_zero : (a b : Bool) → a ≡ b → one_if a + 0 ≡ one_if b + 0
+plus_zero a b same = ap (λ c. one_if c + 0) same
 
 -- what a reply that leaves the connection open makes of it
 phase_counts : (q : Plain) (event : OwnedEvent) (said : Said) (row : Row) (server : ServerIdentity) → judging_version q.frontends (newest_number q) said ≡ row.version → is_last said ≡ false →
-    (is_offer said ≡ true → is_served_by server row.phase ≡ false) →
-    one_if (is_served_by server (phase_by (plan_of q [] row.version) event said row.phase)) ≡ one_if (is_served_by server row.phase) + served_more q said server
-phase_counts q event (Wait id used) row server judges last waits = plus_zero _ _ (on-served server _ row.phase)
-phase_counts q event (Offer id used line n to judged send) row server judges last waits =
+    one_if (is_served_by server (phase_by (plan_of q [] row.version) event said row.phase)) + one_if (leaves_server said && is_served_by server row.phase)
+    ≡ one_if (is_served_by server row.phase) + served_more q said server
+phase_counts q event (Wait id used) row server judges last = plus_zero _ _ (on-served server _ row.phase)
+phase_counts q event (Offer id used line n to judged send) row server judges last =
     let said : Said = Offer id used line n to judged send in
-    let before : one_if (is_served_by server row.phase) ≡ 0 = ap one_if (waits refl) in
     let plan : plan_of q [] row.version ≡ option_map (λ version. version.plan) (version_for q said) = judged_plan q said row.version judges in
     let now : one_if (same_server server (identity_of (plan_of q [] row.version) line n to)) ≡ served_more q said server = ap (λ p. one_if (same_server server (identity_of p line n to))) plan in
-    omega (arith, before, now)
-phase_counts q event (Refuse id used cause) row server judges last waits = absurd (false≢true (sym last))
-phase_counts q event (saids.Up id) row server judges last waits = plus_zero _ _ (up-served server row.phase)
-phase_counts q event (Closed id why) row server judges last waits = absurd (false≢true (sym last))
-phase_counts q event (Reloaded version) row server judges last waits = plus_zero _ _ refl
+    omega (arith, now)
+phase_counts q event (Refuse id used cause) row server judges last = absurd (false≢true (sym last))
+phase_counts q event (saids.Up id) row server judges last = plus_zero _ _ (up-served server row.phase)
+phase_counts q event (Closed id why) row server judges last = absurd (false≢true (sym last))
+phase_counts q event (Reloaded version) row server judges last = refl
+phase_counts q event (Marked line health) row server judges last = refl
+
+last_leaves : (said : Said) → is_last said ≡ true → leaves_server said ≡ true
+last_leaves (Wait id used) last = absurd (false≢true last)
+last_leaves (Offer id used line n to judged send) last = refl
+last_leaves (Refuse id used cause) last = refl
+last_leaves (saids.Up id) last = absurd (false≢true last)
+last_leaves (Closed id why) last = refl
+last_leaves (Reloaded version) last = absurd (false≢true last)
+last_leaves (Marked line health) last = absurd (false≢true last)
 
 last_more : (q : Plain) (said : Said) (server : ServerIdentity) → is_last said ≡ true → served_more q said server ≡ 0
 last_more q (Wait id used) server last = refl
@@ -268,6 +250,7 @@ last_more q (Refuse id used cause) server last = refl
 last_more q (saids.Up id) server last = refl
 last_more q (Closed id why) server last = refl
 last_more q (Reloaded version) server last = refl
+last_more q (Marked line health) server last = refl
 
 open_counts : (q : Plain) → IsWell q → (moment : ℕ) (event : OwnedEvent) (reply : Reply) (id : ConnId) → IsOfOpen event → answer_in q moment event ≡ Ok reply → IsOld q id reply.said → (server : ServerIdentity) →
     served_by (after q (entry moment event reply ∷ [])).frontends server + served_less q reply.said server ≡ served_by q.frontends server + served_more q reply.said server
@@ -296,7 +279,7 @@ open_counts q well moment event reply id old answer is server = by (is_last repl
         let own' : FrontendRows = record at.own { rows = filter (λ r. not (r.serial == id.serial)) at.own.rows } in
         let counts = state own' (ap (λ s. s.frontends) (after-end q well (entry moment event reply) id at.own at.there old is.speaks last)) in
         let rows : served_in server at.own ≡ served_in server own' + one_if (test is.row) = gone test id.serial is.row at.own.rows rise at.found in
-        let less : served_less q reply.said server ≡ one_if (test is.row) = rw (last, here) refl in
+        let less : served_less q reply.said server ≡ one_if (test is.row) = rw (last_leaves reply.said last, here) refl in
         let more : served_more q reply.said server ≡ 0 = last_more q reply.said server last in
         omega (arith, counts, rows, less, more)
     by false last =
@@ -305,9 +288,9 @@ open_counts q well moment event reply id old answer is server = by (is_last repl
         let counts = state own' (ap (λ s. s.frontends) (after-change q well (entry moment event reply) id at.own at.there old is.speaks last)) in
         let rows : served_in server own' + one_if (test is.row) ≡ served_in server at.own + one_if (test (change is.row)) = changed test id.serial change is.row at.own.rows rise at.found in
         let judges : judging_version q.frontends (newest_number q) reply.said ≡ is.row.version = judging-old q.frontends (newest_number q) reply.said id is.row is.speaks is.there in
-        let more : one_if (test (change is.row)) ≡ one_if (test is.row) + served_more q reply.said server =
-        phase_counts q event reply.said is.row server judges last (offered_waits q moment event reply id is.row server old answer is.speaks is.there) in
-        let less : served_less q reply.said server ≡ 0 = rw last refl in
+        let more : one_if (test (change is.row)) + one_if (leaves_server reply.said && test is.row) ≡ one_if (test is.row) + served_more q reply.said server =
+        phase_counts q event reply.said is.row server judges last in
+        let less : served_less q reply.said server ≡ one_if (leaves_server reply.said && test is.row) = rw here refl in
         omega (arith, counts, rows, more, less)
 
 -- A step, and a history.
@@ -325,6 +308,12 @@ step_counts q well moment (Reload text) reply answer server =
     let number : ℕ = got.version.number + 1 in
     let frontends : (after q (entry moment (Reload text) (reply_of (Reloaded number)) ∷ [])).frontends ≡ q.frontends = ap (λ s. s.frontends) (after-reload q well moment number text got.plan got.meant) in
     subst (λ r. served_by (after q (entry moment (Reload text) r ∷ [])).frontends server + served_less q r.said server ≡ served_by q.frontends server + served_more q r.said server) got.reply_is
+    (ap (λ fs. served_by fs server + 0) frontends)
+step_counts q well moment (Mark backend n health) reply answer server =
+    let got : IsReported (at_moment moment q) backend n health reply = reported (at_moment moment q) backend n health reply answer in
+    let line : ℕ = got.found.1.line in
+    let frontends : (after q (entry moment (Mark backend n health) (reply_of (Marked line health)) ∷ [])).frontends ≡ q.frontends = ap (λ s. s.frontends) (after-mark q well moment backend n line health) in
+    subst (λ r. served_by (after q (entry moment (Mark backend n health) r ∷ [])).frontends server + served_less q r.said server ≡ served_by q.frontends server + served_more q r.said server) got.reply_is
     (ap (λ fs. served_by fs server + 0) frontends)
 
 pub history_counts : (plan : Plan) (last : ℕ) (h : List Entry) (e : Entry) → IsLegal (opening plan last) (e ∷ h) → (server : ServerIdentity) →

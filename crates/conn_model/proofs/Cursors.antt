@@ -19,9 +19,11 @@ use Rattle.plan_types.specs.declared.plan.Plan.{Plan}
 use Rattle.plan_types.specs.declared.plan.Server.{Server}
 use Rattle.plan_types.specs.Lines.{has_line}
 use Rattle.plan_types.specs.Sound.{IsSoundPlan, NamesDiffer}
-use Rattle.conn_model.specs.Servers.{cursor_after, cursor_at, cursors_after, load_of, loads_of, pick_in, weight_of}
+use Rattle.conn_model.specs.Servers.{cursor_after, cursor_at, cursors_after, load_of, loads_of, weight_by, pick_in, weight_of}
 use Rattle.conn_model.proofs.Lists.{all-at}
 use Rattle.conn_model.proofs.Sources.{any-at}
+use Rattle.proxy_types.specs.declared.balance.Method.{Method}
+use Rattle.proxy_types.specs.declared.balance.Method.TheVariants.{RoundRobin, LeastConn, Source}
 
 -- The backend of a line.
 
@@ -96,16 +98,31 @@ other_cursors plan sound place line number backend server cursors there found is
 
 -- The turn that was picked.
 
-weights_of-map : (served : ServerIdentity → ℕ) (backend : Backend) (servers : List Server) → weights_of (map (load_of served backend) servers) ≡ map weight_of servers
-weights_of-map served backend [] = refl
-weights_of-map served backend (server ∷ servers) = ap (λ ws. weight_of server ∷ ws) (weights_of-map served backend servers)
+weights_of-map : (served : ServerIdentity → ℕ) (barred : Backend → Server → Bool) (backend : Backend) → ((server : Server) → weight_by backend.method (barred backend server) server ≡ weight_of server) →
+    (servers : List Server) → weights_of (map (load_of served barred backend) servers) ≡ map weight_of servers
+weights_of-map served barred backend keeps [] = refl
+weights_of-map served barred backend keeps (server ∷ servers) =
+    let this : weight_by backend.method (barred backend server) server ≡ weight_of server = keeps server in
+    cc (this, weights_of-map served barred backend keeps servers)
 
-pub weights_of-loads : (served : ServerIdentity → ℕ) (backend : Backend) → weights_of (loads_of served backend) ≡ map weight_of backend.servers
-weights_of-loads served backend = weights_of-map served backend backend.servers
+-- by another method than source the loads have the weights of the servers
+pub weights_of-loads : (served : ServerIdentity → ℕ) (barred : Backend → Server → Bool) (backend : Backend) → ((server : Server) → weight_by backend.method (barred backend server) server ≡ weight_of server) →
+    weights_of (loads_of served barred backend) ≡ map weight_of backend.servers
+weights_of-loads served barred backend keeps = weights_of-map served barred backend keeps backend.servers
 
-pub turn_used : (served : ServerIdentity → ℕ) (backend : Backend) (cycle : List Place) (last : Option ℕ) (source : Addr) (turn : Place) → IsRound (map weight_of backend.servers) cycle →
-    pick_in served backend (turn_at cycle last) source ≡ Some turn → cursor_after backend turn.server (turn_at cycle last) ≡ used_now backend.method (turn_at cycle last) turn
-turn_used served backend cycle last source turn round picked =
-    let weights : weights_of (loads_of served backend) ≡ map weight_of backend.servers = weights_of-loads served backend in
-    ap (λ ws. used_after ws backend.method (turn_at cycle last) turn.server) (sym weights)
-    ∙ offer_moves (loads_of served backend) cycle backend.method last source turn (subst (λ ws. IsRound ws cycle) (sym weights) round) picked
+pub turn_used : (served : ServerIdentity → ℕ) (barred : Backend → Server → Bool) (backend : Backend) (cycle : List Place) (last : Option ℕ) (source : Addr) (turn : Place) →
+    IsRound (map weight_of backend.servers) cycle → pick_in served barred backend (turn_at cycle last) source ≡ Some turn →
+    cursor_after backend turn.server (turn_at cycle last) ≡ used_now backend.method (turn_at cycle last) turn
+turn_used served barred backend cycle last source turn round picked = by backend.method refl
+  where
+    keeping : ((server : Server) → weight_by backend.method (barred backend server) server ≡ weight_of server) →
+        cursor_after backend turn.server (turn_at cycle last) ≡ used_now backend.method (turn_at cycle last) turn
+    keeping keeps =
+        let weights : weights_of (loads_of served barred backend) ≡ map weight_of backend.servers = weights_of-loads served barred backend keeps in
+        ap (λ ws. used_after ws backend.method (turn_at cycle last) turn.server) (sym weights)
+        ∙ offer_moves (loads_of served barred backend) cycle backend.method last source turn (subst (λ ws. IsRound ws cycle) (sym weights) round) picked
+
+    by : (method : Method) → backend.method ≡ method → cursor_after backend turn.server (turn_at cycle last) ≡ used_now backend.method (turn_at cycle last) turn
+    by RoundRobin is = keeping (λ server. rw is refl)
+    by LeastConn is = keeping (λ server. rw is refl)
+    by Source is = rw is refl

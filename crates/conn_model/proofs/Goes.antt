@@ -11,7 +11,7 @@ use Rattle.conn_model.specs.declared.plain.Plain.{Plain}
 use Rattle.conn_model.specs.Words.{newest}
 use Rattle.conn_model.specs.Answer.{answer_in}
 use Rattle.conn_model.specs.Tables.{is_listed_by}
-use Rattle.conn_model.specs.History.{after, arrival, arrivals, frontends_after, has_ended, in_force, needed_versions, newest_number, now_of, tables_after, tables_passed, tables_with, version_of, versions_after, versions_by, Entry, IsLegal, IsFrontendWell, IsWell}
+use Rattle.conn_model.specs.History.{after, arrival, arrivals, frontends_after, has_ended, in_force, needed_versions, newest_number, now_of, tables_after, tables_passed, tables_with, version_of, versions_after, versions_by, Entry, IsLegal, IsFrontendWell, IsWell, down_after, marked_by, mark_of}
 use Rattle.conn_model.proofs.Lists.{all-append, all-at, all-both, all-more}
 use Rattle.conn_model.proofs.Versions.{numbers-below}
 use Rattle.conn_model.proofs.Parts.{now_of-append, force-append, frontends_in_parts, history_parts, is_spoken_to, newest_after, AllGoOn, ReadsAlike}
@@ -109,8 +109,15 @@ tables_in_parts p well (e ∷ g) h legal later =
     ∙ ap (λ fs. all (now_of p.clock (e ∷ (g ++ h))) (versions_after p (e ∷ (g ++ h))) (versions_after p (g ++ h)) fs (tables_after (after p h) g)) frontends
     ∙ ap (λ ts. all (now_of p.clock (e ∷ (g ++ h))) (versions_after p (e ∷ (g ++ h))) (versions_after p (g ++ h)) (frontends_after p (g ++ h)) ts) tables
 
+-- and the servers that are down
+down_in_parts : (p : Plain) → IsWell p → (g h : List Entry) → IsLegal p h → IsLegal (after p h) g → down_after (after p h) g ≡ down_after p (g ++ h)
+down_in_parts p well [] h legal later = refl
+down_in_parts p well (e ∷ g) h legal later =
+    ap (λ vs. marked_by (mark_of vs e.event) (down_after (after p h) g)) (versions_in_parts p well g h legal later.0)
+    ∙ ap (marked_by (mark_of (versions_after p (g ++ h)) e.event)) (down_in_parts p well g h legal later.0)
+
 in_parts : (p : Plain) → IsWell p → (g h : List Entry) → IsLegal p h → IsLegal (after p h) g → after (after p h) g ≡ after p (g ++ h)
-in_parts p well g h legal later = history_parts p g h (all_go_on p well g h legal later) (versions_in_parts p well g h legal later) (tables_in_parts p well g h legal later)
+in_parts p well g h legal later = history_parts p g h (all_go_on p well g h legal later) (versions_in_parts p well g h legal later) (tables_in_parts p well g h legal later) (down_in_parts p well g h legal later)
 
 -- Legality in two parts.
 

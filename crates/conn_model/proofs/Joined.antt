@@ -16,12 +16,12 @@ use Rattle.pp_any.specs.NextPiece.{status_on, rest_on}
 use Rattle.pp_any.proofs.NextPiece.{goes_on}
 use Rattle.conn_model.specs.declared.event.ConnId.{ConnId}
 use Rattle.conn_model.specs.declared.event.OwnedEvent.{OwnedEvent}
-use Rattle.conn_model.specs.declared.event.OwnedEvent.TheVariants.{Accept, Piece, Connected, ConnectFailed, Close, Expire, Reload}
+use Rattle.conn_model.specs.declared.event.OwnedEvent.TheVariants.{Accept, Piece, Connected, ConnectFailed, Close, Expire, Reload, Mark}
 use Rattle.conn_model.specs.declared.reply.Cause.{Cause}
 use Rattle.conn_model.specs.declared.reply.Said.{Said}
 use Rattle.conn_model.specs.declared.event.Why.TheVariants.{Failed}
 use Rattle.conn_model.specs.declared.reply.Said.TheVariants as saids
-use Rattle.conn_model.specs.declared.reply.Said.TheVariants.{Wait, Offer, Refuse, Closed, Reloaded}
+use Rattle.conn_model.specs.declared.reply.Said.TheVariants.{Wait, Offer, Refuse, Closed, Reloaded, Marked}
 use Rattle.conn_model.specs.declared.reply.Reply.{Reply}
 use Rattle.conn_model.specs.declared.reply.StepFault.TheVariants.{NoSuch}
 use Rattle.conn_model.specs.declared.plain.Phase.{Phase}
@@ -32,14 +32,15 @@ use Rattle.conn_model.specs.declared.plain.Plain.{Plain}
 use Rattle.conn_model.specs.Words.{is_conn, map_from, Rise, or_fault}
 use Rattle.rule_engine.specs.Judging.{no_tracks}
 use Rattle.conn_model.specs.Rules.{Candidate, view_of}
-use Rattle.conn_model.specs.Answer.{row_in, row_at, reply_of, rest_in, verdict, said_of, candidate_of, judged_pair, header_reply, answer_in, at_moment, NumberedServer}
+use Rattle.conn_model.specs.Answer.{row_in, row_at, reply_of, rest_in, verdict, said_of, candidate_of, judged_pair, header_reply, answer_in, at_moment, NumberedServer, failure_said, other_server}
 use Rattle.conn_model.specs.History.{newest_number, speaks_to, plan_of, phase_by, phase_up, is_last, arrival, has_ended, accepts, row_after, frontend_after, frontends_after, after, piece_for, joined, Entry, IsLegal, IsWell, opening}
 use Rattle.conn_model.proofs.Lists.{all-append, all-more, all-each, all-filter_if, all-map, all-found, all-at, all-both}
-use Rattle.conn_model.proofs.Replies.{bind-ok, Says, Received, received, expired, answered, server_answered}
+use Rattle.conn_model.proofs.Replies.{bind-ok, Says, Received, received, expired, answered, server_answered, has_failed}
 use Rattle.conn_model.proofs.Parts.{is_spoken_to, either_false}
-use Rattle.conn_model.proofs.Serials.{FrontendFacts, facts_of, next_here, reload-silent, speaks_that, not_yet, arrival-all}
+use Rattle.conn_model.proofs.Serials.{FrontendFacts, facts_of, next_here, reload-silent, speaks_that, not_yet, arrival-all, mark-silent}
 use Rattle.conn_model.proofs.Goes.{well_at, whole_in_parts}
 use Rattle.conn_model.proofs.Well.{after-nil, opening_well, well_after}
+use Rattle.conn_model.specs.declared.plain.Assignment.{Assignment}
 
 abbrev conn : ℕ → ℕ → ConnId
 conn number serial = record { frontend = number; serial = serial }
@@ -94,6 +95,7 @@ piece-unspoken q (ConnectFailed id) said number serial says other = refl
 piece-unspoken q (Close id why) said number serial says other = refl
 piece-unspoken q (Expire id) said number serial says other = refl
 piece-unspoken q (Reload text) said number serial says other = refl
+piece-unspoken q (Mark backend n health) said number serial says other = refl
 
 joined-unspoken : (p : Plain) (h : List Entry) (number serial : ℕ) → IsLegal p h → is_spoken_to number h serial ≡ false → joined (conn number serial) h ≡ []
 joined-unspoken p [] number serial legal none = refl
@@ -153,6 +155,12 @@ up-held bytes (Waiting rest) held = subst (λ all. IsRest all rest) (sym (append
 up-held bytes (Offered assignment) held = tt
 up-held bytes (Up assignment) held = tt
 
+-- once another server was offered
+failure-held : (plan : Option Plan) (id : ConnId) (bytes : List ℕ) (phase : Phase) (given : Assignment) (other : Option NumberedServer) → is_last (failure_said id given other) ≡ false →
+    IsHeld bytes (phase_by plan (ConnectFailed id) (failure_said id given other) phase)
+failure-held plan id bytes phase given None open' = absurd (false≢true (sym open'))
+failure-held plan id bytes phase given (Some other) open' = tt
+
 -- the reply speaks to the connection and leaves it open
 spoken_row : (q : Plain) (h : List Entry) (moment : ℕ) (event : OwnedEvent) (reply : Reply) (number : ℕ) (own : FrontendRows) (row : Row) (plan : Option Plan) → slice_get q.frontends number ≡ Some own →
     answer_in q moment event ≡ Ok reply → Known h number own row → speaks_to number row.serial reply.said ≡ true → is_last reply.said ≡ false →
@@ -172,8 +180,10 @@ spoken_row q h moment (Connected id) reply number own row plan there answer know
     let before : List ℕ = joined (conn number row.serial) h in
     subst (λ said. IsHeld (before ++ []) (phase_by plan (Connected id) said row.phase)) (ap (λ r. r.said) got.reply_is) (up-held before row.phase known.held)
 spoken_row q h moment (ConnectFailed id) reply number own row plan there answer known spoken open' =
-    let got = server_answered (at_moment moment q) id (Closed id Failed) reply answer in
-    absurd (false≢true (sym (ap (λ r. is_last r.said) got.reply_is ∙ open')))
+    let got = has_failed (at_moment moment q) id reply answer in
+    let said_is : failure_said id got.given (other_server q got.row got.given) ≡ reply.said = ap (λ r. r.said) got.reply_is in
+    subst (λ said. IsHeld (joined (conn number row.serial) h ++ []) (phase_by plan (ConnectFailed id) said row.phase)) said_is
+    (failure-held plan id (joined (conn number row.serial) h ++ []) row.phase got.given (other_server q got.row got.given) (ap is_last said_is ∙ open'))
 spoken_row q h moment (Close id why) reply number own row plan there answer known spoken open' =
     let one = bind-ok (or_fault NoSuch (row_at q.frontends id)) _ reply answer in
     let same : reply_of (Closed id why) ≡ reply = let it : Ok (reply_of (Closed id why)) ≡ Ok reply = one.2 in cc in
@@ -183,6 +193,8 @@ spoken_row q h moment (Expire id) reply number own row plan there answer known s
     absurd (false≢true (sym (ap (λ r. is_last r.said) got.reply_is ∙ open')))
 spoken_row q h moment (Reload text) reply number own row plan there answer known spoken open' =
     absurd (reload-silent q text reply.said number row.serial (answered q moment (Reload text) reply answer) spoken)
+spoken_row q h moment (Mark backend n health) reply number own row plan there answer known spoken open' =
+    absurd (mark-silent q backend n health reply.said number row.serial (answered q moment (Mark backend n health) reply answer) spoken)
 
 left_open : (last : Bool) → not ((last && true) || false) ≡ true → last ≡ false
 left_open true live = absurd (false≢true live)
@@ -213,6 +225,7 @@ new-held plan listener real (Refuse id used cause) true = (refl, refl)
 new-held plan listener real (saids.Up id) true = (refl, refl)
 new-held plan listener real (Closed id why) true = (refl, refl)
 new-held plan listener real (Reloaded version) true = (refl, refl)
+new-held plan listener real (Marked line health) true = (refl, refl)
 new-held plan listener real said false = (refl, refl)
 
 new_rows : (p : Plain) → IsWell p → (h : List Entry) (moment : ℕ) (event : OwnedEvent) (reply : Reply) (number : ℕ) (own : FrontendRows) → slice_get p.frontends number ≡ Some own → IsLegal p h →
@@ -233,6 +246,7 @@ new_rows p well h moment (ConnectFailed id) reply number own there legal answer 
 new_rows p well h moment (Close id why) reply number own there legal answer version clock = tt
 new_rows p well h moment (Expire id) reply number own there legal answer version clock = tt
 new_rows p well h moment (Reload text) reply number own there legal answer version clock = tt
+new_rows p well h moment (Mark backend n health) reply number own there legal answer version clock = tt
 
 -- Along a history.
 

@@ -7,7 +7,7 @@ use Rattle.std.proofs.lemmas.Bool.{false≢true, eqb-true, eq-eqb}
 use Rattle.std.proofs.lemmas.Bool.Decides.{nat_tests}
 use Rattle.plan_types.specs.declared.plan.Plan.{Plan}
 use Rattle.conn_model.specs.declared.event.OwnedEvent.{OwnedEvent}
-use Rattle.conn_model.specs.declared.event.OwnedEvent.TheVariants.{Accept, Piece, Connected, ConnectFailed, Close, Expire, Reload}
+use Rattle.conn_model.specs.declared.event.OwnedEvent.TheVariants.{Accept, Piece, Connected, ConnectFailed, Close, Expire, Reload, Mark}
 use Rattle.conn_model.specs.declared.reply.Said.{Said}
 use Rattle.conn_model.specs.declared.reply.Said.TheVariants.{Reloaded}
 use Rattle.conn_model.specs.declared.plain.Row.{Row}
@@ -101,6 +101,7 @@ brought-next q (Connected id) said says r is = absurd (brought-none (number_said
 brought-next q (ConnectFailed id) said says r is = absurd (brought-none (number_said said) r is)
 brought-next q (Close id why) said says r is = absurd (brought-none (number_said said) r is)
 brought-next q (Expire id) said says r is = absurd (brought-none (number_said said) r is)
+brought-next q (Mark backend n health) said says r is = absurd (brought-none (number_said said) r is)
 brought-next q (Reload text) said says r is =
     let it : brought (Reload text) (Reloaded (says.version.number + 1)) ≡ Some r = ap (brought (Reload text)) (sym says.says) ∙ is in
     let newest_is : newest_number q ≡ says.version.number = ap (λ o. option_map_or (λ version. version.number) o 0) says.newest_is in

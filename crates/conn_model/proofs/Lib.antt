@@ -25,3 +25,4 @@ pub mod Joined
 pub mod Cursors
 pub mod Offers
 pub mod Counted
+pub mod Marks

@@ -16,7 +16,7 @@ use Rattle.conn_model.specs.declared.plain.FrontendRows.{FrontendRows}
 use Rattle.conn_model.specs.declared.plain.Version.{Version}
 use Rattle.conn_model.specs.declared.plain.Plain.{Plain}
 use Rattle.conn_model.specs.Words.{map_from}
-use Rattle.conn_model.specs.History.{now_of, speaks_to, version_of, in_force, newest_number, plan_of, has_version, is_needed, with_version, phase_after, tracks_of, by_counter, is_last, arrival, arrivals, has_ended, accepts, row_after, frontend_after, frontends_after, judging_version, with_said, versions_after, tables_after, after, Entry}
+use Rattle.conn_model.specs.History.{now_of, speaks_to, version_of, in_force, newest_number, plan_of, has_version, is_needed, with_version, phase_after, tracks_of, by_counter, is_last, arrival, arrivals, has_ended, accepts, row_after, frontend_after, frontends_after, judging_version, with_said, versions_after, tables_after, after, Entry, down_after}
 use Rattle.conn_model.proofs.Versions.{last_number, last_number-filter, last_number-map, last_number-with, version_said, version_said-cursors, with_said-each}
 
 -- What goes on one entry after the other.
@@ -314,7 +314,7 @@ frontends_in_parts p g h goes =
     zero_plus : (n : ℕ) → 0 + n ≡ n
     zero_plus n = omega arith
 
--- a history in two parts, where its versions and its tables are those of the whole
+-- a history in two parts, where its versions, its tables and the servers that are down are those of the whole
 pub history_parts : (p : Plain) (g h : List Entry) → AllGoOn p g h → versions_after (after p h) g ≡ versions_after p (g ++ h) → tables_after (after p h) g ≡ tables_after p (g ++ h) →
-    after (after p h) g ≡ after p (g ++ h)
-history_parts p g h goes versions tables = cc (now_of-append p.clock g h, frontends_in_parts p g h goes, versions, tables)
+    down_after (after p h) g ≡ down_after p (g ++ h) → after (after p h) g ≡ after p (g ++ h)
+history_parts p g h goes versions tables down = cc (now_of-append p.clock g h, frontends_in_parts p g h goes, versions, tables, down)

@@ -10,7 +10,7 @@ use Rattle.config_core.proofs.BindLemmas.{both_ways}
 use Rattle.config_core.specs.Meaning.{meaning}
 use Rattle.conn_model.specs.declared.event.ConnId.{ConnId}
 use Rattle.conn_model.specs.declared.event.OwnedEvent.{OwnedEvent}
-use Rattle.conn_model.specs.declared.event.OwnedEvent.TheVariants.{Accept, Piece, Connected, ConnectFailed, Close, Expire, Reload}
+use Rattle.conn_model.specs.declared.event.OwnedEvent.TheVariants.{Accept, Piece, Connected, ConnectFailed, Close, Expire, Reload, Mark}
 use Rattle.conn_model.specs.declared.reply.Reply.{Reply}
 use Rattle.conn_model.specs.declared.reply.Said.{Said}
 use Rattle.conn_model.specs.declared.reply.Said.TheVariants.{Reloaded}
@@ -61,6 +61,7 @@ brought_binds q first (Connected id) said says all plan is = absurd (let wrong :
 brought_binds q first (ConnectFailed id) said says all plan is = absurd (let wrong : None ≡ Some plan = is in cc)
 brought_binds q first (Close id why) said says all plan is = absurd (let wrong : None ≡ Some plan = is in cc)
 brought_binds q first (Expire id) said says all plan is = absurd (let wrong : None ≡ Some plan = is in cc)
+brought_binds q first (Mark backend n health) said says all plan is = absurd (let wrong : None ≡ Some plan = is in cc)
 brought_binds q first (Reload text) said says all plan is =
     let it : Some says.plan ≡ Some plan = ap plan_in (sym says.meant) ∙ is in
     let same : says.plan ≡ plan = cc in

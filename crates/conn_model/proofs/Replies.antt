@@ -10,9 +10,9 @@ use Rattle.config_core.specs.Meaning.{meaning}
 use Rattle.config_core.specs.declared.fault.OpenFault.{OpenFault}
 use Rattle.conn_model.specs.declared.event.ConnId.{ConnId}
 use Rattle.conn_model.specs.declared.event.OwnedEvent.{OwnedEvent}
-use Rattle.conn_model.specs.declared.event.OwnedEvent.TheVariants.{Accept, Piece, Connected, ConnectFailed, Close, Expire, Reload}
+use Rattle.conn_model.specs.declared.event.OwnedEvent.TheVariants.{Accept, Piece, Connected, ConnectFailed, Close, Expire, Reload, Mark}
 use Rattle.conn_model.specs.declared.reply.Cause.{Cause}
-use Rattle.conn_model.specs.declared.reply.Cause.TheVariants.{Expired}
+use Rattle.conn_model.specs.declared.reply.Cause.TheVariants.{Expired, NoBackend, NoServer}
 use Rattle.conn_model.specs.declared.event.Why.TheVariants.{Failed}
 use Rattle.conn_model.specs.declared.event.TheConstants.{HEADER_WAIT}
 use Rattle.pp_any.specs.declared.rest.Rest.{Rest}
@@ -21,9 +21,9 @@ use Rattle.pp_any.specs.Status.{Status}
 use Rattle.pp_any.specs.NextPiece.{status_on}
 use Rattle.conn_model.specs.declared.reply.Said.{Said}
 use Rattle.conn_model.specs.declared.reply.Said.TheVariants as saids
-use Rattle.conn_model.specs.declared.reply.Said.TheVariants.{Refuse, Closed, Reloaded}
+use Rattle.conn_model.specs.declared.reply.Said.TheVariants.{Refuse, Closed, Reloaded, Marked}
 use Rattle.conn_model.specs.declared.reply.Reply.{Reply}
-use Rattle.conn_model.specs.declared.reply.StepFault.TheVariants.{NoListener, NoSuch, NotWaiting, NotOffered, NotDue, BadConfig, BindChanged, Exhausted}
+use Rattle.conn_model.specs.declared.reply.StepFault.TheVariants.{NoListener, NoSuch, NotWaiting, NotOffered, NotDue, BadConfig, BindChanged, Exhausted, NotChecked}
 use Rattle.conn_model.specs.declared.plain.Row.{Row}
 use Rattle.conn_model.specs.declared.plain.FrontendRows.{FrontendRows}
 use Rattle.conn_model.specs.declared.plain.Listener.{Listener}
@@ -32,8 +32,12 @@ use Rattle.conn_model.specs.declared.plain.Plain.{Plain}
 use Rattle.conn_model.specs.Words.{newest, or_fault}
 use Rattle.rule_engine.specs.Judging.{no_tracks, TrackSlots}
 use Rattle.conn_model.specs.Rules.{Candidate, rejection, view_of}
-use Rattle.conn_model.specs.Answer.{awaits_server, row_at, server_answer, version_at, NumberedServer, frontend_in, reply_of, verdict, said_of, decision, candidate_at, candidate_of, judged_pair, rest_in, waiting_row, demands_header, entry_reply, entry_rules, admission, header_reply, accept_answer, piece_answer, close_answer, expire_answer, next_answer, reload_answer, answer_in, answer_now, at_moment}
+use Rattle.conn_model.specs.Answer.{awaits_server, row_at, server_answer, version_at, NumberedServer, frontend_in, reply_of, verdict, said_of, decision, candidate_at, candidate_of, judged_pair, rest_in, waiting_row, demands_header, entry_reply, entry_rules, admission, header_reply, accept_answer, piece_answer, close_answer, expire_answer, next_answer, reload_answer, answer_in, answer_now, at_moment, failure_answer, other_server, offer_in, failure_said, mark_answer, checked_server}
 use Rattle.conn_model.specs.History.{id_of}
+use Rattle.conn_model.specs.declared.event.Health.{Health}
+use Rattle.conn_model.specs.declared.plain.Assignment.{Assignment}
+use Rattle.plan_types.specs.declared.plan.Backend.{Backend}
+use Rattle.plan_types.specs.declared.plan.Server.{Server}
 
 -- Answers in steps.
 
@@ -101,6 +105,12 @@ pub record IsReload (q : Plain) (text : List ℕ) (said : Said) : Type 0 where
   pub binds : same_binds version.plan plan ≡ true
   pub says : said ≡ Reloaded (version.number + 1)
 
+-- it reports this of the server of those numbers
+pub record IsMark (q : Plain) (number n : ℕ) (health : Health) (said : Said) : Type 0 where
+  pub found : Backend × Server
+  pub there : checked_server q.versions number n ≡ Some found
+  pub says : said ≡ Marked found.1.line health
+
 abbrev pub Says : Plain → OwnedEvent → Said → Type 0
 Says q (Accept listener real) said = IsNew q said
 Says q (Piece id bytes) said = IsOld q id said
@@ -109,6 +119,7 @@ Says q (ConnectFailed id) said = IsOld q id said
 Says q (Close id why) said = IsOld q id said
 Says q (Expire id) said = IsOld q id said
 Says q (Reload text) said = IsReload q text said
+Says q (Mark number n health) said = IsMark q number n health said
 
 -- what the answer to an accept looked up, and the reply that it gave
 pub record Accepted (q : Plain) (clock listener : ℕ) (real : PairValue) (reply : Reply) : Type 0 where
@@ -304,15 +315,64 @@ reloaded : (q : Plain) (text : List ℕ) (reply : Reply) → Followed q text rep
 reloaded q text reply got =
     record { plan = got.plan; version = got.version; meant = got.meant; newest_is = got.newest_is; binds = got.binds; says = ap (λ r. r.said) (sym got.reply_is) }
 
+-- what the answer to a server out of reach looked up, and the reply that it gave
+pub record HasFailed (q : Plain) (id : ConnId) (reply : Reply) : Type 0 where
+  pub row : Row
+  pub given : Assignment
+  pub row_is : row_at q.frontends id ≡ Some row
+  pub offered : offer_in row.phase ≡ Some given
+  pub reply_is : reply_of (failure_said id given (other_server q row given)) ≡ reply
+
+pub has_failed : (q : Plain) (id : ConnId) (reply : Reply) → failure_answer q id ≡ Ok reply → HasFailed q id reply
+has_failed q id reply is =
+    let one = bind-ok (or_fault NoSuch (row_at q.frontends id)) _ reply is in
+    let row : Row = one.0 in
+    let two = bind-ok (or_fault NotOffered (offer_in row.phase)) _ reply one.2 in
+    let said : Reply = reply_of (failure_said id two.0 (other_server q row two.0)) in
+    record {
+      row = row;
+      given = two.0;
+      row_is = or_fault-ok NoSuch (row_at q.frontends id) row one.1;
+      offered = or_fault-ok NotOffered (offer_in row.phase) two.0 two.1;
+      reply_is = let it : Ok said ≡ Ok reply = two.2 in cc;
+    }
+
+failure-id : (id : ConnId) (given : Assignment) (other : Option NumberedServer) → id_of (failure_said id given other) ≡ Some id
+failure-id id given None = refl
+failure-id id given (Some other) = refl
+
+old_failed : (q : Plain) (id : ConnId) (reply : Reply) → HasFailed q id reply → IsOld q id reply.said
+old_failed q id reply got =
+    record { speaks = ap (λ r. id_of r.said) (sym got.reply_is) ∙ failure-id id got.given (other_server q got.row got.given); row = got.row; there = got.row_is }
+
+-- what the answer to a report of a server looked up, and the reply that it gave
+pub record IsReported (q : Plain) (number n : ℕ) (health : Health) (reply : Reply) : Type 0 where
+  pub found : Backend × Server
+  pub there : checked_server q.versions number n ≡ Some found
+  pub reply_is : reply_of (Marked found.1.line health) ≡ reply
+
+pub reported : (q : Plain) (number n : ℕ) (health : Health) (reply : Reply) → mark_answer q number n health ≡ Ok reply → IsReported q number n health reply
+reported q number n health reply is =
+    let one = bind-ok (or_fault NotChecked (checked_server q.versions number n)) _ reply is in
+    record {
+      found = one.0;
+      there = or_fault-ok NotChecked (checked_server q.versions number n) one.0 one.1;
+      reply_is = let it : Ok (reply_of (Marked one.0.1.line health)) ≡ Ok reply = one.2 in cc;
+    }
+
+marked : (q : Plain) (number n : ℕ) (health : Health) (reply : Reply) → IsReported q number n health reply → IsMark q number n health reply.said
+marked q number n health reply got = record { found = got.found; there = got.there; says = ap (λ r. r.said) (sym got.reply_is) }
+
 -- what is known of an answer
 pub answered-now : (q : Plain) (event : OwnedEvent) (reply : Reply) → answer_now q event ≡ Ok reply → Says q event reply.said
 answered-now q (Accept listener real) reply is = new_at q q.clock listener real reply (accepted q q.clock listener real reply is)
 answered-now q (Piece id bytes) reply is = old_piece q id bytes reply (received q id bytes reply is)
 answered-now q (Connected id) reply is = old_server q id (saids.Up id) reply refl (server_answered q id (saids.Up id) reply is)
-answered-now q (ConnectFailed id) reply is = old_server q id (Closed id Failed) reply refl (server_answered q id (Closed id Failed) reply is)
+answered-now q (ConnectFailed id) reply is = old_failed q id reply (has_failed q id reply is)
 answered-now q (Close id why) reply is = closed q id (Closed id why) reply refl is
 answered-now q (Expire id) reply is = old_expired q q.clock id reply (expired q q.clock id reply is)
 answered-now q (Reload text) reply is = reloaded q text reply (followed q text reply is)
+answered-now q (Mark number n health) reply is = marked q number n health reply (reported q number n health reply is)
 
 -- time makes no difference to it
 
@@ -326,6 +386,7 @@ says_before q moment (Connected id) said old = old_before q moment id said old
 says_before q moment (ConnectFailed id) said old = old_before q moment id said old
 says_before q moment (Close id why) said old = old_before q moment id said old
 says_before q moment (Expire id) said old = old_before q moment id said old
+says_before q moment (Mark number n health) said got = record { found = got.found; there = got.there; says = got.says }
 says_before q moment (Reload text) said got =
     record { plan = got.plan; version = got.version; meant = got.meant; newest_is = got.newest_is; binds = got.binds; says = got.says }
 

@@ -10,13 +10,14 @@ use Rattle.conn_model.specs.declared.plain.Row.{Row}
 use Rattle.conn_model.specs.declared.plain.FrontendRows.{FrontendRows}
 use Rattle.conn_model.specs.declared.plain.Plain.{Plain}
 use Rattle.addr_core.specs.PairValue.{PairValue}
-use Rattle.conn_model.specs.declared.event.OwnedEvent.TheVariants.{Accept, Piece, Connected, ConnectFailed, Close, Expire, Reload}
+use Rattle.conn_model.specs.declared.event.OwnedEvent.TheVariants.{Accept, Piece, Connected, ConnectFailed, Close, Expire, Reload, Mark}
 use Rattle.conn_model.specs.Words.{is_conn, Rise}
 use Rattle.conn_model.specs.Answer.{row_in, new_row}
 use Rattle.conn_model.specs.History.{now_of, id_of, speaks_to, in_force, newest_number, leaves_open, arrival_of, arrival, arrivals, has_ended, is_accept_at, accepts, row_after, frontend_after, frontends_after, after, Entry, IsLegal, IsFrontendWell}
 use Rattle.conn_model.proofs.Parts.{is_spoken_to}
 use Rattle.conn_model.proofs.Lists.{or_true, and_true, all-append, all-more, all-filter, all-map, all-found, get-from_zero, rise-append}
-use Rattle.conn_model.proofs.Replies.{IsNew, IsOld, IsReload, Says, answered}
+use Rattle.conn_model.proofs.Replies.{IsNew, IsOld, IsReload, Says, answered, IsMark}
+use Rattle.conn_model.specs.declared.event.Health.{Health}
 
 -- Rows that an entry opens.
 
@@ -44,6 +45,7 @@ arrival-all P q number clock version (ConnectFailed id) said says each = tt
 arrival-all P q number clock version (Close id why) said says each = tt
 arrival-all P q number clock version (Expire id) said says each = tt
 arrival-all P q number clock version (Reload text) said says each = tt
+arrival-all P q number clock version (Mark backend n health) said says each = tt
 
 -- an entry opens one row at most
 pub arrival-one : (number clock version : ℕ) (event : OwnedEvent) (said : Said) →
@@ -65,6 +67,7 @@ arrival-one number clock version (ConnectFailed id) said = inl refl
 arrival-one number clock version (Close id why) said = inl refl
 arrival-one number clock version (Expire id) said = inl refl
 arrival-one number clock version (Reload text) said = inl refl
+arrival-one number clock version (Mark backend n health) said = inl refl
 
 arrival-rise : (number clock version : ℕ) (event : OwnedEvent) (said : Said) → Rise (λ row. row.serial) (arrival number clock version event said)
 arrival-rise number clock version event said = elim (arrival-one number clock version event said) [
@@ -123,6 +126,10 @@ speaks_that number serial said id whom is =
 pub reload-silent : (q : Plain) (text : List ℕ) (said : Said) (number serial : ℕ) → IsReload q text said → speaks_to number serial said ≡ true → ⊥
 reload-silent q text said number serial reload is = false≢true (ap (speaks_to number serial) (sym reload.says) ∙ is)
 
+-- nor does a report of a server
+pub mark-silent : (q : Plain) (backend n : ℕ) (health : Health) (said : Said) (number serial : ℕ) → IsMark q backend n health said → speaks_to number serial said ≡ true → ⊥
+mark-silent q backend n health said number serial mark is = false≢true (ap (speaks_to number serial) (sym mark.says) ∙ is)
+
 abbrev here_now : ℕ → OwnedEvent → Said → ℕ
 here_now number event said = if is_accept_at number event said then 1 else 0
 
@@ -151,6 +158,7 @@ spoken_now p h (ConnectFailed id) said number own there facts says serial is = o
 spoken_now p h (Close id why) said number own there facts says serial is = old_now p h id said number own there facts says serial is
 spoken_now p h (Expire id) said number own there facts says serial is = old_now p h id said number own there facts says serial is
 spoken_now p h (Reload text) said number own there facts says serial is = absurd (reload-silent (after p h) text said number serial says is)
+spoken_now p h (Mark backend n health) said number own there facts says serial is = absurd (mark-silent (after p h) backend n health said number serial says is)
 
 facts_more : (p : Plain) (h : List Entry) (e : Entry) (number : ℕ) (own : FrontendRows) → slice_get p.frontends number ≡ Some own → FrontendFacts p h number own →
     Says (after p h) e.event e.reply.said → FrontendFacts p (e ∷ h) number own

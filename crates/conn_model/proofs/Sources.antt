@@ -18,7 +18,7 @@ use Rattle.rule_engine.specs.Judging.{TrackSlots, no_tracks}
 use Rattle.rule_engine.proofs.SlotLemmas.{judged-slots, none_made, AreSlots, Makes}
 use Rattle.conn_model.specs.declared.event.ConnId.{ConnId}
 use Rattle.conn_model.specs.declared.event.OwnedEvent.{OwnedEvent}
-use Rattle.conn_model.specs.declared.event.OwnedEvent.TheVariants.{Accept, Piece, Connected, ConnectFailed, Close, Expire, Reload}
+use Rattle.conn_model.specs.declared.event.OwnedEvent.TheVariants.{Accept, Piece, Connected, ConnectFailed, Close, Expire, Reload, Mark}
 use Rattle.conn_model.specs.declared.reply.Said.{Said}
 use Rattle.conn_model.specs.declared.event.Why.TheVariants.{Failed}
 use Rattle.conn_model.specs.declared.reply.Said.TheVariants as saids
@@ -36,7 +36,7 @@ use Rattle.conn_model.specs.Answer.{admission, answer_now, candidate_at, candida
 use Rattle.conn_model.specs.History.{newest_number, tables_of, IsWell}
 pub use Rattle.conn_model.proofs.Lists.{any-at}
 use Rattle.conn_model.proofs.Versions.{newest-at}
-use Rattle.conn_model.proofs.Replies.{accepted, bind-ok, expired, followed, received, server_answered, Accepted, Received}
+use Rattle.conn_model.proofs.Replies.{accepted, bind-ok, expired, followed, received, server_answered, Accepted, Received, has_failed, reported}
 use Rattle.conn_model.proofs.OneTable.{key_for, same_id-refl, table_found}
 
 -- the track is of a key of the source that could be listed, in one of those tables
@@ -147,6 +147,7 @@ judging q (ConnectFailed id) = option_map_or (λ row. row.version) (row_at q.fro
 judging q (Close id why) = option_map_or (λ row. row.version) (row_at q.frontends id) 0
 judging q (Expire id) = option_map_or (λ row. row.version) (row_at q.frontends id) 0
 judging q (Reload text) = newest_number q
+judging q (Mark backend n health) = newest_number q
 
 -- all that a reply tracks is of one source
 abbrev pub HasSource : Plain → ℕ → Reply → Type 0
@@ -189,7 +190,8 @@ pub has_source : (q : Plain) → IsWell q → (event : OwnedEvent) (reply : Repl
 has_source q well (Accept listener real) reply is = accepted_source q well q.clock listener real reply (accepted q q.clock listener real reply is)
 has_source q well (Piece id bytes) reply is = received_source q id bytes reply (received q id bytes reply is)
 has_source q well (Connected id) reply is = no_source q (judging q (Connected id)) (saids.Up id) reply (server_answered q id (saids.Up id) reply is).reply_is
-has_source q well (ConnectFailed id) reply is = no_source q (judging q (ConnectFailed id)) (Closed id Failed) reply (server_answered q id (Closed id Failed) reply is).reply_is
+has_source q well (ConnectFailed id) reply is = no_source q (judging q (ConnectFailed id)) _ reply (has_failed q id reply is).reply_is
 has_source q well (Close id why) reply is = closed_source q id (judging q (Close id why)) (Closed id why) reply is
 has_source q well (Expire id) reply is = let got = expired q q.clock id reply is in no_source q (judging q (Expire id)) _ reply got.reply_is
 has_source q well (Reload text) reply is = no_source q (judging q (Reload text)) _ reply (followed q text reply is).reply_is
+has_source q well (Mark backend n health) reply is = no_source q (judging q (Mark backend n health)) _ reply (reported q backend n health reply is).reply_is

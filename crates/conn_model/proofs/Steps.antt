@@ -15,11 +15,11 @@ use Rattle.plan_types.specs.declared.track.Track.{Track}
 use Rattle.config_core.specs.Meaning.{meaning}
 use Rattle.conn_model.specs.declared.event.ConnId.{ConnId}
 use Rattle.conn_model.specs.declared.event.OwnedEvent.{OwnedEvent}
-use Rattle.conn_model.specs.declared.event.OwnedEvent.TheVariants.{Accept, Piece, Connected, ConnectFailed, Close, Expire, Reload}
+use Rattle.conn_model.specs.declared.event.OwnedEvent.TheVariants.{Accept, Piece, Connected, ConnectFailed, Close, Expire, Reload, Mark}
 use Rattle.conn_model.specs.declared.reply.Reply.{Reply}
 use Rattle.conn_model.specs.declared.reply.Said.{Said}
 use Rattle.conn_model.specs.declared.reply.Said.TheVariants as saids
-use Rattle.conn_model.specs.declared.reply.Said.TheVariants.{Wait, Offer, Refuse, Closed, Reloaded}
+use Rattle.conn_model.specs.declared.reply.Said.TheVariants.{Wait, Offer, Refuse, Closed, Reloaded, Marked}
 use Rattle.conn_model.specs.declared.plain.Phase.TheVariants.{Offered}
 use Rattle.conn_model.specs.declared.plain.Row.{Row}
 use Rattle.conn_model.specs.declared.plain.FrontendRows.{FrontendRows}
@@ -30,14 +30,17 @@ use Rattle.conn_model.specs.Words.{map_from, newest}
 use Rattle.conn_model.specs.Counts.{change_row}
 use Rattle.conn_model.specs.Answer.{at_moment, reply_of, row_in, version_at, new_row}
 use Rattle.conn_model.specs.Tables.{is_listed_by, new_tables, open_tracks, tables_alive, written_tables}
-use Rattle.conn_model.specs.History.{id_of, speaks_to, has_version, in_force, is_needed, needed_versions, newest_number, next_version, number_said, plan_in, plan_of, plan_with, tables_after, tables_with, version_of, with_version, identity_of, by_counter, phase_by, is_last, is_accept_at, arrival, has_ended, row_after, frontend_after, frontends_after, judging_version, tables_by, versions_after, with_said, after, entry, Entry, IsFrontendWell, IsWell}
+use Rattle.conn_model.specs.History.{id_of, speaks_to, has_version, in_force, is_needed, needed_versions, newest_number, next_version, number_said, plan_in, plan_of, plan_with, tables_after, tables_with, version_of, with_version, identity_of, by_counter, phase_by, is_last, is_accept_at, arrival, has_ended, row_after, frontend_after, frontends_after, judging_version, tables_by, versions_after, with_said, after, entry, Entry, IsFrontendWell, IsWell, mark_of, down_after, marked_by}
 use Rattle.conn_model.proofs.Lists.{all-more, all-at, all-both, or_left, or_right, or_true}
 use Rattle.conn_model.proofs.Nothing.{after-nil}
 pub use Rattle.conn_model.proofs.Versions.{is_offer, last_no_offer, versions_kept}
 use Rattle.conn_model.proofs.Versions.{newest-at}
 pub use Rattle.conn_model.proofs.VersionSteps.{judging-old}
 use Rattle.conn_model.proofs.VersionSteps.{judging-new, versions_quiet, versions_said, versions_step}
-use Rattle.conn_model.proofs.TableSteps.{tables_quiet, tables_said, tables_step-by}
+use Rattle.conn_model.proofs.TableSteps.{tables_quiet, tables_said, tables_step-by, table_kept}
+use Rattle.proxy_types.specs.declared.server.ServerIdentity.{ServerIdentity}
+use Rattle.conn_model.specs.declared.event.Health.{Health}
+use Rattle.conn_model.proofs.Trackings.{tables_kept}
 
 -- Lists of which one item changes.
 
@@ -122,13 +125,14 @@ other_conn number serial said id whom differs =
 frontends_same : (p : Plain) → IsWell p → frontends_after p [] ≡ p.frontends
 frontends_same p well = ap (λ q. q.frontends) (after-nil p well)
 
-abbrev state_with : Plain → ℕ → List FrontendRows → List Version → List TableState → Plain
-state_with p clock frontends versions tables = record { clock = clock; listeners = p.listeners; frontends = frontends; versions = versions; tables = tables }
+abbrev state_with : Plain → ℕ → List FrontendRows → List Version → List TableState → List ServerIdentity → Plain
+state_with p clock frontends versions tables down = record { clock = clock; listeners = p.listeners; frontends = frontends; versions = versions; tables = tables; down = down }
 
-state_is : (p : Plain) (clock : ℕ) (frontends fs : List FrontendRows) (versions vs : List Version) (tables ts : List TableState) → tables ≡ ts → versions ≡ vs → frontends ≡ fs →
-    state_with p clock frontends versions tables ≡ state_with p clock fs vs ts
-state_is p clock frontends fs versions vs tables ts one two three =
-    ap (λ x. state_with p clock x versions tables) three ∙ ap (λ x. state_with p clock fs x tables) two ∙ ap (λ x. state_with p clock fs vs x) one
+state_is : (p : Plain) (clock : ℕ) (frontends fs : List FrontendRows) (versions vs : List Version) (tables ts : List TableState) (down ds : List ServerIdentity) → tables ≡ ts → versions ≡ vs → frontends ≡ fs →
+    down ≡ ds → state_with p clock frontends versions tables down ≡ state_with p clock fs vs ts ds
+state_is p clock frontends fs versions vs tables ts down ds one two three four =
+    ap (λ x. state_with p clock x versions tables down) three ∙ ap (λ x. state_with p clock fs x tables down) two ∙ ap (λ x. state_with p clock fs vs x down) one
+    ∙ ap (λ x. state_with p clock fs vs ts x) four
 
 -- Versions that are needed on.
 
@@ -172,7 +176,7 @@ rows_left p clock real tracks (Offer id used line server to judged send) =
       version = newest_number p;
       real = real;
       accepted = clock;
-      phase = Offered (record { server = identity_of (plan_of p [] (newest_number p)) line server to; line = line; judged = judged });
+      phase = Offered (record { server = identity_of (plan_of p [] (newest_number p)) line server to; line = line; judged = judged; failed = [] });
       tracks = by_counter tracks;
     } ∷ []
 rows_left p clock real tracks (Wait id used) = record (new_row id.serial (newest_number p) real clock) { tracks = by_counter tracks } ∷ []
@@ -180,6 +184,7 @@ rows_left p clock real tracks (Refuse id used cause) = []
 rows_left p clock real tracks (saids.Up id) = []
 rows_left p clock real tracks (Closed id why) = []
 rows_left p clock real tracks (Reloaded version) = []
+rows_left p clock real tracks (Marked line health) = []
 
 same_number : (n : ℕ) → (n == n) ≡ true
 same_number n = eq-eqb n n refl
@@ -201,6 +206,7 @@ new_rows_left p moment listener real (Refuse id' used cause) tracks id whom = re
 new_rows_left p moment listener real (saids.Up id') tracks id whom = refl
 new_rows_left p moment listener real (Closed id' why) tracks id whom = refl
 new_rows_left p moment listener real (Reloaded version) tracks id whom = refl
+new_rows_left p moment listener real (Marked line health) tracks id whom = refl
 
 accept-here : (p : Plain) (moment listener : ℕ) (real : PairValue) (reply : Reply) (id : ConnId) (own : FrontendRows) → IsFrontendWell p.versions own → id_of reply.said ≡ Some id → id.serial ≡ own.serial + 1 →
     frontend_after p (entry moment (Accept listener real) reply ∷ []) id.frontend own
@@ -238,6 +244,7 @@ pub after-accept : (p : Plain) → IsWell p → (moment listener : ℕ) (real : 
       frontends = slice_set p.frontends id.frontend (record own { serial = own.serial + 1; rows = own.rows ++ rows_left p (max p.clock moment) real reply.tracks.items reply.said });
       versions = with_said (newest_number p) reply.said p.versions;
       tables = tables_by (max p.clock moment) p.frontends (at_moment moment p).tables reply;
+      down = p.down;
     }
 after-accept p well moment listener real reply id own there whom next =
     let zero_plus : 0 + id.frontend ≡ id.frontend = omega arith in
@@ -256,7 +263,7 @@ after-accept p well moment listener real reply id own there whom next =
     let said : versions_after p (e ∷ []) ≡ with_said (judging_version p.frontends (newest_number p) reply.said) reply.said p.versions = versions_said p well e none on in
     let versions : versions_after p (e ∷ []) ≡ with_said (newest_number p) reply.said p.versions =
     said ∙ ap (λ n. with_said n reply.said p.versions) (judging-new p.frontends (newest_number p) reply.said id own whom there fine.given next) in
-    state_is p (max p.clock moment) _ _ _ _ _ _ (tables_said p well e none said) versions frontends
+    state_is p (max p.clock moment) _ _ _ _ _ _ _ _ (tables_said p well e none said) versions frontends refl
 
 -- An event of a connection that is open.
 
@@ -269,6 +276,7 @@ IsOfOpen (ConnectFailed id) = Unit {0}
 IsOfOpen (Close id why) = Unit {0}
 IsOfOpen (Expire id) = Unit {0}
 IsOfOpen (Reload text) = ⊥
+IsOfOpen (Mark backend n health) = ⊥
 
 no_arrival : (number clock version : ℕ) (event : OwnedEvent) (said : Said) → IsOfOpen event → (arrival number clock version event said ≡ []) × (is_accept_at number event said ≡ false)
 no_arrival number clock version (Accept listener real) said old = absurd old
@@ -278,6 +286,7 @@ no_arrival number clock version (ConnectFailed id) said old = (refl, refl)
 no_arrival number clock version (Close id why) said old = (refl, refl)
 no_arrival number clock version (Expire id) said old = (refl, refl)
 no_arrival number clock version (Reload text) said old = (refl, refl)
+no_arrival number clock version (Mark backend n health) said old = (refl, refl)
 
 -- the frontend of which the rows become these
 old-here : (p : Plain) (e : Entry) (number : ℕ) (own : FrontendRows) (rows : List Row) → IsOfOpen e.event →
@@ -306,6 +315,21 @@ no_plan (ConnectFailed id) old = refl
 no_plan (Close id why) old = refl
 no_plan (Expire id) old = refl
 no_plan (Reload text) old = absurd old
+no_plan (Mark backend n health) old = refl
+
+-- and reports of no server
+no_mark : (versions : List Version) (event : OwnedEvent) → IsOfOpen event → mark_of versions event ≡ None
+no_mark versions (Accept listener real) old = refl
+no_mark versions (Piece id bytes) old = refl
+no_mark versions (Connected id) old = refl
+no_mark versions (ConnectFailed id) old = refl
+no_mark versions (Close id why) old = refl
+no_mark versions (Expire id) old = refl
+no_mark versions (Reload text) old = refl
+no_mark versions (Mark backend n health) old = absurd old
+
+down-old : (p : Plain) (e : Entry) → IsOfOpen e.event → down_after p (e ∷ []) ≡ p.down
+down-old p e old = ap (λ o. marked_by o p.down) (no_mark p.versions e.event old)
 
 -- the frontends after an event that leaves these rows of the connection's frontend
 frontends-old : (p : Plain) → IsWell p → (e : Entry) (id : ConnId) (own : FrontendRows) (rows : List Row) → slice_get p.frontends id.frontend ≡ Some own → IsOfOpen e.event → id_of e.reply.said ≡ Some id →
@@ -341,6 +365,7 @@ pub after-end : (p : Plain) → IsWell p → (e : Entry) (id : ConnId) (own : Fr
       tables = filter
           (is_listed_by (needed_versions (slice_set p.frontends id.frontend (record own { rows = filter (λ row. not (row.serial == id.serial)) own.rows })) (newest_number p) p.versions))
           (tables_by (max p.clock e.moment) p.frontends (at_moment e.moment p).tables e.reply);
+      down = p.down;
     }
 after-end p well e id own there old whom last =
     let fine : IsFrontendWell p.versions own = all-at (IsFrontendWell p.versions) p.frontends id.frontend own well.frontends there in
@@ -353,7 +378,7 @@ after-end p well e id own there old whom last =
     versions_quiet p well e none ∙ ap (λ vs. needed_versions (frontends_after p (e ∷ [])) (newest_number p) vs) kept ∙ ap (λ fs. needed_versions fs (newest_number p) p.versions) frontends in
     let tables : tables_after p (e ∷ []) ≡ filter (is_listed_by (needed_versions left (newest_number p) p.versions)) (tables_by (max p.clock e.moment) p.frontends (at_moment e.moment p).tables e.reply) =
     tables_quiet p well e none ∙ ap (λ vs. filter (is_listed_by vs) (tables_by (max p.clock e.moment) p.frontends (at_moment e.moment p).tables e.reply)) versions in
-    state_is p (max p.clock e.moment) _ _ _ _ _ _ tables versions frontends
+    state_is p (max p.clock e.moment) _ _ _ _ _ _ _ _ tables versions frontends (down-old p e old)
 
 -- a connection once that is said to it, and it tracks those too
 abbrev pub row_said : Plain → OwnedEvent → Reply → Row → Row
@@ -398,6 +423,7 @@ pub after-change : (p : Plain) → IsWell p → (e : Entry) (id : ConnId) (own :
       frontends = slice_set p.frontends id.frontend (record own { rows = change_row id.serial (row_said p e.event e.reply) own.rows });
       versions = with_said (judging_version p.frontends (newest_number p) e.reply.said) e.reply.said p.versions;
       tables = tables_by (max p.clock e.moment) p.frontends (at_moment e.moment p).tables e.reply;
+      down = p.down;
     }
 after-change p well e id own there old whom last =
     let rows : List Row = change_row id.serial (row_said p e.event e.reply) own.rows in
@@ -409,7 +435,7 @@ after-change p well e id own there old whom last =
     ∙ needed-set p.frontends (newest_number p) id.frontend n own own' there (λ has. changed-versions p e.event e.reply id.serial n own.rows ∙ has) is in
     let none : version_of e ≡ None = brings_none e (no_plan e.event old) in
     let versions : versions_after p (e ∷ []) ≡ with_said (judging_version p.frontends (newest_number p) e.reply.said) e.reply.said p.versions = versions_said p well e none on in
-    state_is p (max p.clock e.moment) _ _ _ _ _ _ (tables_said p well e none versions) versions frontends
+    state_is p (max p.clock e.moment) _ _ _ _ _ _ _ _ (tables_said p well e none versions) versions frontends (down-old p e old)
 
 -- A reload.
 
@@ -422,6 +448,7 @@ with_reload p clock number plan = record {
   versions = needed_versions p.frontends number (p.versions ++ next_version number (written_tables (newest p.versions)) plan ∷ []);
   tables = filter (is_listed_by (needed_versions p.frontends number (p.versions ++ next_version number (written_tables (newest p.versions)) plan ∷ [])))
       (tables_alive clock (open_tracks p.frontends) p.tables ++ new_tables number (written_tables (newest p.versions)) plan.tables);
+  down = p.down;
 }
 
 pub after-reload : (p : Plain) → IsWell p → (moment number : ℕ) (text : List ℕ) (plan : Plan) → meaning text ≡ Ok plan →
@@ -439,7 +466,24 @@ after-reload p well moment number text plan meant =
     let tables : tables_after p (e ∷ []) ≡ filter (is_listed_by (needed_versions p.frontends number next)) ((at_moment moment p).tables ++ new_tables number (written_tables (newest p.versions)) plan.tables) =
     tables_step-by p well e ∙ ap (λ b. filter (is_listed_by (versions_after p (e ∷ []))) ((at_moment moment p).tables ++ tables_with (newest p.versions) b)) brings
     ∙ ap (λ vs. filter (is_listed_by vs) ((at_moment moment p).tables ++ new_tables number (written_tables (newest p.versions)) plan.tables)) versions in
-    state_is p (max p.clock moment) _ _ _ _ _ _ tables versions frontends
+    state_is p (max p.clock moment) _ _ _ _ _ _ _ _ tables versions frontends refl
+
+-- A report of a server.
+
+-- the state once a server is reported: whether it is down, and the clock, change alone
+pub after-mark : (p : Plain) → IsWell p → (moment backend n line : ℕ) (health : Health) →
+    after p (entry moment (Mark backend n health) (reply_of (Marked line health)) ∷ [])
+    ≡ record p { clock = max p.clock moment; tables = (at_moment moment p).tables; down = marked_by (mark_of p.versions (Mark backend n health)) p.down }
+after-mark p well moment backend n line health =
+    let e : Entry = entry moment (Mark backend n health) (reply_of (Marked line health)) in
+    let frontends : frontends_after p (e ∷ []) ≡ p.frontends =
+    map_from-none (IsFrontendWell p.versions) (frontend_after p (e ∷ [])) 0 p.frontends well.frontends (λ g own fine le. frontend-elsewhere p g e own fine (λ serial. refl) refl refl) in
+    let on : (n : ℕ) → is_needed p.frontends (newest_number p) n ≡ true → is_needed (frontends_after p (e ∷ [])) (newest_number p) n ≡ true = λ n is.
+    ap (λ fs. is_needed fs (newest_number p) n) frontends ∙ is in
+    let versions : versions_after p (e ∷ []) ≡ p.versions = versions_said p well e refl on in
+    let tables : tables_after p (e ∷ []) ≡ (at_moment moment p).tables =
+    tables_said p well e refl versions ∙ tables_kept (max p.clock moment) (at_moment moment p).tables p (Marked line health) refl in
+    state_is p (max p.clock moment) _ _ _ _ _ _ _ _ tables versions frontends refl
 
 -- where a connection is open, its frontend is there
 pub frontend_there : (frontends : List FrontendRows) (number serial : ℕ) (own : FrontendRows) → is_some (row_in serial (slice_get frontends number)) ≡ true → own ≡ get_or frontends number own → slice_get frontends number ≡ Some own

@@ -8,7 +8,7 @@ use Rattle.stick_core.specs.PlainEntries.{is_in}
 use Rattle.plan_types.specs.declared.track.TableId.{TableId}
 use Rattle.plan_types.specs.declared.track.Track.{Track}
 use Rattle.conn_model.specs.declared.event.OwnedEvent.{OwnedEvent}
-use Rattle.conn_model.specs.declared.event.OwnedEvent.TheVariants.{Accept, Piece, Connected, ConnectFailed, Close, Expire, Reload}
+use Rattle.conn_model.specs.declared.event.OwnedEvent.TheVariants.{Accept, Piece, Connected, ConnectFailed, Close, Expire, Reload, Mark}
 use Rattle.conn_model.specs.declared.event.ConnId.{ConnId}
 use Rattle.conn_model.specs.declared.reply.Said.{Said}
 use Rattle.conn_model.specs.declared.plain.Row.{Row}
@@ -23,7 +23,7 @@ use Rattle.conn_model.proofs.Lists.{all-append, all-at, all-both, all-each, all-
 use Rattle.conn_model.proofs.VersionSteps.{rows_known, rows_needed, tables_of_step}
 use Rattle.conn_model.proofs.Kept.{needed_after}
 use Rattle.conn_model.proofs.Replies.{answered, IsNew, IsOld, Says}
-use Rattle.conn_model.proofs.Serials.{arrival-all, reload-silent, speaks_that}
+use Rattle.conn_model.proofs.Serials.{arrival-all, reload-silent, speaks_that, mark-silent}
 use Rattle.conn_model.proofs.Goes.{well_at}
 use Rattle.conn_model.proofs.Nothing.{after-nil}
 use Rattle.conn_model.proofs.Moments.{at-well}
@@ -134,6 +134,8 @@ rows_judged q number own (Close id why) said there well says = old_judged q numb
 rows_judged q number own (Expire id) said there well says = old_judged q number own id said _ there well says refl
 rows_judged q number own (Reload text) said there well says =
     all-each (λ row. speaks_to number row.serial said ≡ true → row.version ≡ newest_number q) own.rows (λ row spoken. absurd (reload-silent q text said number row.serial says spoken))
+rows_judged q number own (Mark backend n health) said there well says =
+    all-each (λ row. speaks_to number row.serial said ≡ true → row.version ≡ newest_number q) own.rows (λ row spoken. absurd (mark-silent q backend n health said number row.serial says spoken))
 
 -- what an accept opens is of the newest version, and tracked nothing before
 abbrev IsArrival : Plain → OwnedEvent → Row → Type 0
@@ -148,6 +150,7 @@ arrivals_judged q number clock (ConnectFailed id) said says = tt
 arrivals_judged q number clock (Close id why) said says = tt
 arrivals_judged q number clock (Expire id) said says = tt
 arrivals_judged q number clock (Reload text) said says = tt
+arrivals_judged q number clock (Mark backend n health) said says = tt
 
 -- One step.
 

@@ -14,7 +14,7 @@ use Rattle.plan_types.specs.Lines.{has_line}
 use Rattle.conn_model.specs.declared.plain.Version.{Version}
 use Rattle.conn_model.specs.declared.reply.Said.{Said}
 use Rattle.conn_model.specs.declared.reply.Said.TheVariants as saids
-use Rattle.conn_model.specs.declared.reply.Said.TheVariants.{Wait, Offer, Refuse, Closed, Reloaded}
+use Rattle.conn_model.specs.declared.reply.Said.TheVariants.{Wait, Offer, Refuse, Closed, Reloaded, Marked}
 use Rattle.conn_model.specs.Words.{newest, Rise}
 use Rattle.conn_model.specs.Answer.{version_at}
 use Rattle.conn_model.specs.Servers.{cursors_after, with_cursor}
@@ -101,6 +101,7 @@ version_said number (Refuse id used cause) version = version
 version_said number (saids.Up id) version = version
 version_said number (Closed id why) version = version
 version_said number (Reloaded next) version = version
+version_said number (Marked line health) version = version
 
 pub with_said-each : (number : ℕ) (said : Said) (versions : List Version) → with_said number said versions ≡ map (version_said number said) versions
 with_said-each number (Wait id used) versions = sym (map-id versions)
@@ -109,6 +110,7 @@ with_said-each number (Refuse id used cause) versions = sym (map-id versions)
 with_said-each number (saids.Up id) versions = sym (map-id versions)
 with_said-each number (Closed id why) versions = sym (map-id versions)
 with_said-each number (Reloaded next) versions = sym (map-id versions)
+with_said-each number (Marked line health) versions = sym (map-id versions)
 
 with_offer-cursors : (number line server : ℕ) → CursorsChange (with_offer number line server)
 with_offer-cursors number line server version = by (version.number == number) refl
@@ -124,6 +126,7 @@ version_said-cursors number (Refuse id used cause) version = refl
 version_said-cursors number (saids.Up id) version = refl
 version_said-cursors number (Closed id why) version = refl
 version_said-cursors number (Reloaded next) version = refl
+version_said-cursors number (Marked line health) version = refl
 
 -- the reply offers a server
 abbrev pub is_offer : Said → Bool
@@ -133,6 +136,7 @@ is_offer (Refuse id used cause) = false
 is_offer (saids.Up id) = false
 is_offer (Closed id why) = false
 is_offer (Reloaded next) = false
+is_offer (Marked line health) = false
 
 -- the versions are as they were after another reply
 pub versions_kept : (number : ℕ) (said : Said) (versions : List Version) → is_offer said ≡ false → with_said number said versions ≡ versions
@@ -142,6 +146,7 @@ versions_kept number (Refuse id used cause) versions other = refl
 versions_kept number (saids.Up id) versions other = refl
 versions_kept number (Closed id why) versions other = refl
 versions_kept number (Reloaded next) versions other = refl
+versions_kept number (Marked line health) versions other = refl
 
 -- and so after a last one
 pub last_no_offer : (said : Said) → is_last said ≡ true → is_offer said ≡ false
@@ -151,6 +156,7 @@ last_no_offer (Refuse id used cause) last = refl
 last_no_offer (saids.Up id) last = absurd (false≢true last)
 last_no_offer (Closed id why) last = refl
 last_no_offer (Reloaded next) last = refl
+last_no_offer (Marked line health) last = refl
 
 -- There are as many cursors as before.
 
@@ -179,6 +185,7 @@ version_said-length number (Refuse id used cause) version = refl
 version_said-length number (saids.Up id) version = refl
 version_said-length number (Closed id why) version = refl
 version_said-length number (Reloaded next) version = refl
+version_said-length number (Marked line health) version = refl
 
 -- A version that comes.
 

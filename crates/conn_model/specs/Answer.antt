@@ -1,7 +1,10 @@
 -- What a balancer in a plain state answers to an event.
-use Rattle.std.specs.Prelude.{ℕ, Bool, true, false, List, [], ◌∷◌, ◌++◌, length, max, find, slice_get, slice_set, Option, option_map, Some, None, Result, Ok, Err, ◌+◌, ◌==◌, ◌||◌, nat_le, nat_lt, if◌then◌else◌}
+use Rattle.std.specs.Prelude.{ℕ, Bool, true, false, List, [], ◌∷◌, ◌++◌, length, max, find, position, is_some, slice_get, slice_set, Option, option_map, Some, None, Result, Ok, Err, ◌+◌, ◌==◌, ◌||◌, nat_le, nat_lt, if◌then◌else◌}
 use Rattle.std.specs.Str.{bytes_eq}
+use Rattle.std.specs.List.{list_any}
+use Rattle.std.specs.Option.{option_and_then}
 use Rattle.list_core.specs.Each.{◌>>=◌}
+use Rattle.proxy_types.specs.declared.server.ServerIdentity.{ServerIdentity}
 use Rattle.addr_core.specs.PairValue.{PairValue}
 use Rattle.pp_v1.specs.declared.meaning.Meaning.{Meaning}
 use Rattle.pp_v1.specs.declared.meaning.Meaning.TheVariants.{Real, Declared}
@@ -20,22 +23,26 @@ use Rattle.plan_types.specs.declared.plan.Server.{Server}
 use Rattle.plan_types.specs.declared.plan.Backend.{Backend}
 use Rattle.plan_types.specs.declared.plan.Frontend.{Frontend}
 use Rattle.plan_types.specs.declared.plan.Plan.{Plan}
+use Rattle.plan_types.specs.Lines.{has_line}
+use Rattle.plan_types.specs.Moves.{moves_of}
 use Rattle.config_core.specs.Binds.{same_binds}
 use Rattle.config_core.specs.Meaning.{meaning}
 use Rattle.config_core.specs.declared.fault.OpenFault.{OpenFault}
 use Rattle.conn_model.specs.declared.event.ConnId.{ConnId}
 use Rattle.conn_model.specs.declared.event.OwnedEvent.{OwnedEvent}
-use Rattle.conn_model.specs.declared.event.OwnedEvent.TheVariants.{Accept, Piece, Connected, ConnectFailed, Close, Expire, Reload}
+use Rattle.conn_model.specs.declared.event.OwnedEvent.TheVariants.{Accept, Piece, Connected, ConnectFailed, Close, Expire, Reload, Mark}
+use Rattle.conn_model.specs.declared.event.Health.{Health}
 use Rattle.conn_model.specs.declared.event.Why.TheVariants.{Failed}
 use Rattle.conn_model.specs.declared.event.TheConstants.{HEADER_WAIT}
 use Rattle.conn_model.specs.declared.reply.Cause.{Cause}
 use Rattle.conn_model.specs.declared.reply.Cause.TheVariants.{Line, Header, Expired, NoBackend, NoServer}
 use Rattle.conn_model.specs.declared.reply.Said.{Said}
 use Rattle.conn_model.specs.declared.reply.Said.TheVariants as saids
-use Rattle.conn_model.specs.declared.reply.Said.TheVariants.{Wait, Offer, Refuse, Closed, Reloaded}
+use Rattle.conn_model.specs.declared.reply.Said.TheVariants.{Wait, Offer, Refuse, Closed, Reloaded, Marked}
 use Rattle.conn_model.specs.declared.reply.Reply.{Reply}
 use Rattle.conn_model.specs.declared.reply.StepFault.{StepFault}
-use Rattle.conn_model.specs.declared.reply.StepFault.TheVariants.{NoListener, NoSuch, NotWaiting, NotOffered, NotDue, BadConfig, BindChanged, Exhausted}
+use Rattle.conn_model.specs.declared.reply.StepFault.TheVariants.{NoListener, NoSuch, NotWaiting, NotOffered, NotDue, NotChecked, BadConfig, BindChanged, Exhausted}
+use Rattle.conn_model.specs.declared.plain.Assignment.{Assignment}
 use Rattle.conn_model.specs.declared.plain.Phase.{Phase}
 use Rattle.conn_model.specs.declared.plain.Phase.TheVariants.{Waiting, Offered, Up}
 use Rattle.conn_model.specs.declared.plain.Row.{Row}
@@ -44,7 +51,8 @@ use Rattle.conn_model.specs.declared.plain.Version.{Version}
 use Rattle.conn_model.specs.declared.plain.Plain.{Plain}
 use Rattle.conn_model.specs.Words.{newest, or_fault}
 pub use Rattle.conn_model.specs.Words.{row_in, row_at}
-use Rattle.conn_model.specs.Servers.{cursor_at, pick_in}
+use Rattle.conn_model.specs.Counts.{newest_backend, served_by}
+use Rattle.conn_model.specs.Servers.{cursor_at, pick_in, is_down}
 use Rattle.conn_model.specs.Tables.{open_tracks, tables_alive}
 use Rattle.conn_model.specs.Rules.{Candidate, RuleView, view_of, worth, scene_of, rejection, backend_for}
 
@@ -79,7 +87,7 @@ abbrev pub server_for : RuleView → Result NumberedServer Cause
 server_for v = do
   number ← or_fault (NoBackend v.frontend.line) (backend_for (worth v) v.frontend)
   backend ← or_fault (NoBackend v.frontend.line) (slice_get v.version.plan.backends number)
-  turn ← or_fault (NoServer backend.line) (pick_in v.served backend (cursor_at v.version.cursors number) v.source)
+  turn ← or_fault (NoServer backend.line) (pick_in v.served v.barred backend (cursor_at v.version.cursors number) v.source)
   or_fault (NoServer backend.line) (numbered_server backend turn.server)
 
 -- unless the session rules reject it by a line
@@ -211,11 +219,51 @@ awaits_server (Waiting rest) = false
 awaits_server (Offered assignment) = true
 awaits_server (Up assignment) = false
 
--- the server of such a connection may take it, and may be out of reach
+-- the server that such a connection was offered
+abbrev pub offer_in : Phase → Option Assignment
+offer_in (Waiting rest) = None
+offer_in (Offered assignment) = Some assignment
+offer_in (Up assignment) = None
+
+-- the server of such a connection may take it
 abbrev pub server_answer : Plain → ConnId → Said → Result Reply StepFault
 server_answer p id said = do
   row ← or_fault NoSuch (row_at p.frontends id)
   if awaits_server row.phase then Ok (reply_of said) else Err NotOffered
+
+-- Where its server is out of reach, a connection may be moved to another one of its backend.
+
+-- a server that is down, or was out of reach for the connection, is not chosen
+abbrev pub barred_for : List ServerIdentity → Assignment → Backend → Server → Bool
+barred_for down given backend server = is_down down backend server || list_any (λ line. line == server.line) (given.line ∷ given.failed)
+
+-- the backend that has the server of a line, with its number
+abbrev pub backend_at : Plan → ℕ → Option (ℕ × Backend)
+backend_at plan line = option_and_then (λ number. option_map (λ backend. (number, backend)) (slice_get plan.backends number)) (position (has_line line) plan.backends)
+
+-- another server of that backend of a version, if the connection may be moved once more
+abbrev pub other_in : Plain → Assignment → Version → ℕ → Backend → Option NumberedServer
+other_in p given version number backend =
+    if nat_lt (length given.failed) (moves_of backend.retries backend.redispatch)
+    then option_and_then (λ turn. numbered_server backend turn.server)
+    (pick_in (served_by p.frontends) (barred_for p.down given) backend (cursor_at version.cursors number) given.judged.source.addr)
+    else None
+
+-- another server of its backend, by the version of its accept
+abbrev pub other_server : Plain → Row → Assignment → Option NumberedServer
+other_server p row given =
+    option_and_then (λ version. option_and_then (λ (at : ℕ × Backend). other_in p given version at.0 at.1) (backend_at version.plan given.line)) (version_at p.versions row.version)
+
+-- an offer of it, or the end
+abbrev pub failure_said : ConnId → Assignment → Option NumberedServer → Said
+failure_said id given None = Closed id Failed
+failure_said id given (Some other) = said_of id 0 given.judged (Ok other)
+
+abbrev pub failure_answer : Plain → ConnId → Result Reply StepFault
+failure_answer p id = do
+  row ← or_fault NoSuch (row_at p.frontends id)
+  given ← or_fault NotOffered (offer_in row.phase)
+  Ok (reply_of (failure_said id given (other_server p row given)))
 
 -- a connection that is open may be closed
 abbrev pub close_answer : Plain → ConnId → Said → Result Reply StepFault
@@ -226,6 +274,16 @@ abbrev pub expire_answer : Plain → ℕ → ConnId → Result Reply StepFault
 expire_answer p clock id = do
   waiting ← waiting_row p.frontends id
   if nat_le (waiting.0.accepted + HEADER_WAIT) clock then Ok (reply_of (Refuse id 0 Expired)) else Err NotDue
+
+-- A server is reported down or up.
+
+-- the server of that number in the backend of that number, by the newest version, with that backend; if it is checked
+abbrev pub checked_server : List Version → ℕ → ℕ → Option (Backend × Server)
+checked_server versions number n =
+    option_and_then (λ backend. option_and_then (λ server. if is_some server.check then Some (backend, server) else None) (slice_get backend.servers n)) (newest_backend versions number)
+
+abbrev pub mark_answer : Plain → ℕ → ℕ → Health → Result Reply StepFault
+mark_answer p number n health = or_fault NotChecked (checked_server p.versions number n) >>= λ found. Ok (reply_of (Marked found.1.line health))
 
 -- A reload.
 
@@ -252,10 +310,11 @@ abbrev pub answer_now : Plain → OwnedEvent → Result Reply StepFault
 answer_now p (Accept listener real) = accept_answer p p.clock listener real
 answer_now p (Piece id bytes) = piece_answer p id bytes
 answer_now p (Connected id) = server_answer p id (saids.Up id)
-answer_now p (ConnectFailed id) = server_answer p id (Closed id Failed)
+answer_now p (ConnectFailed id) = failure_answer p id
 answer_now p (Close id why) = close_answer p id (Closed id why)
 answer_now p (Expire id) = expire_answer p p.clock id
 answer_now p (Reload text) = reload_answer p (meaning text)
+answer_now p (Mark number n health) = mark_answer p number n health
 
 -- the reply to an event at a moment
 abbrev pub answer_in : Plain → ℕ → OwnedEvent → Result Reply StepFault

@@ -5,7 +5,7 @@ use Rattle.addr_core.specs.Family.{same_family}
 use Rattle.addr_core.specs.Text.{IsEndpoint}
 use Rattle.conn_model.specs.declared.event.ConnId.{ConnId}
 use Rattle.conn_model.specs.declared.event.OwnedEvent.{OwnedEvent}
-use Rattle.conn_model.specs.declared.event.OwnedEvent.TheVariants.{Accept, Piece, Connected, ConnectFailed, Close, Expire, Reload}
+use Rattle.conn_model.specs.declared.event.OwnedEvent.TheVariants.{Accept, Piece, Connected, ConnectFailed, Close, Expire, Reload, Mark}
 use Rattle.conn_model.specs.declared.event.TheConstants.{PIECE_LIMIT}
 use Rattle.conn_model.specs.History.{Entry}
 
@@ -18,6 +18,7 @@ HasPieceInLimit (ConnectFailed id) = Unit {0}
 HasPieceInLimit (Close id why) = Unit {0}
 HasPieceInLimit (Expire id) = Unit {0}
 HasPieceInLimit (Reload text) = Unit {0}
+HasPieceInLimit (Mark backend n health) = Unit {0}
 
 abbrev pub IsId : ConnId → Type 0
 IsId id = (id.frontend < 2 ^ 16) × (id.serial < 2 ^ 64)
@@ -36,6 +37,7 @@ IsHandedIn (ConnectFailed id) = IsId id
 IsHandedIn (Close id why) = IsId id
 IsHandedIn (Expire id) = IsId id
 IsHandedIn (Reload text) = IsUtf8 text × (length text < 2 ^ 63)
+IsHandedIn (Mark backend n health) = (backend < 2 ^ 16) × (n < 2 ^ 16)
 
 -- so is each event of a history, at a moment that is in range
 abbrev pub AreHandedIn : List Entry → Type 0

@@ -1,7 +1,7 @@
 -- What happened, and what is left of it.
 use Rattle.std.specs.Prelude.{ℕ, Bool, true, false, not, max, List, [], map, filter, find, slice_get, length, Option, Some, None, option_map, option_and_then, option_to_list, IsSome, Result, Ok, Err, flat_map, ◌⊎◌, ◌+◌, ◌≤◌, ◌≡◌, ◌==◌, ◌&&◌, ◌||◌, ◌∷◌, ◌++◌, if◌then◌else◌}
 use Rattle.std.specs.List.{list_any, AllByRecursion, enumerate_from}
-use Rattle.std.specs.Option.{option_map_or}
+use Rattle.std.specs.Option.{option_map_or, option_or}
 use Rattle.addr_core.specs.declared.addr.Endpoint.{Endpoint}
 use Rattle.addr_core.specs.PairValue.{PairValue}
 use Rattle.proxy_types.specs.declared.server.ServerIdentity.{ServerIdentity}
@@ -19,11 +19,13 @@ use Rattle.config_core.specs.declared.fault.OpenFault.{OpenFault}
 use Rattle.conn_model.specs.declared.event.ConnId.{ConnId}
 use Rattle.conn_model.specs.declared.event.Event.{Event}
 use Rattle.conn_model.specs.declared.event.Event.TheVariants as events
+use Rattle.conn_model.specs.declared.event.Health.{Health}
+use Rattle.conn_model.specs.declared.event.Health.TheVariants as healths
 use Rattle.conn_model.specs.declared.event.OwnedEvent.{OwnedEvent}
-use Rattle.conn_model.specs.declared.event.OwnedEvent.TheVariants.{Accept, Piece, Connected, ConnectFailed, Close, Expire, Reload}
+use Rattle.conn_model.specs.declared.event.OwnedEvent.TheVariants.{Accept, Piece, Connected, ConnectFailed, Close, Expire, Reload, Mark}
 use Rattle.conn_model.specs.declared.reply.Said.{Said}
 use Rattle.conn_model.specs.declared.reply.Said.TheVariants as saids
-use Rattle.conn_model.specs.declared.reply.Said.TheVariants.{Wait, Offer, Refuse, Closed, Reloaded}
+use Rattle.conn_model.specs.declared.reply.Said.TheVariants.{Wait, Offer, Refuse, Closed, Reloaded, Marked}
 use Rattle.conn_model.specs.declared.reply.Reply.{Reply}
 use Rattle.conn_model.specs.declared.reply.StepFault.{StepFault}
 use Rattle.conn_model.specs.declared.reply.StepFault.TheVariants.{NoMemory}
@@ -39,8 +41,8 @@ use Rattle.conn_model.specs.declared.ask.Ask.{Ask}
 use Rattle.conn_model.specs.declared.ask.Counts.{Counts}
 use Rattle.conn_model.specs.Words.{is_conn, newest, map_from, Rise}
 use Rattle.conn_model.specs.Counts.{counts_in, is_served_by}
-use Rattle.conn_model.specs.Answer.{answer_in, new_row, row_at, version_at}
-use Rattle.conn_model.specs.Servers.{cursors_after}
+use Rattle.conn_model.specs.Answer.{answer_in, new_row, row_at, version_at, checked_server}
+use Rattle.conn_model.specs.Servers.{cursors_after, identity_in}
 use Rattle.conn_model.specs.Tables.{is_listed_by, new_id, new_table, new_tables, next_id, open_tracks, table_at, tables_alive, with_tracks, without_tracks, written_tables, IncarnationsDiffer, IsTableWell, IsTrackListed}
 pub use Rattle.conn_model.specs.Tables.{by_counter, tracks_at}
 
@@ -69,6 +71,7 @@ id_of (Refuse id used cause) = Some id
 id_of (saids.Up id) = Some id
 id_of (Closed id why) = Some id
 id_of (Reloaded version) = None
+id_of (Marked line health) = None
 
 -- the reply speaks to the connection of that frontend and serial
 abbrev pub speaks_to : ℕ → ℕ → Said → Bool
@@ -84,6 +87,7 @@ number_said (Refuse id used cause) = None
 number_said (saids.Up id) = None
 number_said (Closed id why) = None
 number_said (Reloaded version) = Some version
+number_said (Marked line health) = None
 
 -- the plan that a text means, if it means one
 abbrev pub plan_in : Result Plan OpenFault → Option Plan
@@ -99,6 +103,7 @@ plan_with (ConnectFailed id) = None
 plan_with (Close id why) = None
 plan_with (Expire id) = None
 plan_with (Reload text) = plan_in (meaning text)
+plan_with (Mark number n health) = None
 
 -- the version that an entry brings into force: its number, with its plan
 abbrev pub version_of : Entry → Option (ℕ × Plan)
@@ -141,6 +146,7 @@ piece_of (ConnectFailed id) = []
 piece_of (Close id why) = []
 piece_of (Expire id) = []
 piece_of (Reload text) = []
+piece_of (Mark number n health) = []
 
 -- a connection that waits, and waits on once a piece came
 abbrev pub phase_on : List ℕ → Phase → Phase
@@ -154,14 +160,22 @@ phase_up (Waiting rest) = Waiting rest
 phase_up (Offered assignment) = Up assignment
 phase_up (Up assignment) = Up assignment
 
+-- the lines of the servers that were out of reach for a connection, once it is offered one: where it is another one,
+-- that which it had is the last of them
+abbrev pub failed_by : OwnedEvent → Phase → List ℕ
+failed_by (ConnectFailed id) (Offered assignment) = assignment.failed ++ assignment.line ∷ []
+failed_by event phase = []
+
 -- the phase after a reply to an event that speaks to the connection
 abbrev pub phase_by : Option Plan → OwnedEvent → Said → Phase → Phase
 phase_by plan event (Wait id used) phase = phase_on (piece_of event) phase
-phase_by plan event (Offer id used line server to judged send) phase = Offered (record { server = identity_of plan line server to; line = line; judged = judged })
+phase_by plan event (Offer id used line server to judged send) phase =
+    Offered (record { server = identity_of plan line server to; line = line; judged = judged; failed = failed_by event phase })
 phase_by plan event (Refuse id used cause) phase = phase
 phase_by plan event (saids.Up id) phase = phase_up phase
 phase_by plan event (Closed id why) phase = phase
 phase_by plan event (Reloaded version) phase = phase
+phase_by plan event (Marked line health) phase = phase
 
 abbrev pub phase_after : Plain → ℕ → ℕ → ℕ → Phase → List Entry → Phase
 phase_after p number serial version start [] = start
@@ -185,6 +199,7 @@ is_last (Refuse id used cause) = true
 is_last (saids.Up id) = false
 is_last (Closed id why) = true
 is_last (Reloaded version) = false
+is_last (Marked line health) = false
 
 -- the reply to an accept leaves the connection open
 abbrev pub leaves_open : Said → Bool
@@ -194,6 +209,7 @@ leaves_open (Refuse id used cause) = false
 leaves_open (saids.Up id) = false
 leaves_open (Closed id why) = false
 leaves_open (Reloaded version) = false
+leaves_open (Marked line health) = false
 
 abbrev pub arrival_of : ℕ → ℕ → ℕ → PairValue → Said → Option ConnId → List Row
 arrival_of number clock version real said None = []
@@ -208,6 +224,7 @@ arrival number clock version (ConnectFailed id) said = []
 arrival number clock version (Close id why) said = []
 arrival number clock version (Expire id) said = []
 arrival number clock version (Reload text) said = []
+arrival number clock version (Mark backend n health) said = []
 
 -- all that were opened in a frontend, the oldest first, each as it was at its accept
 abbrev pub arrivals : Plain → ℕ → List Entry → List Row
@@ -226,6 +243,7 @@ is_accept_at number (ConnectFailed id) said = false
 is_accept_at number (Close id why) said = false
 is_accept_at number (Expire id) said = false
 is_accept_at number (Reload text) said = false
+is_accept_at number (Mark backend n health) said = false
 
 -- the accepts of the frontend that were answered
 abbrev pub accepts : ℕ → List Entry → ℕ
@@ -288,6 +306,7 @@ with_said number (Refuse id used cause) versions = versions
 with_said number (saids.Up id) versions = versions
 with_said number (Closed id why) versions = versions
 with_said number (Reloaded version) versions = versions
+with_said number (Marked line health) versions = versions
 
 -- the versions after an entry, where those were the rows, the number in force and the versions before it
 abbrev pub versions_by : List FrontendRows → ℕ → List Version → Entry → List Version
@@ -339,6 +358,53 @@ tables_after p [] = p.tables
 tables_after p (e ∷ h) =
     filter (is_listed_by (versions_after p (e ∷ h))) (tables_passed (now_of p.clock (e ∷ h)) (frontends_after p h) (tables_after p h) e.reply ++ tables_with (newest (versions_after p h)) (version_of e))
 
+-- Servers that are down.
+
+-- a server that is reported down, where those were
+abbrev pub with_down : ServerIdentity → List ServerIdentity → List ServerIdentity
+with_down server down = if list_any (same_server server) down then down else down ++ server ∷ []
+
+abbrev pub without_down : ServerIdentity → List ServerIdentity → List ServerIdentity
+without_down server down = filter (λ other. not (same_server server other)) down
+
+-- the server that an event reports, with how it is, by the versions before it
+abbrev pub mark_of : List Version → OwnedEvent → Option (ServerIdentity × Health)
+mark_of versions (Accept listener real) = None
+mark_of versions (Piece id bytes) = None
+mark_of versions (Connected id) = None
+mark_of versions (ConnectFailed id) = None
+mark_of versions (Close id why) = None
+mark_of versions (Expire id) = None
+mark_of versions (Reload text) = None
+mark_of versions (Mark number n health) = option_map (λ found. (identity_in found.0 found.1, health)) (checked_server versions number n)
+
+-- the servers that are down after a report, if there is one
+abbrev pub marked_by : Option (ServerIdentity × Health) → List ServerIdentity → List ServerIdentity
+marked_by None down = down
+marked_by (Some (server, healths.Down)) down = with_down server down
+marked_by (Some (server, healths.Up)) down = without_down server down
+
+-- one entry after the other
+abbrev pub down_after : Plain → List Entry → List ServerIdentity
+down_after p [] = p.down
+down_after p (e ∷ h) = marked_by (mark_of (versions_after p h) e.event) (down_after p h)
+
+-- what a report says of a server, if it is one of that server
+abbrev pub report_of : ServerIdentity → Option (ServerIdentity × Health) → Option Health
+report_of server None = None
+report_of server (Some (other, health)) = if same_server server other then Some health else None
+
+-- what the last report of a server says, if there was one
+abbrev pub last_report : Plain → List Entry → ServerIdentity → Option Health
+last_report p [] server = None
+last_report p (e ∷ h) server = option_or (report_of server (mark_of (versions_after p h) e.event)) (last_report p h server)
+
+-- whether a server is down by a report, or else by what was before
+abbrev pub is_down_by : Bool → Option Health → Bool
+is_down_by before None = before
+is_down_by before (Some healths.Down) = true
+is_down_by before (Some healths.Up) = false
+
 -- the plain state after the history
 abbrev pub after : Plain → List Entry → Plain
 after p h = record {
@@ -347,6 +413,7 @@ after p h = record {
   frontends = frontends_after p h;
   versions = versions_after p h;
   tables = tables_after p h;
+  down = down_after p h;
 }
 
 -- the answer to an event after the history
@@ -367,12 +434,23 @@ served_more p (Refuse id used cause) server = 0
 served_more p (saids.Up id) server = 0
 served_more p (Closed id why) server = 0
 served_more p (Reloaded version) server = 0
+served_more p (Marked line health) server = 0
 
--- and how many fewer: a connection that ends counts no longer
+-- the connection does not count any longer for the server that it had: it ends, or is offered another one
+abbrev pub leaves_server : Said → Bool
+leaves_server (Wait id used) = false
+leaves_server (Offer id used line server to judged send) = true
+leaves_server (Refuse id used cause) = true
+leaves_server (saids.Up id) = false
+leaves_server (Closed id why) = true
+leaves_server (Reloaded version) = false
+leaves_server (Marked line health) = false
+
+-- and how many fewer
 abbrev pub served_less : Plain → Said → ServerIdentity → ℕ
 served_less p said server =
     let row = option_and_then (row_at p.frontends) (id_of said) in
-    if is_last said && option_map_or (λ row. is_served_by server row.phase) row false then 1 else 0
+    if leaves_server said && option_map_or (λ row. is_served_by server row.phase) row false then 1 else 0
 
 abbrev pub is_reload : OwnedEvent → Bool
 is_reload (Accept listener real) = false
@@ -382,6 +460,7 @@ is_reload (ConnectFailed id) = false
 is_reload (Close id why) = false
 is_reload (Expire id) = false
 is_reload (Reload text) = true
+is_reload (Mark number n health) = false
 
 -- a step may end in that fault: it is the answer, or there was no memory for a reply, or to read a new configuration
 abbrev pub IsFault : OwnedEvent → Result Reply StepFault → StepFault → Type 0
@@ -396,6 +475,7 @@ piece_for id (ConnectFailed other) = []
 piece_for id (Close other why) = []
 piece_for id (Expire other) = []
 piece_for id (Reload text) = []
+piece_for id (Mark number n health) = []
 
 -- all the bytes that came of a connection, joined
 abbrev pub joined : ConnId → List Entry → List ℕ
@@ -460,6 +540,7 @@ opening plan last = record {
   frontends = map (λ frontend. record { name = frontend.name; serial = last; rows = [] }) plan.frontends;
   versions = new_version 1 plan ∷ [];
   tables = map (new_table 1) (enumerate_from 0 plan.tables);
+  down = [];
 }
 
 -- an event as a history keeps it
@@ -471,6 +552,7 @@ owned_event (events.ConnectFailed id) = ConnectFailed id
 owned_event (events.Close id why) = Close id why
 owned_event (events.Expire id) = Expire id
 owned_event (events.Reload text) = Reload text.now
+owned_event (events.Mark number n health) = Mark number n health
 
 -- the event is of a connection that is open, and asks for no memory
 abbrev pub NeedsNoMemory : Event → Type 0
@@ -481,3 +563,4 @@ NeedsNoMemory (events.ConnectFailed id) = Unit {0}
 NeedsNoMemory (events.Close id why) = Unit {0}
 NeedsNoMemory (events.Expire id) = Unit {0}
 NeedsNoMemory (events.Reload text) = ⊥
+NeedsNoMemory (events.Mark number n health) = ⊥

@@ -16,13 +16,16 @@ use Rattle.rule_engine.specs.declared.judging.Judged.{Judged}
 use Rattle.rule_engine.specs.declared.judging.Verdict.{Verdict}
 use Rattle.rule_engine.specs.declared.judging.Verdict.TheVariants as verdicts
 use Rattle.plan_types.specs.Tables.{table_number}
+use Rattle.plan_types.specs.declared.plan.Backend.{Backend}
 use Rattle.plan_types.specs.declared.plan.Frontend.{Frontend}
+use Rattle.plan_types.specs.declared.plan.Server.{Server}
 use Rattle.plan_types.specs.declared.track.TableId.{TableId}
 use Rattle.plan_types.specs.declared.track.Track.{Track}
 use Rattle.conn_model.specs.declared.event.ConnId.{ConnId}
 use Rattle.conn_model.specs.declared.plain.TableState.{TableState}
 use Rattle.conn_model.specs.declared.plain.Version.{Version}
 use Rattle.conn_model.specs.declared.plain.Plain.{Plain}
+use Rattle.conn_model.specs.Servers.{is_down}
 use Rattle.conn_model.specs.Counts.{open_in, open_named, offered_to, served_by}
 use Rattle.conn_model.specs.Tables.{open_tracks, table_at, trackers, tracks_at}
 
@@ -51,6 +54,8 @@ pub record RuleView : Type 0 where
   pub named : List ℕ → ℕ
   pub offered : List ℕ → ℕ
   pub served : ServerIdentity → ℕ
+  -- which servers may not be chosen
+  pub barred : Backend → Server → Bool
 
 -- a candidate of that source, where the step tracked those so far
 abbrev pub view_of : Candidate → Addr → List Track → RuleView
@@ -66,6 +71,7 @@ view_of candidate source made = record {
   named = open_named candidate.state.frontends;
   offered = offered_to candidate.state.frontends;
   served = served_by candidate.state.frontends;
+  barred = is_down candidate.state.down;
 }
 
 -- Tables in a view.

@@ -4,6 +4,7 @@ use Rattle.std.specs.Option.{option_and_then, option_map}
 use Rattle.plan_types.specs.declared.plan.Backend.{Backend}
 use Rattle.plan_types.specs.declared.plan.Frontend.{Frontend}
 use Rattle.plan_types.specs.declared.plan.Plan.{Plan}
+use Rattle.plan_types.specs.declared.plan.Redispatch.TheVariants.{Never}
 use Rattle.plan_types.specs.Lines.{has_line}
 use Rattle.conn_model.specs.declared.event.ConnId.{ConnId}
 use Rattle.conn_model.specs.declared.plain.FrontendRows.{FrontendRows}
@@ -27,8 +28,8 @@ backend_with plan line = option_and_then (λ line. find (has_line line) plan.bac
 
 -- those of the frontend, and those of the backend once a server was offered
 abbrev pub settings_of : Frontend → Option Backend → Settings
-settings_of frontend None = record { client = frontend.client_timeout; connect = 0; server = 0; retries = 0 }
-settings_of frontend (Some backend) = record { client = frontend.client_timeout; connect = backend.connect_timeout; server = backend.server_timeout; retries = backend.retries }
+settings_of frontend None = record { client = frontend.client_timeout; connect = 0; server = 0; retries = 0; redispatch = Never }
+settings_of frontend (Some backend) = record { client = frontend.client_timeout; connect = backend.connect_timeout; server = backend.server_timeout; retries = backend.retries; redispatch = backend.redispatch }
 
 -- those of a connection to the frontend of that name, which was offered the server of that line, by a plan
 abbrev pub settings_by : List ℕ → Option ℕ → Plan → Option Settings

@@ -2,8 +2,15 @@
 ghost use Rattle.std.specs.Prelude.{◌≡◌, IfOk};
 
 use crate::plain::{Assignment, Listener, TableState, Version};
-use list_core::Duplicate;
+use list_core::{Duplicate, Seq};
 use std::alloc::{AllocError, Global};
+
+/// An equal list of lines.
+pub fn copy_of_lines(alloc: Global, lines: &[u32]) -> Result<Seq<u32>, AllocError>
+    ensures { IfOk result (λ copy. copy ≡ lines.now) }
+{
+    Ok(Seq::of(lines.iter().copied().collect(alloc)?))
+}
 
 impl Duplicate for Assignment {
     fn duplicate(&self, alloc: Global) -> Result<Assignment, AllocError> {
@@ -11,6 +18,7 @@ impl Duplicate for Assignment {
             server: self.server.duplicate(alloc)?,
             line: self.line,
             judged: self.judged,
+            failed: copy_of_lines(alloc, self.failed.as_slice())?,
         })
     }
 }

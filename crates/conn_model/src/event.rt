@@ -24,6 +24,13 @@ pub enum Why {
     ServerTimeout,
 }
 
+/// How a server is, as checks of it report.
+#[derive(Clone, Copy, Debug, PartialEq, Eq)]
+pub enum Health {
+    Down,
+    Up,
+}
+
 /// The most bytes of a piece.
 pub const PIECE_LIMIT: usize = 65_536;
 
@@ -47,6 +54,9 @@ pub enum Event<'a> {
     Expire(ConnId),
     /// A new configuration is to come into force: its text.
     Reload(&'a str),
+    /// A server of the newest configuration that is checked is down, or is up again: the number of its backend
+    /// and its number in it.
+    Mark(u16, u16, Health),
 }
 
 /// An event with memory of its own, as a history keeps it.
@@ -59,4 +69,5 @@ pub enum OwnedEvent {
     Close(ConnId, Why),
     Expire(ConnId),
     Reload(Seq<u8>),
+    Mark(u16, u16, Health),
 }

@@ -1,5 +1,5 @@
 //! Laws of the definitions, which every body meets that does by them.
-ghost use Rattle.std.specs.Prelude.{◌≡◌, ◌≢◌, ◌≤◌, ℕ, true, List, [], map, slice_get, Option, Some, Ok, IsSome, length, ◌++◌, ◌∷◌, ◌+◌};
+ghost use Rattle.std.specs.Prelude.{◌≡◌, ◌≢◌, ◌≤◌, ℕ, Bool, true, false, List, [], map, slice_get, Option, Some, None, Ok, IsSome, length, ◌++◌, ◌∷◌, ◌+◌};
 ghost use Rattle.std.specs.List.{list_any, AllByRecursion};
 ghost use Rattle.pp_any.specs.declared.rest.Rest.{Rest};
 ghost use Rattle.pp_any.specs.Header.{shifted};
@@ -11,6 +11,7 @@ ghost use Rattle.addr_core.specs.declared.addr.Endpoint.{Endpoint};
 ghost use Rattle.addr_core.specs.PairValue.{PairValue};
 ghost use Rattle.arrayvec.specs.ArrayVec.{ArrayVec};
 ghost use Rattle.proxy_types.specs.declared.server.ServerIdentity.{ServerIdentity};
+ghost use Rattle.proxy_types.specs.ServerIdentity.{same_server};
 ghost use Rattle.config_core.specs.Binds.{same_binds, SameBinds};
 ghost use Rattle.config_core.specs.Meaning.{meaning};
 ghost use Rattle.plan_types.specs.Lines.{LinesDiffer};
@@ -22,10 +23,10 @@ ghost use Rattle.balance_core.specs.Cycles.{turn_at, IsRound};
 ghost use Rattle.balance_core.specs.Picks.{used_now};
 ghost use Rattle.addr_core.specs.declared.addr.Addr.{Addr};
 ghost use Rattle.conn_model.specs.Words.{newest};
-ghost use Rattle.conn_model.specs.Answer.{reply_of, row_at, version_at};
+ghost use Rattle.conn_model.specs.Answer.{failure_said, other_server, reply_of, row_at, version_at};
 ghost use Rattle.conn_model.specs.Counts.{served_by};
-ghost use Rattle.conn_model.specs.Servers.{cursor_after, cursor_at, cursors_after, identity_in, pick_in, weight_of, MayOffer};
-ghost use Rattle.conn_model.specs.History.{after, answer, counts, entry, identity_of, is_needed, joined, newest_number, now_of, opening, served_less, served_more, tables_of, version_for, IsLegal, IsWell, Entry};
+ghost use Rattle.conn_model.specs.Servers.{cursor_after, cursor_at, cursors_after, identity_in, pick_in, weight_of, MayOffer, has_room, is_down, load_of, loads_of};
+ghost use Rattle.conn_model.specs.History.{after, answer, counts, entry, identity_of, is_needed, joined, newest_number, now_of, opening, served_less, served_more, tables_of, version_for, IsLegal, IsWell, Entry, is_down_by, last_report};
 ghost use Rattle.conn_model.specs.Tables.{is_listed, is_listed_by, open_tracks, same_id, table_alive, table_at, IncarnationsDiffer};
 ghost use Rattle.conn_model.specs.declared.event.ConnId.{ConnId};
 ghost use Rattle.conn_model.specs.declared.event.OwnedEvent.TheVariants.{Close, Connected, ConnectFailed, Reload};
@@ -101,30 +102,31 @@ pub fn pieces_are_judged_joined()
 {}
 
 /// A server that is offered after a legal history from an opening is one of the plan of the version that judges the
-/// connection: it is not disabled, its weight is above 0, and its limit is 0 or above the number of open connections
-/// that were offered it before. Where no two backends of the plan have servers of one line, the connection counts from
+/// connection: it is not disabled, its weight is above 0, it is not reported down where it is checked, and its limit is 0 or
+/// above the number of open connections that were offered it before. Where no two backends of the plan have servers of one line, the connection counts from
 /// then on for that very server.
 pub fn offers_have_room()
     ensures room { (plan : plans.Plan) (last : ℕ) (h : List Entry) → IsLegal (opening plan last) h → (moment : ℕ) (event : OwnedEvent) (reply : Reply) →
         (id : ConnId) (used line number : ℕ) (to : Endpoint) (judged : PairValue) (send : ArrayVec ℕ) →
         answer (opening plan last) h moment event ≡ Ok reply → reply.said ≡ Offer id used line number to judged send →
         (version : Version) × (version_for (after (opening plan last) h) reply.said ≡ Some version) ×
-        MayOffer (served_by (after (opening plan last) h).frontends) version.plan line number to }
-    ensures counted { (served : ServerIdentity → ℕ) (plan : plans.Plan) (line number : ℕ) (to : Endpoint) → (offer : MayOffer served plan line number to) →
+        MayOffer (served_by (after (opening plan last) h).frontends) (is_down (after (opening plan last) h).down) version.plan line number to }
+    ensures counted { (served : ServerIdentity → ℕ) (barred : Backend → Server → Bool) (plan : plans.Plan) (line number : ℕ) (to : Endpoint) → (offer : MayOffer served barred plan line number to) →
         LinesDiffer plan → identity_of (Some plan) line number to ≡ identity_in offer.backend offer.server }
 {}
 
 /// A server takes a connection, or cannot be reached for it, exactly where the connection is open, was offered a server,
-/// and no server took it yet.
+/// and no server took it yet. Where it cannot be reached, the connection is offered another one, if there is one for it, and
+/// else it ends.
 pub fn servers_answer_offers()
     ensures connected { (p : Plain) (h : List Entry) (moment : ℕ) (id : ConnId) (row : Row) (assignment : Assignment) →
         row_at (after p h).frontends id ≡ Some row → row.phase ≡ Offered assignment → answer p h moment (Connected id) ≡ Ok (reply_of (saids.Up id)) }
     ensures failed { (p : Plain) (h : List Entry) (moment : ℕ) (id : ConnId) (row : Row) (assignment : Assignment) →
-        row_at (after p h).frontends id ≡ Some row → row.phase ≡ Offered assignment → answer p h moment (ConnectFailed id) ≡ Ok (reply_of (Closed id Failed)) }
+        row_at (after p h).frontends id ≡ Some row → row.phase ≡ Offered assignment → answer p h moment (ConnectFailed id) ≡ Ok (reply_of (failure_said id assignment (other_server (after p h) row assignment))) }
     ensures only_connected { (p : Plain) (h : List Entry) (moment : ℕ) (id : ConnId) (reply : Reply) → answer p h moment (Connected id) ≡ Ok reply →
         (row : Row) × (assignment : Assignment) × (row_at (after p h).frontends id ≡ Some row) × (row.phase ≡ Offered assignment) × (reply ≡ reply_of (saids.Up id)) }
     ensures only_failed { (p : Plain) (h : List Entry) (moment : ℕ) (id : ConnId) (reply : Reply) → answer p h moment (ConnectFailed id) ≡ Ok reply →
-        (row : Row) × (assignment : Assignment) × (row_at (after p h).frontends id ≡ Some row) × (row.phase ≡ Offered assignment) × (reply ≡ reply_of (Closed id Failed)) }
+        (row : Row) × (assignment : Assignment) × (row_at (after p h).frontends id ≡ Some row) × (row.phase ≡ Offered assignment) × (reply ≡ reply_of (failure_said id assignment (other_server (after p h) row assignment))) }
 {}
 
 /// A connection is closed exactly where it is open, and the answer names it, with the reason that was given.
@@ -147,17 +149,35 @@ pub fn offers_move_cursors()
     ensures others { (plan : plans.Plan) → IsSoundPlan plan → (place line number : ℕ) (backend : Backend) (server : Server) (cursors : List (Option Place)) →
         slice_get plan.backends place ≡ Some backend → slice_get backend.servers number ≡ Some server → server.line ≡ line → (other : ℕ) → other ≢ place →
         cursor_at (cursors_after plan line number cursors) other ≡ cursor_at cursors other }
-    ensures turn { (served : ServerIdentity → ℕ) (backend : Backend) (cycle : List Place) (last : Option ℕ) (source : Addr) (turn : Place) →
-        IsRound (map weight_of backend.servers) cycle → pick_in served backend (turn_at cycle last) source ≡ Some turn →
+    ensures turn { (served : ServerIdentity → ℕ) (barred : Backend → Server → Bool) (backend : Backend) (cycle : List Place) (last : Option ℕ) (source : Addr) (turn : Place) →
+        IsRound (map weight_of backend.servers) cycle → pick_in served barred backend (turn_at cycle last) source ≡ Some turn →
         cursor_after backend turn.server (turn_at cycle last) ≡ used_now backend.method (turn_at cycle last) turn }
 {}
 
 /// The open connections of a server are one more after each offer of it, one fewer after each end of a connection that
-/// was offered it, and as many as before after all else: one that the server took still counts.
+/// was offered it, or where that is offered another one, and as many as before after all else: one that the server took
+/// still counts.
 pub fn servers_are_counted()
     ensures { (plan : plans.Plan) (last : ℕ) (h : List Entry) (e : Entry) → IsLegal (opening plan last) (e ∷ h) → (server : ServerIdentity) →
         served_by (after (opening plan last) (e ∷ h)).frontends server + served_less (after (opening plan last) h) e.reply.said server ≡
         served_by (after (opening plan last) h).frontends server + served_more (after (opening plan last) h) e.reply.said server }
+{}
+
+/// A server is down after a history exactly where the last report of it says so, or where there was none and it was down
+/// before.
+pub fn last_reports_count()
+    ensures { (p : Plain) (h : List Entry) (server : ServerIdentity) →
+        list_any (same_server server) (after p h).down ≡ is_down_by (list_any (same_server server) p.down) (last_report p h server) }
+{}
+
+/// Where no server of a backend is checked, a pick goes by their weights, limits and open connections alone, whatever was
+/// reported.
+pub fn unchecked_servers_are_up()
+    ensures loads { (served : ServerIdentity → ℕ) (down : List ServerIdentity) (backend : Backend) → AllByRecursion (λ server. server.check ≡ None) backend.servers →
+        loads_of served (is_down down) backend ≡ loads_of served (λ other server. false) backend }
+    ensures load { (served : ServerIdentity → ℕ) (backend : Backend) (server : Server) →
+        load_of served (λ other s. false) backend server ≡
+        record { weight = weight_of server; has_room = has_room server.limit (served (identity_in backend server)); connections = served (identity_in backend server) } }
 {}
 
 /// A reload is answered where its text means a plan that binds what the version in force binds; it then gets the next

@@ -4,6 +4,8 @@
 //! what a list of answered events leaves of one.
 #![tactic(auto)]
 
+pub use copies::copy_of_lines;
+
 pub mod ask;
 mod copies;
 pub mod event;

@@ -14,6 +14,8 @@ pub struct Assignment {
     pub line: u32,
     /// The source and the destination by which the connection was judged.
     pub judged: Pair,
+    /// The lines of the servers of its backend that were out of reach for it before, the oldest first.
+    pub failed: Seq<u32>,
 }
 
 /// How far a connection is.
@@ -93,4 +95,6 @@ pub struct Plain {
     pub versions: Seq<Version>,
     /// By incarnation.
     pub tables: Seq<TableState>,
+    /// The servers that were reported down, and not up since, the oldest first.
+    pub down: Seq<ServerIdentity>,
 }

@@ -1,5 +1,5 @@
 //! What a balancer answers.
-use crate::event::{ConnId, Why};
+use crate::event::{ConnId, Health, Why};
 use addr_core::{Endpoint, Pair};
 use arrayvec::ArrayVec;
 use config_core::OpenFault;
@@ -23,7 +23,7 @@ pub enum Cause {
     NoServer(u32),
 }
 
-/// What is said to a connection, or of a new configuration.
+/// What is said to a connection, or of a new configuration or a server.
 #[derive(Debug, Drop)]
 pub enum Said {
     /// It has to wait for its PROXY header, or for the rest of it.
@@ -66,6 +66,11 @@ pub enum Said {
     Reloaded {
         version: u64,
     },
+    /// The server of that line of the newest configuration is down, or is up.
+    Marked {
+        line: u32,
+        health: Health,
+    },
 }
 
 impl Said {
@@ -101,6 +106,8 @@ pub enum StepFault {
     NotOffered,
     /// The connection may wait longer for its header.
     NotDue,
+    /// The newest configuration has no such server, or does not check it.
+    NotChecked,
     /// The new configuration is refused.
     BadConfig(OpenFault),
     /// It binds other addresses than the configuration in force, or binds them otherwise.

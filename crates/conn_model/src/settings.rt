@@ -1,4 +1,5 @@
 //! How an open connection is served.
+use plan_types::Redispatch;
 
 /// How long a connection may be silent, in ms, 0 for any time, and how often its server is dialled again, by the version
 /// that judges it.
@@ -12,4 +13,6 @@ pub struct Settings {
     pub server: u64,
     /// How often its server is dialled again.
     pub retries: u64,
+    /// Which of these times go to another server.
+    pub redispatch: Redispatch,
 }

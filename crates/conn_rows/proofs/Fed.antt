@@ -8,13 +8,15 @@ use Rattle.pp_any.specs.Status.{Status, Wait, Whole, Fault}
 use Rattle.pp_any.specs.Rest.{IsRest}
 use Rattle.pp_any.specs.NextPiece.{rest_on, status_on}
 use Rattle.pp_any.proofs.NextPiece.{goes_on}
+use Rattle.slot_core.specs.declared.slots.SlotIx.{SlotIx}
+use Rattle.conn_rows.specs.declared.row.ServerChoice.{ServerChoice}
 use Rattle.conn_rows.specs.declared.row.Stage.{Stage}
 use Rattle.conn_rows.specs.declared.row.Stage.TheVariants.{Waiting, Offered}
 use Rattle.conn_rows.specs.declared.row.StoredRow.{StoredRow}
 use Rattle.conn_rows.specs.Stored.{IsHeld, has_serial, rest_kept, rest_within}
 use Rattle.conn_model.specs.Changes.{held_under}
 use Rattle.conn_model.proofs.Lists.{all-found}
-use Rattle.conn_rows.specs.Changes.{stage_fed, stage_up}
+use Rattle.conn_rows.specs.Changes.{stage_fed, stage_moved, stage_up}
 
 -- nothing is held of nothing
 pub none_held : (rest : Rest) → IsRest [] rest → rest ≡ Read (record { items = [] })
@@ -34,6 +36,10 @@ fed_held (Waiting rest) piece (b, is) = by (status_on rest piece) refl
 pub up_held : (stage : Stage) → IsHeld stage → IsHeld (stage_up stage)
 up_held (Waiting rest) held = held
 up_held (Offered seat) held = tt
+
+pub moved_held : (seat : ServerChoice) (slot : SlotIx) (stage : Stage) → IsHeld stage → IsHeld (stage_moved seat slot stage)
+moved_held seat slot (Waiting rest) held = held
+moved_held seat slot (Offered before) held = tt
 
 -- a connection that waits is open
 pub found_waiting : (serial : ℕ) (rows : List StoredRow) → IsSome (rest_kept serial rows) → IsSome (find (has_serial serial) rows)

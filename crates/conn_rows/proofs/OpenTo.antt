@@ -1,7 +1,7 @@
 -- How many connections to a server are open, by its slot and by the rows.
 use Rattle.std.proofs.Common.{◌≡◌, ℕ, zero, suc, Bool, true, false, List, [], ◌∷◌, length, map, Option, Some, None, refl, sym, ap, ◌∙◌, arith}
 use Rattle.std.proofs.Math.Path.{fun_ext}
-use Rattle.std.specs.Prelude.{filter, find, slice_get, option_map, ◌==◌, if◌then◌else◌}
+use Rattle.std.specs.Prelude.{filter, find, slice_get, option_map, ◌==◌, if◌then◌else◌, ◌||◌}
 use Rattle.std.specs.List.{AllByRecursion}
 use Rattle.std.specs.Option.{option_map_or}
 use Rattle.std.proofs.lemmas.Bool.Decides.{nat_tests}
@@ -17,7 +17,7 @@ use Rattle.plan_types.specs.declared.plan.Backend.{Backend}
 use Rattle.plan_types.specs.declared.plan.Plan.{Plan}
 use Rattle.conn_model.specs.declared.plain.Phase.{Phase}
 use Rattle.conn_model.specs.Counts.{served_by, server_of, total}
-use Rattle.conn_model.specs.Servers.{pick_in}
+use Rattle.conn_model.specs.Servers.{pick_in, is_down}
 use Rattle.conn_model.proofs.Lists.{all-at}
 use Rattle.conn_versions.specs.Versions.{VersionsValue, open_to}
 use Rattle.conn_versions.proofs.Identities.{find_identity, server_is}
@@ -26,6 +26,8 @@ use Rattle.conn_rows.specs.declared.row.Stage.TheVariants.{Waiting, Offered}
 use Rattle.conn_rows.specs.declared.row.StoredRow.{StoredRow}
 use Rattle.conn_rows.specs.Stored.{StoredFrontend, assignment_in, phase_of, phase_with, plan_at, plain_frontend, plain_row, slot_of}
 use Rattle.conn_rows.specs.Value.{AllRows, AreServed, CountsFor, HasSlot, row_slots, rows_total}
+use Rattle.plan_types.specs.declared.plan.Server.{Server}
+use Rattle.conn_versions.specs.Barred.{is_barred}
 
 -- a count is of no server from which all differ
 beside : (counts : List Count) (identity : ServerIdentity) (n : ℕ) → AllByRecursion (λ other. same_server identity other.identity ≡ false) counts → identity_at n counts ≡ Some identity → ⊥
@@ -98,9 +100,9 @@ row_served kept test worth none each row = by row.stage
     by (Waiting rest) is = none
     by (Offered held) is = taken held.is_up is
       where
-        taken : (b : Bool) → identity_at held.slot.place kept.counts ≡ server_of (phase_with b (assignment_in plan held.seat)) → worth (Some held.slot) ≡ served test (server_of (phase_with b (assignment_in plan held.seat)))
-        taken true is = each held.slot (assignment_in plan held.seat).server is
-        taken false is = each held.slot (assignment_in plan held.seat).server is
+        taken : (b : Bool) → identity_at held.slot.place kept.counts ≡ server_of (phase_with b (assignment_in plan held.seat held.failed.items)) → worth (Some held.slot) ≡ served test (server_of (phase_with b (assignment_in plan held.seat held.failed.items)))
+        taken true is = each held.slot (assignment_in plan held.seat held.failed.items).server is
+        taken false is = each held.slot (assignment_in plan held.seat held.failed.items).server is
 
 -- of the rows of a frontend
 rows_served : (kept : VersionsValue) (test : ServerIdentity → Bool) (worth : StoredRow → ℕ) →
@@ -164,6 +166,14 @@ open_is_served frontends kept apart known identity = by (find (is_of identity) k
         ∙ all_served kept (same_server identity) (row_slots at.0) (row_served kept (same_server identity) (λ o. option_map_or (slots_at at.0) o 0) refl (at_place kept identity at.0 apart its)) frontends known.slots
 
 -- so what is picked by slots is what is picked by the rows
-pub picks_served : (frontends : List StoredFrontend) (kept : VersionsValue) → IdentitiesDiffer kept.counts → AreServed frontends kept → (backend : Backend) (last : Option Place) (source : Addr) →
-    pick_in (open_to kept.counts) backend last source ≡ pick_in (served_by (map (plain_frontend kept.versions) frontends)) backend last source
-picks_served frontends kept apart known backend last source = ap (λ served. pick_in served backend last source) (fun_ext (open_is_served frontends kept apart known))
+pub picks_served : (frontends : List StoredFrontend) (kept : VersionsValue) → IdentitiesDiffer kept.counts → AreServed frontends kept → (barred : Backend → Server → Bool) (backend : Backend) (last : Option Place) (source : Addr) →
+    pick_in (open_to kept.counts) barred backend last source ≡ pick_in (served_by (map (plain_frontend kept.versions) frontends)) barred backend last source
+picks_served frontends kept apart known barred backend last source = ap (λ served. pick_in served barred backend last source) (fun_ext (open_is_served frontends kept apart known))
+
+no_more : (b : Bool) → (b || false) ≡ b
+no_more true = refl
+no_more false = refl
+
+-- where servers of no lines are barred, those that are down are
+pub none_barred : (down : List ServerIdentity) → is_barred down [] ≡ is_down down
+none_barred down = fun_ext (λ backend. fun_ext (λ server. no_more (is_down down backend server)))

@@ -20,6 +20,7 @@ use Rattle.conn_rows.specs.Stored.{StoredFrontend, plain_frontend}
 use Rattle.conn_rows.specs.Value.{RowsValue}
 use Rattle.conn_rows.proofs.Kept.{AreSeenAlike, frontends_seen, needed_alike, seen_needed, stored_needed}
 use Rattle.conn_rows.proofs.Plain.{value_of}
+use Rattle.proxy_types.specs.declared.server.ServerIdentity.{ServerIdentity}
 
 -- what holds of both arms
 pub ok_both : {X E P Q R : Type 0} (r : Result X E) → (P → Q → R) → OnOk r P → OnOk r Q → OnOk r R
@@ -64,28 +65,28 @@ pub tables_earlier : (number moment : ℕ) (tables : List StoredTable) → AllBy
 tables_earlier number moment [] began = tt
 tables_earlier number moment (stored ∷ tables) began = (began.0, tables_earlier number moment tables began.1)
 
-pub brought_value : (frontends : List StoredFrontend) (versions others : List Version) (tables rest : StoredTables) (value : RowsValue) (number : ℕ) (plan : Plan) → value_of frontends versions tables ≡ value →
+pub brought_value : {down : List ServerIdentity} (frontends : List StoredFrontend) (versions others : List Version) (tables rest : StoredTables) (value : RowsValue) (number : ℕ) (plan : Plan) → value_of frontends versions tables down ≡ value →
     AreSeenAlike versions others frontends → others ≡ with_version versions (Some (number, plan)) → map (plain_table rest.clock) rest.tables ≡ map (plain_table tables.clock) tables.tables ++ tables_with (newest versions) (Some (number, plan)) →
     rest.spare ≡ tables.spare → rest.clock ≡ tables.clock →
-    value_of frontends others rest ≡ record value { versions = with_version value.versions (Some (number, plan)); tables = value.tables ++ tables_with (newest value.versions) (Some (number, plan)) }
-brought_value frontends versions others tables rest value number plan value_is alike more begun spare clock =
-    let P : RowsValue → Type 0 = λ v. value_of frontends others rest ≡ record v { versions = with_version v.versions (Some (number, plan)); tables = v.tables ++ tables_with (newest v.versions) (Some (number, plan)) } in
+    value_of frontends others rest down ≡ record value { versions = with_version value.versions (Some (number, plan)); tables = value.tables ++ tables_with (newest value.versions) (Some (number, plan)) }
+brought_value {down} frontends versions others tables rest value number plan value_is alike more begun spare clock =
+    let P : RowsValue → Type 0 = λ v. value_of frontends others rest down ≡ record v { versions = with_version v.versions (Some (number, plan)); tables = v.tables ++ tables_with (newest v.versions) (Some (number, plan)) } in
     subst P value_is (rw (frontends_seen versions others frontends alike, more, begun, spare, clock) refl)
 
 -- without memory
-pub same_value : (frontends : List StoredFrontend) (versions others : List Version) (tables rest : StoredTables) (value : RowsValue) → value_of frontends versions tables ≡ value →
-    others ≡ versions → rest ≡ tables → value_of frontends others rest ≡ value
-same_value frontends versions others tables rest value value_is same as_before = ap (λ vs. value_of frontends vs rest) same ∙ ap (λ ts. value_of frontends versions ts) as_before ∙ value_is
+pub same_value : {down : List ServerIdentity} (frontends : List StoredFrontend) (versions others : List Version) (tables rest : StoredTables) (value : RowsValue) → value_of frontends versions tables down ≡ value →
+    others ≡ versions → rest ≡ tables → value_of frontends others rest down ≡ value
+same_value {down} frontends versions others tables rest value value_is same as_before = ap (λ vs. value_of frontends vs rest down) same ∙ ap (λ ts. value_of frontends versions ts down) as_before ∙ value_is
 
 -- the versions that are left
 pub left_needed : (frontends : List StoredFrontend) (versions others : List Version) → others ≡ stored_needed frontends (option_map_or (λ version. version.number) (newest versions) 0) versions →
     others ≡ versions_needed (map (plain_frontend versions) frontends) versions
 left_needed frontends versions others less = less ∙ sym (needed_alike versions frontends (option_map_or (λ version. version.number) (newest versions) 0) versions)
 
-pub forgotten_value : (frontends : List StoredFrontend) (versions others : List Version) (tables rest : StoredTables) (value : RowsValue) → value_of frontends versions tables ≡ value →
+pub forgotten_value : {down : List ServerIdentity} (frontends : List StoredFrontend) (versions others : List Version) (tables rest : StoredTables) (value : RowsValue) → value_of frontends versions tables down ≡ value →
     others ≡ stored_needed frontends (option_map_or (λ version. version.number) (newest versions) 0) versions → map (plain_table rest.clock) rest.tables ≡ filter (is_listed_by others) (map (plain_table tables.clock) tables.tables) → rest.spare ≡ tables.spare → rest.clock ≡ tables.clock →
-    value_of frontends others rest ≡ record value { versions = versions_needed value.frontends value.versions; tables = filter (is_listed_by (versions_needed value.frontends value.versions)) value.tables }
-forgotten_value frontends versions others tables rest value value_is less listed spare clock =
-    let P : RowsValue → Type 0 = λ v. value_of frontends others rest ≡ record v { versions = versions_needed v.frontends v.versions; tables = filter (is_listed_by (versions_needed v.frontends v.versions)) v.tables } in
+    value_of frontends others rest down ≡ record value { versions = versions_needed value.frontends value.versions; tables = filter (is_listed_by (versions_needed value.frontends value.versions)) value.tables }
+forgotten_value {down} frontends versions others tables rest value value_is less listed spare clock =
+    let P : RowsValue → Type 0 = λ v. value_of frontends others rest down ≡ record v { versions = versions_needed v.frontends v.versions; tables = filter (is_listed_by (versions_needed v.frontends v.versions)) v.tables } in
     let force : ℕ = option_map_or (λ version. version.number) (newest versions) 0 in
     subst P value_is (rw (frontends_seen versions others frontends (seen_needed versions others force frontends less), listed, spare, clock, left_needed frontends versions others less) refl)

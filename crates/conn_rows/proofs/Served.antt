@@ -24,11 +24,14 @@ use Rattle.conn_rows.specs.declared.row.ServerChoice.{ServerChoice}
 use Rattle.conn_rows.specs.declared.row.Stage.{Stage}
 use Rattle.conn_rows.specs.declared.row.Stage.TheVariants.{Waiting, Offered}
 use Rattle.conn_rows.specs.declared.row.StoredRow.{StoredRow}
-use Rattle.conn_rows.specs.Changes.{stage_fed, stage_offered, stage_up, stored_fed, stored_up}
+use Rattle.conn_rows.specs.Changes.{stage_fed, stage_moved, stage_offered, stage_up, stored_fed, stored_moved, stored_up}
 use Rattle.conn_rows.specs.Stored.{StoredFrontend, at_stage, has_serial, phase_of, plan_at, rest_kept, rest_within, slot_of, with_stored}
 use Rattle.conn_rows.specs.Value.{AllRows, AreServed, CountsFor, HasSlot, row_judged, row_slots, rows_total}
 use Rattle.conn_model.proofs.Totals.{total-push, total-set}
 use Rattle.conn_rows.proofs.Counted.{total-arrival}
+use Rattle.conn_rows.proofs.Serials.{places}
+use Rattle.conn_model.specs.Words.{Rise}
+use Rattle.arrayvec.specs.ArrayVec.{ArrayVec}
 
 -- a frontend is changed, whose rows are worth what they were
 pub worth_same : (worth : StoredRow → ℕ) (frontends : List StoredFrontend) (n : ℕ) (own next : StoredFrontend) → slice_get frontends n ≡ Some own → total worth next.rows ≡ total worth own.rows →
@@ -292,6 +295,73 @@ each_offered P serial rows next seat slot some places offered all = by (find (ha
         let at = places row found in
         subst (AllByRecursion P) (sym at.2) (all_set P rows at.0 (at_stage (stage_offered seat slot) row) all (offered row found))
 
+-- A move.
+
+-- a connection that moves has the slot of another server
+pub slots_moved : (serial : ℕ) (rows : List StoredRow) (seat : ServerChoice) (slot left : SlotIx) (row : StoredRow) → Rise (λ row. row.serial) rows → find (has_serial serial) rows ≡ Some row → Some left ≡ slot_of row.stage →
+    (place : ℕ) → total (row_slots place) (with_stored serial (stored_moved seat slot) rows) + slots_at place left ≡ total (row_slots place) rows + slots_at place slot
+slots_moved serial rows seat slot left row rise found is place =
+    let at = places serial (stored_moved seat slot) rows (with_stored serial (stored_moved seat slot) rows) rise refl row found in
+    let all : total (row_slots place) (slice_set rows at.0 (stored_moved seat slot row)) + row_slots place row ≡ total (row_slots place) rows + row_slots place (stored_moved seat slot row) =
+    total-set (row_slots place) rows at.0 row (stored_moved seat slot row) at.1 in
+    let before : row_slots place row ≡ slots_at place left = ap (λ s. option_map_or (slots_at place) s 0) (sym is) in
+    let after : row_slots place (stored_moved seat slot row) ≡ slots_at place slot = by row.stage is in
+    let same : total (row_slots place) (with_stored serial (stored_moved seat slot) rows) ≡ total (row_slots place) (slice_set rows at.0 (stored_moved seat slot row)) = ap (total (row_slots place)) at.2 in
+    omega (arith, all, before, after, same)
+  where
+    by : (stage : Stage) → Some left ≡ slot_of stage → option_map_or (slots_at place) (slot_of (stage_moved seat slot stage)) 0 ≡ slots_at place slot
+    by (Waiting rest) is = absurd (cc)
+    by (Offered held) is = refl
+
+pub each_moved : (P : StoredRow → Type 0) (serial : ℕ) (change : StoredRow → StoredRow) (rows : List StoredRow) (row : StoredRow) → Rise (λ row. row.serial) rows → find (has_serial serial) rows ≡ Some row → P (change row) →
+    AllByRecursion P rows → AllByRecursion P (with_stored serial change rows)
+each_moved P serial change rows row rise found moved all =
+    let at = places serial change rows (with_stored serial change rows) rise refl row found in
+    subst (AllByRecursion P) (sym at.2) (all_set P rows at.0 (change row) all moved)
+
+-- the connection that moves counts for its new server
+pub moved_has : (kept rest : VersionsValue) (number : ℕ) (seat : ServerChoice) (slot : SlotIx) → rest.versions ≡ map (with_offer number seat.line seat.server) kept.versions →
+    (there : HasServer kept.versions number seat.line seat.server) → there.server.to ≡ seat.to → identity_at slot.place rest.counts ≡ Some (identity_in there.backend there.server) →
+    (row : StoredRow) → row.version ≡ number → HasSlot rest (stored_moved seat slot row)
+moved_has kept rest number seat slot versions there to identity row judged = by row.stage
+  where
+    by : (stage : Stage) → CountsFor rest (slot_of (stage_moved seat slot stage)) (server_of (phase_of (plan_at rest.versions row.version) (stage_moved seat slot stage)))
+    by (Waiting rest) = tt
+    by (Offered held) = offered_has kept rest number seat slot versions there to identity row judged
+
+pub moved_served : (frontends : List StoredFrontend) (kept rest : VersionsValue) (n : ℕ) (own next : StoredFrontend) (slot left : SlotIx) → slice_get frontends n ≡ Some own →
+    ((place : ℕ) → total (row_slots place) next.rows + slots_at place left ≡ total (row_slots place) own.rows + slots_at place slot) →
+    ((place : ℕ) → open_at place rest.counts + slots_at place left ≡ open_at place kept.counts + slots_at place slot) →
+    ((number : ℕ) → total (row_judged number) next.rows ≡ total (row_judged number) own.rows) →
+    ((number : ℕ) → IsSome (version_at rest.versions number) → IsSome (version_at kept.versions number)) → ((number : ℕ) → judged_of rest number ≡ judged_of kept number) →
+    (AllByRecursion (HasSlot rest) own.rows → AllByRecursion (HasSlot rest) next.rows) → AllRows (HasSlot rest) frontends →
+    AreServed frontends kept → AreServed (set frontends n next) rest
+moved_served frontends kept rest n own next slot left there rows counts own_judged kept_before judged each slots known = record {
+  counted = λ place.
+      let all : rows_total (row_slots place) (set frontends n next) + total (row_slots place) own.rows ≡ rows_total (row_slots place) frontends + total (row_slots place) next.rows =
+      total-set (λ own. total (row_slots place) own.rows) frontends n own next there in
+      let before = known.counted place in
+      let more = rows place in
+      let count = counts place in
+      omega (arith, all, before, more, count);
+  judged = λ number some.
+      judged number ∙ known.judged number (kept_before number some) ∙ sym (worth_same (row_judged number) frontends n own next there (own_judged number));
+  slots = all_set (λ own. AllByRecursion (HasSlot rest) own.rows) frontends n next slots (each (all-at (λ own. AllByRecursion (HasSlot rest) own.rows) frontends n own slots there));
+}
+
+-- the slot that is given back is of an open connection
+pub left_counted : (frontends : List StoredFrontend) (kept rest : VersionsValue) (n : ℕ) (own next : StoredFrontend) (slot left : SlotIx) → slice_get frontends n ≡ Some own →
+    ((place : ℕ) → total (row_slots place) next.rows + slots_at place left ≡ total (row_slots place) own.rows + slots_at place slot) →
+    ((place : ℕ) → open_at place rest.counts ≡ open_at place kept.counts + slots_at place slot) →
+    AreServed frontends kept → (place : ℕ) → slots_at place left ≤ open_at place rest.counts
+left_counted frontends kept rest n own next slot left there rows counts known place =
+    let all : rows_total (row_slots place) (set frontends n next) + total (row_slots place) own.rows ≡ rows_total (row_slots place) frontends + total (row_slots place) next.rows =
+    total-set (λ own. total (row_slots place) own.rows) frontends n own next there in
+    let before = known.counted place in
+    let more = rows place in
+    let count = counts place in
+    omega (arith, all, before, more, count)
+
 -- An end.
 
 pub all-without : (P : StoredRow → Type 0) (frontends : List StoredFrontend) (n : ℕ) (own next : StoredFrontend) (test : StoredRow → Bool) → slice_get frontends n ≡ Some own → next.rows ≡ filter test own.rows →
@@ -335,3 +405,10 @@ slot_counted counts (Some slot) below = let one : slots_at slot.place slot ≤ c
     by : (b : Bool) → (slot.place == slot.place) ≡ b → slots_at slot.place slot ≤ counts slot.place → (slot.place == slot.place) ≡ true → 0 < counts slot.place
     by true is one same = let less : 1 ≤ counts slot.place = rw is at one in omega (arith, less)
     by false is one same = absurd (cc)
+
+-- where no server was out of reach before
+abbrev lines_of : List ℕ → ArrayVec ℕ
+lines_of lines = record { items = lines }
+
+pub none_failed : (failed : ArrayVec ℕ) → failed.items ≡ [] → failed ≡ record { items = [] }
+none_failed failed none = ap lines_of none

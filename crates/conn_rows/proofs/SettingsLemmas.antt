@@ -18,7 +18,7 @@ line_is : (plan : Option Plan) (stage : Stage) → server_line (phase_of plan st
 line_is plan (Waiting rest) = refl
 line_is plan (Offered held) = by held.is_up
   where
-    by : (b : Bool) → server_line (phase_with b (assignment_in plan held.seat)) ≡ Some held.seat.line
+    by : (b : Bool) → server_line (phase_with b (assignment_in plan held.seat held.failed.items)) ≡ Some held.seat.line
     by true = refl
     by false = refl
 

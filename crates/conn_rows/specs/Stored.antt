@@ -34,8 +34,9 @@ abbrev pub plan_at : List Version → ℕ → Option Plan
 plan_at versions number = option_map (λ version. version.plan) (version_at versions number)
 
 -- what a seat is by a plan: the plan has the names
-abbrev pub assignment_in : Option Plan → ServerChoice → Assignment
-assignment_in plan seat = record { server = identity_of plan seat.line seat.server seat.to; line = seat.line; judged = seat.judged }
+-- after servers of these lines were out of reach
+abbrev pub assignment_in : Option Plan → ServerChoice → List ℕ → Assignment
+assignment_in plan seat failed = record { server = identity_of plan seat.line seat.server seat.to; line = seat.line; judged = seat.judged; failed = failed }
 
 -- a connection that was offered a server, which took it or did not yet
 abbrev pub phase_with : Bool → Assignment → Phase
@@ -44,7 +45,7 @@ phase_with true assignment = phases.Up assignment
 
 abbrev pub phase_of : Option Plan → Stage → Phase
 phase_of plan (Waiting rest) = phases.Waiting rest
-phase_of plan (Offered held) = phase_with held.is_up (assignment_in plan held.seat)
+phase_of plan (Offered held) = phase_with held.is_up (assignment_in plan held.seat held.failed.items)
 
 abbrev pub plain_row : List Version → StoredRow → Row
 plain_row versions row = record {

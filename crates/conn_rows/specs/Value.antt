@@ -35,13 +35,15 @@ pub record RowsValue : Type 0 where
   pub clock : ℕ
   -- for how many more trackings each table has memory
   pub spare : ℕ
+  -- the servers that were reported down
+  pub down : List ServerIdentity
 
 abbrev pub state_of : RowsValue → RowsState
-state_of value = record { frontends = value.frontends; versions = value.versions; tables = value.tables }
+state_of value = record { frontends = value.frontends; versions = value.versions; tables = value.tables; down = value.down }
 
 -- what the rows keep of a plain state, before they have memory for trackings
 abbrev pub rows_of : Plain → RowsValue
-rows_of p = record { frontends = p.frontends; versions = p.versions; tables = p.tables; clock = p.clock; spare = 0 }
+rows_of p = record { frontends = p.frontends; versions = p.versions; tables = p.tables; clock = p.clock; spare = 0; down = p.down }
 
 -- the rows once time passed up to a moment
 abbrev pub rows_passed : ℕ → RowsValue → RowsValue

@@ -13,20 +13,21 @@ ghost use Rattle.conn_model.specs.declared.plain.Version.{Version};
 ghost use Rattle.conn_model.specs.Counts.{change_row, total};
 ghost use Rattle.conn_model.specs.Words.{Rise};
 ghost use Rattle.conn_rows.specs.declared.row.StoredRow.{StoredRow};
-ghost use Rattle.conn_rows.specs.Stored.{IsHeld, StoredFrontend, at_stage, has_serial, plain_frontend, plain_row, rest_kept, rest_within, stored_arrival, stored_tracking, with_stored};
+ghost use Rattle.conn_rows.specs.Stored.{IsHeld, StoredFrontend, at_stage, has_serial, plain_frontend, plain_row, rest_kept, rest_within, slot_of, stored_arrival, stored_tracking, with_stored};
 ghost use Rattle.slot_core.specs.Counts.{open_at, slots_at};
 ghost use Rattle.conn_tables.specs.Tables.{cur_in};
 ghost use Rattle.conn_tables.specs.Tracks.{counter_on, on_counter, track_by};
 ghost use Rattle.conn_versions.specs.Versions.{AreSound, VersionsValue};
 ghost use Rattle.conn_rows.specs.Value.{row_judged, row_on, row_slots, rows_total, HasSlot};
 ghost use Rattle.conn_model.specs.Changes.{held_after, row_tracking, with_row};
-ghost use Rattle.conn_rows.specs.Changes.{stage_fed, stage_offered, stage_up, status_of, stored_fed, stored_up, used_by};
+ghost use Rattle.conn_rows.specs.Changes.{stage_fed, stage_moved, stage_offered, stage_up, status_of, stored_fed, stored_moved, stored_up, used_by, CanMove};
 
 use crate::packed::PackedChoice;
 use crate::row::{Holdings, ServerChoice, ServerHold, Stage, StoredRow};
 use crate::row_list::RowList;
 use crate::slots::give_back;
 use addr_core::Pair;
+use arrayvec::ArrayVec;
 use conn_model::plain::{FrontendRows, Row, Version};
 use conn_tables::{Tables, Tracking};
 use conn_versions::{Slot, Versions};
@@ -159,6 +160,7 @@ impl FrontendState {
         let held = ServerHold {
             seat: PackedChoice::of(&seat),
             slot,
+            failed: ArrayVec::new(),
             is_up: false,
         };
         match put_stage(&mut self.rows, serial, Stage::Offered(held)) {
@@ -167,6 +169,18 @@ impl FrontendState {
             }
             Stage::Offered(_held) => unreachable!(),
         }
+    }
+
+    /// Gives a connection that was offered a server to another one, and hands out the slot of the one before.
+    pub fn move_to(&mut self, serial: u64, seat: ServerChoice, slot: Slot) -> Slot
+        requires { (row : StoredRow) × (find (has_serial serial) self.old.rows ≡ Some row) × CanMove row.stage }
+        ensures new { self.new ≡ record self.old { rows = with_stored serial (stored_moved seat slot) self.old.rows } }
+        ensures left { (row : StoredRow) → find (has_serial serial) self.old.rows ≡ Some row → Some result ≡ slot_of row.stage }
+        ensures slots { (place : ℕ) → total (row_slots place) self.new.rows + slots_at place result ≡ total (row_slots place) self.old.rows + slots_at place slot }
+        ensures each { (kept : VersionsValue) → ((row : StoredRow) → find (has_serial serial) self.old.rows ≡ Some row → HasSlot kept (stored_moved seat slot row)) → AllByRecursion (HasSlot kept) self.old.rows → AllByRecursion (HasSlot kept) self.new.rows }
+        ensures few { IsFew (length self.new.rows) }
+    {
+        move_row(&mut self.rows, serial, seat, slot)
     }
 
     /// Notes that its server took a connection, if it was offered one.
@@ -284,6 +298,33 @@ fn put_stage(rows: &mut RowList, serial: u64, stage: Stage) -> Stage
     ensures few { IsFew (length rows.new) }
 {
     mem::replace(rows.stage_mut(serial), stage)
+}
+
+/// Gives the connection of a row, which was offered a server, to another one.
+fn move_row(rows: &mut RowList, serial: u64, seat: ServerChoice, slot: Slot) -> Slot
+    requires rise { Rise (λ row. row.serial) rows.old }
+    requires there { (row : StoredRow) × (find (has_serial serial) rows.old ≡ Some row) × CanMove row.stage }
+    ensures rows { rows.new ≡ with_stored serial (stored_moved seat slot) rows.old }
+    ensures left { (row : StoredRow) → find (has_serial serial) rows.old ≡ Some row → Some result ≡ slot_of row.stage }
+    ensures few { IsFew (length rows.new) }
+{
+    move_stage(rows.stage_mut(serial), seat, slot)
+}
+
+fn move_stage(stage: &mut Stage, seat: ServerChoice, slot: Slot) -> Slot
+    requires { CanMove stage.old }
+    ensures stage { stage.new ≡ stage_moved seat slot stage.old }
+    ensures left { Some result ≡ slot_of stage.old }
+{
+    match stage {
+        Stage::Waiting(_) => unreachable!(),
+        Stage::Offered(held) => {
+            held.failed.push(held.seat.seat().line);
+            held.seat = PackedChoice::of(&seat);
+            held.is_up = false;
+            mem::replace(&mut held.slot, slot)
+        }
+    }
 }
 
 /// Notes that its server took the connection of a row, if it was offered one.

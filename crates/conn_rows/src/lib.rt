@@ -1,13 +1,14 @@
 //! The open connections of all frontends, with what they track, and the versions and tables that are kept.
 #![tactic(auto)]
 
-pub use conn_versions::item;
+pub use conn_versions::{item, line_place};
 pub use frontend::HeaderStatus;
-pub use row::{RowSummary, ServerChoice, ServerNames};
+pub use row::{PendingOffer, RowSummary, ServerChoice, ServerNames};
 pub use rows::{FrontendSummary, Rows, RowsState};
 pub use settings::{frontend_named, frontend_near};
 
 mod counts;
+mod down;
 mod frontend;
 pub mod laws;
 mod opening;

@@ -8,18 +8,20 @@ ghost use Rattle.conn_model.specs.Answer.{version_at};
 ghost use Rattle.conn_model.specs.History.{identity_at, nobody};
 ghost use Rattle.conn_model.specs.Counts.{server_of};
 ghost use Rattle.conn_model.specs.Settings.{settings_at};
-ghost use Rattle.conn_rows.specs.Summaries.{names_in, names_of, stored_summary};
+ghost use Rattle.conn_rows.specs.Summaries.{pending_in, stored_pending, names_in, names_of, stored_summary};
 ghost use Rattle.conn_rows.specs.Stored.{assignment_in, awaits, line_of, phase_of, phase_with, plan_at, plain_row, slot_of, stored_arrival, waits};
 
 use crate::packed::{PackedChoice, PackedPair};
 use crate::settings::{ServerPlace, backend_at, settings_by};
 use addr_core::{Endpoint, Pair};
+use arrayvec::ArrayVec;
+use conn_model::copy_of_lines;
 use conn_model::plain::{Assignment, Phase, Row, Version};
 use conn_model::settings::Settings;
 use conn_tables::Trackings;
 use conn_versions::{Slot, item};
 use list_core::{Duplicate, Seq};
-use plan_types::{Backend, Plan, Server};
+use plan_types::{Backend, MOST_MOVES, Plan, Server};
 use pp_any::Parser;
 use proxy_types::ServerIdentity;
 use std::alloc::{AllocError, Global};
@@ -53,6 +55,8 @@ pub struct ServerHold {
     pub seat: PackedChoice,
     /// The connection is one of those that are open to the server.
     pub slot: Slot,
+    /// The lines of the servers of its backend that were out of reach for it before, the oldest first.
+    pub failed: ArrayVec<u32, MOST_MOVES>,
     /// Whether the server took it.
     pub is_up: bool,
 }
@@ -70,6 +74,19 @@ pub struct RowSummary {
     pub waits: bool,
     /// Whether it was offered a server, which did not take it yet.
     pub awaits_server: bool,
+}
+
+/// A connection that was offered a server, which did not take it yet.
+#[derive(Clone, Copy, Debug)]
+pub struct PendingOffer<'a> {
+    /// The version of the configuration that judges the connection.
+    pub version: u64,
+    /// The line of the server.
+    pub line: u32,
+    /// The pair by which the connection was judged.
+    pub judged: Pair,
+    /// The lines of the servers that were out of reach for it before, the oldest first.
+    pub failed: &'a [u32],
 }
 
 /// The names of a server, as its configuration has them.
@@ -124,7 +141,7 @@ impl Stage {
         match self {
             Stage::Waiting(parser) => Ok(Phase::Waiting(parser.rest())),
             Stage::Offered(held) => Ok(phase(
-                assignment(alloc, plan, &held.seat.seat())?,
+                assignment(alloc, plan, &held.seat.seat(), held.failed.as_slice())?,
                 held.is_up,
             )),
         }
@@ -151,6 +168,7 @@ impl ServerHold {
         let ServerHold {
             seat: _seat,
             slot,
+            failed: _failed,
             is_up: _,
         } = self;
         slot
@@ -202,6 +220,24 @@ impl StoredRow {
             accepted: self.accepted,
             waits: self.stage.waits(),
             awaits_server: self.stage.awaits(),
+        }
+    }
+
+    /// What it was offered, if its server did not take it yet.
+    pub fn pending(&self) -> Option<PendingOffer<'_>>
+        ensures { option_map pending_in result ≡ stored_pending self.now }
+    {
+        match &self.stage {
+            Stage::Offered(held) if !held.is_up => {
+                let seat = held.seat.seat();
+                Some(PendingOffer {
+                    version: self.version,
+                    line: seat.line,
+                    judged: seat.judged,
+                    failed: held.failed.as_slice(),
+                })
+            }
+            _ => None,
         }
     }
 
@@ -348,21 +384,23 @@ fn assignment(
     alloc: Global,
     plan: Option<&Plan>,
     seat: &ServerChoice,
+    failed: &[u32],
 ) -> Result<Assignment, AllocError>
     requires { IfSome plan (λ plan. LinesDiffer plan.now) }
-    ensures { IfOk result (λ assignment. assignment ≡ assignment_in (option_copied plan.entry) seat.now) }
+    ensures { IfOk result (λ assignment. assignment ≡ assignment_in (option_copied plan.entry) seat.now failed.now) }
 {
     Ok(Assignment {
         server: identity(alloc, backend_of(plan, seat.place()), seat)?,
         line: seat.line,
         judged: seat.judged,
+        failed: copy_of_lines(alloc, failed)?,
     })
 }
 
 /// The names of a server by a plan, which are empty where the plan has no such server.
 fn names<'a>(plan: Option<&'a Plan>, seat: &ServerChoice) -> ServerNames<'a>
     requires { IfSome plan (λ plan. LinesDiffer plan.now) }
-    ensures { names_in result ≡ names_of (assignment_in (option_copied plan.entry) seat.now).server }
+    ensures { names_in result ≡ names_of (assignment_in (option_copied plan.entry) seat.now []).server }
 {
     match backend_of(plan, seat.place()) {
         Some(backend) => {

@@ -13,13 +13,14 @@ ghost use Rattle.plan_types.specs.declared.plan.Backend as backends;
 ghost use Rattle.conn_model.specs.declared.plain.FrontendRows.{FrontendRows};
 ghost use Rattle.conn_model.specs.Words.{newest};
 ghost use Rattle.conn_model.specs.Answer.{row_at, version_at};
-ghost use Rattle.conn_model.specs.History.{opening, tables_with, tracks_at, with_offer, with_version};
-ghost use Rattle.conn_model.specs.Servers.{cursor_at, identity_in, pick_in};
+ghost use Rattle.conn_model.specs.History.{marked_by, opening, tables_with, tracks_at, with_offer, with_version};
+ghost use Rattle.conn_model.specs.Servers.{cursor_at, identity_in, is_down, pick_in};
 ghost use Rattle.conn_model.specs.declared.plain.Row.{Row};
+ghost use Rattle.conn_versions.specs.Barred.{is_barred};
 ghost use Rattle.conn_versions.specs.Versions.{AreSound, HasServer, VersionsValue};
 ghost use Rattle.conn_rows.specs.Stored.{plain_frontend, stored_in};
 ghost use Rattle.conn_model.specs.Changes.{rest_at, row_fed, row_tracking, row_up, with_arrival, with_conn, with_item, with_refusal, without_conn};
-ghost use Rattle.conn_rows.specs.Changes.{row_offered, status_of, used_by};
+ghost use Rattle.conn_rows.specs.Changes.{row_moved, row_offered, status_of, used_by, IsMovable};
 ghost use Rattle.conn_model.specs.Settings.{settings_in};
 ghost use Rattle.conn_model.specs.Counts.{offered_to, open_named, served_by, server_of};
 ghost use Rattle.conn_model.specs.Tables.{entry_counts, is_listed_by, open_tracks, table_at, trackers, with_track, without_tracks};
@@ -29,24 +30,28 @@ ghost use Rattle.conn_tables.specs.Tables.{key_at};
 ghost use Rattle.conn_tables.specs.Tracks.{slots_of, track_of};
 ghost use Rattle.conn_rows.specs.declared.row.StoredRow.{StoredRow};
 ghost use Rattle.conn_model.specs.declared.plain.Version.{Version};
-ghost use Rattle.conn_rows.specs.Summaries.{Sums, names_in, names_of, summary_of};
+ghost use Rattle.conn_rows.specs.Summaries.{Sums, names_in, names_of, pending_in, pending_of, summary_of};
 ghost use Rattle.conn_rows.specs.Value.{rows_of, rows_passed, rows_total, state_of, AllRows, HasSlot};
 
 use crate::counts;
+use crate::down::mark;
 use crate::frontend::{FrontendState, HeaderStatus, end_all, end_all_empty};
 use crate::opening::frontends;
 use crate::reload::install_version;
-use crate::row::{Holdings, RowSummary, ServerChoice, ServerNames, StoredRow, version_at};
+use crate::row::{
+    Holdings, PendingOffer, RowSummary, ServerChoice, ServerNames, StoredRow, version_at,
+};
 use crate::slots::give_back;
 use addr_core::{Addr, Pair};
 use conn_model::ask::Counts;
-use conn_model::event::ConnId;
+use conn_model::event::{ConnId, Health};
 use conn_model::plain::{FrontendRows, TableState, Version};
 use conn_model::settings::Settings;
 use conn_tables::Tables;
-use conn_versions::{Versions, item};
+use conn_versions::{Barred, Versions, item};
 use list_core::{Seq, newest};
 use plan_types::{Backend, Plan, Server, Table, TableId, Track};
+use proxy_types::ServerIdentity;
 use rule_engine::Tracks;
 use std::alloc::{AllocError, Global};
 use std::marker::Model;
@@ -60,6 +65,8 @@ pub struct RowsState {
     pub versions: Seq<Version>,
     /// By incarnation.
     pub tables: Seq<TableState>,
+    /// The servers that were reported down, and not up since, the oldest first.
+    pub down: Seq<ServerIdentity>,
 }
 
 /// What is said of a frontend.
@@ -79,6 +86,8 @@ pub struct Rows {
     frontends: Vec<FrontendState>,
     kept: Versions,
     tables: Tables,
+    /// The servers that were reported down, and not up since.
+    down: Vec<ServerIdentity>,
 }
 
 impl Model for Rows {
@@ -89,7 +98,7 @@ impl Model for Rows {
 
     ghost Value = { RowsValue };
 
-    ghost view = { λ r. record { frontends = map (plain_frontend r.kept.versions) r.frontends.items; versions = r.kept.versions; tables = map (plain_table r.tables.clock) r.tables.tables; clock = r.tables.clock; spare = r.tables.spare } };
+    ghost view = { λ r. record { frontends = map (plain_frontend r.kept.versions) r.frontends.items; versions = r.kept.versions; tables = map (plain_table r.tables.clock) r.tables.tables; clock = r.tables.clock; spare = r.tables.spare; down = r.down.items } };
 
     ghost invariant = { λ r. IsRowsState r.frontends.items r.kept r.tables };
 }
@@ -108,6 +117,7 @@ impl Rows {
                 frontends,
                 kept,
                 tables,
+                down: Vec::new(alloc),
             }),
             Err(error) => {
                 end_all_empty(frontends);
@@ -132,15 +142,42 @@ impl Rows {
     }
 
     /// The number of the server that is picked for a source, of the backend of that number in the version of that
-    /// number. None where no server that may be used has room, or where there is no such backend.
+    /// number. None where no server that may be used and is not down has room, or where there is no such backend.
     pub fn pick(&self, version: u64, backend: u16, source: &Addr) -> Option<u16>
         ensures no_version { version_at self.now.versions version ≡ None → result ≡ None }
         ensures no_backend { (kept : Version) → version_at self.now.versions version ≡ Some kept → slice_get kept.plan.backends backend ≡ None → result ≡ None }
         ensures picked { (kept : Version) (found : backends.Backend) → version_at self.now.versions version ≡ Some kept → slice_get kept.plan.backends backend ≡ Some found →
-            result ≡ option_map (λ turn. turn.server) (pick_in (served_by self.now.frontends) found (cursor_at kept.cursors backend) source.now) }
+            result ≡ option_map (λ turn. turn.server) (pick_in (served_by self.now.frontends) (is_down self.now.down) found (cursor_at kept.cursors backend) source.now) }
+    {
+        self.pick_other(version, backend, &[], source)
+    }
+
+    /// The same, if servers of these lines may not be picked either.
+    pub fn pick_other(
+        &self,
+        version: u64,
+        backend: u16,
+        lines: &[u32],
+        source: &Addr,
+    ) -> Option<u16>
+        ensures no_version { version_at self.now.versions version ≡ None → result ≡ None }
+        ensures no_backend { (kept : Version) → version_at self.now.versions version ≡ Some kept → slice_get kept.plan.backends backend ≡ None → result ≡ None }
+        ensures picked { (kept : Version) (found : backends.Backend) → version_at self.now.versions version ≡ Some kept → slice_get kept.plan.backends backend ≡ Some found →
+            result ≡ option_map (λ turn. turn.server) (pick_in (served_by self.now.frontends) (is_barred self.now.down lines.now) found (cursor_at kept.cursors backend) source.now) }
     {
         let _versions = self.kept.as_slice();
-        self.kept.pick(version, backend, source)
+        let barred = Barred {
+            down: self.down.as_slice(),
+            lines,
+        };
+        self.kept.pick(version, backend, barred, source)
+    }
+
+    /// The servers that were reported down, and not up since.
+    pub fn down(&self) -> &[ServerIdentity]
+        ensures { result.now ≡ self.now.down }
+    {
+        self.down.as_slice()
     }
 
     /// The frontend of that number.
@@ -163,6 +200,14 @@ impl Rows {
     {
         let row = find_row(self.frontends.as_slice(), id)?;
         Some(row.summary())
+    }
+
+    /// What an open connection was offered, if its server did not take it yet.
+    pub fn pending(&self, id: ConnId) -> Option<PendingOffer<'_>>
+        ensures { option_map pending_in result ≡ option_and_then pending_of (row_at self.now.frontends id) }
+    {
+        let row = find_row(self.frontends.as_slice(), id)?;
+        row.pending()
     }
 
     /// The names of the server that an open connection was offered, as the version that judged it has them.
@@ -325,6 +370,19 @@ impl Rows {
         self.frontends[usize::from(id.frontend)].offer(id.serial, seat, slot);
     }
 
+    /// Gives a connection that was offered a server of the version of that number to another one of it. It takes no
+    /// memory.
+    pub fn move_to(&mut self, id: ConnId, version: u64, seat: ServerChoice)
+        requires moves { (row : Row) × (row_at self.old.frontends id ≡ Some row) × IsMovable row.phase }
+        requires judged { IfSome (row_at self.old.frontends id) (λ row. row.version ≡ version) }
+        requires server { (there : HasServer self.old.versions version seat.line seat.server) × (there.server.to ≡ seat.to) }
+        ensures { self.new ≡ record self.old { frontends = with_conn id (row_moved self.old.versions seat) self.old.frontends; versions = map (with_offer version seat.line seat.server) self.old.versions } }
+    {
+        let slot = self.kept.offer(version, seat.line, seat.server);
+        let left = self.frontends[usize::from(id.frontend)].move_to(id.serial, seat, slot);
+        self.kept.give_back(left);
+    }
+
     /// Notes that its server took a connection, if it was offered one.
     pub fn up(&mut self, id: ConnId)
         requires { IsSome (row_at self.old.frontends id) }
@@ -392,6 +450,14 @@ impl Rows {
         }
     }
 
+    /// A server is down from now on, or is not.
+    pub fn mark(&mut self, health: Health, server: ServerIdentity) -> Result<(), AllocError>
+        ensures ok { OnOk result (self.new ≡ record self.old { down = marked_by (Some (server, health)) self.old.down }) }
+        ensures err { OnErr result (self.new ≡ self.old) }
+    {
+        mark(&mut self.down, health, server)
+    }
+
     /// The same as plain data.
     pub fn plain(&self, alloc: Global) -> Result<RowsState, AllocError>
         ensures { IfOk result (λ state. state ≡ state_of self.now) }
@@ -400,6 +466,7 @@ impl Rows {
             frontends: plain_frontends(alloc, self.kept.as_slice(), self.frontends.as_slice())?,
             versions: Seq::duplicate_of(alloc, self.kept.as_slice())?,
             tables: self.tables.plain(alloc)?,
+            down: Seq::duplicate_of(alloc, self.down.as_slice())?,
         })
     }
 
@@ -409,6 +476,7 @@ impl Rows {
             frontends,
             mut kept,
             mut tables,
+            down: _down,
         } = self;
         end_all(frontends, &mut kept, &mut tables);
     }

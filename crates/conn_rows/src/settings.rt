@@ -10,7 +10,7 @@ ghost use Rattle.conn_model.specs.Settings.{backend_with, settings_by, settings_
 use crate::row::backend_in;
 use conn_model::settings::Settings;
 use conn_versions::item;
-use plan_types::{Backend, Frontend, Plan};
+use plan_types::{Backend, Frontend, Plan, Redispatch};
 use text_core::is_same_name;
 
 /// The frontend of that name.
@@ -97,12 +97,14 @@ fn settings_of(frontend: &Frontend, backend: Option<&Backend>) -> Settings
             connect: backend.connect_timeout,
             server: backend.server_timeout,
             retries: backend.retries,
+            redispatch: backend.redispatch,
         },
         None => Settings {
             client,
             connect: 0,
             server: 0,
             retries: 0,
+            redispatch: Redispatch::Never,
         },
     }
 }

@@ -1,6 +1,6 @@
 -- What picks see of servers.
 use Rattle.std.proofs.Common.{◌≡◌, ℕ, zero, suc, ◌+◌, ◌<◌, Bool, true, false, List, [], ◌∷◌, ◌++◌, length, map, filter, Option, Some, None, refl, sym, ap, ◌∙◌, arith}
-use Rattle.std.specs.Prelude.{slice_get, option_map, ◌==◌}
+use Rattle.std.specs.Prelude.{slice_get, option_map, ◌==◌, not, ◌&&◌}
 use Rattle.std.specs.Option.{option_map_or}
 use Rattle.std.specs.List.{range_with_len}
 use Rattle.std.proofs.lemmas.List.Elements.{filter-append}
@@ -13,23 +13,28 @@ use Rattle.balance_core.specs.Loads.{has_room_at}
 use Rattle.balance_core.specs.Rounds.{can_take, next_of, next_turn, turn_of, turns_from, used_turn, weights_of}
 use Rattle.plan_types.specs.declared.plan.Backend.{Backend}
 use Rattle.plan_types.specs.declared.plan.Server.{Server}
-use Rattle.conn_model.specs.Servers.{has_room, identity_in, load_of, loads_of, weight_of}
+use Rattle.conn_model.specs.Servers.{has_room, identity_in, load_of, loads_of, weight_of, weight_by}
 use Rattle.conn_versions.specs.Versions.{open_to}
 use Rattle.conn_versions.specs.Slots.{IsServed}
 use Rattle.conn_versions.specs.Picks.{load_of_one, loads_from, loads_of_one}
 use Rattle.conn_versions.proofs.Identities.{open_there}
 
 -- a server with the connections that are counted at its place
-pub load_there : (counts : List Count) (backend : Backend) (places : List SlotIx) (n : ℕ) (server : Server) (ix : SlotIx) → IsServed counts backend places → slice_get backend.servers n ≡ Some server →
+pub load_there : (counts : List Count) (barred : Backend → Server → Bool) (backend : Backend) (places : List SlotIx) (n : ℕ) (server : Server) (ix : SlotIx) → IsServed counts backend places → slice_get backend.servers n ≡ Some server →
     slice_get places n ≡ Some ix →
-    slice_get (loads_of (open_to counts) backend) n ≡ Some (record { weight = weight_of server; has_room = has_room server.limit (open_at ix.place counts); connections = open_at ix.place counts })
-load_there counts backend places n server ix served there found =
-    slice_get-map (load_of (open_to counts) backend) backend.servers n ∙ ap (option_map (load_of (open_to counts) backend)) there
-    ∙ ap (λ m. Some (record { weight = weight_of server; has_room = has_room server.limit m; connections = m }))
+    slice_get (loads_of (open_to counts) barred backend) n
+    ≡ Some (record {
+      weight = weight_by backend.method (barred backend server) server;
+      has_room = not (barred backend server) && has_room server.limit (open_at ix.place counts);
+      connections = open_at ix.place counts;
+    })
+load_there counts barred backend places n server ix served there found =
+    slice_get-map (load_of (open_to counts) barred backend) backend.servers n ∙ ap (option_map (load_of (open_to counts) barred backend)) there
+    ∙ ap (λ m. Some (record { weight = weight_by backend.method (barred backend server) server; has_room = not (barred backend server) && has_room server.limit m; connections = m }))
     (sym (open_there (identity_in backend server) counts ix.place served.apart (served.slots.each n server ix there found)))
 
-pub load_past : (counts : List Count) (backend : Backend) (n : ℕ) → slice_get backend.servers n ≡ None → slice_get (loads_of (open_to counts) backend) n ≡ None
-load_past counts backend n none = slice_get-map (load_of (open_to counts) backend) backend.servers n ∙ ap (option_map (load_of (open_to counts) backend)) none
+pub load_past : (counts : List Count) (barred : Backend → Server → Bool) (backend : Backend) (n : ℕ) → slice_get backend.servers n ≡ None → slice_get (loads_of (open_to counts) barred backend) n ≡ None
+load_past counts barred backend n none = slice_get-map (load_of (open_to counts) barred backend) backend.servers n ∙ ap (option_map (load_of (open_to counts) barred backend)) none
 
 -- Servers of which one has room.
 

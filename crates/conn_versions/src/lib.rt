@@ -2,10 +2,12 @@
 //! server.
 #![tactic(auto)]
 
+pub use barred::Barred;
 pub use loads::item;
 pub use slot_core::Slot;
-pub use versions::{Versions, has_line};
+pub use versions::{Versions, has_line, line_place};
 
+mod barred;
 mod loads;
 mod opening;
 mod picks;

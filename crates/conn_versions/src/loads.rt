@@ -1,10 +1,12 @@
 //! What picks see of the servers of a backend.
-ghost use Rattle.std.specs.Prelude.{◌≡◌, slice_get};
+ghost use Rattle.std.specs.Prelude.{◌≡◌, ◌&&◌, not, slice_get};
 ghost use Rattle.std.specs.Option.{option_copied};
-ghost use Rattle.conn_model.specs.Servers.{has_room, weight_of};
+ghost use Rattle.conn_model.specs.Servers.{has_room, weight_by, weight_of};
 
+use crate::barred::Barred;
 use balance_core::{Load, ServerLoad};
 use plan_types::{Backend, Server};
+use proxy_types::Method;
 use slot_core::{SlotIx, Slots};
 use std::marker::Model;
 
@@ -14,6 +16,8 @@ pub struct BackendLoad<'a> {
     pub backend: &'a Backend,
     pub places: &'a [SlotIx],
     pub slots: &'a Slots,
+    /// From which servers the pick is barred.
+    pub barred: Barred<'a>,
 }
 
 impl<'a> Model for BackendLoad<'a> {
@@ -21,11 +25,12 @@ impl<'a> Model for BackendLoad<'a> {
     ghost use Rattle.balance_core.specs.declared.load.ServerLoad.{ServerLoad};
     ghost use Rattle.conn_model.specs.Servers.{loads_of};
     ghost use Rattle.conn_versions.specs.Versions.{open_to};
+    ghost use Rattle.conn_versions.specs.Barred.{is_barred};
     ghost use Rattle.conn_versions.specs.Slots.{IsServed};
 
     ghost Value = { List ServerLoad };
 
-    ghost view = { λ l. loads_of (open_to l.slots.now) l.backend.now };
+    ghost view = { λ l. loads_of (open_to l.slots.now) (is_barred l.barred.down.now l.barred.lines.now) l.backend.now };
 
     ghost invariant = { λ l. IsServed l.slots.now l.backend.now l.places.now };
 }
@@ -41,7 +46,8 @@ impl Load for BackendLoad<'_> {
         match item(self.backend.servers.as_slice(), number) {
             Some(server) => {
                 let ix = self.places[usize::from(number)];
-                Some(load_of(server, self.slots.count(ix)))
+                let is_barred = self.barred.bars(self.backend, server);
+                Some(load_of(self.backend.method, is_barred, server, self.slots.count(ix)))
             }
             None => None,
         }
@@ -55,14 +61,24 @@ pub fn item<T>(items: &[T], number: u16) -> Option<&T>
     items.get(usize::from(number))
 }
 
-/// The load of a server to which so many connections are open.
-fn load_of(server: &Server, connections: u64) -> ServerLoad
-    ensures { result ≡ record { weight = weight_of server.now; has_room = has_room server.now.limit connections; connections = connections } }
+/// The load of a server to which so many connections are open, and from which the pick may be barred.
+fn load_of(method: Method, is_barred: bool, server: &Server, connections: u64) -> ServerLoad
+    ensures { result ≡ record { weight = weight_by method is_barred server.now; has_room = not is_barred && has_room server.now.limit connections; connections = connections } }
 {
     ServerLoad {
-        weight: weight_of(server),
-        has_room: has_room(server, connections),
+        weight: weight_by(method, is_barred, server),
+        has_room: !is_barred && has_room(server, connections),
         connections,
+    }
+}
+
+/// By source a server from which the pick is barred has no weight.
+fn weight_by(method: Method, is_barred: bool, server: &Server) -> u16
+    ensures { result ≡ weight_by method is_barred server.now }
+{
+    match method {
+        Method::Source => { if is_barred { 0 } else { weight_of(server) } }
+        Method::RoundRobin | Method::LeastConn => weight_of(server),
     }
 }
 

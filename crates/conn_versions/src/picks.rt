@@ -7,8 +7,10 @@ ghost use Rattle.conn_model.specs.Servers.{cursor_after, identity_in, pick_in, w
 ghost use Rattle.slot_core.specs.Counts.{named_at, IdentitiesDiffer};
 ghost use Rattle.conn_versions.specs.Versions.{open_to};
 ghost use Rattle.conn_versions.specs.Slots.{AreNamed, AreNoted, AreSlots, IsServed, KeepsPlaces};
+ghost use Rattle.conn_versions.specs.Barred.{is_barred};
 ghost use Rattle.conn_versions.specs.Picks.{IsTied};
 
+use crate::barred::Barred;
 use crate::loads::{BackendLoad, OneServer, weight_of};
 use addr_core::Addr;
 use balance_core::{Cycle, pick_least, pick_round, pick_source};
@@ -200,16 +202,18 @@ pub fn pick(
     cursor: Option<Place>,
     own: &BackendPicks,
     slots: &Slots,
+    barred: Barred<'_>,
     source: &Addr,
 ) -> Option<u16>
     requires served { IsServed slots.now backend.now own.now.slots }
     requires tied { IsTied backend.now cursor own.now }
-    ensures { result ≡ option_map (λ turn. turn.server) (pick_in (open_to slots.now) backend.now cursor source.now) }
+    ensures { result ≡ option_map (λ turn. turn.server) (pick_in (open_to slots.now) (is_barred barred.entry.down.now barred.entry.lines.now) backend.now cursor source.now) }
 {
     let load = BackendLoad {
         backend,
         places: own.slots.as_slice(),
         slots,
+        barred,
     };
     match backend.method {
         Method::RoundRobin => pick_next(&own.cycle, own.used, &load),

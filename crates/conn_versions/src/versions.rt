@@ -14,11 +14,13 @@ ghost use Rattle.conn_model.specs.History.{new_version, next_version, with_offer
 ghost use Rattle.conn_model.specs.Tables.{written_tables};
 ghost use Rattle.conn_model.specs.Servers.{cursor_at, identity_in, pick_in, with_cursor};
 ghost use Rattle.conn_versions.specs.Judged.{AreAllInUse, in_use, is_in_use, judged_by, judged_of};
+ghost use Rattle.conn_versions.specs.Barred.{is_barred};
 ghost use Rattle.conn_versions.specs.Kept.{AreAllNoted, AreCounted, AreTied};
 ghost use Rattle.conn_versions.specs.Slots.{KeepsPlaces};
 ghost use Rattle.conn_versions.specs.declared.versions.VersionPicks.{VersionPicks};
 ghost use Rattle.conn_versions.specs.Versions.{has_number, open_to, AreSound, HasServer};
 
+use crate::barred::Barred;
 use crate::loads::item;
 use crate::opening::{cursors, table_ids};
 use crate::picks::{BackendPicks, cycle_of, note_places, pick, picks_of, slot_of, use_server};
@@ -215,12 +217,13 @@ impl Versions {
     }
 
     /// The number of the server that is picked for a source (HAProxy manual, `balance`), of the backend of that number
-    /// in the version of that number. None where no server that may be used has room, or where there is no such backend.
-    pub fn pick(&self, version: u64, backend: u16, source: &Addr) -> Option<u16>
+    /// in the version of that number. None where no server that may be used and is not barred has room, or where there is no
+    /// such backend.
+    pub fn pick(&self, version: u64, backend: u16, barred: Barred<'_>, source: &Addr) -> Option<u16>
         ensures no_version { version_at self.now.versions version ≡ None → result ≡ None }
         ensures no_backend { (kept : versions.Version) → version_at self.now.versions version ≡ Some kept → slice_get kept.plan.backends backend ≡ None → result ≡ None }
         ensures picked { (kept : versions.Version) (found : backends.Backend) → version_at self.now.versions version ≡ Some kept → slice_get kept.plan.backends backend ≡ Some found →
-            result ≡ option_map (λ turn. turn.server) (pick_in (open_to self.now.counts) found (cursor_at kept.cursors backend) source.now) }
+            result ≡ option_map (λ turn. turn.server) (pick_in (open_to self.now.counts) (is_barred barred.entry.down.now barred.entry.lines.now) found (cursor_at kept.cursors backend) source.now) }
     {
         let place = place_of(self.versions.as_slice(), version)?;
         let number = usize::from(backend);
@@ -232,6 +235,7 @@ impl Versions {
                 cursor_at(kept.cursors.as_slice(), number),
                 &own.backends[number],
                 &self.slots,
+                barred,
                 source,
             )
         } else {
@@ -433,7 +437,8 @@ pub fn has_line(backend: &Backend, line: u32) -> bool
         .any(|server| server.line == line)
 }
 
-fn line_place(backends: &[Backend], line: u32) -> Option<usize>
+/// The place of the backend that has the server of that line.
+pub fn line_place(backends: &[Backend], line: u32) -> Option<usize>
     ensures { result ≡ position (has_line line) backends.now }
 {
     backends.iter().position(|backend| has_line(backend, line))

@@ -1,4 +1,4 @@
-//! The acceptor: what comes to the door goes to the workers in turn, and reloads to the desk.
+//! The acceptor: what comes to the door goes to the workers in turn, and reloads and marks to the desk.
 ghost use Rattle.std.specs.Prelude.{◌≡◌, false, Err, IfErr, IfOk, Ok};
 
 use crate::calls::WorkerContext;
@@ -94,6 +94,14 @@ impl<'a, M: Ledger, K: Link, D: Door<Link = K>> Acceptor<'a, M, K, D> {
                 DoorEvent::Reload(text) => {
                     let moment = context.clock.now();
                     let answer = context.desk.reload(rt, pass, moment, text.as_str());
+                    if let Ok(receipt) = &answer {
+                        context.note(rt, receipt.number);
+                    }
+                    door.report(&reply_to(answer));
+                }
+                DoorEvent::Mark(backend, server, health) => {
+                    let moment = context.clock.now();
+                    let answer = context.desk.mark(rt, pass, moment, backend, server, health);
                     if let Ok(receipt) = &answer {
                         context.note(rt, receipt.number);
                     }

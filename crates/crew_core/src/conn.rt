@@ -1,6 +1,6 @@
 //! A connection of a worker.
-ghost use Rattle.std.specs.Prelude.{◌≡◌, ◌++◌, ◌↔◌, Some, None, IsTrue, IfOk, OnOk, OnErr, IsSomeAnd};
-ghost use Rattle.relay_core.specs.Relay.{IsBegun};
+ghost use Rattle.std.specs.Prelude.{◌≡◌, ◌++◌, ◌↔◌, Some, None, IsTrue, IfOk, OnOk, OnErr, IsSomeAnd, drop};
+ghost use Rattle.relay_core.specs.Relay.{IsBegun, Ways};
 ghost use Rattle.crew_core.specs.Conns.{AreOver, HasFlows, IsRelayed, PassesOn};
 ghost use Rattle.crew_core.specs.Dues.{client_side, dial_begun, dialled_side, due_in, server_side};
 ghost use Rattle.crew_core.specs.Idle.{time_begun, waited_for};
@@ -12,6 +12,7 @@ use addr_core::Endpoint;
 use conn_model::event::Why;
 use conn_model::settings::Settings;
 use link_core::{Flags, Link, Progress, Ready, Spares, pump};
+use plan_types::Redispatch;
 use relay_core::{Relay, Way};
 use std::alloc::AllocError;
 
@@ -45,6 +46,8 @@ pub(crate) struct Conn<K: Link> {
     settings: Settings,
     /// How often its server was dialled again.
     retries: u64,
+    /// How many of the bytes that its server is sent first are its header.
+    header: usize,
     /// When the times of the sides began. That of the server is also the time of its dial, and of a pause.
     times: Times,
     /// Of which sides something was expected when that was last noted.
@@ -84,8 +87,10 @@ impl<K: Link> Conn<K> {
                 connect: 0,
                 server: 0,
                 retries: 0,
+                redispatch: Redispatch::Never,
             },
             retries: 0,
+            header: 0,
             times: Times {
                 client: 0,
                 server: 0,
@@ -113,19 +118,32 @@ impl<K: Link> Conn<K> {
         }
     }
 
-    /// Begins the pause before its server is dialled again; whether it may be.
+    /// Begins the pause before its server is dialled again; whether it may be, and another one is not to be asked for.
     pub(crate) fn begin_pause(&mut self, now: u64) -> bool
         ensures { IsTrue result → self.new.times.server ≡ now }
     {
         match self.stage {
             Stage::Server(to) if self.retries < self.settings.retries => {
                 self.retries += 1;
+                if self.is_to_move() {
+                    return false;
+                }
                 self.times.server = now;
                 self.stage = Stage::Retry(to);
                 true
             }
             _ => false,
         }
+    }
+
+    /// Whether the next dial is to be of another server.
+    fn is_to_move(&self) -> bool {
+        let Settings {
+            retries,
+            redispatch,
+            ..
+        } = &self.settings;
+        redispatch.is_move(self.retries, *retries)
     }
 
     /// The pause is over, and its server is dialled again.
@@ -255,8 +273,28 @@ impl<K: Link> Conn<K> {
     {
         self.relay = Some(spares.take(send, rest)?);
         self.has_sent = !rest.is_empty();
+        self.header = send.len();
         self.stage = Stage::Server(to);
         Ok(())
+    }
+
+    /// It was offered another server, which is sent `send` before the stream, in place of the header for the one before.
+    /// What the client sent follows. Whether there is room for it.
+    pub(crate) fn offer_again(&mut self, to: Endpoint, send: &[u8]) -> bool
+        ensures stage { IsTrue result → self.new.stage ≡ Stage.Server to }
+        ensures lent { IsTrue result → (relay : Ways) → self.old.relay ≡ Some relay →
+            IsSomeAnd self.new.relay (λ next. next.forth.bytes ≡ send.now ++ drop self.old.header relay.forth.bytes) }
+    {
+        let Some(relay) = &mut self.relay else {
+            return false;
+        };
+        if !relay.restart(self.header, send) {
+            return false;
+        }
+        self.header = send.len();
+        self.stage = Stage::Server(to);
+        self.server_flags = Flags::of_server();
+        true
     }
 
     /// There is a link to its server. The times of both sides begin.

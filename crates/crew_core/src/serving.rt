@@ -238,7 +238,8 @@ impl<M: Ledger, O: Ledger, K: Link, L: Dial<Link = K>> Worker<M, O, K, L> {
         }
     }
 
-    /// The server of a connection did not accept it. It is dialled again later, unless that was the last time.
+    /// The server of a connection did not accept it. It is dialled again later, or another one is asked for, unless that was
+    /// the last time.
     fn try_again<B: Opening, G: Gate, C: Clock, R: Wait>(
         &mut self,
         rt: &R,
@@ -254,9 +255,37 @@ impl<M: Ledger, O: Ledger, K: Link, L: Dial<Link = K>> Worker<M, O, K, L> {
             return self.end_if_left(rt, context, key);
         }
         match self.calls.drive(rt, context, key, &Drive::ConnectFailed) {
+            CallOutcome::Open(Said::Offer { to, send, .. }) => {
+                self.offer_again(rt, context, key, to, send.as_slice());
+            }
             CallOutcome::Open(_) | CallOutcome::Stopped => {}
             CallOutcome::Ended => self.forget(key),
             CallOutcome::Failed(_) => self.close(rt, context, key, Why::Failed),
+        }
+    }
+
+    /// A connection was offered another server, which is dialled at the next turn.
+    fn offer_again<B: Opening, G: Gate, C: Clock, R: Wait>(
+        &mut self,
+        rt: &R,
+        context: &WorkerContext<'_, M, O, B, G, C>,
+        key: usize,
+        to: Endpoint,
+        send: &[u8],
+    ) {
+        self.dial.forget(key);
+        let has_room = match self.state.table.conn(key) {
+            Some(conn) => {
+                let has_room = conn.offer_again(to, send);
+                conn.begin_dial(context.clock.now());
+                has_room
+            }
+            None => return,
+        };
+        if has_room {
+            self.state.table.enqueue(key);
+        } else {
+            self.close(rt, context, key, Why::Fault);
         }
     }
 

@@ -26,7 +26,7 @@ use std::thread::Threads;
 use std::time::Clock;
 
 /// A record as a word, and a number: that of the connection, or the line of the server that it is offered or of the
-/// rule that rejects it, or the version of a reload.
+/// rule that rejects it, or the version of a reload, or the line of a server that is reported.
 pub type Word = (&'static str, u64);
 
 fn word_of(said: &Said) -> Word {
@@ -48,6 +48,7 @@ fn word_of(said: &Said) -> Word {
             Why::ServerTimeout => ("server-timeout", id.serial),
         },
         Said::Reloaded { version } => ("reloaded", version),
+        Said::Marked { line, .. } => ("marked", u64::from(line)),
     }
 }
 

@@ -11,7 +11,8 @@ use Rattle.conn_model.specs.declared.ask.Counts.{Counts}
 use Rattle.conn_model.specs.declared.event.ConnId.{ConnId}
 use Rattle.conn_model.specs.declared.event.OwnedEvent.{OwnedEvent}
 use Rattle.conn_model.specs.declared.reply.Said.{Said}
-use Rattle.conn_model.specs.declared.reply.Said.TheVariants.{Reloaded}
+use Rattle.conn_model.specs.declared.event.Health.{Health}
+use Rattle.conn_model.specs.declared.reply.Said.TheVariants.{Marked, Reloaded}
 use Rattle.conn_model.specs.declared.reply.StepFault.{StepFault}
 use Rattle.conn_model.specs.History.{answer, entry, id_of, leaves_open}
 use Rattle.desk_core.specs.Books.{moment_in, IsDeskBook}
@@ -79,6 +80,10 @@ open_id said = if leaves_open said then id_of said else None
 -- a new configuration is in force
 abbrev pub IsReloaded : Said → Type 0
 IsReloaded said = (version : ℕ) × (said ≡ Reloaded version)
+
+-- a server was reported so
+abbrev pub IsMarked : Health → Said → Type 0
+IsMarked health said = (line : ℕ) × (said ≡ Marked line health)
 
 -- what the passes keep
 abbrev pub kept_of : List PassState → List (List Record)

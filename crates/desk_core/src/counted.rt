@@ -8,12 +8,12 @@ ghost use Rattle.book_core.specs.Book.{book_answer};
 ghost use Rattle.conn_model.specs.Counts.{open_connections};
 ghost use Rattle.book_core.specs.Open.{connections_ended, connections_opened};
 ghost use Rattle.desk_core.specs.Books.{moment_in, IsDeskBook, IsOf, MomentsRise};
-ghost use Rattle.desk_core.specs.Calls.{IsAnswered, IsCut, IsNotCut, IsRefused, IsReloaded};
+ghost use Rattle.desk_core.specs.Calls.{IsAnswered, IsCut, IsMarked, IsNotCut, IsRefused, IsReloaded};
 
 use crate::naming::Opening;
 use crate::pass::Pass;
 use book_core::{Book, CutFault, Receipt};
-use conn_model::event::{ConnId, Event, OwnedEvent, Why};
+use conn_model::event::{ConnId, Event, Health, OwnedEvent, Why};
 use conn_model::reply::StepFault;
 use record_core::{Record, copy_event, copy_reply};
 use std::alloc::{AllocError, Global};
@@ -179,6 +179,26 @@ impl<M: Ledger, B: Opening> CountedBook<M, B> {
         ensures unchanged { OnErr result (pass.new ≡ pass.old) }
     {
         self.step(pass, moment, &Event::Reload(text))
+    }
+
+    /// Notes how a server was reported, for a pass.
+    pub(crate) fn mark(
+        &mut self,
+        pass: &mut Pass<M>,
+        moment: u64,
+        backend: u16,
+        server: u16,
+        health: Health,
+    ) -> Result<Receipt, StepFault>
+        ensures pass { IfOk result (λ r. IsAnswered B.opening pass.old pass.new moment (owned.Mark backend server health) r) }
+        ensures said { IfOk result (λ r. IsMarked health r.reply.said) }
+        ensures base { self.new.book.base ≡ self.old.book.base }
+        ensures open_connections { OnOk result (open_connections self.new.book.state ≡ open_connections self.old.book.state) }
+        ensures fault { IfErr result (IsRefused B.opening moment (owned.Mark backend server health)) }
+        ensures err { OnErr result (self.new.book ≡ self.old.book) }
+        ensures unchanged { OnErr result (pass.new ≡ pass.old) }
+    {
+        self.step(pass, moment, &Event::Mark(backend, server, health))
     }
 
     /// Hands the records in memory over as one segment.

@@ -9,7 +9,7 @@ ghost use Rattle.conn_model.specs.Counts.{open_connections};
 ghost use Rattle.rtrb.specs.Ring.{known_free, known_items, received, sent, ConsumerLooked, IsPair, ProducerLooked, SameProducer};
 ghost use Rattle.desk_core.specs.declared.desk.TheConstants.{CALL_PARTS};
 ghost use Rattle.desk_core.specs.Books.{IsOf, MomentsRise};
-ghost use Rattle.desk_core.specs.Calls.{open_id, IsAnswered, IsCounted, IsCut, IsNotCut, IsRefused, IsReloaded};
+ghost use Rattle.desk_core.specs.Calls.{open_id, IsAnswered, IsCounted, IsCut, IsMarked, IsNotCut, IsRefused, IsReloaded};
 
 use crate::counted::CountedBook;
 use crate::desk_state::DeskState;
@@ -19,7 +19,7 @@ use crate::pass::Pass;
 use addr_core::Pair;
 use book_core::{Book, CutFault, Receipt};
 use conn_model::ask::{Ask, Counts};
-use conn_model::event::Why;
+use conn_model::event::{Health, Why};
 use conn_model::reply::StepFault;
 use record_core::Segment;
 use rtrb::Consumer;
@@ -108,6 +108,27 @@ impl<M: Ledger, O: Ledger, B: Opening> SharedDesk<M, O, B> {
         ensures err { OnErr result (pass.new ≡ pass.old) }
     {
         self.desk_state.lock(rt).reload(pass, moment, text)
+    }
+
+    /// A server is reported down or up: the numbers of its backend in the newest configuration and of it in its backend.
+    /// Connections that are open to it go on.
+    pub fn mark<R: Wait>(
+        &self,
+        rt: &R,
+        pass: &mut Pass<M>,
+        moment: u64,
+        backend: u16,
+        server: u16,
+        health: Health,
+    ) -> Result<Receipt, StepFault>
+        ensures pass { IfOk result (λ r. IsAnswered B.opening pass.old pass.new moment (owned.Mark backend server health) r) }
+        ensures said { IfOk result (λ r. IsMarked health r.reply.said) }
+        ensures fault { IfErr result (IsRefused B.opening moment (owned.Mark backend server health)) }
+        ensures err { OnErr result (pass.new ≡ pass.old) }
+    {
+        self.desk_state
+            .lock(rt)
+            .mark(pass, moment, backend, server, health)
     }
 
     /// Hands the records that are in memory over as one segment. It takes no memory.

@@ -6,7 +6,7 @@ ghost use Rattle.conn_model.specs.History.{owned_event};
 ghost use Rattle.conn_model.specs.declared.event.OwnedEvent.TheVariants as owned;
 ghost use Rattle.conn_model.specs.declared.reply.Said.TheVariants.{Closed};
 ghost use Rattle.conn_model.specs.Counts.{open_connections};
-ghost use Rattle.desk_core.specs.Calls.{open_id, IsAnswered, IsCounted, IsCut, IsNotCut, IsRefused, IsReloaded};
+ghost use Rattle.desk_core.specs.Calls.{open_id, IsAnswered, IsCounted, IsCut, IsMarked, IsNotCut, IsRefused, IsReloaded};
 
 use crate::counted::CountedBook;
 use crate::lease::{Drive, DriveResult, Lease};
@@ -15,7 +15,7 @@ use crate::pass::Pass;
 use addr_core::Pair;
 use book_core::{CutFault, Receipt};
 use conn_model::ask::{Ask, Counts};
-use conn_model::event::{ConnId, Event, Why};
+use conn_model::event::{ConnId, Event, Health, Why};
 use conn_model::reply::{Said, StepFault};
 use std::sync::ledger;
 use std::sync::ledger::{Ledger, Share};
@@ -25,7 +25,11 @@ fn open_connection(said: &Said) -> Option<ConnId>
 {
     match *said {
         Said::Wait { id, .. } | Said::Offer { id, .. } => Some(id),
-        Said::Refuse { .. } | Said::Up { .. } | Said::Closed { .. } | Said::Reloaded { .. } => None,
+        Said::Refuse { .. }
+        | Said::Up { .. }
+        | Said::Closed { .. }
+        | Said::Reloaded { .. }
+        | Said::Marked { .. } => None,
     }
 }
 
@@ -175,6 +179,22 @@ impl<M: Ledger, O: Ledger, B: Opening> DeskState<M, O, B> {
         ensures err { OnErr result (pass.new ≡ pass.old) }
     {
         self.counted.reload(pass, moment, text)
+    }
+
+    pub(crate) fn mark(
+        &mut self,
+        pass: &mut Pass<M>,
+        moment: u64,
+        backend: u16,
+        server: u16,
+        health: Health,
+    ) -> Result<Receipt, StepFault>
+        ensures pass { IfOk result (λ r. IsAnswered B.opening pass.old pass.new moment (owned.Mark backend server health) r) }
+        ensures said { IfOk result (λ r. IsMarked health r.reply.said) }
+        ensures fault { IfErr result (IsRefused B.opening moment (owned.Mark backend server health)) }
+        ensures err { OnErr result (pass.new ≡ pass.old) }
+    {
+        self.counted.mark(pass, moment, backend, server, health)
     }
 
     pub(crate) fn cut(&mut self) -> Result<(), CutFault>

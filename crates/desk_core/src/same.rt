@@ -3,7 +3,7 @@ ghost use Rattle.std.specs.Prelude.{◌≡◌, ◌↔◌, IsTrue};
 
 use addr_core::{Endpoint, Pair};
 use arrayvec::ArrayVec;
-use conn_model::event::{ConnId, OwnedEvent, Why};
+use conn_model::event::{ConnId, Health, OwnedEvent, Why};
 use conn_model::reply::{Cause, Reply, Said};
 use plan_types::Track;
 use pp_v1::LINE_LIMIT;
@@ -40,6 +40,14 @@ fn same_event(one: &OwnedEvent, other: &OwnedEvent) -> bool
         (OwnedEvent::Expire(id), OwnedEvent::Expire(other_id)) => same_id(id, other_id),
         (OwnedEvent::Reload(text), OwnedEvent::Reload(other_text)) => {
             text.as_slice() == other_text.as_slice()
+        }
+        (
+            OwnedEvent::Mark(backend, server, health),
+            OwnedEvent::Mark(other_backend, other_server, other_health),
+        ) => {
+            *backend == *other_backend
+                && *server == *other_server
+                && same_health(health, other_health)
         }
         _ => false,
     }
@@ -112,11 +120,24 @@ fn same_said(one: &Said, other: &Said) -> bool
                 version: other_version,
             },
         ) => *version == *other_version,
+        (
+            Said::Marked { line, health },
+            Said::Marked {
+                line: other_line,
+                health: other_health,
+            },
+        ) => *line == *other_line && same_health(health, other_health),
         _ => false,
     }
 }
 
 fn same_id(one: &ConnId, other: &ConnId) -> bool
+    ensures { IsTrue result ↔ (one.now ≡ other.now) }
+{
+    *one == *other
+}
+
+fn same_health(one: &Health, other: &Health) -> bool
     ensures { IsTrue result ↔ (one.now ≡ other.now) }
 {
     *one == *other

@@ -6,14 +6,14 @@ ghost use Rattle.desk_core.specs.Driving.{driven_event};
 
 use addr_core::Pair;
 use conn_model::ask::{Ask, Counts};
-use conn_model::event::{PIECE_LIMIT, Why};
+use conn_model::event::{Health, PIECE_LIMIT, Why};
 use conn_model::reply::{Cause, Said, StepFault};
 use desk_core::{Drive, DriveResult, Lease, Pass, SharedDesk};
 use std::sync::Wait;
 use std::sync::ledger::Ledger;
 
 /// What came of a call: a word, and two numbers. They are the line of the server that is offered or of the rule that
-/// rejects, the version of a reload, or how many connections are open and how often they were tracked; and else 0.
+/// rejects or that is reported, the version of a reload, or how many connections are open and how often they were tracked; and else 0.
 pub type Word = (&'static str, u64, u64);
 
 /// A call.
@@ -24,6 +24,8 @@ pub enum Call {
     Drive(Drive<'static>),
     Close,
     Reload(&'static str),
+    /// A server of the first backend is reported.
+    Mark(u16, Health),
     Ask(Ask),
 }
 
@@ -39,6 +41,14 @@ fn word_of(said: &Said) -> Word {
         Said::Up { .. } => ("up", 0, 0),
         Said::Closed { .. } => ("closed", 0, 0),
         Said::Reloaded { version } => ("reloaded", version, 0),
+        Said::Marked {
+            line,
+            health: Health::Down,
+        } => ("down", u64::from(line), 0),
+        Said::Marked {
+            line,
+            health: Health::Up,
+        } => ("back", u64::from(line), 0),
     }
 }
 
@@ -48,6 +58,7 @@ fn fault_word(fault: StepFault) -> Word {
         StepFault::NotDue => ("not due", 0, 0),
         StepFault::BadConfig(_) => ("bad config", 0, 0),
         StepFault::BindChanged => ("bind changed", 0, 0),
+        StepFault::NotChecked => ("not checked", 0, 0),
         _ => ("fault", 0, 0),
     }
 }
@@ -130,6 +141,21 @@ fn reload<M: Ledger, O: Ledger, R: Wait>(
     }
 }
 
+/// A server of the first backend is reported.
+fn mark<M: Ledger, O: Ledger, R: Wait>(
+    rt: &R,
+    desk: &SharedDesk<M, O>,
+    pass: &mut Pass<M>,
+    moment: u64,
+    server: u16,
+    health: Health,
+) -> Word {
+    match desk.mark(rt, pass, moment, 0, server, health) {
+        Ok(receipt) => word_of(&receipt.reply.said),
+        Err(fault) => fault_word(fault),
+    }
+}
+
 /// What comes of a call that is for no connection.
 fn other_word<M: Ledger, O: Ledger, R: Wait>(
     rt: &R,
@@ -140,6 +166,7 @@ fn other_word<M: Ledger, O: Ledger, R: Wait>(
 ) -> Word {
     match call {
         Call::Reload(text) => reload(rt, desk, pass, moment, text),
+        Call::Mark(server, health) => mark(rt, desk, pass, moment, *server, *health),
         Call::Ask(ask) => count_word(desk.ask(rt, ask)),
         _ => ("no such lease", 0, 0),
     }

@@ -9,6 +9,8 @@ mod calls;
 #[cfg(test)]
 mod cuts;
 #[cfg(test)]
+mod health;
+#[cfg(test)]
 mod leases;
 #[cfg(test)]
 mod openings;

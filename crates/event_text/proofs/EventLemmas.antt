@@ -16,16 +16,18 @@ use Rattle.addr_core.proofs.AddrLemmas.{endpoint_of_written}
 use Rattle.text_core.proofs.DecimalLemmas.{are_digits_decimal, decimal_of_written}
 use Rattle.conn_model.specs.declared.event.ConnId.{ConnId}
 use Rattle.conn_model.specs.declared.event.OwnedEvent.{OwnedEvent}
-use Rattle.conn_model.specs.declared.event.OwnedEvent.TheVariants.{Accept, Piece, Connected, ConnectFailed, Close, Expire, Reload}
+use Rattle.conn_model.specs.declared.event.OwnedEvent.TheVariants.{Accept, Piece, Connected, ConnectFailed, Close, Expire, Reload, Mark}
 use Rattle.conn_model.specs.declared.event.TheConstants.{PIECE_LIMIT}
 use Rattle.hex.specs.Hex.{encode_lower, encode_with, lower_digits, decode_sized, IsBytes}
 use Rattle.hex.proofs.HexLemmas.{length-encode_with, decode_sized-encode_lower}
 use Rattle.conn_model.specs.declared.event.Why.{Why}
 use Rattle.conn_model.specs.declared.event.Why.TheVariants.{Done, Fault, Stopped, Failed, ClientTimeout, ServerTimeout}
 use Rattle.conn_model.specs.HandedIn.{IsHandedIn}
-use Rattle.event_text.specs.Script.{bytes_in, bytes_of, bytes_text, ends_of, event_in_lines, event_line, event_lines, event_with, event_words, head_of, head_written, id_of, id_in, id_text, is_mark, is_upper_digit, lines_after, text_lines, why_of, why_text, wanted_of, words_of, Wanted, ◌>>=◌}
-use Rattle.event_text.proofs.LackLemmas.{bytes_lack, decimal_lacks, endpoint_lacks, id_lacks, number_lacks, text_of-bytes, why_lacks, word_lacks, IsAside, Lacks}
+use Rattle.event_text.specs.Script.{bytes_in, bytes_of, bytes_text, ends_of, event_in_lines, event_line, event_lines, event_with, event_words, head_of, head_written, id_of, id_in, id_text, is_mark, is_upper_digit, lines_after, text_lines, why_of, why_text, wanted_of, words_of, Wanted, ◌>>=◌, health_of, health_text}
+use Rattle.event_text.proofs.LackLemmas.{bytes_lack, decimal_lacks, endpoint_lacks, id_lacks, number_lacks, text_of-bytes, why_lacks, word_lacks, IsAside, Lacks, health_lacks}
 use Rattle.event_text.proofs.ReloadLemmas.{bar_lines-read, lines_few, lines_joined, lines_some}
+use Rattle.conn_model.specs.declared.event.Health.{Health}
+use Rattle.conn_model.specs.declared.event.Health.TheVariants.{Down, Up}
 
 or_false : (a b : Bool) → (a || b) ≡ false → (a ≡ false) × (b ≡ false)
 or_false true b is = let wrong : true ≡ false = is in absurd cc
@@ -89,6 +91,10 @@ why_of-written Failed = refl
 why_of-written ClientTimeout = refl
 why_of-written ServerTimeout = refl
 
+health_of-written : (health : Health) → health_of (health_text health) ≡ Some health
+health_of-written Down = refl
+health_of-written Up = refl
+
 pub ends_of-written : (real : PairValue) → IsEndpoint real.source → IsEndpoint real.destination → same_family real.source.addr real.destination.addr ≡ true
     → ends_of (endpoint_text real.source) (endpoint_text real.destination) ≡ Some real
 ends_of-written real first second same =
@@ -120,6 +126,8 @@ words_lack mark aside moment (Expire id) =
     (_, _, refl, (number_lacks mark moment aside, (word_lacks mark aside (codes "expire") refl, (id_lacks mark aside id, tt))))
 words_lack mark aside moment (Reload text) =
     (_, _, refl, (number_lacks mark moment aside, (word_lacks mark aside (codes "reload") refl, (number_lacks mark (length (text_lines text)) aside, tt))))
+words_lack mark aside moment (Mark backend server health) =
+    (_, _, refl, (number_lacks mark moment aside, (word_lacks mark aside (codes "server") refl, (number_lacks mark backend aside, (number_lacks mark server aside, (health_lacks mark aside health, tt))))))
 
 space : IsAside 0x20
 space = record { some = omega arith; low = omega arith }
@@ -155,6 +163,11 @@ head_of-words moment (Reload text) short given =
     let lines : decimal_of (decimal count) 0xFFFF_FFFF_FFFF_FFFF ≡ Some count = decimal_of_written (decimal count) 0xFFFF_FFFF_FFFF_FFFF count (omega (arith, given.1, lines_few text)) refl in
     let some : (count == 0) ≡ false = grind (arith, nat_tests, lines_some text) in
     rw (at, lines, some) refl
+head_of-words moment (Mark backend server health) short given =
+    let at : decimal_of (decimal moment) 0xFFFF_FFFF_FFFF_FFFF ≡ Some moment = decimal_of_written (decimal moment) 0xFFFF_FFFF_FFFF_FFFF moment (omega arith) refl in
+    let number : decimal_of (decimal backend) 0xFFFF ≡ Some backend = decimal_of_written (decimal backend) 0xFFFF backend (omega (arith, given.0)) refl in
+    let place : decimal_of (decimal server) 0xFFFF ≡ Some server = decimal_of_written (decimal server) 0xFFFF server (omega (arith, given.1)) refl in
+    rw (at, number, place, health_of-written health) refl
 
 -- the first line that writes an event says which it is
 pub head_of-line : (line : List ℕ) (moment : ℕ) (event : OwnedEvent) → moment < 2 ^ 64 → IsHandedIn event → line ≡ event_line moment event
@@ -170,6 +183,7 @@ all_of-lines moment (Connected id) given = refl
 all_of-lines moment (ConnectFailed id) given = refl
 all_of-lines moment (Close id why) given = refl
 all_of-lines moment (Expire id) given = refl
+all_of-lines moment (Mark backend server health) given = refl
 all_of-lines moment (Reload text) given =
     let lines = text_lines text in
     let same : (length (map (λ line. 0x7C ∷ line) lines) == length lines) ≡ true = grind (arith, nat_tests, length-map lines (λ line. 0x7C ∷ line)) in
@@ -204,6 +218,8 @@ wanted_of-words moment (Expire id) short given =
     rw (digits_differ (decimal moment) (are_digits_decimal moment).digits) (ap (option_map (λ head. Wanted.reply head)) (head_of-words moment (Expire id) short given))
 wanted_of-words moment (Reload text) short given =
     rw (digits_differ (decimal moment) (are_digits_decimal moment).digits) (ap (option_map (λ head. Wanted.reply head)) (head_of-words moment (Reload text) short given))
+wanted_of-words moment (Mark backend server health) short given =
+    rw (digits_differ (decimal moment) (are_digits_decimal moment).digits) (ap (option_map (λ head. Wanted.reply head)) (head_of-words moment (Mark backend server health) short given))
 
 -- and wants an answer to it
 pub wanted_of-line : (line : List ℕ) (moment : ℕ) (event : OwnedEvent) → moment < 2 ^ 64 → IsHandedIn event → line ≡ event_line moment event

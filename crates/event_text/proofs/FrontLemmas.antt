@@ -17,9 +17,10 @@ use Rattle.addr_core.specs.PairValue.{PairValue}
 use Rattle.addr_core.specs.Family.{same_family}
 use Rattle.addr_core.specs.Text.{endpoint_text, IsEndpoint}
 use Rattle.conn_model.specs.declared.event.ConnId.{ConnId}
+use Rattle.conn_model.specs.declared.event.OwnedEvent.{OwnedEvent}
 use Rattle.conn_model.specs.declared.event.OwnedEvent.TheVariants.{Accept}
 use Rattle.conn_model.specs.HandedIn.{IsId}
-use Rattle.event_text.specs.Script.{accept_of, bare_event_of, close_of, event_by_verb, event_on, id_of, id_text, is_mark, piece_of, words_of, ◌>>=◌}
+use Rattle.event_text.specs.Script.{accept_of, bare_event_of, close_of, event_by_verb, head_by_verb, EventHead, event_on, id_of, id_text, is_mark, piece_of, words_of, ◌>>=◌}
 use Rattle.event_text.specs.Fronts.{ends_in, event_after, head_after, id_alone, id_first, number_first}
 use Rattle.event_text.proofs.EventLemmas.{ends_of-written, id_of-written}
 use Rattle.event_text.proofs.LongLemmas.{close_long, piece_long}
@@ -199,3 +200,14 @@ not_event moment (b ∷ text) verb words first cut other =
     let same = sym cut ∙ whole in
     let begins : verb ≡ 114 ∷ parts.0 = cc in
     rw whole (rw (ap (λ v. bytes_eq v (codes "reload")) (sym begins) ∙ other, no_event parts.0 parts.1) refl)
+
+-- the words of an event are not those of a reload
+pub whole_event : (moment : ℕ) (words : List (List ℕ)) (event : OwnedEvent) → Some event ≡ event_after words → Some (EventHead.whole (moment, event)) ≡ head_after moment words
+whole_event moment [] event is = absurd (let wrong : Some event ≡ None = is in cc)
+whole_event moment (verb ∷ words) event is = by (bytes_eq verb (codes "reload")) refl
+  where
+    by : (b : Bool) → bytes_eq verb (codes "reload") ≡ b → Some (EventHead.whole (moment, event)) ≡ head_by_verb moment verb words
+    by false other = rw (other, sym is) refl
+    by true same =
+        let verb_is : verb ≡ codes "reload" = (bytes_eq-Decides verb (codes "reload")).0 same in
+        absurd (let wrong : Some event ≡ None = is ∙ ap (λ v. event_by_verb v words) verb_is ∙ no_event (codes "eload") words in cc)

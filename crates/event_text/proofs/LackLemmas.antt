@@ -17,7 +17,9 @@ use Rattle.conn_model.specs.declared.event.ConnId.{ConnId}
 use Rattle.conn_model.specs.declared.event.Why.{Why}
 use Rattle.conn_model.specs.declared.event.Why.TheVariants.{Done, Fault, Stopped, Failed, ClientTimeout, ServerTimeout}
 use Rattle.hex.specs.Hex.{encode_lower, encode_with, lower_digits}
-use Rattle.event_text.specs.Script.{bytes_text, id_text, is_mark, why_text}
+use Rattle.event_text.specs.Script.{bytes_text, id_text, is_mark, why_text, health_text}
+use Rattle.conn_model.specs.declared.event.Health.{Health}
+use Rattle.conn_model.specs.declared.event.Health.TheVariants.{Down, Up}
 
 -- no byte is the mark
 abbrev pub Lacks : ℕ → List ℕ → Type 0
@@ -106,6 +108,10 @@ id_lacks mark aside id =
     both_lack mark (decimal id.frontend ++ codes ".") (decimal id.serial)
     (both_lack mark (decimal id.frontend) (codes ".") (number_lacks mark id.frontend aside) (one_lacks mark 46 (sign_lacks mark 46 aside (omega arith))))
     (number_lacks mark id.serial aside)
+
+pub health_lacks : (mark : ℕ) → IsAside mark → (health : Health) → Lacks mark (health_text health)
+health_lacks mark aside Down = word_lacks mark aside (codes "down") refl
+health_lacks mark aside Up = word_lacks mark aside (codes "up") refl
 
 pub why_lacks : (mark : ℕ) → IsAside mark → (why : Why) → Lacks mark (why_text why)
 why_lacks mark aside Done = word_lacks mark aside (codes "done") refl

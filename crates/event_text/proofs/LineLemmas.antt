@@ -13,11 +13,11 @@ use Rattle.conn_model.specs.declared.event.OwnedEvent.{OwnedEvent}
 use Rattle.conn_model.specs.declared.reply.Cause.{Cause}
 use Rattle.conn_model.specs.declared.reply.Cause.TheVariants.{Line, Header, Expired, NoBackend, NoServer}
 use Rattle.conn_model.specs.declared.reply.Said.{Said}
-use Rattle.conn_model.specs.declared.reply.Said.TheVariants.{Wait, Offer, Refuse, Up, Closed, Reloaded}
+use Rattle.conn_model.specs.declared.reply.Said.TheVariants.{Wait, Offer, Refuse, Up, Closed, Reloaded, Marked}
 use Rattle.conn_model.specs.declared.reply.Reply.{Reply}
-use Rattle.event_text.specs.Script.{bytes_text, event_line, id_text, is_mark, why_text}
+use Rattle.event_text.specs.Script.{bytes_text, event_line, health_text, id_text, is_mark, why_text}
 use Rattle.event_text.specs.Replies.{cause_text, header_fault_text, reply_text, said_text, track_text}
-use Rattle.event_text.proofs.LackLemmas.{addr_lacks, both_lack, bytes_lack, endpoint_lacks, id_lacks, number_lacks, text_lacks, why_lacks, IsAside, Lacks}
+use Rattle.event_text.proofs.LackLemmas.{addr_lacks, both_lack, bytes_lack, endpoint_lacks, health_lacks, id_lacks, number_lacks, text_lacks, why_lacks, IsAside, Lacks}
 use Rattle.event_text.proofs.EventLemmas.{words_lack}
 
 aside : IsAside 10
@@ -80,6 +80,9 @@ said_lacks (Closed id why) =
     chain_lacks (codes "closed ") (id_text id ∷ codes " " ∷ why_text why ∷ [])
     (text_lacks 10 (codes "closed ") refl) (id_lacks 10 aside id, (text_lacks 10 (codes " ") refl, (why_lacks 10 aside why, tt)))
 said_lacks (Reloaded version) = chain_lacks (codes "reloaded ") (decimal version ∷ []) (text_lacks 10 (codes "reloaded ") refl) (number version, tt)
+said_lacks (Marked line health) =
+    chain_lacks (codes "marked line ") (decimal line ∷ codes " " ∷ health_text health ∷ [])
+    (text_lacks 10 (codes "marked line ") refl) (number line, (text_lacks 10 (codes " ") refl, (health_lacks 10 aside health, tt)))
 
 track_lacks : (track : Track) → Lacks 10 (track_text track)
 track_lacks track =

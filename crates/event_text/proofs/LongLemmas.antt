@@ -1,7 +1,7 @@
 -- Lines with a word too many hand in no event.
 use Rattle.std.proofs.Common.{◌≡◌, ℕ, List, ◌∷◌, None, refl}
 use Rattle.std.specs.List.{slice_split}
-use Rattle.event_text.specs.Script.{backend_asked, close_of, entry_asked, frontend_asked, id_in, is_mark, piece_of, reload_of, server_asked, words_of}
+use Rattle.event_text.specs.Script.{backend_asked, close_of, entry_asked, frontend_asked, id_in, is_mark, piece_of, reload_of, server_asked, words_of, mark_of}
 use Rattle.text_core.proofs.CutLemmas.{split_first}
 
 pub close_long : (a b text : List ℕ) → close_of (a ∷ b ∷ words_of text) ≡ None
@@ -27,3 +27,6 @@ server_long a b text = let some = split_first (is_mark 0x20) text in rw (some.2)
 
 pub reload_long : (moment : ℕ) (a text : List ℕ) → reload_of moment (a ∷ words_of text) ≡ None
 reload_long moment a text = let some = split_first (is_mark 0x20) text in rw (some.2) refl
+
+pub mark_long : (a b c text : List ℕ) → mark_of (a ∷ b ∷ c ∷ words_of text) ≡ None
+mark_long a b c text = let some = split_first (is_mark 0x20) text in rw (some.2) refl

@@ -13,11 +13,11 @@ use Rattle.conn_model.specs.declared.ask.Counts.{Counts}
 use Rattle.conn_model.specs.declared.reply.Cause.{Cause}
 use Rattle.conn_model.specs.declared.reply.Cause.TheVariants.{Line, Header, Expired, NoBackend, NoServer}
 use Rattle.conn_model.specs.declared.reply.Said.{Said}
-use Rattle.conn_model.specs.declared.reply.Said.TheVariants.{Wait, Offer, Refuse, Up, Closed, Reloaded}
+use Rattle.conn_model.specs.declared.reply.Said.TheVariants.{Wait, Offer, Refuse, Up, Closed, Reloaded, Marked}
 use Rattle.conn_model.specs.declared.reply.Reply.{Reply}
 use Rattle.conn_model.specs.declared.reply.StepFault.{StepFault}
-use Rattle.conn_model.specs.declared.reply.StepFault.TheVariants.{NoListener, NoSuch, NotWaiting, NotOffered, NotDue, BadConfig, BindChanged, Exhausted, NoMemory}
-use Rattle.event_text.specs.Script.{bytes_text, id_text, why_text}
+use Rattle.conn_model.specs.declared.reply.StepFault.TheVariants.{NoListener, NoSuch, NotWaiting, NotOffered, NotDue, NotChecked, BadConfig, BindChanged, Exhausted, NoMemory}
+use Rattle.event_text.specs.Script.{bytes_text, id_text, why_text, health_text}
 
 abbrev pub header_fault_text : HeaderFault → List ℕ
 header_fault_text faults.NotProxy = codes "NotProxy"
@@ -46,6 +46,7 @@ said_text (Refuse id used cause) = codes "refuse " ++ id_text id ++ codes " used
 said_text (Up id) = codes "up " ++ id_text id
 said_text (Closed id why) = codes "closed " ++ id_text id ++ codes " " ++ why_text why
 said_text (Reloaded version) = codes "reloaded " ++ decimal version
+said_text (Marked line health) = codes "marked line " ++ decimal line ++ codes " " ++ health_text health
 
 -- a tracked key: its counter, its table and the address
 abbrev pub track_text : Track → List ℕ
@@ -67,6 +68,7 @@ fault_name NoSuch = codes "NoSuch"
 fault_name NotWaiting = codes "NotWaiting"
 fault_name NotOffered = codes "NotOffered"
 fault_name NotDue = codes "NotDue"
+fault_name NotChecked = codes "NotChecked"
 fault_name (BadConfig fault) = codes "BadConfig " ++ open_text fault
 fault_name BindChanged = codes "BindChanged"
 fault_name Exhausted = codes "Exhausted"

@@ -12,8 +12,10 @@ use Rattle.conn_model.specs.declared.ask.Ask.{Ask}
 use Rattle.conn_model.specs.declared.ask.Ask.TheVariants as asks
 use Rattle.conn_model.specs.declared.event.ConnId.{ConnId}
 use Rattle.conn_model.specs.declared.event.TheConstants.{PIECE_LIMIT}
+use Rattle.conn_model.specs.declared.event.Health.{Health}
+use Rattle.conn_model.specs.declared.event.Health.TheVariants as healths
 use Rattle.conn_model.specs.declared.event.OwnedEvent.{OwnedEvent}
-use Rattle.conn_model.specs.declared.event.OwnedEvent.TheVariants.{Accept, Piece, Connected, ConnectFailed, Close, Expire, Reload}
+use Rattle.conn_model.specs.declared.event.OwnedEvent.TheVariants.{Accept, Piece, Connected, ConnectFailed, Close, Expire, Reload, Mark}
 use Rattle.conn_model.specs.declared.event.Why.{Why}
 use Rattle.conn_model.specs.declared.event.Why.TheVariants.{Done, Fault, Stopped, Failed, ClientTimeout, ServerTimeout}
 use Rattle.event_text.specs.declared.script.FirstLine.{FirstLine}
@@ -37,6 +39,10 @@ why_text Failed = codes "failed"
 why_text ClientTimeout = codes "client-timeout"
 why_text ServerTimeout = codes "server-timeout"
 
+abbrev pub health_text : Health → List ℕ
+health_text healths.Down = codes "down"
+health_text healths.Up = codes "up"
+
 -- bytes in hexadecimal, two digits each
 abbrev pub bytes_text : List ℕ → List ℕ
 bytes_text bytes = if length bytes == 0 then codes "-" else encode_lower bytes
@@ -55,6 +61,8 @@ event_words moment (ConnectFailed id) = decimal moment ∷ codes "failed" ∷ id
 event_words moment (Close id why) = decimal moment ∷ codes "close" ∷ id_text id ∷ why_text why ∷ []
 event_words moment (Expire id) = decimal moment ∷ codes "expire" ∷ id_text id ∷ []
 event_words moment (Reload text) = decimal moment ∷ codes "reload" ∷ decimal (length (text_lines text)) ∷ []
+event_words moment (Mark backend server health) =
+    decimal moment ∷ codes "server" ∷ decimal backend ∷ decimal server ∷ health_text health ∷ []
 
 -- that line, with one space between each two words
 abbrev pub event_line : ℕ → OwnedEvent → List ℕ
@@ -73,6 +81,7 @@ lines_after (ConnectFailed id) = []
 lines_after (Close id why) = []
 lines_after (Expire id) = []
 lines_after (Reload text) = bar_lines text
+lines_after (Mark backend server health) = []
 
 -- all lines of an event
 abbrev pub event_lines : ℕ → OwnedEvent → List (List ℕ)
@@ -121,6 +130,12 @@ why_of word =
     else if bytes_eq word (codes "server-timeout") then Some ServerTimeout
     else None
 
+abbrev pub health_of : List ℕ → Option Health
+health_of word =
+    if bytes_eq word (codes "down") then Some healths.Down
+    else if bytes_eq word (codes "up") then Some healths.Up
+    else None
+
 -- the pair of the endpoints that two words stand for, if they are of one family
 abbrev pub ends_of : List ℕ → List ℕ → Option PairValue
 ends_of peer local = do
@@ -155,6 +170,15 @@ close_of (name ∷ note ∷ []) = do
   Some (Close id why)
 close_of words = None
 
+-- a report of a server
+abbrev pub mark_of : List (List ℕ) → Option OwnedEvent
+mark_of (backend ∷ server ∷ note ∷ []) = do
+  number ← decimal_of backend 0xFFFF
+  place ← decimal_of server 0xFFFF
+  health ← health_of note
+  Some (Mark number place health)
+mark_of words = None
+
 abbrev pub piece_of : List (List ℕ) → Option OwnedEvent
 piece_of (name ∷ bytes ∷ []) = do
   id ← id_of name
@@ -180,6 +204,7 @@ event_by_verb verb words =
     if bytes_eq verb (codes "accept") then accept_of words
     else if bytes_eq verb (codes "piece") then piece_of words
     else if bytes_eq verb (codes "close") then close_of words
+    else if bytes_eq verb (codes "server") then mark_of words
     else bare_event_of verb words
 
 -- What the first line of an event says: all of the event with its moment, or a reload at a moment, whose text is on so
@@ -260,6 +285,7 @@ event_read buffer (reads.Connected id) = Connected id
 event_read buffer (reads.ConnectFailed id) = ConnectFailed id
 event_read buffer (reads.Close id why) = Close id why
 event_read buffer (reads.Expire id) = Expire id
+event_read buffer (reads.Mark backend server health) = Mark backend server health
 
 abbrev pub head_read : List ℕ → FirstLine → EventHead
 head_read buffer (firsts.Whole moment event) = EventHead.whole (moment, event_read buffer event)
@@ -274,6 +300,7 @@ head_written moment (ConnectFailed id) = EventHead.whole (moment, ConnectFailed 
 head_written moment (Close id why) = EventHead.whole (moment, Close id why)
 head_written moment (Expire id) = EventHead.whole (moment, Expire id)
 head_written moment (Reload text) = EventHead.reload moment (length (text_lines text))
+head_written moment (Mark backend server health) = EventHead.whole (moment, Mark backend server health)
 
 -- what is asked for by the words after `ask frontend`
 abbrev pub frontend_asked : List (List ℕ) → Option Ask

@@ -4,7 +4,9 @@ ghost use Rattle.conn_model.specs.HandedIn.{IsHandedIn};
 ghost use Rattle.event_text.specs.Script.{bar_lines, ended_lines, event_in_lines, event_line, event_lines, event_text, text_lines};
 
 use crate::digits::write_piece;
-use crate::replies::{write_accept, write_byte, write_ended, write_field, write_named, write_text};
+use crate::replies::{
+    write_accept, write_byte, write_ended, write_field, write_health, write_named, write_text,
+};
 use conn_model::event::OwnedEvent;
 use std::alloc::AllocError;
 use text_core::cut_at;
@@ -40,6 +42,12 @@ fn write_words(out: &mut Vec<u8>, moment: u64, event: &OwnedEvent) -> Result<(),
         OwnedEvent::Close(id, why) => write_ended(out, b" close ", id, why),
         OwnedEvent::Expire(id) => write_named(out, b" expire ", id),
         OwnedEvent::Reload(text) => write_field(out, b" reload ", count_lines(text.as_slice())),
+        OwnedEvent::Mark(backend, server, health) => {
+            write_field(out, b" server ", u64::from(*backend))?;
+            write_field(out, b" ", u64::from(*server))?;
+            write_text(out, b" ")?;
+            write_health(out, *health)
+        }
     }
 }
 

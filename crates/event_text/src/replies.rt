@@ -5,7 +5,7 @@ ghost use Rattle.text_core.specs.Decimal.{decimal};
 ghost use Rattle.addr_core.specs.declared.addr.Addr.TheVariants.{V4};
 ghost use Rattle.addr_core.specs.Text.{endpoint_text, text_of};
 ghost use Rattle.config_core.specs.Names.{open_text};
-ghost use Rattle.event_text.specs.Script.{bytes_text, id_text, why_text};
+ghost use Rattle.event_text.specs.Script.{bytes_text, health_text, id_text, why_text};
 ghost use Rattle.event_text.specs.Replies.{cause_text, count_line, fault_line, fault_name, header_fault_text, reply_line, reply_text, said_text, track_text};
 
 use crate::digits::write_header;
@@ -13,7 +13,7 @@ use addr_core::{Addr, Endpoint, Pair};
 use arrayvec::ArrayVec;
 use config_core::OpenFault;
 use conn_model::ask::{Ask, Counts};
-use conn_model::event::{ConnId, Why};
+use conn_model::event::{ConnId, Health, Why};
 use conn_model::reply::{Cause, Reply, Said, StepFault};
 use plan_types::Track;
 use pp_any::HeaderFault;
@@ -231,6 +231,16 @@ fn why_word(why: &Why) -> &'static [u8]
     }
 }
 
+/// Writes how a server was reported.
+pub fn write_health(out: &mut Vec<u8>, health: Health) -> Result<(), AllocError>
+    ensures { OnOk result (out.new.items ≡ out.old.items ++ health_text health) }
+{
+    match health {
+        Health::Down => write_text(out, b"down"),
+        Health::Up => write_text(out, b"up"),
+    }
+}
+
 pub fn write_why(out: &mut Vec<u8>, why: &Why) -> Result<(), AllocError>
     ensures { OnOk result (out.new.items ≡ out.old.items ++ why_text why.now) }
 {
@@ -424,6 +434,11 @@ fn write_said(out: &mut Vec<u8>, said: &Said) -> Result<(), AllocError>
         Said::Up { id } => { write_named(out, b"up ", id) }
         Said::Closed { id, why } => write_ended(out, b"closed ", id, why),
         Said::Reloaded { version } => write_field(out, b"reloaded ", *version),
+        Said::Marked { line, health } => {
+            write_field(out, b"marked line ", u64::from(*line))?;
+            write_text(out, b" ")?;
+            write_health(out, *health)
+        }
     }
 }
 
@@ -530,6 +545,7 @@ fn write_name(alloc: Global, out: &mut Vec<u8>, fault: &StepFault) -> Result<(),
         StepFault::NotWaiting => write_text(out, b"NotWaiting"),
         StepFault::NotOffered => write_text(out, b"NotOffered"),
         StepFault::NotDue => write_text(out, b"NotDue"),
+        StepFault::NotChecked => write_text(out, b"NotChecked"),
         StepFault::BadConfig(refusal) => write_refusal(alloc, out, refusal),
         StepFault::BindChanged => write_text(out, b"BindChanged"),
         StepFault::Exhausted => write_text(out, b"Exhausted"),

@@ -6,13 +6,13 @@ ghost use Rattle.conn_model.specs.declared.event.TheConstants.{PIECE_LIMIT};
 ghost use Rattle.conn_model.specs.History.{owned_event};
 ghost use Rattle.event_text.specs.Fronts.{ends_in, event_after, head_after, id_alone, id_first, number_first};
 ghost use Rattle.conn_model.specs.HandedIn.{HasPieceInLimit, IsHandedIn};
-ghost use Rattle.event_text.specs.Script.{accept_of, ask_of, backend_asked, bare_event_of, bytes_of, close_of, ends_of, entry_asked, event_line, event_by_verb, event_on, event_read, frontend_asked, head_by_verb, head_of, head_read, head_written, id_of, piece_of, reload_of, server_asked, wanted, wanted_of, why_of, words_of, HasLines, EventHead, IsCounted, Wanted};
+ghost use Rattle.event_text.specs.Script.{accept_of, ask_of, backend_asked, bare_event_of, bytes_of, close_of, ends_of, entry_asked, event_line, event_by_verb, event_on, event_read, frontend_asked, head_by_verb, head_of, head_read, head_written, id_of, piece_of, reload_of, server_asked, wanted, wanted_of, why_of, words_of, HasLines, EventHead, IsCounted, Wanted, health_of, mark_of};
 
 use crate::digits::read_hex;
 use crate::fronts::{after, id, id_before, is_word, number_before, pair};
 use addr_core::{Pair, read_addr, read_endpoint};
 use conn_model::ask::Ask;
-use conn_model::event::{ConnId, Event, Why};
+use conn_model::event::{ConnId, Event, Health, Why};
 use text_core::cut_at;
 use text_core::decimal::read_decimal;
 
@@ -26,6 +26,7 @@ pub enum EventRequest {
     ConnectFailed(ConnId),
     Close(ConnId, Why),
     Expire(ConnId),
+    Mark(u16, u16, Health),
 }
 
 impl EventRequest {
@@ -41,6 +42,7 @@ impl EventRequest {
             EventRequest::ConnectFailed(id) => Event::ConnectFailed(id),
             EventRequest::Close(id, why) => Event::Close(id, why),
             EventRequest::Expire(id) => Event::Expire(id),
+            EventRequest::Mark(backend, server, health) => Event::Mark(backend, server, health),
         }
     }
 }
@@ -118,6 +120,18 @@ fn read_why(word: &[u8]) -> Option<Why>
     }
     if is(word, b"server-timeout") {
         return Some(Why::ServerTimeout);
+    }
+    None
+}
+
+fn read_health(word: &[u8]) -> Option<Health>
+    ensures { result ≡ health_of word.now }
+{
+    if is(word, b"down") {
+        return Some(Health::Down);
+    }
+    if is(word, b"up") {
+        return Some(Health::Up);
     }
     None
 }
@@ -205,6 +219,21 @@ fn read_close(rest: &[u8]) -> Option<EventRequest>
     Some(EventRequest::Close(id, why))
 }
 
+/// A report of a server.
+fn read_mark(rest: &[u8]) -> Option<EventRequest>
+    ensures { (buffer : List ℕ) → option_map (event_read buffer) result ≡ mark_of (words_of rest.now) }
+{
+    let (backend, rest) = cut_word(rest)?;
+    let (server, note) = cut_word(rest)?;
+    if let Some((_last, _more)) = cut_word(note) {
+        return None;
+    }
+    let backend = read_decimal(backend, 65535)?;
+    let server = read_decimal(server, 65535)?;
+    let health = read_health(note)?;
+    Some(EventRequest::Mark(backend as u16, server as u16, health))
+}
+
 /// The event of a verb that takes the name of a connection and no more.
 fn event_on(verb: &[u8], id: ConnId) -> Option<EventRequest>
     ensures { (buffer : List ℕ) → option_map (event_read buffer) result ≡ event_on verb.now id }
@@ -268,6 +297,9 @@ fn read_event_words(verb: &[u8], rest: &[u8], buffer: &mut [u8]) -> Option<Event
     }
     if is(verb, b"close") {
         return read_close(rest);
+    }
+    if is(verb, b"server") {
+        return read_mark(rest);
     }
     read_bare_event(verb, rest)
 }

@@ -165,6 +165,7 @@ says_wait (saids.Refuse other used cause) id is = absurd (let wrong : None ≡ S
 says_wait (saids.Up other) id is = absurd (let wrong : None ≡ Some id = is in cc)
 says_wait (saids.Closed other why) id is = absurd (let wrong : None ≡ Some id = is in cc)
 says_wait (saids.Reloaded version) id is = absurd (let wrong : None ≡ Some id = is in cc)
+says_wait (saids.Marked line health) id is = absurd (let wrong : None ≡ Some id = is in cc)
 
 -- the first connection of a listener, which is let wait
 row_waits : (plan : Plan) (listener : ℕ) (real : PairValue) (reply : Reply) (id : ConnId) (count : ℕ) → answer_in (opening plan 0) 0 (Accept listener real) ≡ Ok reply → reply.said ≡ saids.Wait id count →
@@ -209,6 +210,7 @@ row_waits plan listener real reply id count is said =
       frontends = slice_set p.frontends id.frontend (record got.own { serial = got.own.serial + 1; rows = got.own.rows ++ rows_left p 0 real reply.tracks.items said });
       versions = with_said (newest_number p) said p.versions;
       tables = tables_passed 0 p.frontends p.tables reply;
+      down = p.down;
     }
 
     state : after (opening plan 0) (entry 0 (Accept listener real) reply ∷ []) ≡ record {
@@ -217,6 +219,7 @@ row_waits plan listener real reply id count is said =
       frontends = slice_set p.frontends id.frontend next;
       versions = p.versions;
       tables = tables_passed 0 p.frontends p.tables reply;
+      down = p.down;
     }
     state =
         after-accept p (opening_well plan 0) 0 listener real reply id got.own there (ap id_of said) (ap (λ (i : ConnId). i.serial) id_is)

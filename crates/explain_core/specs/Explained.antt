@@ -113,6 +113,7 @@ waiting_in (saids.Refuse id used cause) = None
 waiting_in (saids.Up id) = None
 waiting_in (saids.Closed id why) = None
 waiting_in (saids.Reloaded version) = None
+waiting_in (saids.Marked line health) = None
 
 -- All of it.
 

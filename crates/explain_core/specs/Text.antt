@@ -152,7 +152,7 @@ choices_text lines v tried = flat_map (choice_text lines v) (zip v.frontend.choi
 
 -- the number of the server that is picked, of the backend of that number
 abbrev pub picked_in : RuleView → ℕ → Backend → Option ℕ
-picked_in v number backend = option_map (λ turn. turn.server) (pick_in v.served backend (cursor_at v.version.cursors number) v.source)
+picked_in v number backend = option_map (λ turn. turn.server) (pick_in v.served v.barred backend (cursor_at v.version.cursors number) v.source)
 
 abbrev pub weight_text : ℕ → ℕ → Bool → List ℕ
 weight_text weight connections is_picked = codes ": weight " ++ decimal weight ++ codes ", " ++ decimal connections ++ (if is_picked then codes " open: picked\n" else codes " open\n")

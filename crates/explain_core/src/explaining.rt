@@ -178,7 +178,8 @@ fn waiting_in(reply: &Reply) -> Option<ConnId>
         | Said::Refuse { .. }
         | Said::Up { .. }
         | Said::Closed { .. }
-        | Said::Reloaded { .. } => None,
+        | Said::Reloaded { .. }
+        | Said::Marked { .. } => None,
     }
 }
 

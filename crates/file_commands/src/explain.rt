@@ -64,9 +64,11 @@ fn status_of(reply: &Reply) -> u8 {
     match &reply.said {
         Said::Offer { .. } => DONE,
         Said::Wait { .. } => WAITS,
-        Said::Refuse { .. } | Said::Up { .. } | Said::Closed { .. } | Said::Reloaded { .. } => {
-            REFUSED
-        }
+        Said::Refuse { .. }
+        | Said::Up { .. }
+        | Said::Closed { .. }
+        | Said::Reloaded { .. }
+        | Said::Marked { .. } => REFUSED,
     }
 }
 

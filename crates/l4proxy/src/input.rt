@@ -1,8 +1,10 @@
 //! What standard input says while `l4proxy serve` runs.
 use arrayvec::ArrayVec;
+use config_core::{OpenFault, read_plan};
 use crew_core::Clock;
 use log::{Log, warn};
-use socket_core::{Command, CommandSender, Pace, SystemClock};
+use socket_core::{CheckPlan, Command, CommandSender, Pace, SystemClock};
+use std::alloc::AllocError;
 use std::io::Read;
 use std::rt::Files;
 use std::time::Duration;
@@ -39,8 +41,24 @@ impl<'a, R: Files + AllocGlobal + rt::Clock + Log> Ear<'a, R> {
             }
             return;
         };
-        if !self.hand_in(Command::Reload(text)) && self.full.allows(self.clock.now()) {
+        let Ok(checks) = self.checks_of(text.as_str()) else {
+            if self.unreadable.allows(self.clock.now()) {
+                warn!(self.rt; "nothing is reloaded: no memory for {}", self.file);
+            }
+            return;
+        };
+        if !self.hand_in(Command::Reload(text, checks)) && self.full.allows(self.clock.now()) {
             warn!(self.rt; "nothing is reloaded: too many reloads wait");
+        }
+    }
+
+    /// Which servers a text has checked. A text with a fault has none, and is refused.
+    fn checks_of(&self, text: &str) -> Result<CheckPlan, AllocError> {
+        let alloc = self.rt.alloc();
+        match read_plan(alloc, text) {
+            Ok(plan) => CheckPlan::of(alloc, &plan),
+            Err(OpenFault::NoMemory) => Err(AllocError),
+            Err(_) => Ok(CheckPlan::none(alloc)),
         }
     }
 

@@ -17,8 +17,8 @@ use log::Log;
 use record_core::Segment;
 use rtrb::Consumer;
 use socket_core::{
-    CommandSender, DialFault, Listeners, SocketDial, SocketDoor, SocketLink, SystemClock, listen,
-    make_dials,
+    CheckPlan, CommandSender, DialFault, Listeners, SocketDial, SocketDoor, SocketLink,
+    SystemClock, listen, make_dials,
 };
 use std::alloc::{AllocError, Global};
 use std::net::Net;
@@ -90,6 +90,14 @@ fn addresses(alloc: Global, book: &Book) -> Result<Vec<Endpoint>, AllocError> {
     Ok(all)
 }
 
+/// Which servers the configuration of a book has checked.
+fn checks_of(alloc: Global, book: &Book) -> Result<CheckPlan, AllocError> {
+    match book.base().versions.as_slice().last() {
+        Some(version) => CheckPlan::of(alloc, &version.plan),
+        None => Ok(CheckPlan::none(alloc)),
+    }
+}
+
 /// Says where it listens, in one line for each listener.
 fn say_listeners(rt: &impl Eprint, book: &Book, listeners: &Listeners) {
     for (number, listener) in book.base().listeners.as_slice().iter().enumerate() {
@@ -116,11 +124,17 @@ fn open_files<R: Files + AllocGlobal>(rt: &R) -> Option<u64> {
 }
 
 /// How many connections may be open at one time: each takes two descriptors, beside those of the listeners, of the
-/// workers' and the door's polls with their wakers, and some for all else.
-fn most_connections<R: Files + AllocGlobal>(rt: &R, listeners: usize, workers: u16) -> u64 {
+/// workers' and the door's polls with their wakers, one for the check of each server, and some for all else.
+fn most_connections<R: Files + AllocGlobal>(
+    rt: &R,
+    listeners: usize,
+    checks: usize,
+    workers: u16,
+) -> u64 {
     let polls = u64::from(workers).saturating_add(1).saturating_mul(2);
     let others = polls
         .saturating_add(listeners as u64)
+        .saturating_add(checks as u64)
         .saturating_add(OTHER_FILES);
     match open_files(rt) {
         Some(limit) => (limit.saturating_sub(others) / 2).max(1),
@@ -154,11 +168,18 @@ fn open_sockets<'a, R: Files + Net + Log + rt::Clock + AllocGlobal + Eprint>(
         Err(fault) => return Err(fail(rt, &fault)),
     };
     say_listeners(rt, book, &listeners);
-    let most = most_connections(rt, listeners.len(), workers);
+    let checks = match checks_of(alloc, book) {
+        Ok(checks) => checks,
+        Err(_) => return Err(fail(rt, &DialFault::NoMemory)),
+    };
+    let most = most_connections(rt, listeners.len(), checks.len(), workers);
     let (mut door, commands) = match SocketDoor::new(rt, alloc, clock, listeners, most) {
         Ok(opened) => opened,
         Err(fault) => return Err(fail(rt, &fault)),
     };
+    if door.check(checks).is_err() {
+        return Err(fail(rt, &DialFault::NoMemory));
+    }
     match make_dials(rt, alloc, &mut door, workers) {
         Ok(dials) => Ok((door, commands, dials)),
         Err(fault) => Err(fail(rt, &fault)),

@@ -3,6 +3,7 @@
 ghost use Rattle.std.specs.Prelude.{◌≡◌};
 
 use addr_core::{Endpoint, Pair};
+use conn_model::event::Health;
 use conn_model::reply::{Reply, StepFault};
 use device_core::{Input, Output};
 
@@ -26,6 +27,8 @@ pub enum DoorEvent<K> {
     Conn(u16, Pair, K),
     /// A new configuration is to come into force: its text.
     Reload(String),
+    /// A server is down or up from now on: the numbers of its backend in the newest configuration and of it in its backend.
+    Mark(u16, u16, Health),
     /// Nothing came. The door may have waited before it said so.
     Idle,
     /// Nothing will come any more.
@@ -48,7 +51,7 @@ pub trait Door {
     /// What came next.
     fn next(&mut self) -> DoorEvent<Self::Link>;
 
-    /// What became of the reload that was last handed out.
+    /// What became of the reload or of the mark that was last handed out.
     fn report(&mut self, answer: &Result<Reply, StepFault>);
 
     /// The record does not go out as it should. This is called again and again while it is so.

@@ -39,6 +39,7 @@ UsesAtMost most (saids.Refuse id used cause) = Unit {0}
 UsesAtMost most (saids.Up id) = ⊥
 UsesAtMost most (saids.Closed id why) = ⊥
 UsesAtMost most (saids.Reloaded version) = ⊥
+UsesAtMost most (saids.Marked line health) = ⊥
 
 decision_uses : (candidate : Candidate) (used most : ℕ) (judged : PairValue) (made : TrackSlots) → used ≤ most → UsesAtMost most (decision candidate used judged made).said
 decision_uses candidate used most judged made within = by (verdict (view_of candidate judged.source.addr) candidate.frontend made).result
@@ -144,6 +145,7 @@ accepted_waits plan listener real reply id count is said well =
       frontends = slice_set p.frontends id.frontend (record got.own { serial = got.own.serial + 1; rows = got.own.rows ++ rows_left p 0 real reply.tracks.items said });
       versions = with_said (newest_number p) said p.versions;
       tables = tables_passed 0 p.frontends p.tables reply;
+      down = p.down;
     }
 
     state : after (opening plan 0) (entry 0 (Accept listener real) reply ∷ []) ≡ record {
@@ -152,6 +154,7 @@ accepted_waits plan listener real reply id count is said well =
       frontends = slice_set p.frontends id.frontend next;
       versions = p.versions;
       tables = tables_passed 0 p.frontends p.tables reply;
+      down = p.down;
     }
     state =
         after-accept p (opening_well plan 0) 0 listener real reply id got.own there (ap id_of said) (ap (λ (i : ConnId). i.serial) id_is)

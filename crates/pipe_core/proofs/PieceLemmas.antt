@@ -137,6 +137,7 @@ later_twice m n (Ok reply) = ap (λ s. Ok (record reply { said = s })) (by reply
     by (saids.Up id) = refl
     by (saids.Closed id why) = refl
     by (saids.Reloaded version) = refl
+    by (saids.Marked line health) = refl
 
 pub later_none : (r : Result Reply StepFault) → later 0 r ≡ r
 later_none (Err fault) = refl
@@ -149,6 +150,7 @@ later_none (Ok reply) = ap (λ s. Ok (record reply { said = s })) (by reply.said
     by (saids.Up id) = refl
     by (saids.Closed id why) = refl
     by (saids.Reloaded version) = refl
+    by (saids.Marked line health) = refl
 
 -- What is known once a piece was answered.
 

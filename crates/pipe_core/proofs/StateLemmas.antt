@@ -25,6 +25,7 @@ use Rattle.conn_model.specs.declared.plain.FrontendRows.{FrontendRows}
 use Rattle.conn_model.specs.declared.plain.Plain.{Plain}
 use Rattle.conn_model.specs.declared.plain.TableState.{TableState}
 use Rattle.conn_model.specs.Counts.{change_row, offered_in, offered_to, open_if, open_in, open_named, served_by, served_in, server_of, total}
+use Rattle.conn_model.specs.Servers.{is_down}
 use Rattle.conn_model.specs.Rules.{RuleView, view_of}
 use Rattle.conn_model.specs.Answer.{answer_in, at_moment, candidate_of, header_reply, reply_of, rest_in, row_in, waiting_row}
 use Rattle.conn_model.specs.History.{after, by_counter, entry, phase_on, tracks_at, IsFrontendWell, IsWell}
@@ -64,6 +65,7 @@ state_on q id piece own = record {
   frontends = slice_set q.frontends id.frontend (own_on id piece own);
   versions = q.versions;
   tables = (at_moment 0 q).tables;
+  down = q.down;
 }
 
 find-on : (serial : ℕ) (piece : List ℕ) (rows : List Row) (row : Row) → find (λ row. row.serial == serial) rows ≡ Some row →
@@ -193,6 +195,7 @@ view_on q id got h piece source = fun_ext by
       named = named;
       offered = offered;
       served = served;
+      barred = is_down q.down;
     }
 
     by : (made : List Track) → view_of (candidate_of (at_moment 0 (state_on q id piece own)) id h.version h.frontend) source made ≡ view_of (candidate_of (at_moment 0 q) id h.version h.frontend) source made

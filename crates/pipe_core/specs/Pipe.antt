@@ -10,7 +10,7 @@ use Rattle.conn_model.specs.declared.event.OwnedEvent.TheVariants.{Accept, Piece
 use Rattle.conn_model.specs.declared.plain.Plain.{Plain}
 use Rattle.conn_model.specs.declared.reply.Reply.{Reply}
 use Rattle.conn_model.specs.declared.reply.Said.{Said}
-use Rattle.conn_model.specs.declared.reply.Said.TheVariants.{Wait, Offer, Refuse, Up, Closed, Reloaded}
+use Rattle.conn_model.specs.declared.reply.Said.TheVariants.{Wait, Offer, Refuse, Up, Closed, Reloaded, Marked}
 use Rattle.conn_model.specs.declared.reply.StepFault.{StepFault}
 use Rattle.conn_model.specs.Answer.{answer_in}
 use Rattle.conn_model.specs.History.{answer, entry, opening}
@@ -45,6 +45,7 @@ said_on p listener real bytes reply (Refuse id used cause) = Ok reply
 said_on p listener real bytes reply (Up id) = Ok reply
 said_on p listener real bytes reply (Closed id why) = Ok reply
 said_on p listener real bytes reply (Reloaded version) = Ok reply
+said_on p listener real bytes reply (Marked line health) = Ok reply
 
 -- what is said to the first connection of a listener, which begins with these bytes
 abbrev pub said_to : Plain → ℕ → PairValue → List ℕ → Result Reply StepFault
@@ -60,6 +61,7 @@ passed_on bytes (Refuse id used cause) = []
 passed_on bytes (Up id) = []
 passed_on bytes (Closed id why) = []
 passed_on bytes (Reloaded version) = []
+passed_on bytes (Marked line health) = []
 
 -- how a connection of these bytes ends
 abbrev pub end_of : List ℕ → Said → Option PipeEnd
@@ -69,6 +71,7 @@ end_of bytes (Wait id used) = Some Unfinished
 end_of bytes (Up id) = None
 end_of bytes (Closed id why) = None
 end_of bytes (Reloaded version) = None
+end_of bytes (Marked line health) = None
 
 abbrev pub output_of : List ℕ → Result Reply StepFault → List ℕ
 output_of bytes (Ok reply) = passed_on bytes reply.said

@@ -11,7 +11,7 @@ use Rattle.conn_model.specs.declared.plain.Version.{Version}
 use Rattle.conn_model.specs.declared.plain.Plain.{Plain}
 use Rattle.conn_model.specs.declared.reply.Reply.{Reply}
 use Rattle.conn_model.specs.declared.reply.Said.{Said}
-use Rattle.conn_model.specs.declared.reply.Said.TheVariants.{Wait, Offer, Refuse, Up, Closed, Reloaded}
+use Rattle.conn_model.specs.declared.reply.Said.TheVariants.{Wait, Offer, Refuse, Up, Closed, Reloaded, Marked}
 use Rattle.conn_model.specs.declared.reply.StepFault.{StepFault}
 use Rattle.conn_model.specs.Answer.{answer_in, frontend_in, rest_in, row_at, version_at}
 use Rattle.conn_model.specs.History.{IsWell}
@@ -26,6 +26,7 @@ with_used more (Refuse id used cause) = Refuse id (used + more) cause
 with_used more (Up id) = Up id
 with_used more (Closed id why) = Closed id why
 with_used more (Reloaded version) = Reloaded version
+with_used more (Marked line health) = Marked line health
 
 abbrev pub later : ℕ → Result Reply StepFault → Result Reply StepFault
 later more (Ok reply) = Ok (record reply { said = with_used more reply.said })

@@ -91,7 +91,9 @@ fn judge_piece(core: &mut Core, id: ConnId, piece: &[u8]) -> Result<Judgement, P
             used: used as usize,
         }),
         Said::Refuse { cause, .. } => Ok(Judgement::Refused(cause)),
-        Said::Up { .. } | Said::Closed { .. } | Said::Reloaded { .. } => unreachable!(),
+        Said::Up { .. } | Said::Closed { .. } | Said::Reloaded { .. } | Said::Marked { .. } => {
+            unreachable!()
+        }
     }
 }
 
@@ -193,6 +195,8 @@ pub fn judge<I: Input>(
             to: 0,
         })),
         Said::Refuse { cause, .. } => Ok(HeaderVerdict::Refused(cause)),
-        Said::Up { .. } | Said::Closed { .. } | Said::Reloaded { .. } => unreachable!(),
+        Said::Up { .. } | Said::Closed { .. } | Said::Reloaded { .. } | Said::Marked { .. } => {
+            unreachable!()
+        }
     }
 }

@@ -47,6 +47,7 @@ frontend_apart (statements.Backend own_name) at place base own name rest all lat
 frontend_apart (statements.MaxConn limit) at place base own name rest all later others = later others
 frontend_apart (statements.Timeout kind ms) at place base own name rest all later others = later others
 frontend_apart (statements.Retries count) at place base own name rest all later others = later others
+frontend_apart (statements.Redispatch every) at place base own name rest all later others = later others
 frontend_apart (statements.DefaultBackend own_name) at place base own name rest all later others = later others
 frontend_apart (statements.Balance method) at place base own name rest all later others = later others
 frontend_apart (statements.Acl called test) at place base own name rest all later others = later others
@@ -73,6 +74,7 @@ one_frontend (statements.Backend own_name) at place base own rest all apart late
 one_frontend (statements.MaxConn limit) at place base own rest all apart later differ = later differ
 one_frontend (statements.Timeout kind ms) at place base own rest all apart later differ = later differ
 one_frontend (statements.Retries count) at place base own rest all apart later differ = later differ
+one_frontend (statements.Redispatch every) at place base own rest all apart later differ = later differ
 one_frontend (statements.DefaultBackend own_name) at place base own rest all apart later differ = later differ
 one_frontend (statements.Balance method) at place base own rest all apart later differ = later differ
 one_frontend (statements.Acl called test) at place base own rest all apart later differ = later differ
@@ -100,6 +102,7 @@ backend_apart (statements.Backend own_name) at place base own name rest all late
 backend_apart (statements.MaxConn limit) at place base own name rest all later others = later others
 backend_apart (statements.Timeout kind ms) at place base own name rest all later others = later others
 backend_apart (statements.Retries count) at place base own name rest all later others = later others
+backend_apart (statements.Redispatch every) at place base own name rest all later others = later others
 backend_apart (statements.DefaultBackend own_name) at place base own name rest all later others = later others
 backend_apart (statements.Balance method) at place base own name rest all later others = later others
 backend_apart (statements.Acl called test) at place base own name rest all later others = later others
@@ -126,6 +129,7 @@ one_backend (statements.Backend own_name) at place base own rest all apart later
 one_backend (statements.MaxConn limit) at place base own rest all apart later differ = later differ
 one_backend (statements.Timeout kind ms) at place base own rest all apart later differ = later differ
 one_backend (statements.Retries count) at place base own rest all apart later differ = later differ
+one_backend (statements.Redispatch every) at place base own rest all apart later differ = later differ
 one_backend (statements.DefaultBackend own_name) at place base own rest all apart later differ = later differ
 one_backend (statements.Balance method) at place base own rest all apart later differ = later differ
 one_backend (statements.Acl called test) at place base own rest all apart later differ = later differ
@@ -156,6 +160,7 @@ server_apart (statements.Backend own_name) at name rest none later = later
 server_apart (statements.MaxConn limit) at name rest none later = later
 server_apart (statements.Timeout kind ms) at name rest none later = later
 server_apart (statements.Retries count) at name rest none later = later
+server_apart (statements.Redispatch every) at name rest none later = later
 server_apart (statements.DefaultBackend own_name) at name rest none later = later
 server_apart (statements.Balance method) at name rest none later = later
 server_apart (statements.Bind endpoint flag) at name rest none later = later
@@ -181,6 +186,7 @@ one_server (statements.Backend own_name) at rest free later = later
 one_server (statements.MaxConn limit) at rest free later = later
 one_server (statements.Timeout kind ms) at rest free later = later
 one_server (statements.Retries count) at rest free later = later
+one_server (statements.Redispatch every) at rest free later = later
 one_server (statements.DefaultBackend own_name) at rest free later = later
 one_server (statements.Balance method) at rest free later = later
 one_server (statements.Bind endpoint flag) at rest free later = later

@@ -10,29 +10,32 @@ use Rattle.conf_line.specs.declared.statement.ActionWords as line
 use Rattle.conf_line.specs.declared.statement.ActionWords.TheVariants as words
 use Rattle.conf_line.specs.declared.statement.Ruleset.{Ruleset}
 use Rattle.conf_line.specs.declared.statement.Ruleset.TheVariants.{Connection, Session}
+use Rattle.conf_line.specs.declared.statement.ServerWords.{ServerWords}
 use Rattle.conf_line.specs.declared.statement.Statement.{Statement}
 use Rattle.conf_line.specs.declared.statement.Statement.TheVariants as statements
 use Rattle.conf_tree.specs.declared.tree.ConfigLine.{ConfigLine}
 use Rattle.conf_line.specs.declared.statement.TableWords.{TableWords}
-use Rattle.conf_line.specs.Sound.{IsSoundStatement}
+use Rattle.conf_line.specs.Sound.{AreSoundChecks, IsSoundInterval, IsSoundStatement}
 use Rattle.conf_line.specs.Sound as lines
 use Rattle.conf_tree.specs.Rising.{AreAbove, Rises}
 use Rattle.conf_tree.specs.Sections.{opens, own_lines}
 use Rattle.conf_tree.specs.Sound.{AreSoundStatements, IsSoundSection, AreSoundSections, IsSoundTree}
 use Rattle.plan_types.specs.declared.plan.Action.{Action}
 use Rattle.plan_types.specs.declared.plan.Backend.{Backend}
+use Rattle.plan_types.specs.declared.plan.Check.{Check}
 use Rattle.plan_types.specs.declared.plan.Choice.{Choice}
 use Rattle.plan_types.specs.declared.plan.Plan.{Plan}
 use Rattle.plan_types.specs.declared.plan.Rule.{Rule}
 use Rattle.plan_types.specs.declared.plan.Table.{Table}
 use Rattle.plan_types.specs.declared.plan.Server.{Server}
 use Rattle.proxy_types.specs.declared.limits.TheConstants.{GREATEST_WEIGHT, MOST_CONNECTIONS, MOST_ENTRIES, MOST_SECTIONS, MOST_TABLES}
-use Rattle.plan_types.specs.Sound.{IsSoundAction, RulesRise, AreSoundRules, ChoicesRise, IsWithin, IsSoundFrontend, IsSoundServer, IsSoundBackend, IsSoundTable, IsSoundPlan}
+use Rattle.plan_types.specs.Sound.{IsSoundAction, RulesRise, AreSoundRules, ChoicesRise, IsWithin, IsSoundCheck, IsSoundFrontend, IsSoundServer, IsSoundBackend, IsSoundTable, IsSoundPlan}
 use Rattle.plan_core.specs.declared.fields.Limit.{Limit}
 use Rattle.plan_core.specs.declared.fields.Named.{Named}
 use Rattle.plan_core.specs.declared.proxies.Proxy.{Proxy}
 use Rattle.plan_core.specs.Compiled.{default_number, frontend_of, backend_of, backends_in, plan_faults}
-use Rattle.plan_core.specs.Fields.{line_bind, line_default, line_limit, line_table, line_server, line_rule, line_choice, choice_with, backend_number, rule_with, all_of, last_of, setting_in, limit_in, table_with, tables_in, table_number, is_table_of, action_of, track_with, is_in}
+use Rattle.plan_core.specs.declared.fields.TheConstants.{DEFAULT_FALL, DEFAULT_INTERVAL, DEFAULT_RISE}
+use Rattle.plan_core.specs.Fields.{check_with, line_bind, line_default, line_limit, line_table, line_server, line_rule, line_choice, choice_with, backend_number, rule_with, all_of, last_of, setting_in, limit_in, table_with, tables_in, table_number, is_table_of, action_of, track_with, is_in}
 use Rattle.plan_core.specs.Proxies.{line_head, base_after, proxy_with, proxies, is_frontend, is_backend, frontends, backends}
 use Rattle.plan_core.proofs.CountLemmas.{HasBind, each_has_bind, few_binds, few_servers}
 use Rattle.conf_tree.proofs.SectionLemmas.{own_more}
@@ -81,6 +84,7 @@ some_rule list tables name at (statements.Backend other) sound = tt
 some_rule list tables name at (statements.MaxConn limit) sound = tt
 some_rule list tables name at (statements.Timeout kind ms) sound = tt
 some_rule list tables name at (statements.Retries count) sound = tt
+some_rule list tables name at (statements.Redispatch every) sound = tt
 some_rule list tables name at (statements.DefaultBackend other) sound = tt
 some_rule list tables name at (statements.Balance method) sound = tt
 some_rule list tables name at (statements.Acl called test) sound = tt
@@ -148,6 +152,7 @@ some_choice backends at (statements.Backend other) = tt
 some_choice backends at (statements.MaxConn limit) = tt
 some_choice backends at (statements.Timeout kind ms) = tt
 some_choice backends at (statements.Retries count) = tt
+some_choice backends at (statements.Redispatch every) = tt
 some_choice backends at (statements.DefaultBackend other) = tt
 some_choice backends at (statements.Balance method) = tt
 some_choice backends at (statements.Bind endpoint flag) = tt
@@ -216,6 +221,7 @@ base_sound (statements.Backend name) base own sound more = sound
 base_sound (statements.MaxConn limit) base own sound more = sound
 base_sound (statements.Timeout kind ms) base own sound more = sound
 base_sound (statements.Retries count) base own sound more = sound
+base_sound (statements.Redispatch every) base own sound more = sound
 base_sound (statements.DefaultBackend name) base own sound more = sound
 base_sound (statements.Balance method) base own sound more = sound
 base_sound (statements.Acl called test) base own sound more = sound
@@ -241,6 +247,7 @@ one_proxy (statements.Backend name) at base own rest rises sound more section al
 one_proxy (statements.MaxConn limit) at base own rest rises sound more section all = all
 one_proxy (statements.Timeout kind ms) at base own rest rises sound more section all = all
 one_proxy (statements.Retries count) at base own rest rises sound more section all = all
+one_proxy (statements.Redispatch every) at base own rest rises sound more section all = all
 one_proxy (statements.DefaultBackend name) at base own rest rises sound more section all = all
 one_proxy (statements.Balance method) at base own rest rises sound more section all = all
 one_proxy (statements.Acl called test) at base own rest rises sound more section all = all
@@ -271,6 +278,7 @@ some_limit at (statements.Backend name) sound = tt
 some_limit at (statements.MaxConn limit) sound = sound
 some_limit at (statements.Timeout kind ms) sound = tt
 some_limit at (statements.Retries count) sound = tt
+some_limit at (statements.Redispatch every) sound = tt
 some_limit at (statements.DefaultBackend name) sound = tt
 some_limit at (statements.Balance method) sound = tt
 some_limit at (statements.Acl called test) sound = tt
@@ -303,6 +311,7 @@ some_words at (statements.Backend name) sound = tt
 some_words at (statements.MaxConn limit) sound = tt
 some_words at (statements.Timeout kind ms) sound = tt
 some_words at (statements.Retries count) sound = tt
+some_words at (statements.Redispatch every) sound = tt
 some_words at (statements.DefaultBackend name) sound = tt
 some_words at (statements.Balance method) sound = tt
 some_words at (statements.Acl called test) sound = tt
@@ -334,6 +343,28 @@ limit_sound : (limit : Option ℕ) → IfSome limit (λ l. l ≤ MOST_CONNECTION
 limit_sound None is = omega arith
 limit_sound (Some l) is = is
 
+interval_sound : (inter : Option ℕ) → IsSoundInterval inter → 1 ≤ unwrap_or inter DEFAULT_INTERVAL
+interval_sound None sound = omega arith
+interval_sound (Some ms) sound = sound.0
+
+fall_sound : (fall : Option ℕ) → AreSoundChecks fall → 1 ≤ unwrap_or fall DEFAULT_FALL
+fall_sound None sound = omega arith
+fall_sound (Some count) sound = sound.0
+
+rise_sound : (rise : Option ℕ) → AreSoundChecks rise → 1 ≤ unwrap_or rise DEFAULT_RISE
+rise_sound None sound = omega arith
+rise_sound (Some count) sound = sound.0
+
+check_sound : (server : ServerWords) → IsSoundInterval server.inter → AreSoundChecks server.fall → AreSoundChecks server.rise → IfSome (check_with server) IsSoundCheck
+check_sound server inter fall rise = by server.check
+  where
+    says : Check
+    says = record { inter = unwrap_or server.inter DEFAULT_INTERVAL; fall = unwrap_or server.fall DEFAULT_FALL; rise = unwrap_or server.rise DEFAULT_RISE }
+
+    by : (checked : Bool) → IfSome (if checked then Some says else None) IsSoundCheck
+    by true = record { inter = interval_sound server.inter inter; fall = fall_sound server.fall fall; rise = rise_sound server.rise rise }
+    by false = tt
+
 some_server : (at : ℕ) (s : Statement) → IsSoundStatement s → IfSome (line_server at s) IsSoundServer
 some_server at statements.Nothing sound = tt
 some_server at statements.Global sound = tt
@@ -343,6 +374,7 @@ some_server at (statements.Backend name) sound = tt
 some_server at (statements.MaxConn limit) sound = tt
 some_server at (statements.Timeout kind ms) sound = tt
 some_server at (statements.Retries count) sound = tt
+some_server at (statements.Redispatch every) sound = tt
 some_server at (statements.DefaultBackend name) sound = tt
 some_server at (statements.Balance method) sound = tt
 some_server at (statements.Acl called test) sound = tt
@@ -350,7 +382,11 @@ some_server at (statements.UseBackend called when) sound = tt
 some_server at (statements.Bind endpoint flag) sound = tt
 some_server at (statements.Rule list action when) sound = tt
 some_server at (statements.StickTable table) sound = tt
-some_server at (statements.Server server) sound = record { weight = weight_sound server.weight sound.0; limit = limit_sound server.limit sound.1 }
+some_server at (statements.Server server) sound = record {
+  weight = weight_sound server.weight sound.0;
+  limit = limit_sound server.limit sound.1;
+  check = check_sound server sound.2 sound.3 sound.4;
+}
 
 sound_servers : (items : List ConfigLine) → AreSoundStatements items → AllByRecursion IsSoundServer (all_of line_server items)
 sound_servers [] sound = tt

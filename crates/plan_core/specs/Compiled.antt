@@ -12,7 +12,7 @@ pub use Rattle.plan_types.specs.declared.plan.Plan.{Plan}
 use Rattle.plan_types.specs.declared.plan.Table.{Table}
 use Rattle.plan_core.specs.declared.proxies.Proxy.{Proxy}
 use Rattle.plan_core.specs.Proxies.{proxies, frontends, backends}
-use Rattle.plan_core.specs.Fields.{line_bind, line_default, line_server, line_rule, line_choice, acls_in, all_of, setting_in, limit_in, method_in, timeout_in, retries_in, tables_in, backend_number}
+use Rattle.plan_core.specs.Fields.{line_bind, line_default, line_server, line_rule, line_choice, acls_in, all_of, setting_in, limit_in, method_in, timeout_in, retries_in, redispatch_in, tables_in, backend_number}
 use Rattle.plan_core.specs.Faults.{faults_of, least}
 
 -- a backend with its servers
@@ -24,6 +24,7 @@ backend_of proxy = record {
   connect_timeout = timeout_in timeouts.Connect proxy;
   server_timeout = timeout_in timeouts.Server proxy;
   retries = retries_in proxy;
+  redispatch = redispatch_in proxy;
   servers = all_of line_server proxy.own;
 }
 

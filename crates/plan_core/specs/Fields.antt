@@ -1,7 +1,7 @@
 -- What the lines of a frontend or backend say of each matter.
-use Rattle.std.specs.Prelude.{ℕ, Bool, true, false, List, [], ◌∷◌, map, slice_get, position, unwrap_or, option_and_then, Option, Some, None, if◌then◌else◌}
+use Rattle.std.specs.Prelude.{ℕ, Bool, true, false, List, [], ◌∷◌, map, slice_get, position, unwrap_or, option_and_then, Option, Some, None, ◌==◌, if◌then◌else◌}
 use Rattle.std.specs.List.{filter_map}
-use Rattle.std.specs.Option.{option_or, option_map}
+use Rattle.std.specs.Option.{option_or, option_map, option_map_or}
 use Rattle.std.specs.Str.{bytes_eq}
 use Rattle.acl_core.specs.TestValue.{TestValue}
 use Rattle.acl_core.specs.declared.condition.Acl.{Acl}
@@ -15,6 +15,7 @@ use Rattle.proxy_types.specs.declared.balance.Method.TheVariants.{RoundRobin}
 use Rattle.proxy_types.specs.declared.table.Stores.{Stores}
 use Rattle.conf_line.specs.declared.statement.Ruleset.{Ruleset}
 use Rattle.conf_line.specs.declared.statement.Ruleset.TheVariants.{Connection, Session}
+use Rattle.conf_line.specs.declared.statement.ServerWords.{ServerWords}
 use Rattle.conf_line.specs.declared.statement.Statement.{Statement}
 use Rattle.conf_line.specs.declared.statement.Statement.TheVariants as statements
 use Rattle.conf_line.specs.declared.statement.TableWords.{TableWords}
@@ -24,13 +25,16 @@ use Rattle.plan_types.specs.declared.plan.Action.{Action}
 use Rattle.plan_types.specs.declared.plan.Action.TheVariants as actions
 use Rattle.plan_types.specs.declared.plan.Backend.{Backend}
 use Rattle.plan_types.specs.declared.plan.Bind.{Bind}
+use Rattle.plan_types.specs.declared.plan.Check.{Check}
 use Rattle.plan_types.specs.declared.plan.Choice.{Choice}
+use Rattle.plan_types.specs.declared.plan.Redispatch.{Redispatch}
+use Rattle.plan_types.specs.declared.plan.Redispatch.TheVariants.{Never, Last, Every}
 use Rattle.plan_types.specs.declared.plan.Rule.{Rule}
 use Rattle.plan_types.specs.declared.plan.Server.{Server}
 use Rattle.plan_types.specs.declared.plan.Table.{Table}
 use Rattle.plan_core.specs.declared.proxies.SectionHead.{SectionHead}
 use Rattle.plan_core.specs.declared.proxies.Proxy.{Proxy}
-use Rattle.plan_core.specs.declared.fields.TheConstants.{DEFAULT_CONNECTIONS}
+use Rattle.plan_core.specs.declared.fields.TheConstants.{DEFAULT_CONNECTIONS, DEFAULT_FALL, DEFAULT_INTERVAL, DEFAULT_RETRIES, DEFAULT_RISE}
 use Rattle.plan_core.specs.declared.fields.Limit.{Limit}
 use Rattle.plan_core.specs.declared.fields.Named.{Named}
 pub use Rattle.plan_types.specs.Tables.{is_table_of, table_number}
@@ -63,9 +67,20 @@ abbrev pub line_retries : ℕ → Statement → Option ℕ
 line_retries line (statements.Retries count) = Some count
 line_retries line other = None
 
+abbrev pub line_redispatch : ℕ → Statement → Option (Option ℕ)
+line_redispatch line (statements.Redispatch every) = Some every
+line_redispatch line other = None
+
 abbrev pub line_table : ℕ → Statement → Option TableWords
 line_table line (statements.StickTable table) = Some table
 line_table line other = None
+
+-- how a server is checked, if it is
+abbrev pub check_with : ServerWords → Option Check
+check_with server =
+    if server.check
+    then Some (record { inter = unwrap_or server.inter DEFAULT_INTERVAL; fall = unwrap_or server.fall DEFAULT_FALL; rise = unwrap_or server.rise DEFAULT_RISE })
+    else None
 
 -- weight 1 and any number of connections where nothing is given
 abbrev pub line_server : ℕ → Statement → Option Server
@@ -79,6 +94,7 @@ line_server line (statements.Server server) =
       disabled = server.disabled;
       send_proxy = server.send_proxy;
       send_proxy_v2 = server.send_proxy_v2;
+      check = check_with server;
     })
 line_server line other = None
 
@@ -107,9 +123,22 @@ method_in proxy = unwrap_or (setting_in line_method proxy) RoundRobin
 abbrev pub timeout_in : TimeoutKind → Proxy → ℕ
 timeout_in kind proxy = unwrap_or (setting_in (line_timeout kind) proxy) 0
 
--- none where nothing is given
+-- the last of the times where the line gives no number
+abbrev pub redispatch_with : Option ℕ → Redispatch
+redispatch_with None = Last
+redispatch_with (Some every) = if every == 0 then Never else Every every
+
+abbrev pub redispatch_in : Proxy → Redispatch
+redispatch_in proxy = option_map_or redispatch_with (setting_in line_redispatch proxy) Never
+
+-- a server is not dialled again where nothing is given, unless another one may be dialled
+abbrev pub default_retries : Redispatch → ℕ
+default_retries Never = 0
+default_retries Last = DEFAULT_RETRIES
+default_retries (Every number) = DEFAULT_RETRIES
+
 abbrev pub retries_in : Proxy → ℕ
-retries_in proxy = unwrap_or (setting_in line_retries proxy) 0
+retries_in proxy = unwrap_or (setting_in line_retries proxy) (default_retries (redispatch_in proxy))
 
 -- Tables.
 

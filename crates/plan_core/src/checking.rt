@@ -160,6 +160,7 @@ fn line_fault(
         | Statement::MaxConn(_)
         | Statement::Timeout(..)
         | Statement::Retries(_)
+        | Statement::Redispatch(_)
         | Statement::DefaultBackend(_)
         | Statement::Balance(_)
         | Statement::Bind(_, _)

@@ -1,17 +1,29 @@
 //! What the lines of a frontend or backend say of each matter.
 ghost use Rattle.std.specs.Prelude.{◌≡◌, IfOk};
-ghost use Rattle.plan_core.specs.Fields.{line_bind, line_limit, line_default, line_method, line_timeout, line_retries, line_table, line_server, all_of, last_of, setting_in, limit_in, method_in, timeout_in, retries_in};
+ghost use Rattle.plan_core.specs.Fields.{line_bind, line_limit, line_default, line_method, line_timeout, line_retries, line_redispatch, line_table, line_server, check_with, all_of, last_of, setting_in, limit_in, method_in, timeout_in, redispatch_with, redispatch_in, default_retries, retries_in};
 
 use crate::proxies::Proxy;
-use conf_tree::{ConfigLine, Statement, TableWords, TimeoutKind};
+use conf_tree::{ConfigLine, ServerWords, Statement, TableWords, TimeoutKind};
 use list_core::Seq;
-use plan_types::{Bind, Server};
+use plan_types::{Bind, Check, Redispatch, Server};
 use proxy_types::Method;
 use std::alloc::{AllocError, Global};
 use text_core::Word;
 
 /// How many connections may be open in a frontend that has no `maxconn` line.
 pub const DEFAULT_CONNECTIONS: u64 = 2_000;
+
+/// How much time is between two checks of a server that has no `inter`, in ms.
+pub const DEFAULT_INTERVAL: u64 = 2_000;
+
+/// How many checks in a row fail until a server that has no `fall` is down.
+pub const DEFAULT_FALL: u64 = 3;
+
+/// How many checks in a row succeed until a server that has no `rise` is up again.
+pub const DEFAULT_RISE: u64 = 2;
+
+/// How often a server is dialled again where `option redispatch` is on and there is no `retries` line.
+pub const DEFAULT_RETRIES: u64 = 3;
 
 /// A name, and the line that has it.
 #[derive(Drop)]
@@ -95,6 +107,15 @@ fn line_retries(item: &ConfigLine) -> Option<u64>
     }
 }
 
+fn line_redispatch(item: &ConfigLine) -> Option<Option<u64>>
+    ensures { result ≡ line_redispatch item.now.line item.now.statement }
+{
+    match &item.statement {
+        Statement::Redispatch(every) => Some(*every),
+        _ => None,
+    }
+}
+
 fn line_table(item: &ConfigLine) -> Option<TableWords>
     ensures { result ≡ line_table item.now.line item.now.statement }
 {
@@ -102,6 +123,20 @@ fn line_table(item: &ConfigLine) -> Option<TableWords>
         Statement::StickTable(table) => Some(*table),
         _ => None,
     }
+}
+
+/// How a server is checked, if it is.
+fn check_with(server: &ServerWords) -> Option<Check>
+    ensures { result ≡ check_with server.now }
+{
+    if !server.check {
+        return None;
+    }
+    Some(Check {
+        inter: server.inter.unwrap_or(DEFAULT_INTERVAL),
+        fall: server.fall.unwrap_or(DEFAULT_FALL),
+        rise: server.rise.unwrap_or(DEFAULT_RISE),
+    })
 }
 
 fn line_server(alloc: Global, item: &ConfigLine) -> Result<Option<Server>, AllocError>
@@ -117,6 +152,7 @@ fn line_server(alloc: Global, item: &ConfigLine) -> Result<Option<Server>, Alloc
             disabled: server.disabled,
             send_proxy: server.send_proxy,
             send_proxy_v2: server.send_proxy_v2,
+            check: check_with(server),
         })),
         _ => Ok(None),
     }
@@ -183,6 +219,16 @@ fn last_retries(items: &[ConfigLine]) -> Option<u64>
     last
 }
 
+fn last_redispatch(items: &[ConfigLine]) -> Option<Option<u64>>
+    ensures { result ≡ last_of line_redispatch items.now }
+{
+    let mut last = None;
+    for item in items {
+        last = line_redispatch(item).or(last);
+    }
+    last
+}
+
 /// The `stick-table` line of a section.
 pub fn last_table(items: &[ConfigLine]) -> Option<TableWords>
     ensures { result ≡ last_of line_table items.now }
@@ -233,13 +279,44 @@ pub fn timeout_in(kind: TimeoutKind, proxy: &Proxy) -> u64
         .unwrap_or(0)
 }
 
+/// The last of the times where the line gives no number.
+fn redispatch_with(every: Option<u64>) -> Redispatch
+    ensures { result ≡ redispatch_with every }
+{
+    match every {
+        None => Redispatch::Last,
+        Some(0) => Redispatch::Never,
+        Some(every) => Redispatch::Every(every),
+    }
+}
+
+/// Which of the times that a server of a backend is dialled again go to another server.
+pub fn redispatch_in(proxy: &Proxy) -> Redispatch
+    ensures { result ≡ redispatch_in proxy.now }
+{
+    match last_redispatch(proxy.own.items()).or(last_redispatch(proxy.base.items())) {
+        Some(every) => redispatch_with(every),
+        None => Redispatch::Never,
+    }
+}
+
+/// How often a server is dialled again where nothing is given.
+fn default_retries(redispatch: Redispatch) -> u64
+    ensures { result ≡ default_retries redispatch }
+{
+    match redispatch {
+        Redispatch::Never => 0,
+        Redispatch::Last | Redispatch::Every(_) => DEFAULT_RETRIES,
+    }
+}
+
 /// How often a server of a backend may be dialled again.
 pub fn retries_in(proxy: &Proxy) -> u64
     ensures { result ≡ retries_in proxy.now }
 {
     last_retries(proxy.own.items())
         .or(last_retries(proxy.base.items()))
-        .unwrap_or(0)
+        .unwrap_or(default_retries(redispatch_in(proxy)))
 }
 
 pub fn binds_in(alloc: Global, items: &[ConfigLine]) -> Result<Seq<Bind>, AllocError>

@@ -11,7 +11,8 @@ use crate::acls::{acls_in, choices_in};
 use crate::checking::{backend_number, fault_of};
 use crate::fault::PlanFault;
 use crate::fields::{
-    Named, binds_in, default_in, limit_in, method_in, retries_in, servers_in, timeout_in,
+    Named, binds_in, default_in, limit_in, method_in, redispatch_in, retries_in, servers_in,
+    timeout_in,
 };
 use crate::proxies::{Proxy, is_backend, is_frontend, proxies_in};
 use crate::tables::{rules_in, tables_in};
@@ -31,6 +32,7 @@ fn backend_of(alloc: Global, proxy: &Proxy) -> Result<Backend, AllocError>
         connect_timeout: timeout_in(TimeoutKind::Connect, proxy),
         server_timeout: timeout_in(TimeoutKind::Server, proxy),
         retries: retries_in(proxy),
+        redispatch: redispatch_in(proxy),
         servers: servers_in(alloc, proxy.own.items())?,
     })
 }

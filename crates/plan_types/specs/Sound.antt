@@ -5,6 +5,7 @@ use Rattle.proxy_types.specs.declared.limits.TheConstants.{MOST_SECTIONS, MOST_T
 use Rattle.plan_types.specs.declared.plan.Action.{Action}
 use Rattle.plan_types.specs.declared.plan.Action.TheVariants as actions
 use Rattle.plan_types.specs.declared.plan.Backend.{Backend}
+use Rattle.plan_types.specs.declared.plan.Check.{Check}
 use Rattle.plan_types.specs.declared.plan.Choice.{Choice}
 use Rattle.plan_types.specs.declared.plan.Frontend.{Frontend}
 use Rattle.plan_types.specs.declared.plan.Plan.{Plan}
@@ -64,9 +65,16 @@ pub record IsSoundFrontend (tables backends : ℕ) (frontend : Frontend) : Type 
   pub choices : AreSoundChoices backends frontend.choices
   pub default : IfSome frontend.default (λ n. n < backends)
 
+-- the time between two checks, and the numbers of them, are from 1 on
+pub record IsSoundCheck (check : Check) : Type 0 where
+  pub inter : 1 ≤ check.inter
+  pub fall : 1 ≤ check.fall
+  pub rise : 1 ≤ check.rise
+
 pub record IsSoundServer (server : Server) : Type 0 where
   pub weight : server.weight ≤ GREATEST_WEIGHT
   pub limit : server.limit ≤ MOST_CONNECTIONS
+  pub check : IfSome server.check IsSoundCheck
 
 pub record IsSoundBackend (backend : Backend) : Type 0 where
   pub servers : length backend.servers ≤ MOST_SERVERS

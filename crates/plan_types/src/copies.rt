@@ -52,6 +52,7 @@ impl Duplicate for Backend {
             connect_timeout: self.connect_timeout,
             server_timeout: self.server_timeout,
             retries: self.retries,
+            redispatch: self.redispatch,
             servers: self.servers.duplicate(alloc)?,
         })
     }
@@ -68,6 +69,7 @@ impl Duplicate for Server {
             disabled: self.disabled,
             send_proxy: self.send_proxy,
             send_proxy_v2: self.send_proxy_v2,
+            check: self.check,
         })
     }
 }

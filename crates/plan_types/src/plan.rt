@@ -82,6 +82,66 @@ pub struct Table {
     pub expire: u64,
 }
 
+/// How a server is checked (HAProxy manual, `check`).
+#[derive(Clone, Copy, Debug, PartialEq, Eq)]
+pub struct Check {
+    /// How much time is between two checks, in ms, from 1 on (`inter`).
+    pub inter: u64,
+    /// How many checks in a row fail until the server is down, from 1 on.
+    pub fall: u64,
+    /// How many succeed until it is up again, from 1 on.
+    pub rise: u64,
+}
+
+/// Which of the times that a server is dialled again go to another server (HAProxy manual, `option redispatch`).
+#[derive(Clone, Copy, Debug, PartialEq, Eq)]
+pub enum Redispatch {
+    Never,
+    /// The last one.
+    Last,
+    /// Each of that number, which is not 0.
+    Every(u64),
+}
+
+/// How often a connection is moved to another server at most.
+pub const MOST_MOVES: usize = 8;
+
+impl Redispatch {
+    ghost use Rattle.std.specs.Prelude.{◌≡◌};
+    ghost use Rattle.plan_types.specs.Moves.{is_move, moves_of};
+
+    /// How often a connection may be moved to another server, where a server may be dialled again so often.
+    pub fn moves(&self, retries: u64) -> u64
+        ensures { result ≡ moves_of retries self.now }
+    {
+        match self {
+            Redispatch::Never => 0,
+            Redispatch::Last => retries.min(1),
+            Redispatch::Every(number) => match retries.checked_div(*number) {
+                Some(times) => times.min(MOST_MOVES as u64),
+                None => 0,
+            },
+        }
+    }
+
+    /// Whether that retry, where there are so many, goes to another server. They are counted from 1 on.
+    pub fn is_move(&self, retry: u64, retries: u64) -> bool
+        ensures { result ≡ is_move retry retries self.now }
+    {
+        match self {
+            Redispatch::Never => false,
+            Redispatch::Last => retry == retries,
+            Redispatch::Every(number) => match (
+                retry.checked_div(*number),
+                retry.checked_rem(*number),
+            ) {
+                (Some(times), Some(0)) => times <= MOST_MOVES as u64,
+                _ => false,
+            },
+        }
+    }
+}
+
 /// A `server` line.
 #[derive(Debug, Drop)]
 pub struct Server {
@@ -95,6 +155,8 @@ pub struct Server {
     pub disabled: bool,
     pub send_proxy: bool,
     pub send_proxy_v2: bool,
+    /// None where it is not checked.
+    pub check: Option<Check>,
 }
 
 /// A `backend` section.
@@ -109,6 +171,7 @@ pub struct Backend {
     pub server_timeout: u64,
     /// How often a server that is out of reach may be dialled again (HAProxy manual, `retries`).
     pub retries: u64,
+    pub redispatch: Redispatch,
     pub servers: Seq<Server>,
 }
 

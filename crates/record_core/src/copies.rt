@@ -69,6 +69,10 @@ fn attest(event: &Event)
         Event::Connected(id) | Event::ConnectFailed(id) | Event::Close(id, _) | Event::Expire(id) =>
             attest_id(id),
         Event::Reload(text) => attest_text(text),
+        Event::Mark(backend, server, _) => {
+            let _backend = *backend;
+            let _server = *server;
+        }
     }
 }
 
@@ -89,6 +93,7 @@ pub fn copy_event(alloc: Global, event: &Event) -> Result<OwnedEvent, AllocError
         Event::Close(id, why) => Ok(OwnedEvent::Close(id, why)),
         Event::Expire(id) => Ok(OwnedEvent::Expire(id)),
         Event::Reload(text) => Ok(OwnedEvent::Reload(copy_text(alloc, text.as_bytes())?)),
+        Event::Mark(backend, server, health) => Ok(OwnedEvent::Mark(backend, server, health)),
     }
 }
 
@@ -137,6 +142,7 @@ fn copy_said(said: &Said) -> Said
         Said::Up { id } => Said::Up { id },
         Said::Closed { id, why } => Said::Closed { id, why },
         Said::Reloaded { version } => Said::Reloaded { version },
+        Said::Marked { line, health } => Said::Marked { line, health },
     }
 }
 

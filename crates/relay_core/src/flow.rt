@@ -1,5 +1,5 @@
 //! A flow: one direction of a connection.
-ghost use Rattle.std.specs.Prelude.{◌≡◌, ◌<◌, ◌≤◌, ◌+◌, ◌++◌, [], ◌↔◌, IfOk, IsTrue, true, length, take};
+ghost use Rattle.std.specs.Prelude.{◌≡◌, ◌<◌, ◌≤◌, ◌+◌, ◌∷◌, ◌++◌, [], ◌↔◌, IfOk, IsTrue, true, length, take, drop};
 ghost use Rattle.std.specs.Io.KnownBytes.{Consumes, Appends};
 ghost use Rattle.relay_core.specs.Law.{Moves};
 ghost use Rattle.relay_core.specs.Flow.{room, IsDone, IsIdle, asks_reader, IsFillAnswer, read_in, after_fill, fill_calls, fill_failures, fill_stalls, IsDrainAnswer, drained_count, after_drain, drain_calls, drain_failures, drain_stalls};
@@ -75,6 +75,13 @@ impl Flow {
         self.ring.capacity()
     }
 
+    /// How many bytes it holds.
+    pub fn len(&self) -> usize
+        ensures { result ≡ length self.now.bytes }
+    {
+        self.ring.len()
+    }
+
     /// How many more bytes there is room for.
     pub fn room(&self) -> usize
         ensures { result ≡ room self.now }
@@ -117,6 +124,30 @@ impl Flow {
         ensures { self.new ≡ record self.old { bytes = self.old.bytes ++ bytes.now } }
     {
         self.ring.fill_from_slice(bytes);
+    }
+
+    /// Lets other bytes take the place of the first so many.
+    pub fn replace_front(&mut self, old: usize, new: &[u8])
+        requires held { old ≤ length self.old.bytes }
+        requires fits { length new.now ≤ room self.old + old }
+        ensures { self.new ≡ record self.old { bytes = new.now ++ drop old self.old.bytes } }
+    {
+        let kept = self.ring.len() - old;
+        self.ring.truncate_front(kept);
+        let mut left = new.len();
+        while left > 0 {
+            left -= 1;
+            self.put_front(new[left]);
+        }
+    }
+
+    /// Lets a byte precede those that are held.
+    fn put_front(&mut self, byte: u8)
+        requires { 0 < room self.old }
+        ensures { self.new ≡ record self.old { bytes = byte ∷ self.old.bytes } }
+    {
+        // There is room, so that no byte gives way.
+        let _none = self.ring.push_front(byte);
     }
 
     pub(crate) fn asks_reader(&self) -> bool

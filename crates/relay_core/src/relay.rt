@@ -1,5 +1,5 @@
 //! Both directions of a connection.
-ghost use Rattle.std.specs.Prelude.{◌≡◌, ◌≢◌, true, ℕ, ◌<◌, ◌≤◌, ◌+◌, ◌++◌, ◌↔◌, [], IfOk, IsTrue, length, take};
+ghost use Rattle.std.specs.Prelude.{◌≡◌, ◌≢◌, true, ℕ, ◌<◌, ◌≤◌, ◌+◌, ◌++◌, ◌↔◌, [], IfOk, IsTrue, length, take, drop};
 ghost use Rattle.std.specs.Io.KnownBytes.{Consumes, Appends};
 ghost use Rattle.relay_core.specs.Flow.{room, IsDone, IsIdle, asks_reader, IsFillAnswer, after_fill, fill_calls, fill_stalls, IsDrainAnswer, after_drain};
 ghost use Rattle.relay_core.specs.Burst.{burst_limit, IsBurstStop, after_reads, HasAsked, stop_stalls, burst_read, burst_count, burst_written, burst_read_failures, burst_write_failures, burst_write_calls, burst_write_stalls, HasGathered, HasStopped};
@@ -200,6 +200,20 @@ impl Relay {
         flow.reset();
         flow.put(send);
         flow.put(rest);
+    }
+
+    /// Another header takes the place of the first so many bytes for the server, if there is room for it. It takes no memory.
+    pub fn restart(&mut self, old: usize, send: &[u8]) -> bool
+        ensures is { IsTrue result ↔ ((old ≤ length self.old.forth.bytes) × (length send.now ≤ room self.old.forth + old)) }
+        ensures forth { IsTrue result → self.new.forth ≡ record self.old.forth { bytes = send.now ++ drop old self.old.forth.bytes } }
+        ensures back { self.new.back ≡ self.old.back }
+    {
+        let flow = &mut self.forth;
+        let fits = old <= flow.len() && send.len().saturating_sub(old) <= flow.room();
+        if fits {
+            flow.replace_front(old, send);
+        }
+        fits
     }
 
     /// How many bytes each direction holds at the most, as they were made.

@@ -45,7 +45,8 @@ fn can_come(event: &Event) -> bool
         | Event::ConnectFailed(_)
         | Event::Close(..)
         | Event::Expire(_)
-        | Event::Reload(_) => true,
+        | Event::Reload(_)
+        | Event::Mark(..) => true,
     }
 }
 

@@ -1,4 +1,5 @@
 //! What an operator asks for, on its way to the door.
+use crate::check_plan::CheckPlan;
 use mio::Waker;
 use rtrb::{Producer, PushError};
 use std::alloc::Global;
@@ -8,10 +9,10 @@ use std::sync::Arc;
 pub const MOST_COMMANDS: usize = 64;
 
 /// What an operator asks for.
-#[derive(Debug, Drop)]
+#[derive(Drop)]
 pub enum Command {
-    /// The configuration of that text is to come into force.
-    Reload(String),
+    /// The configuration of that text is to come into force, which has these servers checked.
+    Reload(String, CheckPlan),
     /// No connection is accepted any more, and those that are open are ended.
     Quit,
 }

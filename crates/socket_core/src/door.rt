@@ -1,24 +1,30 @@
 //! The door: connections of the listeners, and the commands of an operator.
 use crate::alarm::Alarm;
+use crate::check_plan::CheckPlan;
+use crate::checks::{Checks, HealthChange};
 use crate::commands::{Command, CommandSender, MOST_COMMANDS};
 use crate::fd_budget::{FdBudget, FdPermit};
 use crate::link::SocketLink;
 use crate::listeners::{ListenFault, Listeners};
 use crate::pace::Pace;
 use crate::ports::{AcceptResult, Ports};
+use conn_model::event::Health;
 use conn_model::reply::{Reply, Said, StepFault};
 use link_core::{Backlog, Clock, Door, DoorEvent};
 use log::{Log, info, warn};
 use mio::Waker;
 use rtrb::{Consumer, RingBuffer};
 use std::alloc::{AllocError, Global};
-use std::io;
 use std::net::Net;
 use std::sync::Arc;
+use std::{io, str};
 
 /// How long the door waits for a next_event, and how long it accepts nothing after the system refused to give a connection,
 /// in ms.
 const WAIT: u64 = 100;
+
+/// How often the checks of servers are looked after while connections keep coming, in ms.
+const TEND: u64 = 5;
 
 /// How long the door waits where nothing is accepted after the system refused to give a connection, in ms.
 const PAUSE: u64 = 10;
@@ -49,8 +55,14 @@ pub struct SocketDoor<'a, R: Log, C: Clock> {
     lost: Pace,
     slow: Pace,
     unwritten: Pace,
+    unmarked: Pace,
     /// How many lost segments of the record were reported.
     segments: u64,
+    checks: Checks,
+    /// What the configuration has checked that was handed out last.
+    next_checks: Option<CheckPlan>,
+    /// When the checks were last looked after.
+    tended: u64,
 }
 
 impl<'a, R: Log + Net, C: Clock> SocketDoor<'a, R, C> {
@@ -86,13 +98,23 @@ impl<'a, R: Log + Net, C: Clock> SocketDoor<'a, R, C> {
             lost: Pace::new(),
             slow: Pace::new(),
             unwritten: Pace::new(),
+            unmarked: Pace::new(),
             segments: 0,
+            checks: Checks::new(alloc),
+            next_checks: None,
+            tended: 0,
         };
         Ok((door, sender))
     }
 }
 
-impl<'a, R: Log, C: Clock> SocketDoor<'a, R, C> {
+impl<'a, R: Log + Net, C: Clock> SocketDoor<'a, R, C> {
+    /// Has the door check the servers of the first configuration.
+    pub fn check(&mut self, plan: CheckPlan) -> Result<(), AllocError> {
+        let now = self.clock.now();
+        self.checks.put_in_force(plan, now)
+    }
+
     /// Has the door wake the next worker where a connection is for it. The workers are added in their order.
     pub fn add_worker(&mut self, alarm: Arc<Alarm, Global>) -> Result<(), AllocError> {
         Ok(self.workers.push(alarm)?)
@@ -186,18 +208,114 @@ impl<'a, R: Log, C: Clock> SocketDoor<'a, R, C> {
     /// What came, if anything did. Words come first, so that connections cannot keep them waiting.
     fn next_event(&mut self) -> Option<DoorEvent<SocketLink>> {
         match self.next_command() {
-            Some(Command::Reload(text)) => Some(DoorEvent::Reload(text)),
+            Some(Command::Reload(text, checks)) => {
+                self.next_checks = Some(checks);
+                Some(DoorEvent::Reload(text))
+            }
             Some(Command::Quit) => {
                 self.is_closed = true;
                 self.wake_all();
                 Some(DoorEvent::Closed)
             }
-            None => self.accept(),
+            None => match self.checks.next_report() {
+                Some((backend, server, health)) => Some(DoorEvent::Mark(backend, server, health)),
+                None => self.accept(),
+            },
+        }
+    }
+
+    /// Begins the checks that are due, and takes what came of others, now and then while connections keep coming.
+    fn tend_checks(&mut self) {
+        if self.checks.is_empty() {
+            return;
+        }
+        let now = self.clock.now();
+        if now.saturating_sub(self.tended) >= TEND {
+            self.tended = now;
+            self.ports.begin_checks(self.rt, &mut self.checks, now);
+            self.ports.wait(0, &mut self.checks);
+        }
+    }
+
+    /// Begins the checks that are due; how long none is, in ms.
+    fn begin_checks(&mut self) -> u64 {
+        if self.checks.is_empty() {
+            return WAIT;
+        }
+        let now = self.clock.now();
+        self.tended = now;
+        self.ports.begin_checks(self.rt, &mut self.checks, now);
+        self.checks.wait(now)
+    }
+
+    /// How long nothing may come, in ms.
+    fn limit(&mut self) -> u64 {
+        if self.is_paused() {
+            PAUSE
+        } else if self.ports.may_accept() && !self.is_full {
+            0
+        } else {
+            WAIT
+        }
+    }
+
+    /// What is checked from now on, once a configuration is in force.
+    fn put_checks_in_force(&mut self) {
+        let now = self.clock.now();
+        if let Some(checks) = self.next_checks.take() {
+            if self.checks.put_in_force(checks, now).is_err() {
+                warn!(self.rt; "no memory to check the servers of the new configuration");
+            }
+        }
+    }
+
+    /// Says that a server is down or up, in one line.
+    fn say_mark(&mut self, health: Health) {
+        let Some(change) = self.checks.note_report(health) else {
+            return;
+        };
+        let backend = str::from_utf8(change.identity.backend.as_slice()).unwrap_or("");
+        let server = str::from_utf8(change.identity.name.as_slice()).unwrap_or("");
+        let HealthChange {
+            failure,
+            up,
+            all,
+            ..
+        } = &change;
+        let are_up = if *all == 1 { "server" } else { "servers" };
+        match change.health {
+            Health::Down => warn!(self.rt;
+                "server {backend}/{server} is DOWN: {failure}. {up} of {all} {are_up} of {backend} are up"
+            ),
+            Health::Up => info!(self.rt;
+                "server {backend}/{server} is UP. {up} of {all} {are_up} of {backend} are up"
+            ),
         }
     }
 }
 
-impl<'a, R: Log, C: Clock> Door for SocketDoor<'a, R, C> {
+impl<'a, R: Log, C: Clock> SocketDoor<'a, R, C> {
+    /// Says that a mark is refused, in at most one line a second.
+    fn say_unmarked(&mut self, fault: &StepFault) {
+        if self.unmarked.allows(self.clock.now()) {
+            warn!(self.rt; "a server that is down or up is not marked, and is checked again: {fault:?}");
+        }
+    }
+
+    /// Says that a reload is refused, in one line.
+    fn say_not_reloaded(&mut self, fault: &StepFault) {
+        self.next_checks = None;
+        match fault {
+            StepFault::BadConfig(fault) => warn!(self.rt; "the reload is refused: {fault}"),
+            StepFault::BindChanged => {
+                warn!(self.rt; "the reload is refused: it binds other addresses than are in force")
+            }
+            fault => warn!(self.rt; "the reload is refused: {fault:?}"),
+        }
+    }
+}
+
+impl<'a, R: Log + Net, C: Clock> Door for SocketDoor<'a, R, C> {
     type Link = SocketLink;
 
     fn next(&mut self) -> DoorEvent<SocketLink> {
@@ -206,33 +324,28 @@ impl<'a, R: Log, C: Clock> Door for SocketDoor<'a, R, C> {
             self.wake_all();
             return DoorEvent::Closed;
         }
+        self.tend_checks();
         if let Some(next_event) = self.next_event() {
             return next_event;
         }
-        let limit = if self.is_paused() {
-            PAUSE
-        } else if self.ports.may_accept() && !self.is_full {
-            0
-        } else {
-            WAIT
-        };
-        self.ports.wait(limit);
+        let limit = self.begin_checks().min(self.limit());
+        self.ports.wait(limit, &mut self.checks);
         self.next_event().unwrap_or(DoorEvent::Idle)
     }
 
-    /// Says what became of a reload, in one line for each.
+    /// Says what became of a reload or of a mark, in one line for each.
     fn report(&mut self, answer: &Result<Reply, StepFault>) {
         match answer {
-            Ok(reply) => {
-                if let Said::Reloaded { version } = &reply.said {
+            Ok(reply) => match &reply.said {
+                Said::Reloaded { version } => {
                     info!(self.rt; "reloaded as version {version}");
+                    self.put_checks_in_force();
                 }
-            }
-            Err(StepFault::BadConfig(fault)) => warn!(self.rt; "the reload is refused: {fault}"),
-            Err(StepFault::BindChanged) => {
-                warn!(self.rt; "the reload is refused: it binds other addresses than are in force")
-            }
-            Err(fault) => warn!(self.rt; "the reload is refused: {fault:?}"),
+                Said::Marked { line: _, health } => self.say_mark(*health),
+                _ => {}
+            },
+            Err(fault) if self.checks.drop_report() => self.say_unmarked(fault),
+            Err(fault) => self.say_not_reloaded(fault),
         }
     }
 

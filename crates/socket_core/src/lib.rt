@@ -4,6 +4,7 @@
 #![tactic(auto)]
 
 pub use alarm::Alarm;
+pub use check_plan::CheckPlan;
 pub use clock::SystemClock;
 pub use commands::{Command, CommandSender};
 pub use dial::SocketDial;
@@ -15,6 +16,8 @@ pub use pace::Pace;
 
 mod addresses;
 mod alarm;
+mod check_plan;
+mod checks;
 mod clock;
 mod commands;
 mod dial;
@@ -25,6 +28,7 @@ mod link;
 mod listeners;
 mod pace;
 mod ports;
+mod trend;
 
 use mio::Token;
 

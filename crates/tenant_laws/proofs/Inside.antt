@@ -7,8 +7,10 @@ use Rattle.std.proofs.Math.Path.{fun_ext}
 use Rattle.std.proofs.lemmas.Bool.{false≢true, eq-eqb, eqb-true}
 use Rattle.addr_core.specs.declared.addr.Addr.{Addr}
 use Rattle.proxy_types.specs.declared.balance.Place.{Place}
+use Rattle.proxy_types.specs.declared.server.ServerIdentity.{ServerIdentity}
+use Rattle.proxy_types.specs.ServerIdentity.{same_server}
 use Rattle.stick_core.specs.PlainEntries.{with_tracking}
-use Rattle.plan_types.specs.Lines.{has_line}
+use Rattle.plan_types.specs.Lines.{has_line, LinesDiffer}
 use Rattle.plan_types.specs.declared.plan.Backend.{Backend}
 use Rattle.plan_types.specs.declared.plan.Plan.{Plan}
 use Rattle.plan_types.specs.declared.plan.Table.{Table}
@@ -16,6 +18,7 @@ use Rattle.plan_types.specs.declared.track.TableId.{TableId}
 use Rattle.plan_types.specs.declared.track.Track.{Track}
 use Rattle.conn_model.specs.declared.event.ConnId.{ConnId}
 use Rattle.conn_model.specs.declared.event.OwnedEvent.{OwnedEvent}
+use Rattle.conn_model.specs.declared.event.OwnedEvent.TheVariants.{Mark}
 use Rattle.conn_model.specs.declared.plain.FrontendRows.{FrontendRows}
 use Rattle.conn_model.specs.declared.plain.Plain.{Plain}
 use Rattle.conn_model.specs.declared.plain.Row.{Row}
@@ -24,12 +27,12 @@ use Rattle.conn_model.specs.declared.plain.Version.{Version}
 use Rattle.conn_model.specs.declared.reply.Reply.{Reply}
 use Rattle.conn_model.specs.declared.reply.Said.{Said}
 use Rattle.conn_model.specs.declared.reply.Said.TheVariants as saids
-use Rattle.conn_model.specs.declared.reply.Said.TheVariants.{Wait, Offer, Refuse, Closed, Reloaded}
+use Rattle.conn_model.specs.declared.reply.Said.TheVariants.{Wait, Offer, Refuse, Closed, Reloaded, Marked}
 use Rattle.conn_model.specs.Words.{row_at}
 use Rattle.conn_model.specs.Answer.{answer_in, at_moment, version_at}
 use Rattle.conn_model.specs.Counts.{server_of}
 use Rattle.conn_model.specs.Servers.{cursor_after, cursor_at, cursors_after, with_cursor}
-use Rattle.conn_model.specs.History.{accepts, after, arrival, arrivals, ended_by, entry, frontend_after, has_ended, is_last, judging_version, newest_number, phase_by, plan_of, row_after, speaks_to, tracks_of, with_offer, Entry, IsWell}
+use Rattle.conn_model.specs.History.{accepts, after, arrival, arrivals, ended_by, entry, frontend_after, has_ended, is_last, judging_version, newest_number, number_said, phase_by, plan_of, row_after, speaks_to, tracks_of, version_of, with_offer, Entry, IsWell}
 use Rattle.conn_model.specs.Tables.{by_counter, open_tracks, same_id, table_at, table_with, trackers, tracks_at}
 use Rattle.conn_model.proofs.Lists.{all-append, all-both, all-filter, all-more}
 use Rattle.conn_model.proofs.Listed.{all-in, IsIn}
@@ -38,13 +41,15 @@ use Rattle.conn_model.proofs.OneTable.{table_by, table_found, table_with-entries
 use Rattle.conn_model.proofs.Versions.{version_said}
 use Rattle.tenant_laws.specs.Parts.{owns_backend_at, owns_table, Part}
 use Rattle.tenant_laws.specs.Agreement.{is_own_id, owns_id, Agree, IsAlike, IsApart, IsInside, IsMeant, IsOutside, IsSound, LookAlike}
-use Rattle.tenant_laws.specs.Runs.{frontend_of}
+use Rattle.tenant_laws.specs.Runs.{frontend_of, side_of}
 use Rattle.tenant_laws.proofs.Lists.{any-of, contrary, nothing, slice_get-other, slice_get-set, some_same}
 use Rattle.conn_model.proofs.Trackers.{trackers-append}
 use Rattle.tenant_laws.proofs.Counts.{own-is, tracks-same}
 use Rattle.tenant_laws.proofs.Later.{agree-at, answers-same, at-sound, from-apart, look-later}
+use Rattle.tenant_laws.proofs.Sides.{by_frontend, by_mark, on_side, phase-side, OnSide}
+use Rattle.tenant_laws.proofs.Reports.{mark-inside}
 use Rattle.tenant_laws.proofs.Same.{apart-of, newest-there, row_at-same}
-use Rattle.tenant_laws.proofs.PartReplies.{part_reply, PartReply}
+use Rattle.tenant_laws.proofs.PartReplies.{brings-none, part_reply, PartReply}
 use Rattle.tenant_laws.proofs.Step.{all-by_counter, frontend-at, inside-apart, names-after, named-apart, number-after, outside-apart, own-there, plan-kept, plans-apart, rows-after, sound-step, step-own, step-plan, table-stays, version-before}
 
 map-all : {X Y : Type 0} (f g : X → Y) (xs : List X) → AllByRecursion (λ x. f x ≡ g x) xs → map f xs ≡ map g xs
@@ -127,6 +132,7 @@ said-same part ps qs v w alike number (Refuse id used cause) n owns = alike.curs
 said-same part ps qs v w alike number (saids.Up id) n owns = alike.cursors n owns
 said-same part ps qs v w alike number (Closed id why) n owns = alike.cursors n owns
 said-same part ps qs v w alike number (Reloaded m) n owns = alike.cursors n owns
+said-same part ps qs v w alike number (Marked line health) n owns = alike.cursors n owns
 said-same part ps qs v w alike number (Offer id used line server to pair send) n owns = by (v.number == number) refl
   where
     by : (b : Bool) → (v.number == number) ≡ b → slice_get (with_offer number line server v).cursors n ≡ slice_get (with_offer number line server w).cursors n
@@ -152,19 +158,30 @@ module _ (part : Part) (p : Plain) (sound : IsSound p) (apart : IsApart part p) 
     where
       by : (b : Bool) → speaks_to n row.serial e.reply.said ≡ b → IsInside part p.versions (row_after p n (e ∷ []) row)
       by false eb =
-          rw eb (all-by_counter (λ (t : Track). option_map_or (λ version. is_own_id part version t.table) (version_at p.versions row.version) false ≡ true) (row.tracks ++ [])
-          (all-append (λ (t : Track). option_map_or (λ version. is_own_id part version t.table) (version_at p.versions row.version) false ≡ true) row.tracks [] inside tt))
+          rw eb (record {
+            tracks = all-by_counter (λ (t : Track). option_map_or (λ version. is_own_id part version t.table) (version_at p.versions row.version) false ≡ true) (row.tracks ++ [])
+                (all-append (λ (t : Track). option_map_or (λ version. is_own_id part version t.table) (version_at p.versions row.version) false ≡ true) row.tracks [] inside.tracks tt);
+            offered = inside.offered;
+          })
       by true eb =
           let found : version_at p.versions row.version ≡ Some facts.version = ap (version_at p.versions) (judges eb) ∙ facts.found in
           let made : AllByRecursion (λ (t : Track). option_map_or (λ version. is_own_id part version t.table) (version_at p.versions row.version) false ≡ true) e.reply.tracks.items = rw found facts.said.tracks in
-          rw eb (all-by_counter (λ (t : Track). option_map_or (λ version. is_own_id part version t.table) (version_at p.versions row.version) false ≡ true) (row.tracks ++ e.reply.tracks.items)
-          (all-append (λ (t : Track). option_map_or (λ version. is_own_id part version t.table) (version_at p.versions row.version) false ≡ true) row.tracks e.reply.tracks.items inside made))
+          let plan : plan_of p [] row.version ≡ Some facts.version.plan = plan-kept p row.version ∙ ap (option_map (λ (v : Version). v.plan)) found in
+          let lines : LinesDiffer facts.version.plan = sound.lines row.version facts.version found in
+          rw eb (record {
+            tracks = all-by_counter (λ (t : Track). option_map_or (λ version. is_own_id part version t.table) (version_at p.versions row.version) false ≡ true) (row.tracks ++ e.reply.tracks.items)
+                (all-append (λ (t : Track). option_map_or (λ version. is_own_id part version t.table) (version_at p.versions row.version) false ≡ true) row.tracks e.reply.tracks.items inside.tracks made);
+            offered = phase-side part true (plan_of p [] row.version) facts.version.plan plan lines e.event row.phase e.reply.said inside.offered facts.said.offered;
+          })
 
   inside-now : (n : ℕ) (own : FrontendRows) → part.frontends n ≡ true → slice_get (after p (e ∷ [])).frontends n ≡ Some own → AllByRecursion (IsInside part (after p (e ∷ [])).versions) own.rows
   inside-now n own in' there = by (slice_get p.frontends n) refl (sym (frontend-at p (e ∷ []) n) ∙ there)
     where
       fresh : (row : Row) → (row.version ≡ newest_number p) × ((row.tracks ≡ []) × (server_of row.phase ≡ None)) → IsInside part p.versions row
-      fresh row known = subst (AllByRecursion (λ (t : Track). option_map_or (λ version. is_own_id part version t.table) (version_at p.versions row.version) false ≡ true)) (sym known.1.0) tt
+      fresh row known = record {
+        tracks = subst (AllByRecursion (λ (t : Track). option_map_or (λ version. is_own_id part version t.table) (version_at p.versions row.version) false ≡ true)) (sym known.1.0) tt;
+        offered = ap (λ o. option_map_or (λ (server : ServerIdentity). part.backend_names server.backend) o true) known.1.1;
+      }
 
       by : (o : Option FrontendRows) → slice_get p.frontends n ≡ o → option_map (frontend_after p (e ∷ []) n) o ≡ Some own → AllByRecursion (IsInside part (after p (e ∷ [])).versions) own.rows
       by None e' is' = nothing is'
@@ -322,22 +339,40 @@ module _ (part : Part) (p q : Plain) (sound : IsSound p) (sound' : IsSound q) (e
     number = number-after p sound.well e facts.brings ∙ agree.number ∙ sym (number-after q sound'.well e facts'.brings);
     frontends = frontends-same;
     versions = versions-alike;
+    down = λ server named. ap (list_any (same_server server)) facts.stays ∙ agree.down server named ∙ ap (list_any (same_server server)) (sym facts'.stays);
     left = apart-now part p sound (from-apart part p e.moment agree.left) e is facts;
     right = apart-now part q sound' (from-apart part q e.moment agree.right) e is' facts';
   }
 
 -- a step on the part, made in two states that agree
-pub inside-step : (part : Part) (p q : Plain) → IsSound p → IsSound q → Agree part p q → (moment n : ℕ) (event : OwnedEvent) (reply : Reply) → p.clock ≤ moment → q.clock ≤ moment →
-    frontend_of p.listeners event ≡ Some n → part.frontends n ≡ true → answer_in p moment event ≡ Ok reply → Agree part (after p (entry moment event reply ∷ [])) (after q (entry moment event reply ∷ []))
-inside-step part p q sound sound' agree moment n event reply late late' is_on in' is =
+pub inside-step : (part : Part) (p q : Plain) → IsSound p → IsSound q → Agree part p q → (moment : ℕ) (event : OwnedEvent) (reply : Reply) → p.clock ≤ moment → q.clock ≤ moment →
+    side_of part p event ≡ Some true → answer_in p moment event ≡ Ok reply → Agree part (after p (entry moment event reply ∷ [])) (after q (entry moment event reply ∷ []))
+inside-step part p q sound sound' agree moment event reply late late' on is =
     let e : Entry = entry moment event reply in
-    let is' : answer_in q moment event ≡ Ok reply = sym (answers-same part p q sound sound' agree moment n event late late' is_on in') ∙ is in
-    let is_on' : frontend_of q.listeners event ≡ Some n = ap (λ ls. frontend_of ls event) (sym agree.listeners) ∙ is_on in
     let clocks : max p.clock moment ≡ max q.clock moment = omega (arith, late, late') in
     let now : ℕ = max (max p.clock moment) (max q.clock moment) in
-    let left : IsApart part p = from-apart part p (max p.clock q.clock) agree.left in
-    let right : IsApart part q = from-apart part q (max p.clock q.clock) agree.right in
-    let facts : PartReply part true p e = part_reply part true p sound left moment n event reply is_on in' is in
-    let facts' : PartReply part true q e = part_reply part true q sound' right moment n event reply is_on' in' is' in
-    look-later part (after p (e ∷ [])) (after q (e ∷ [])) (sound-step p sound e is facts.brings)
-    (inside-alike part p q sound sound' e (agree-at part p q sound agree moment late late') is is' facts facts' clocks) now (ap (λ n. max n now) clocks)
+    look-later part (after p (e ∷ [])) (after q (e ∷ [])) (sound-step p sound e is (brings (on_side part true p event on))) (by (on_side part true p event on)) now (ap (λ n. max n now) clocks)
+  where
+    is' : answer_in q moment event ≡ Ok reply
+    is' = sym (answers-same part p q sound sound' agree moment event late late' on) ∙ is
+
+    left : IsApart part p
+    left = from-apart part p (max p.clock q.clock) agree.left
+
+    right : IsApart part q
+    right = from-apart part q (max p.clock q.clock) agree.right
+
+    brings : OnSide part true p event → version_of (entry moment event reply) ≡ None
+    brings (by_frontend n on in') = (part_reply part true p sound left moment n event reply on in' is).brings
+    brings (by_mark number n health backend marks there named) = subst (λ ev. version_of (entry moment ev reply) ≡ None) (sym marks) (brings-none (Mark number n health) (number_said reply.said) tt)
+
+    by : OnSide part true p event → LookAlike part (after p (entry moment event reply ∷ [])) (after q (entry moment event reply ∷ []))
+    by (by_frontend n on in') =
+        let on' : frontend_of q.listeners event ≡ Some n = ap (λ ls. frontend_of ls event) (sym agree.listeners) ∙ on in
+        let clocks : max p.clock moment ≡ max q.clock moment = omega (arith, late, late') in
+        inside-alike part p q sound sound' (entry moment event reply) (agree-at part p q sound agree moment late late') is is' (part_reply part true p sound left moment n event reply on in' is)
+        (part_reply part true q sound' right moment n event reply on' in' is') clocks
+    by (by_mark number n health backend marks there named) =
+        subst (λ ev. LookAlike part (after p (entry moment ev reply ∷ [])) (after q (entry moment ev reply ∷ []))) (sym marks)
+        (mark-inside part p q sound sound' moment number n health reply (agree-at part p q sound agree moment late late') (subst (λ ev. answer_in p moment ev ≡ Ok reply) marks is)
+        (subst (λ ev. answer_in q moment ev ≡ Ok reply) marks is'))

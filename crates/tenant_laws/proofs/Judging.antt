@@ -28,7 +28,7 @@ use Rattle.conn_model.specs.declared.reply.Cause.TheVariants.{Line, NoBackend, N
 use Rattle.conn_model.specs.declared.reply.Reply.{Reply}
 use Rattle.conn_model.specs.declared.reply.Said.{Said}
 use Rattle.conn_model.specs.declared.reply.Said.TheVariants as saids
-use Rattle.conn_model.specs.declared.reply.Said.TheVariants.{Wait, Offer, Refuse, Closed, Reloaded}
+use Rattle.conn_model.specs.declared.reply.Said.TheVariants.{Wait, Offer, Refuse, Closed, Reloaded, Marked}
 use Rattle.conn_model.specs.Words.{or_fault}
 use Rattle.conn_model.specs.Servers.{cursor_at, pick_in}
 use Rattle.conn_model.specs.Rules.{backend_for, rejection, scene_of, view_of, worth, Candidate, RuleView}
@@ -122,6 +122,7 @@ IsOfferOn part side plan (Refuse id used cause) = Unit {0}
 IsOfferOn part side plan (saids.Up id) = Unit {0}
 IsOfferOn part side plan (Closed id why) = Unit {0}
 IsOfferOn part side plan (Reloaded version) = Unit {0}
+IsOfferOn part side plan (Marked line health) = Unit {0}
 
 -- what it tracks has P, and what it offers is on the side
 pub record IsSaidOn (part : Part) (side : Bool) (plan : Plan) (P : TableId → Type 0) (reply : Reply) : Type 0 where
@@ -148,7 +149,7 @@ module _ (part : Part) (side : Bool) (s : Plain) (v : Version) (f : Frontend) (i
       let number : ℕ = one.0 in
       let two = bind-ok (or_fault (NoBackend f.line) (slice_get v.plan.backends number)) _ given one.2 in
       let backend : Backend = two.0 in
-      let three = bind-ok (or_fault (NoServer backend.line) (pick_in view.served backend (cursor_at v.cursors number) source)) _ given two.2 in
+      let three = bind-ok (or_fault (NoServer backend.line) (pick_in view.served view.barred backend (cursor_at v.cursors number) source)) _ given two.2 in
       let place : Place = three.0 in
       let chosen : backend_for (worth view) f ≡ Some number = or_fault-ok (NoBackend f.line) (backend_for (worth view) f) number one.1 in
       let there : slice_get v.plan.backends number ≡ Some backend = or_fault-ok (NoBackend f.line) (slice_get v.plan.backends number) backend two.1 in

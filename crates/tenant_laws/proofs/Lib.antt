@@ -5,9 +5,11 @@ pub mod Alive
 pub mod Counts
 pub mod Views
 pub mod Judging
+pub mod Sides
 pub mod Same
 pub mod Later
 pub mod PartReplies
+pub mod Reports
 pub mod Step
 pub mod Outside
 pub mod Inside

@@ -1,22 +1,20 @@
 -- A step outside a part leaves the part's view as it was.
-use Rattle.std.specs.Prelude.{ℕ, zero, suc, Bool, true, false, not, List, [], find, position, slice_get, Option, Some, None, option_map, Ok, refl, ◌≡◌, ◌≢◌, ◌==◌, ◌∷◌, ◌++◌}
-use Rattle.std.specs.List.{AllByRecursion}
+use Rattle.std.specs.Prelude.{ℕ, Bool, true, false, not, List, [], position, slice_get, Option, Some, None, option_map, Ok, refl, ◌≡◌, ◌≢◌, ◌==◌, ◌∷◌, ◌++◌}
+use Rattle.std.specs.List.{list_any, AllByRecursion}
 use Rattle.std.specs.Option.{option_map_or}
 use Rattle.std.proofs.Common.{max, arith, ◌≤◌, sym, ap, subst, ◌∙◌}
-use Rattle.std.proofs.lemmas.Bool.{eq-eqb, eqb-true}
+use Rattle.std.proofs.lemmas.Bool.{eqb-true}
 use Rattle.proxy_types.specs.declared.balance.Place.{Place}
 use Rattle.proxy_types.specs.declared.server.ServerIdentity.{ServerIdentity}
+use Rattle.proxy_types.specs.ServerIdentity.{same_server}
 use Rattle.plan_types.specs.Lines.{has_line, LinesDiffer}
 use Rattle.plan_types.specs.declared.plan.Backend.{Backend}
-use Rattle.plan_types.specs.declared.plan.Plan.{Plan}
 use Rattle.plan_types.specs.declared.plan.Server.{Server}
 use Rattle.plan_types.specs.declared.track.TableId.{TableId}
 use Rattle.plan_types.specs.declared.track.Track.{Track}
 use Rattle.conn_model.specs.declared.event.ConnId.{ConnId}
 use Rattle.conn_model.specs.declared.event.OwnedEvent.{OwnedEvent}
 use Rattle.conn_model.specs.declared.plain.FrontendRows.{FrontendRows}
-use Rattle.conn_model.specs.declared.plain.Phase.{Phase}
-use Rattle.conn_model.specs.declared.plain.Phase.TheVariants.{Waiting, Offered, Up}
 use Rattle.conn_model.specs.declared.plain.Plain.{Plain}
 use Rattle.conn_model.specs.declared.plain.Row.{Row}
 use Rattle.conn_model.specs.declared.plain.TableState.{TableState}
@@ -24,14 +22,14 @@ use Rattle.conn_model.specs.declared.plain.Version.{Version}
 use Rattle.conn_model.specs.declared.reply.Reply.{Reply}
 use Rattle.conn_model.specs.declared.reply.Said.{Said}
 use Rattle.conn_model.specs.declared.reply.Said.TheVariants as saids
-use Rattle.conn_model.specs.declared.reply.Said.TheVariants.{Wait, Offer, Refuse, Closed, Reloaded}
+use Rattle.conn_model.specs.declared.reply.Said.TheVariants.{Wait, Offer, Refuse, Closed, Reloaded, Marked}
 use Rattle.conn_model.specs.Words.{row_at}
 use Rattle.conn_model.specs.Answer.{answer_in, at_moment, version_at}
 use Rattle.conn_model.specs.Counts.{server_of}
 use Rattle.conn_model.specs.Servers.{cursor_after, cursor_at, cursors_after, with_cursor}
-use Rattle.conn_model.specs.History.{after, arrivals, ended_by, entry, frontend_after, id_of, identity_at, identity_of, is_last, judging_version, newest_number, nobody, phase_by, phase_on, phase_up, piece_of, plan_of, row_after, speaks_to, with_offer, Entry}
+use Rattle.conn_model.specs.History.{after, arrivals, ended_by, entry, frontend_after, id_of, is_last, judging_version, newest_number, phase_by, plan_of, row_after, speaks_to, with_offer, Entry}
 use Rattle.conn_model.specs.Tables.{open_tracks, same_id, table_alive, table_at, table_with, table_without, tracks_at}
-use Rattle.conn_model.proofs.Lists.{all-append, all-both, all-found, all-more, any-at, found_there}
+use Rattle.conn_model.proofs.Lists.{all-append, all-both, all-found, all-more, found_there}
 use Rattle.conn_model.proofs.Goes.{well_at}
 use Rattle.conn_model.proofs.OneTable.{same_id-is, table_by, table_found, table_with_tracks, table_without_tracks}
 use Rattle.conn_model.proofs.VersionSteps.{version_step}
@@ -39,36 +37,17 @@ use Rattle.conn_model.proofs.Versions.{version_said}
 use Rattle.conn_model.proofs.Moments.{at-twice}
 use Rattle.tenant_laws.specs.Parts.{keeps_backend, owns_backend_at, owns_table, Part}
 use Rattle.tenant_laws.specs.Agreement.{is_offered_own, is_own_id, owns_id, Agree, IsAlike, IsApart, IsInside, IsOutside, IsSound, LookAlike}
-use Rattle.tenant_laws.specs.Runs.{frontend_of}
+use Rattle.tenant_laws.specs.Runs.{side_of}
 use Rattle.tenant_laws.proofs.Lists.{contrary, nothing, of_not, slice_get-other, some_same}
 use Rattle.tenant_laws.proofs.Alive.{table-then}
 use Rattle.tenant_laws.proofs.Counts.{own-owned}
 use Rattle.tenant_laws.proofs.Later.{at-apart, at-sound, look-later}
 use Rattle.tenant_laws.proofs.Judging.{IsOfferOn}
+use Rattle.tenant_laws.proofs.Sides.{backend-of, by_frontend, by_mark, on_side, phase-side, IsPhaseOn, OnSide}
+use Rattle.tenant_laws.proofs.Reports.{mark-outside}
 use Rattle.tenant_laws.proofs.Same.{row-own}
 use Rattle.tenant_laws.proofs.PartReplies.{part_reply, PartReply}
 use Rattle.tenant_laws.proofs.Step.{all-by_counter, frontend-at, inside-apart, names-after, named-apart, number-after, outside-apart, own-there, plan-kept, plans-apart, rows-after, sound-step, step-own, step-plan, table-stays, version-before}
-
--- The backend of an offer.
-
-first-there : {X : Type 0} (test : X → Bool) (xs : List X) (k : ℕ) (x : X) → slice_get xs k ≡ Some x → test x ≡ true → (y : X) × (i : ℕ) × (find test xs ≡ Some y) × (slice_get xs i ≡ Some y) × (test y ≡ true)
-first-there test [] k x there is = nothing there
-first-there {X} test (z ∷ xs) zero x there is = let same : z ≡ x = some_same there in let passes : test z ≡ true = ap test same ∙ is in (z, 0, rw passes refl, refl, passes)
-first-there {X} test (z ∷ xs) (suc k) x there is = by (test z) refl (first-there test xs k x there is)
-  where
-    by : (b : Bool) → test z ≡ b → (y : X) × (i : ℕ) × (find test xs ≡ Some y) × (slice_get xs i ≡ Some y) × (test y ≡ true) →
-        (y : X) × (i : ℕ) × (find test (z ∷ xs) ≡ Some y) × (slice_get (z ∷ xs) i ≡ Some y) × (test y ≡ true)
-    by true e later = (z, 0, rw e refl, refl, e)
-    by false e later = (later.0, suc later.1, rw e later.2, later.3, later.4)
-
--- it is the one that has the server's line
-pub backend-of : (plan : Plan) → LinesDiffer plan → (k n line : ℕ) (backend : Backend) (server : Server) → slice_get plan.backends k ≡ Some backend → slice_get backend.servers n ≡ Some server → server.line ≡ line →
-    find (has_line line) plan.backends ≡ Some backend
-backend-of plan differ k n line backend server there found is =
-    let has : has_line line backend ≡ true = any-at (λ (s : Server). s.line == line) backend.servers n server found (eq-eqb server.line line is) in
-    let first = first-there (has_line line) plan.backends k backend there has in
-    let same : first.0 ≡ backend = differ line first.1 k first.0 backend first.3 there first.4 has in
-    first.2 ∙ ap Some same
 
 -- Tracks in other tables leave a table as it is.
 
@@ -134,6 +113,7 @@ module _ (part : Part) (p : Plain) (sound : IsSound p) (apart : IsApart part p) 
   cursors-said k v there n owns (saids.Up id) offered = refl
   cursors-said k v there n owns (Closed id why) offered = refl
   cursors-said k v there n owns (Reloaded m) offered = refl
+  cursors-said k v there n owns (Marked line health) offered = refl
   cursors-said k v there n owns (Offer id used line server to pair send) offered = by (v.number == judging_version p.frontends (newest_number p) e.reply.said) refl
     where
       by : (c : Bool) → (v.number == judging_version p.frontends (newest_number p) e.reply.said) ≡ c →
@@ -207,35 +187,12 @@ module _ (part : Part) (p : Plain) (sound : IsSound p) (apart : IsApart part p) 
 
   -- The others' connections.
 
-  phase-outside : (row : Row) → (speaks : row.version ≡ judging_version p.frontends (newest_number p) e.reply.said) → is_offered_own part row ≡ false → (said : Said) → IsOfferOn part false facts.version.plan said →
-      option_map_or (λ (server : ServerIdentity). part.backend_names server.backend) (server_of (phase_by (plan_of p [] row.version) e.event said row.phase)) false ≡ false
-  phase-outside row speaks out (Wait id used) offered = by row.phase out
-    where
-      by : (phase : Phase) → option_map_or (λ (server : ServerIdentity). part.backend_names server.backend) (server_of phase) false ≡ false →
-          option_map_or (λ (server : ServerIdentity). part.backend_names server.backend) (server_of (phase_on (piece_of e.event) phase)) false ≡ false
-      by (Waiting rest) is = refl
-      by (Offered assignment) is = is
-      by (Up assignment) is = is
-  phase-outside row speaks out (Refuse id used cause) offered = out
-  phase-outside row speaks out (saids.Up id) offered = by row.phase out
-    where
-      by : (phase : Phase) → option_map_or (λ (server : ServerIdentity). part.backend_names server.backend) (server_of phase) false ≡ false →
-          option_map_or (λ (server : ServerIdentity). part.backend_names server.backend) (server_of (phase_up phase)) false ≡ false
-      by (Waiting rest) is = refl
-      by (Offered assignment) is = is
-      by (Up assignment) is = is
-  phase-outside row speaks out (Closed id why) offered = out
-  phase-outside row speaks out (Reloaded m) offered = out
-  phase-outside row speaks out (Offer id used line server to pair send) offered =
+  phase-outside : (row : Row) → row.version ≡ judging_version p.frontends (newest_number p) e.reply.said → is_offered_own part row ≡ false →
+      IsPhaseOn part false (phase_by (plan_of p [] row.version) e.event e.reply.said row.phase)
+  phase-outside row speaks out =
       let plan : plan_of p [] row.version ≡ Some facts.version.plan =
       plan-kept p row.version ∙ ap (λ k. option_map (λ (v : Version). v.plan) (version_at p.versions k)) speaks ∙ ap (option_map (λ (v : Version). v.plan)) facts.found in
-      let backend : Backend = offered.1 in
-      let found : find (has_line line) facts.version.plan.backends ≡ Some backend = backend-of facts.version.plan lines offered.0 server line backend offered.2 offered.3 offered.4 offered.5 in
-      let kept : not (owns_backend_at part facts.version.plan offered.0) ≡ true = offered.6 in
-      let there : slice_get facts.version.plan.backends offered.0 ≡ Some backend = offered.3 in
-      let foreign : part.backend_names backend.name ≡ false = of_not (part.backend_names backend.name) (rw there at kept) in
-      ap (λ o. part.backend_names (identity_of o line server to).backend) plan
-      ∙ ap (λ o. part.backend_names (option_map_or (identity_at server to) o (nobody to)).backend) found ∙ foreign
+      phase-side part false (plan_of p [] row.version) facts.version.plan plan lines e.event row.phase e.reply.said out facts.said.offered
 
   row-outside : (n : ℕ) (row : Row) → (speaks_to n row.serial e.reply.said ≡ true → row.version ≡ judging_version p.frontends (newest_number p) e.reply.said) → IsOutside part p.tables row →
       IsOutside part p.tables (row_after p n (e ∷ []) row)
@@ -251,7 +208,7 @@ module _ (part : Part) (p : Plain) (sound : IsSound p) (apart : IsApart part p) 
           rw eb (record {
             tracks = all-by_counter (λ (t : Track). owns_id part p.tables t.table ≡ false) (row.tracks ++ e.reply.tracks.items)
                 (all-append (λ (t : Track). owns_id part p.tables t.table ≡ false) row.tracks e.reply.tracks.items out.tracks made-outside);
-            offered = phase-outside row (judges eb) out.offered e.reply.said facts.said.offered;
+            offered = phase-outside row (judges eb) out.offered;
           })
 
   outside-now : (n : ℕ) (own : FrontendRows) → part.frontends n ≡ false → slice_get (after p (e ∷ [])).frontends n ≡ Some own → AllByRecursion (IsOutside part (after p (e ∷ [])).tables) own.rows
@@ -289,17 +246,23 @@ module _ (part : Part) (p : Plain) (sound : IsSound p) (apart : IsApart part p) 
     number = sym (number-after p sound.well e facts.brings);
     frontends = elsewhere;
     versions = λ k meant v v' there there'. versions-alike k v v' there there';
+    down = λ server named. ap (list_any (same_server server)) (sym facts.stays);
     left = at-apart part p e.moment apart;
     right = record { plans = plans-apart part p sound apart e facts.brings; named = named-apart part p sound apart e facts.brings; outside = outside-now; inside = inside-now };
   }
 
 -- a step outside the part, answered in a state, leaves one that agrees with it
-pub outside-step : (part : Part) (p : Plain) → IsSound p → IsApart part p → (moment n : ℕ) (event : OwnedEvent) (reply : Reply) → frontend_of p.listeners event ≡ Some n → part.frontends n ≡ false →
+pub outside-step : (part : Part) (p : Plain) → IsSound p → IsApart part p → (moment : ℕ) (event : OwnedEvent) (reply : Reply) → side_of part p event ≡ Some false →
     answer_in p moment event ≡ Ok reply → Agree part p (after p (entry moment event reply ∷ []))
-outside-step part p sound apart moment n event reply is_on out is =
+outside-step part p sound apart moment event reply off is =
     let e : Entry = entry moment event reply in
     let now : ℕ = max p.clock (max p.clock moment) in
     let less : moment ≤ max p.clock now = omega arith in
     subst (λ s. LookAlike part s (at_moment now (after p (e ∷ [])))) (at-twice p moment now less)
-    (look-later part (at_moment moment p) (after p (e ∷ [])) (at-sound p sound moment)
-    (outside-alike part p sound apart e is (part_reply part false p sound apart moment n event reply is_on out is)) now refl)
+    (look-later part (at_moment moment p) (after p (e ∷ [])) (at-sound p sound moment) (by (on_side part false p event off)) now refl)
+  where
+    by : OnSide part false p event → LookAlike part (at_moment moment p) (after p (entry moment event reply ∷ []))
+    by (by_frontend n on out) = outside-alike part p sound apart (entry moment event reply) is (part_reply part false p sound apart moment n event reply on out is)
+    by (by_mark number n health backend marks there foreign) =
+        subst (λ ev. LookAlike part (at_moment moment p) (after p (entry moment ev reply ∷ []))) (sym marks)
+        (mark-outside part p sound apart moment number n health backend reply there foreign (subst (λ ev. answer_in p moment ev ≡ Ok reply) marks is))

@@ -7,15 +7,16 @@ use Rattle.std.proofs.lemmas.Bool.{eq-eqb}
 use Rattle.std.proofs.lemmas.Bool.Decides.{nat_tests}
 use Rattle.addr_core.specs.PairValue.{PairValue}
 use Rattle.pp_any.specs.NextPiece.{status_on}
+use Rattle.plan_types.specs.declared.plan.Backend.{Backend}
 use Rattle.plan_types.specs.declared.plan.Frontend.{Frontend}
 use Rattle.plan_types.specs.declared.plan.Plan.{Plan}
 use Rattle.plan_types.specs.declared.plan.Table.{Table}
 use Rattle.plan_types.specs.declared.track.TableId.{TableId}
 use Rattle.conn_model.specs.declared.event.ConnId.{ConnId}
 use Rattle.conn_model.specs.declared.event.OwnedEvent.{OwnedEvent}
-use Rattle.conn_model.specs.declared.event.OwnedEvent.TheVariants.{Accept, Piece, Connected, ConnectFailed, Close, Expire, Reload}
+use Rattle.conn_model.specs.declared.event.OwnedEvent.TheVariants.{Accept, Piece, Connected, ConnectFailed, Close, Expire, Reload, Mark}
 use Rattle.conn_model.specs.declared.event.Why.{Why}
-use Rattle.conn_model.specs.declared.event.Why.TheVariants.{Failed}
+use Rattle.conn_model.specs.declared.plain.Assignment.{Assignment}
 use Rattle.conn_model.specs.declared.plain.FrontendRows.{FrontendRows}
 use Rattle.conn_model.specs.declared.plain.Listener.{Listener}
 use Rattle.conn_model.specs.declared.plain.Plain.{Plain}
@@ -29,23 +30,25 @@ use Rattle.conn_model.specs.declared.reply.Said.TheVariants as saids
 use Rattle.conn_model.specs.declared.reply.Said.TheVariants.{Wait, Offer, Refuse, Closed, Reloaded}
 use Rattle.conn_model.specs.declared.reply.StepFault.TheVariants.{NoSuch}
 use Rattle.conn_model.specs.Words.{or_fault, row_at, row_in, Rise}
-use Rattle.conn_model.specs.Answer.{answer_in, at_moment, candidate_at, reply_of, version_at}
+use Rattle.conn_model.specs.Answer.{answer_in, at_moment, candidate_at, failure_said, offer_in, other_server, reply_of, version_at, NumberedServer}
 use Rattle.conn_model.specs.Counts.{server_of}
 use Rattle.conn_model.specs.History.{after, arrivals, entry, id_of, is_last, judging_version, newest_number, number_said, plan_with, speaks_to, version_of, Entry, IsVersionWell, IsWell}
 use Rattle.conn_model.specs.Tables.{table_at, written_tables}
 use Rattle.conn_model.proofs.Lists.{all-append, all-both, all-found, all-more}
 use Rattle.conn_model.proofs.Goes.{well_at}
-use Rattle.conn_model.proofs.Replies.{accepted, admission-id, answered, bind-ok, expired, or_fault-ok, received, server_answered, Accepted, IsNew, IsOld, Received}
+use Rattle.conn_model.proofs.Offers.{other_is, IsOther}
+use Rattle.conn_model.proofs.Replies.{accepted, admission-id, answered, bind-ok, expired, has_failed, or_fault-ok, received, server_answered, Accepted, HasFailed, IsNew, IsOld, Received}
 use Rattle.conn_model.proofs.Serials.{arrival-all, speaks_that}
 use Rattle.conn_model.proofs.Steps.{after-accept, after-change, after-end, IsOfOpen}
 use Rattle.conn_model.proofs.VersionSteps.{judging-new, judging-old}
-use Rattle.tenant_laws.specs.Parts.{keeps_table, owns_table, Part}
+use Rattle.tenant_laws.specs.Parts.{keeps_table, owns_backend_at, owns_table, Part}
 use Rattle.tenant_laws.specs.Agreement.{is_own_id, owns_id, IsApart, IsSound, IsWritten}
 use Rattle.tenant_laws.specs.Runs.{frontend_of}
 use Rattle.tenant_laws.proofs.Lists.{nothing, of_not, some_same}
 use Rattle.tenant_laws.proofs.Views.{own-at}
 use Rattle.tenant_laws.proofs.Judging.{admission-on, header-on, IsOfferOn, IsSaidOn, Keeps}
-use Rattle.tenant_laws.proofs.Same.{keeps-side, newest-there, row-own, row-version}
+use Rattle.tenant_laws.proofs.Sides.{is_on_side, server-found}
+use Rattle.tenant_laws.proofs.Same.{given-backend, keeps-side, newest-there, row-own, row-version}
 
 -- an incarnation is of the part's tables, by a version, or of the others'
 abbrev pub IsOnSide : Part → Bool → List TableState → Version → TableId → Type 0
@@ -86,8 +89,9 @@ pub record PartReply (part : Part) (side : Bool) (p : Plain) (e : Entry) : Type 
   pub version : Version
   pub found : version_at p.versions (judging_version p.frontends (newest_number p) e.reply.said) ≡ Some version
   pub said : IsSaidOn part side version.plan (IsOnSide part side p.tables version) e.reply
-  -- it brings no version, and changes one frontend
+  -- it brings no version, reports no server, and changes one frontend
   pub brings : version_of e ≡ None
+  pub stays : (after p (e ∷ [])).down ≡ p.down
   pub own : FrontendRows
   pub own' : FrontendRows
   pub there : slice_get p.frontends id.frontend ≡ Some own
@@ -128,6 +132,7 @@ IsStep (ConnectFailed id) = Unit {0}
 IsStep (Close id why) = Unit {0}
 IsStep (Expire id) = Unit {0}
 IsStep (Reload text) = ⊥
+IsStep (Mark number n health) = Unit {0}
 
 pub brings-none : (event : OwnedEvent) (number : Option ℕ) → IsStep event → option_and_then {U = ℕ × Plan} (λ n. option_map {U = ℕ × Plan} (λ plan. (n, plan)) (plan_with event)) number ≡ None
 brings-none (Accept listener real) None step = refl
@@ -143,15 +148,21 @@ brings-none (Close id why) (Some n) step = refl
 brings-none (Expire id) None step = refl
 brings-none (Expire id) (Some n) step = refl
 brings-none (Reload text) number step = absurd step
+brings-none (Mark backend n health) None step = refl
+brings-none (Mark backend n health) (Some number) step = refl
 
 -- the frontends after an event of an open connection
 moved-open : (p : Plain) → IsWell p → (e : Entry) (id : ConnId) (own : FrontendRows) → slice_get p.frontends id.frontend ≡ Some own → IsOfOpen e.event → id_of e.reply.said ≡ Some id →
-    (own' : FrontendRows) × ((after p (e ∷ [])).frontends ≡ slice_set p.frontends id.frontend own')
+    (own' : FrontendRows) × ((after p (e ∷ [])).frontends ≡ slice_set p.frontends id.frontend own') × ((after p (e ∷ [])).down ≡ p.down)
 moved-open p well e id own there old says = by (is_last e.reply.said) refl
   where
-    by : (b : Bool) → is_last e.reply.said ≡ b → (own' : FrontendRows) × ((after p (e ∷ [])).frontends ≡ slice_set p.frontends id.frontend own')
-    by true last = (_, ap (λ (q : Plain). q.frontends) (after-end p well e id own there old says last))
-    by false last = (_, ap (λ (q : Plain). q.frontends) (after-change p well e id own there old says last))
+    by : (b : Bool) → is_last e.reply.said ≡ b → (own' : FrontendRows) × ((after p (e ∷ [])).frontends ≡ slice_set p.frontends id.frontend own') × ((after p (e ∷ [])).down ≡ p.down)
+    by true last =
+        let state = after-end p well e id own there old says last in
+        (_, ap (λ (q : Plain). q.frontends) state, ap (λ (q : Plain). q.down) state)
+    by false last =
+        let state = after-change p well e id own there old says last in
+        (_, ap (λ (q : Plain). q.frontends) state, ap (λ (q : Plain). q.down) state)
 
 module _ (part : Part) (side : Bool) (p : Plain) (sound : IsSound p) (apart : IsApart part p) (moment : ℕ) where
   -- an event of an open connection
@@ -170,6 +181,7 @@ module _ (part : Part) (side : Bool) (p : Plain) (sound : IsSound p) (apart : Is
         found = ap (version_at p.versions) (judging-old p.frontends (newest_number p) reply.said id row says there) ∙ found;
         said = said;
         brings = brings-none event (number_said reply.said) step;
+        stays = moved.2;
         own = got.0;
         own' = moved.0;
         there = got.1;
@@ -218,6 +230,7 @@ module _ (part : Part) (side : Bool) (p : Plain) (sound : IsSound p) (apart : Is
         said = subst (IsSaidOn part side v.plan (IsOnSide part side p.tables v)) got.reply_is
             (admission-on part side s v f id keeps (IsOnSide part side p.tables v) (places-on part side p (newest_number p) v sound last.1) at.accept_proxy real (length own.rows));
         brings = brings-none (Accept listener real) (number_said reply.said) tt;
+        stays = refl;
         own = own;
         own' = _;
         there = got.there;
@@ -252,6 +265,27 @@ module _ (part : Part) (side : Bool) (p : Plain) (sound : IsSound p) (apart : Is
       let same : reply_of (Closed id why) ≡ reply = let it : Ok (reply_of (Closed id why)) ≡ Ok reply = one.2 in cc in
       reply-plain (Close id why) (Closed id why) reply id one.0 tt tt refl on (or_fault-ok NoSuch (row_at p.frontends id) one.0 one.1) (λ v. tt) same (λ number r. refl)
 
+  -- where its server is out of reach, another one is of the same backend
+  moved-on : (id : ConnId) (row : Row) (given : Assignment) (v : Version) → part.frontends id.frontend ≡ side → row_at p.frontends id ≡ Some row → offer_in row.phase ≡ Some given →
+      version_at p.versions row.version ≡ Some v → (o : Option NumberedServer) → other_server (at_moment moment p) row given ≡ o → IsOfferOn part side v.plan (failure_said id given o)
+  moved-on id row given v on there offered kept None e = tt
+  moved-on id row given v on there offered kept (Some other) e =
+      let at : IsOther (at_moment moment p) row given other = other_is (at_moment moment p) row given other e in
+      let same : at.version ≡ v = some_same (sym at.of_accept ∙ kept) in
+      let named : part.backend_names at.backend.name ≡ side =
+      given-backend part side p sound apart id row given on there offered at.version at.of_accept at.number at.backend at.has_line at.among in
+      let owns : owns_backend_at part at.version.plan at.number ≡ side = ap (λ (o : Option Backend). option_map_or (λ backend. part.backend_names backend.name) o false) at.among ∙ named in
+      subst (λ (x : Version). IsOfferOn part side x.plan (failure_said id given (Some other))) same
+      (at.number, at.backend, other.server, at.among, server-found at.backend at.turn.server other at.server_is, refl, is_on_side side (owns_backend_at part at.version.plan at.number) owns)
+
+  reply-failed : (id : ConnId) (reply : Reply) → part.frontends id.frontend ≡ side → HasFailed (at_moment moment p) id reply → IsOld p id reply.said → PartReply part side p (entry moment (ConnectFailed id) reply)
+  reply-failed id reply on got old =
+      let v = row-version p sound.well id got.row got.row_is in
+      reply-open (ConnectFailed id) reply id got.row v.0 tt tt old.speaks on got.row_is v.1
+      (subst (IsSaidOn part side v.0.plan (IsOnSide part side p.tables v.0)) got.reply_is
+      (record { tracks = tt; offered = moved-on id got.row got.given v.0 on got.row_is got.offered v.1 (other_server (at_moment moment p) got.row got.given) refl }))
+      (λ number. refl)
+
   pub part_reply : (n : ℕ) (event : OwnedEvent) (reply : Reply) → frontend_of p.listeners event ≡ Some n → part.frontends n ≡ side → answer_in p moment event ≡ Ok reply → PartReply part side p (entry moment event reply)
   part_reply n (Accept listener real) reply is_on in' is =
       reply-accept listener real n reply is_on in' (accepted (at_moment moment p) (max p.clock moment) listener real reply is) (answered p moment (Accept listener real) reply is)
@@ -260,10 +294,10 @@ module _ (part : Part) (side : Bool) (p : Plain) (sound : IsSound p) (apart : Is
       let got = server_answered (at_moment moment p) id (saids.Up id) reply is in
       reply-plain (Connected id) (saids.Up id) reply id got.row tt tt refl (ap part.frontends (some_same is_on) ∙ in') got.row_is (λ v. tt) got.reply_is (λ number r. refl)
   part_reply n (ConnectFailed id) reply is_on in' is =
-      let got = server_answered (at_moment moment p) id (Closed id Failed) reply is in
-      reply-plain (ConnectFailed id) (Closed id Failed) reply id got.row tt tt refl (ap part.frontends (some_same is_on) ∙ in') got.row_is (λ v. tt) got.reply_is (λ number r. refl)
+      reply-failed id reply (ap part.frontends (some_same is_on) ∙ in') (has_failed (at_moment moment p) id reply is) (answered p moment (ConnectFailed id) reply is)
   part_reply n (Close id why) reply is_on in' is = reply-closed id why reply (ap part.frontends (some_same is_on) ∙ in') is
   part_reply n (Expire id) reply is_on in' is =
       let got = expired (at_moment moment p) (max p.clock moment) id reply is in
       reply-plain (Expire id) (Refuse id 0 Expired) reply id got.row tt tt refl (ap part.frontends (some_same is_on) ∙ in') got.row_is (λ v. tt) got.reply_is (λ number r. refl)
   part_reply n (Reload text) reply is_on in' is = nothing is_on
+  part_reply n (Mark number k health) reply is_on in' is = nothing is_on

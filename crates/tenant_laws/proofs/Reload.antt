@@ -19,6 +19,8 @@ use Rattle.config_core.specs.Meaning.{meaning}
 use Rattle.config_core.specs.declared.fault.OpenFault.{OpenFault}
 use Rattle.conn_model.specs.declared.event.OwnedEvent.TheVariants.{Reload}
 use Rattle.conn_model.specs.declared.plain.FrontendRows.{FrontendRows}
+use Rattle.conn_model.specs.declared.plain.Phase.{Phase}
+use Rattle.conn_model.specs.declared.plain.Phase.TheVariants.{Waiting, Offered, Up}
 use Rattle.conn_model.specs.declared.plain.Plain.{Plain}
 use Rattle.conn_model.specs.declared.plain.Row.{Row}
 use Rattle.conn_model.specs.declared.plain.TableState.{TableState}
@@ -39,7 +41,7 @@ use Rattle.conn_model.proofs.TableSteps.{listed_there}
 use Rattle.conn_model.proofs.Versions.{newest-end, newest-filter}
 use Rattle.conn_model.proofs.Well.{well_after}
 use Rattle.tenant_laws.specs.Parts.{keeps_apart, owns_table, Part}
-use Rattle.tenant_laws.specs.Agreement.{is_own_id, owns_id, Agree, IsAlike, IsApart, IsInside, IsMeant, IsOutside, IsSound, IsWritten, LookAlike}
+use Rattle.tenant_laws.specs.Agreement.{is_own_id, owns_id, Agree, IsAlike, IsApart, IsInside, IsMeant, IsOfLine, IsOutside, IsSound, IsWritten, LookAlike}
 use Rattle.tenant_laws.proofs.Lists.{any-of, both, contrary, find-any, nothing, some_same}
 use Rattle.tenant_laws.proofs.Counts.{text_same}
 use Rattle.tenant_laws.proofs.Later.{agree-at, at-sound}
@@ -247,13 +249,31 @@ module _ (p : Plain) (sound : IsSound p) (clock number : ℕ) (alive : tables_al
   )
 
   pub sound-reload : LinesDiffer plan → IsSound (with_reload p clock number plan)
-  sound-reload differ = record { well = well'; written = written; lines = lines }
+  sound-reload differ = record { well = well'; written = written; lines = lines; offers = offers }
     where
       lines : (k : ℕ) (v' : Version) → version_at (with_reload p clock number plan).versions k ≡ Some v' → LinesDiffer v'.plan
       lines k v' found = elim (version-reload k v' found) [
         | inl old ↦ sound.lines k v' old
         | inr new ↦ subst (λ (v : Version). LinesDiffer v.plan) (sym new.1) differ
       ]
+
+      -- a row's version is none that is new
+      row-of_line : (number' : ℕ) (phase : Phase) → IsSome (version_at p.versions number') → IsOfLine p.versions number' phase → IsOfLine (with_reload p clock number plan).versions number' phase
+      row-of_line number' (Waiting rest) kept of_line = tt
+      row-of_line number' (Up assignment) kept of_line = tt
+      row-of_line number' (Offered given) kept of_line = λ version backend there found. of_line version backend (old version (version_at p.versions number') refl kept (version-reload number' version there)) found
+        where
+          old : (version : Version) (o : Option Version) → version_at p.versions number' ≡ o → IsSome (version_at p.versions number') →
+              (version_at p.versions number' ≡ Some version) ⊎ ((number' ≡ number) × (version ≡ next_version number (written_tables (newest p.versions)) plan)) → version_at p.versions number' ≡ Some version
+          old version o e some (inl was) = was
+          old version None e some (inr new) = absurd (false≢true (rw e at some))
+          old version (Some v) e some (inr new) = no-version number' v e new.0
+
+      offers : (n : ℕ) (own : FrontendRows) → slice_get p.frontends n ≡ Some own → AllByRecursion (λ (row : Row). IsOfLine (with_reload p clock number plan).versions row.version row.phase) own.rows
+      offers n own there =
+          all-more (λ (row : Row). IsSome (version_at p.versions row.version) × IsOfLine p.versions row.version row.phase) (λ (row : Row). IsOfLine (with_reload p clock number plan).versions row.version row.phase) own.rows
+          (λ row known. row-of_line row.version row.phase known.0 known.1)
+          (all-both (λ (row : Row). IsSome (version_at p.versions row.version)) (λ (row : Row). IsOfLine p.versions row.version row.phase) own.rows (well_at p sound.well n own there).kept (sound.offers n own there))
 
       old-pairs : (k : ℕ) (v' : Version) → version_at p.versions k ≡ Some v' → AllByRecursion (λ (pair : Table × TableId). IsSome (table_at (with_reload p clock number plan).tables pair.1) → IsWritten (with_reload p clock number plan).tables pair) (written_tables (Some v'))
       old-pairs k v' old =
@@ -328,7 +348,7 @@ module _ (p : Plain) (sound : IsSound p) (clock number : ℕ) (alive : tables_al
           row-inside row None e o' e' now was inside = absurd (false≢true (rw e at now))
           row-inside row (Some v') e None e' now was inside = absurd (false≢true (rw e' at was))
           row-inside row (Some v') e (Some v) e' now was inside = elim (version-reload row.version v' e) [
-            | inl old ↦ rw e (rw old at inside)
+            | inl old ↦ record { tracks = rw e (rw old at inside.tracks); offered = inside.offered }
             | inr new ↦ no-version row.version v e' new.0
           ]
 
@@ -455,6 +475,7 @@ module _ (part : Part) (p q : Plain) (sound : IsSound p) (sound' : IsSound q) (a
     number = number-reload p sound clock number alive plan next well ∙ sym (number-reload q sound' clock' number alive' plan next' well');
     frontends = agree.frontends;
     versions = versions-alike;
+    down = agree.down;
     left = apart-reload p sound clock number alive plan next well part agree.left keeps;
     right = apart-reload q sound' clock' number alive' plan next' well' part agree.right keeps;
   }

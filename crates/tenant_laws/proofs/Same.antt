@@ -1,27 +1,37 @@
 -- An event on a part has one answer in two states that agree on it.
-use Rattle.std.specs.Prelude.{ℕ, Bool, true, false, List, [], length, find, slice_get, slice_set, Option, Some, None, option_map, IfSome, IsSome, Result, Ok, Err, refl, ◌+◌, ◌≤◌, ◌≡◌, ◌≢◌, ◌==◌, ◌∷◌, ◌++◌, nat_le, nat_lt, if◌then◌else◌}
-use Rattle.std.specs.List.{AllByRecursion}
-use Rattle.std.specs.Option.{option_map_or}
+use Rattle.std.specs.Prelude.{ℕ, Bool, true, false, List, [], length, find, position, is_some, slice_get, slice_set, Option, Some, None, option_map, IfSome, IsSome, Result, Ok, Err, refl, ◌+◌, ◌≤◌, ◌≡◌, ◌≢◌, ◌==◌, ◌&&◌, ◌||◌, ◌∷◌, ◌++◌, nat_le, nat_lt, if◌then◌else◌}
+use Rattle.std.specs.List.{list_any, AllByRecursion}
+use Rattle.std.specs.Option.{option_and_then, option_map_or}
 use Rattle.std.proofs.Common.{sym, ap, subst, inl, inr, ◌∙◌, arith}
 use Rattle.std.proofs.lemmas.Bool.{false≢true, eqb-true}
 use Rattle.std.proofs.lemmas.Bool.Decides.{nat_tests}
 use Rattle.list_core.specs.Each.{◌>>=◌}
 use Rattle.addr_core.specs.PairValue.{PairValue}
+use Rattle.proxy_types.specs.declared.balance.Place.{Place}
+use Rattle.proxy_types.specs.declared.server.ServerIdentity.{ServerIdentity}
+use Rattle.proxy_types.specs.ServerIdentity.{same_server}
 use Rattle.pp_any.specs.declared.rest.Rest.{Rest}
 use Rattle.pp_any.specs.NextPiece.{status_on}
+use Rattle.plan_types.specs.Lines.{has_line}
+use Rattle.plan_types.specs.Moves.{moves_of}
+use Rattle.plan_types.specs.declared.plan.Backend.{Backend}
 use Rattle.plan_types.specs.declared.plan.Frontend.{Frontend}
 use Rattle.plan_types.specs.declared.plan.Plan.{Plan}
+use Rattle.plan_types.specs.declared.plan.Server.{Server}
 use Rattle.plan_types.specs.declared.track.TableId.{TableId}
 use Rattle.plan_core.specs.Binds.{same_binds}
 use Rattle.config_core.specs.Meaning.{meaning}
 use Rattle.config_core.specs.declared.fault.OpenFault.{OpenFault}
 use Rattle.conn_model.specs.declared.event.ConnId.{ConnId}
+use Rattle.conn_model.specs.declared.event.Health.{Health}
 use Rattle.conn_model.specs.declared.event.OwnedEvent.{OwnedEvent}
-use Rattle.conn_model.specs.declared.event.OwnedEvent.TheVariants.{Accept, Piece, Connected, ConnectFailed, Close, Expire, Reload}
-use Rattle.conn_model.specs.declared.event.Why.TheVariants.{Failed}
+use Rattle.conn_model.specs.declared.event.OwnedEvent.TheVariants.{Accept, Piece, Connected, ConnectFailed, Close, Expire, Reload, Mark}
 use Rattle.conn_model.specs.declared.event.TheConstants.{HEADER_WAIT}
+use Rattle.conn_model.specs.declared.plain.Assignment.{Assignment}
 use Rattle.conn_model.specs.declared.plain.FrontendRows.{FrontendRows}
 use Rattle.conn_model.specs.declared.plain.Listener.{Listener}
+use Rattle.conn_model.specs.declared.plain.Phase.{Phase}
+use Rattle.conn_model.specs.declared.plain.Phase.TheVariants.{Offered}
 use Rattle.conn_model.specs.declared.plain.Plain.{Plain}
 use Rattle.conn_model.specs.declared.plain.Row.{Row}
 use Rattle.conn_model.specs.declared.plain.TableState.{TableState}
@@ -29,24 +39,28 @@ use Rattle.conn_model.specs.declared.plain.Version.{Version}
 use Rattle.conn_model.specs.declared.reply.Cause.TheVariants.{Expired}
 use Rattle.conn_model.specs.declared.reply.Reply.{Reply}
 use Rattle.conn_model.specs.declared.reply.Said.TheVariants as saids
-use Rattle.conn_model.specs.declared.reply.Said.TheVariants.{Closed, Refuse, Reloaded}
+use Rattle.conn_model.specs.declared.reply.Said.TheVariants.{Closed, Marked, Refuse, Reloaded}
 use Rattle.conn_model.specs.declared.reply.StepFault.{StepFault}
-use Rattle.conn_model.specs.declared.reply.StepFault.TheVariants.{NoListener, NoSuch, NotWaiting, NotOffered, NotDue, BindChanged, Exhausted}
+use Rattle.conn_model.specs.declared.reply.StepFault.TheVariants.{NoListener, NoSuch, NotChecked, NotWaiting, NotOffered, NotDue, BindChanged, Exhausted}
 use Rattle.conn_model.specs.Words.{newest, or_fault, row_at, row_in}
-use Rattle.conn_model.specs.Answer.{accept_answer, admission, answer_now, awaits_server, candidate_at, candidate_of, expire_answer, frontend_in, header_reply, new_row, piece_answer, reload_answer, reply_of, rest_in, version_at, waiting_row, with_row}
-use Rattle.conn_model.specs.History.{newest_number, IsWell}
+use Rattle.conn_model.specs.Answer.{accept_answer, admission, answer_now, awaits_server, backend_at, barred_for, candidate_at, candidate_of, checked_server, expire_answer, failure_answer, failure_said, frontend_in, header_reply, new_row, numbered_server, offer_in, other_in, other_server, piece_answer, reload_answer, reply_of, rest_in, version_at, waiting_row, with_row, NumberedServer}
+use Rattle.conn_model.specs.Counts.{newest_backend, served_by, server_of}
+use Rattle.conn_model.specs.Servers.{identity_in}
+use Rattle.conn_model.specs.History.{mark_of, newest_number, IsWell}
 use Rattle.conn_model.specs.Tables.{tracks_at, written_tables}
-use Rattle.conn_model.proofs.Lists.{all-append, all-found, all-more}
+use Rattle.conn_model.proofs.Lists.{all-append, all-found, all-more, found_there}
 use Rattle.conn_model.proofs.Goes.{newest_of, well_at}
+use Rattle.conn_model.proofs.Offers.{offer-phase}
 use Rattle.conn_model.proofs.Replies.{waiting}
 use Rattle.conn_model.proofs.Versions.{newest-at}
-use Rattle.tenant_laws.specs.Parts.{keeps_apart, keeps_frontend, keeps_lines, owns_table, Part}
-use Rattle.tenant_laws.specs.Agreement.{is_own_id, owns_id, IsAlike, IsApart, IsInside, IsSound, IsWritten, LookAlike}
+use Rattle.tenant_laws.specs.Parts.{keeps_apart, keeps_frontend, keeps_lines, owns_backend_at, owns_table, Part}
+use Rattle.tenant_laws.specs.Agreement.{is_own_id, owns_id, IsAlike, IsApart, IsInside, IsOfLine, IsOutside, IsSound, IsWritten, LookAlike}
 use Rattle.tenant_laws.specs.Runs.{frontend_of}
 use Rattle.tenant_laws.proofs.Lists.{contrary, find-any, find-passes_all, nothing, slice_get-other, slice_get-set, some_same}
 use Rattle.tenant_laws.proofs.Counts.{backends-same, named-same, own-is, servers-same, text_same, tracks-same, AreApart}
-use Rattle.tenant_laws.proofs.Views.{SeatsAlike}
+use Rattle.tenant_laws.proofs.Views.{pick-alike, SeatsAlike}
 use Rattle.tenant_laws.proofs.Judging.{admission-same, header-same, keeps-parts, Keeps}
+use Rattle.tenant_laws.proofs.Sides.{line-found, IsPhaseOn}
 
 pub apart-of : (part : Part) (p : Plain) → IsApart part p → AreApart part p.tables p.frontends
 apart-of part p apart = record { named = apart.named; outside = apart.outside }
@@ -114,11 +128,39 @@ row-version p well id row there =
     by None e is = absurd (false≢true (rw e at is))
     by (Some v) e is = (v, e)
 
+-- A connection that awaits the server that it was offered.
+
+-- that is one of a backend on the connection's side
+given-named : (part : Part) (side : Bool) (p : Plain) → IsApart part p → (id : ConnId) (row : Row) (given : Assignment) → part.frontends id.frontend ≡ side → row_at p.frontends id ≡ Some row →
+    offer_in row.phase ≡ Some given → part.backend_names given.server.backend ≡ side
+given-named part side p apart id row given on there offered =
+    let got = row-own p.frontends id row there in
+    ap (λ (phase : Phase). option_map_or (λ (server : ServerIdentity). part.backend_names server.backend) (server_of phase) side) (sym (offer-phase row.phase given offered)) ∙ by side got.0 on got.1 got.2
+  where
+    by : (side : Bool) (own : FrontendRows) → part.frontends id.frontend ≡ side → slice_get p.frontends id.frontend ≡ Some own → find (λ r. r.serial == id.serial) own.rows ≡ Some row → IsPhaseOn part side row.phase
+    by true own on at found = (all-found (IsInside part p.versions) (λ r. r.serial == id.serial) own.rows row (apart.inside id.frontend own on at) found).0.offered
+    by false own on at found = (all-found (IsOutside part p.tables) (λ r. r.serial == id.serial) own.rows row (apart.outside id.frontend own on at) found).0.offered
+
+-- and so is the backend that has its line
+pub given-backend : (part : Part) (side : Bool) (p : Plain) → IsSound p → IsApart part p → (id : ConnId) (row : Row) (given : Assignment) → part.frontends id.frontend ≡ side → row_at p.frontends id ≡ Some row →
+    offer_in row.phase ≡ Some given → (v : Version) → version_at p.versions row.version ≡ Some v → (number : ℕ) (backend : Backend) → position (has_line given.line) v.plan.backends ≡ Some number →
+    slice_get v.plan.backends number ≡ Some backend → part.backend_names backend.name ≡ side
+given-backend part side p sound apart id row given on there offered v kept number backend first among =
+    let got = row-own p.frontends id row there in
+    let own : FrontendRows = got.0 in
+    let lined : IsOfLine p.versions row.version row.phase =
+    (all-found (λ (r : Row). IsOfLine p.versions r.version r.phase) (λ r. r.serial == id.serial) own.rows row (sound.offers id.frontend own got.1) got.2).0 in
+    let phase : row.phase ≡ Offered given = offer-phase row.phase given offered in
+    let of_line : IsOfLine p.versions row.version (Offered given) = subst (IsOfLine p.versions row.version) phase lined in
+    let found : find (has_line given.line) v.plan.backends ≡ Some backend = found_there (has_line given.line) v.plan.backends number first ∙ among in
+    ap part.backend_names (sym (of_line v backend kept found)) ∙ given-named part side p apart id row given on there offered
+
 -- Two states with the same connections of the part show each of them the same.
 pub seats-alike : (part : Part) (s t : Plain) (v w : Version) (id : ConnId) → part.frontends id.frontend ≡ true → AreApart part s.tables s.frontends → AreApart part t.tables t.frontends →
     ((n : ℕ) → part.frontends n ≡ true → slice_get s.frontends n ≡ slice_get t.frontends n) → IsAlike part s.tables t.tables v w → AllByRecursion (IsWritten s.tables) (written_tables (Some v)) →
-    AllByRecursion (λ track. is_own_id part v track.table ≡ true) (tracks_at s.frontends id) → SeatsAlike part s t v w id
-seats-alike part s t v w id in' left right same alike written inside = record {
+    AllByRecursion (λ track. is_own_id part v track.table ≡ true) (tracks_at s.frontends id) →
+    ((server : ServerIdentity) → part.backend_names server.backend ≡ true → list_any (same_server server) s.down ≡ list_any (same_server server) t.down) → SeatsAlike part s t v w id
+seats-alike part s t v w id in' left right same alike written inside down = record {
   plan = alike.plan;
   ids = alike.tables;
   own = ap (λ o. option_map_or (λ (row : Row). row.tracks) (row_in id.serial o) []) (same id.frontend in');
@@ -129,6 +171,7 @@ seats-alike part s t v w id in' left right same alike written inside = record {
   named = named-same part s.tables t.tables s.frontends t.frontends left right same;
   offered = backends-same part s.tables t.tables s.frontends t.frontends left right same;
   served = servers-same part s.tables t.tables s.frontends t.frontends left right same;
+  down = down;
   cursors = alike.cursors;
 }
   where
@@ -169,6 +212,15 @@ abbrev expired_by : ℕ → ConnId → Option Row → Result Reply StepFault
 expired_by clock id row = waiting_of row >>= λ waiting.
     if nat_le (waiting.0.accepted + HEADER_WAIT) clock then Ok (reply_of (Refuse id 0 Expired)) else Err NotDue
 
+abbrev failure_in : (Row → Assignment → Option NumberedServer) → ConnId → Option Row → Result Reply StepFault
+failure_in other id row = or_fault NoSuch row >>= λ row. or_fault NotOffered (offer_in row.phase) >>= λ given. Ok (reply_of (failure_said id given (other row given)))
+
+abbrev other_by : Plain → Assignment → Version → Option (ℕ × Backend) → Option NumberedServer
+other_by p given version at = option_and_then (λ (at : ℕ × Backend). other_in p given version at.0 at.1) at
+
+abbrev mark_in : Health → Option (Backend × Server) → Result Reply StepFault
+mark_in health found = or_fault NotChecked found >>= λ found. Ok (reply_of (Marked found.1.line health))
+
 module _ (part : Part) (p q : Plain) (sound : IsSound p) (sound' : IsSound q) (agree : LookAlike part p q) where
   pub row_at-same : (id : ConnId) → part.frontends id.frontend ≡ true → row_at p.frontends id ≡ row_at q.frontends id
   row_at-same id in' = ap (row_in id.serial) (agree.frontends id.frontend in')
@@ -205,7 +257,7 @@ module _ (part : Part) (p q : Plain) (sound : IsSound p) (sound' : IsSound q) (a
       let left : AreApart part p.tables s.frontends = set-apart part p.tables p.frontends n own own' in' there refl (apart-of part p agree.left) in
       let there' : slice_get q.frontends n ≡ Some own = sym (agree.frontends n in') ∙ there in
       let right : AreApart part q.tables t.frontends = set-apart part q.tables q.frontends n own own' in' there' refl (apart-of part q agree.right) in
-      let seats : SeatsAlike part s t v w id = seats-alike part s t v w id in' left right (set-same n own') alike (sound.written (newest_number p) v found) (none-tracked n own own' there refl) in
+      let seats : SeatsAlike part s t v w id = seats-alike part s t v w id in' left right (set-same n own') alike (sound.written (newest_number p) v found) (none-tracked n own own' there refl) agree.down in
       ap (λ (r : Reply). if nat_lt own.serial 0xFFFF_FFFF_FFFF_FFFF then Ok r else Err Exhausted)
       (admission-same part s t v w f id seats keeps at.accept_proxy real (length own.rows)
       ∙ ap (λ number. admission (candidate_of (with_row q n own (new_row (own.serial + 1) number real clock)) id w f) at.accept_proxy real (length own.rows)) alike.number)
@@ -274,7 +326,7 @@ module _ (part : Part) (p q : Plain) (sound : IsSound p) (sound' : IsSound q) (a
       let got = row-own p.frontends id row there in
       let own : FrontendRows = got.0 in
       let inside : IsInside part p.versions row = (all-found (IsInside part p.versions) (λ r. r.serial == id.serial) own.rows row (agree.left.inside id.frontend own in' got.1) got.2).0 in
-      rw there (rw found at inside)
+      rw there (rw found at inside.tracks)
 
   piece-same : (id : ConnId) (piece : List ℕ) → part.frontends id.frontend ≡ true → piece_answer p id piece ≡ piece_answer q id piece
   piece-same id piece in' =
@@ -286,7 +338,7 @@ module _ (part : Part) (p q : Plain) (sound : IsSound p) (sound' : IsSound q) (a
       at_plan row rest own v w there at found alike (Some f) e =
           let keeps : Keeps part true v.plan f = keeps-side part true p id.frontend own v.plan f agree.left in' at (agree.left.plans row.version v found) e in
           let seats : SeatsAlike part p q v w id =
-          seats-alike part p q v w id in' (apart-of part p agree.left) (apart-of part q agree.right) agree.frontends alike (sound.written row.version v found) (inside-tracks id row v in' there found) in
+          seats-alike part p q v w id in' (apart-of part p agree.left) (apart-of part q agree.right) agree.frontends alike (sound.written row.version v found) (inside-tracks id row v in' there found) agree.down in
           ap (λ (r : Reply). Ok r) (header-same part p q v w f id seats keeps row.real (length piece) (status_on rest piece))
 
       at_version : (row : Row) (rest : Rest) (own : FrontendRows) → row_at p.frontends id ≡ Some row → slice_get p.frontends id.frontend ≡ Some own →
@@ -307,20 +359,78 @@ module _ (part : Part) (p q : Plain) (sound : IsSound p) (sound' : IsSound q) (a
       by (Ok found) e =
           rw e (at_frontend found.0 found.1 (waiting p.frontends id found e).there (slice_get p.frontends id.frontend) refl ∙ ap (piece_at q id piece found.0 found.1) (agree.frontends id.frontend in'))
 
+  -- A server that is out of reach.
+
+  other_in-same : (given : Assignment) (v w : Version) (number : ℕ) (backend : Backend) → IsAlike part p.tables q.tables v w → slice_get v.plan.backends number ≡ Some backend → part.backend_names backend.name ≡ true →
+      other_in p given v number backend ≡ other_in q given w number backend
+  other_in-same given v w number backend alike among named =
+      let owns : owns_backend_at part v.plan number ≡ true = ap (λ (o : Option Backend). option_map_or (λ backend. part.backend_names backend.name) o false) among ∙ named in
+      ap (λ (o : Option Place). if nat_lt (length given.failed) (moves_of backend.retries backend.redispatch) then option_and_then (λ turn. numbered_server backend turn.server) o else None)
+      (pick-alike (served_by p.frontends) (served_by q.frontends) (barred_for p.down given) (barred_for q.down given) backend
+      (λ server. servers-same part p.tables q.tables p.frontends q.frontends (apart-of part p agree.left) (apart-of part q agree.right) agree.frontends (identity_in backend server) named)
+      (λ server. ap (λ b. (is_some server.check && b) || list_any (λ line. line == server.line) (given.line ∷ given.failed)) (agree.down (identity_in backend server) named))
+      v.cursors w.cursors number given.judged.source.addr (alike.cursors number owns))
+
+  other-same : (id : ConnId) (row : Row) (given : Assignment) → part.frontends id.frontend ≡ true → row_at p.frontends id ≡ Some row → offer_in row.phase ≡ Some given → other_server p row given ≡ other_server q row given
+  other-same id row given in' there offered =
+      let v = row-version p sound.well id row there in
+      let w = row-version q sound'.well id row (sym (row_at-same id in') ∙ there) in
+      let alike : IsAlike part p.tables q.tables v.0 w.0 = row-alike id row v.0 w.0 in' there v.1 w.1 in
+      rw (v.1, w.1) (by v.0 w.0 alike v.1 (backend_at v.0.plan given.line) refl ∙ ap (λ (plan : Plan). other_by q given w.0 (backend_at plan given.line)) alike.plan)
+    where
+      by : (v w : Version) → IsAlike part p.tables q.tables v w → version_at p.versions row.version ≡ Some v → (o : Option (ℕ × Backend)) → backend_at v.plan given.line ≡ o → other_by p given v o ≡ other_by q given w o
+      by v w alike kept None e = refl
+      by v w alike kept (Some (number, backend)) e =
+          let found = line-found v.plan given.line number backend e in
+          other_in-same given v w number backend alike found.1 (given-backend part true p sound agree.left id row given in' there offered v kept number backend found.0 found.1)
+
+  failure-same : (id : ConnId) → part.frontends id.frontend ≡ true → failure_answer p id ≡ failure_answer q id
+  failure-same id in' = by (row_at p.frontends id) refl ∙ ap (failure_in (other_server q) id) (row_at-same id in')
+    where
+      at : (row : Row) → row_at p.frontends id ≡ Some row → (o : Option Assignment) → offer_in row.phase ≡ o → failure_in (other_server p) id (Some row) ≡ failure_in (other_server q) id (Some row)
+      at row there None e = rw e refl
+      at row there (Some given) e = rw e (ap (λ (o : Option NumberedServer). Ok (reply_of (failure_said id given o))) (other-same id row given in' there e))
+
+      by : (o : Option Row) → row_at p.frontends id ≡ o → failure_in (other_server p) id o ≡ failure_in (other_server q) id o
+      by None e = refl
+      by (Some row) e = at row e (offer_in row.phase) refl
+
+  -- A report of a server.
+
+  pub newest_backend-same : (number : ℕ) → newest_backend p.versions number ≡ newest_backend q.versions number
+  newest_backend-same number =
+      let v = newest_of p sound.well in
+      let w = newest_of q sound'.well in
+      let alike : IsAlike part p.tables q.tables v.0 w.0 = newest-alike v.0 w.0 v.1 w.1 in
+      rw (v.1, w.1) (ap (λ (plan : Plan). slice_get plan.backends number) alike.plan)
+
+  checked-same : (number n : ℕ) → checked_server p.versions number n ≡ checked_server q.versions number n
+  checked-same number n =
+      ap
+      (λ (o : Option Backend). option_and_then (λ backend. option_and_then {U = Backend × Server} (λ server. if is_some server.check then Some (backend, server) else None) (slice_get backend.servers n)) o)
+      (newest_backend-same number)
+
+  -- it reports the same server in both
+  pub mark-same : (number n : ℕ) (health : Health) → mark_of p.versions (Mark number n health) ≡ mark_of q.versions (Mark number n health)
+  mark-same number n health = ap (λ (o : Option (Backend × Server)). option_map {U = ServerIdentity × Health} (λ found. (identity_in found.0 found.1, health)) o) (checked-same number n)
+
+  pub marks-now : (number n : ℕ) (health : Health) → answer_now p (Mark number n health) ≡ answer_now q (Mark number n health)
+  marks-now number n health = ap (mark_in health) (checked-same number n)
+
   -- an event on the part has one answer in both states, where they are of one moment
   pub answers-now : (n : ℕ) (event : OwnedEvent) → p.clock ≡ q.clock → frontend_of p.listeners event ≡ Some n → part.frontends n ≡ true → answer_now p event ≡ answer_now q event
   answers-now n (Accept listener real) clock on in' = accept-same p.clock listener real n on in' ∙ ap (λ m. accept_answer q m listener real) clock
   answers-now n (Piece id bytes) clock on in' = piece-same id bytes (ap part.frontends (some_same on) ∙ in')
   answers-now n (Connected id) clock on in' =
       ap (λ (o : Option Row). or_fault NoSuch o >>= λ row. if awaits_server row.phase then Ok (reply_of (saids.Up id)) else Err NotOffered) (row_at-same id (ap part.frontends (some_same on) ∙ in'))
-  answers-now n (ConnectFailed id) clock on in' =
-      ap (λ (o : Option Row). or_fault NoSuch o >>= λ row. if awaits_server row.phase then Ok (reply_of (Closed id Failed)) else Err NotOffered) (row_at-same id (ap part.frontends (some_same on) ∙ in'))
+  answers-now n (ConnectFailed id) clock on in' = failure-same id (ap part.frontends (some_same on) ∙ in')
   answers-now n (Close id why) clock on in' =
       ap (λ (o : Option Row). or_fault NoSuch o >>= λ row. Ok (reply_of (Closed id why))) (row_at-same id (ap part.frontends (some_same on) ∙ in'))
   answers-now n (Expire id) clock on in' =
       ap (λ m. expire_answer p m id) clock
       ∙ ap (λ (o : Option Row). expired_by q.clock id o) (row_at-same id (ap part.frontends (some_same on) ∙ in'))
   answers-now n (Reload text) clock on in' = nothing on
+  answers-now n (Mark number k health) clock on in' = nothing on
 
   -- and so has a reload
   pub reloads-now : (text : List ℕ) → answer_now p (Reload text) ≡ answer_now q (Reload text)

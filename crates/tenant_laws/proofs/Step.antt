@@ -4,30 +4,37 @@ use Rattle.std.specs.List.{list_any, AllByRecursion}
 use Rattle.std.specs.Option.{option_map_or}
 use Rattle.std.proofs.Common.{sym, ap, subst, inl, inr, ◌∙◌, arith}
 use Rattle.std.proofs.lemmas.Bool.{false≢true, eqb-true}
-use Rattle.plan_types.specs.Lines.{LinesDiffer}
+use Rattle.plan_types.specs.Lines.{has_line, LinesDiffer}
 use Rattle.plan_types.specs.declared.plan.Plan.{Plan}
 use Rattle.plan_types.specs.declared.plan.Table.{Table}
 use Rattle.plan_types.specs.declared.track.TableId.{TableId}
 use Rattle.plan_types.specs.declared.track.Track.{Track}
+use Rattle.conn_model.specs.declared.event.OwnedEvent.{OwnedEvent}
 use Rattle.conn_model.specs.declared.plain.FrontendRows.{FrontendRows}
+use Rattle.conn_model.specs.declared.plain.Phase.{Phase}
+use Rattle.conn_model.specs.declared.plain.Phase.TheVariants.{Waiting, Offered, Up}
 use Rattle.conn_model.specs.declared.plain.Plain.{Plain}
 use Rattle.conn_model.specs.declared.plain.Row.{Row}
 use Rattle.conn_model.specs.declared.plain.TableState.{TableState}
 use Rattle.conn_model.specs.declared.plain.Version.{Version}
+use Rattle.conn_model.specs.declared.reply.Said.{Said}
+use Rattle.conn_model.specs.declared.reply.Said.TheVariants as saids
+use Rattle.conn_model.specs.declared.reply.Said.TheVariants.{Wait, Offer, Refuse, Closed, Reloaded, Marked}
 use Rattle.conn_model.specs.Words.{map_from}
 use Rattle.conn_model.specs.Answer.{answer_in, at_moment, version_at}
-use Rattle.conn_model.specs.History.{after, arrivals, frontend_after, frontends_after, has_ended, is_needed, judging_version, newest_number, plan_of, row_after, tables_after, version_of, versions_after, Entry, IsLegal, IsWell}
+use Rattle.conn_model.specs.History.{after, arrivals, frontend_after, frontends_after, has_ended, identity_at, identity_of, is_needed, judging_version, newest_number, nobody, phase_by, phase_on, phase_up, piece_of, plan_of, row_after, speaks_to, tables_after, version_of, versions_after, Entry, IsLegal, IsWell}
 use Rattle.conn_model.specs.Tables.{by_counter, is_listed_by, open_tracks, same_id, table_at, written_tables}
 use Rattle.conn_model.proofs.Lists.{all-append, all-both, all-filter, all-found, all-map, all-more}
 use Rattle.conn_model.proofs.Nothing.{after-nil}
 use Rattle.conn_model.proofs.OneTable.{same_id-is, table_at-map, table_by, table_by-entries, tables_by-each}
 use Rattle.conn_model.proofs.Parts.{newest_after}
+use Rattle.conn_model.proofs.Serials.{arrival-one}
 use Rattle.conn_model.proofs.TableSteps.{tables_quiet}
 use Rattle.conn_model.proofs.Versions.{version_at-map, with_said-each}
 use Rattle.conn_model.proofs.VersionSteps.{version_step, version_step-cursors, versions_quiet}
 use Rattle.conn_model.proofs.Well.{well_after}
 use Rattle.tenant_laws.specs.Parts.{keeps_apart, owns_table, Part}
-use Rattle.tenant_laws.specs.Agreement.{is_own_id, owns_id, IsApart, IsInside, IsNamed, IsOutside, IsSound, IsWritten}
+use Rattle.tenant_laws.specs.Agreement.{is_own_id, owns_id, IsApart, IsInside, IsNamed, IsOfLine, IsOutside, IsSound, IsWritten}
 use Rattle.tenant_laws.proofs.Alive.{owns-then, written-then}
 use Rattle.tenant_laws.proofs.Lists.{any-of, both, contrary, nothing, some_same}
 
@@ -181,9 +188,40 @@ step-written p e v = ap (λ (x : Version). written_tables (Some x)) (version_ste
 pub step-own : (part : Part) (p : Plain) (e : Entry) (v : Version) (id : TableId) → is_own_id part (version_step p e v) id ≡ is_own_id part v id
 step-own part p e v id = ap (λ (x : Version). is_own_id part x id) (version_step-cursors p e v)
 
+-- What was offered is of the backend that has its line.
+
+-- so it is once that is said to a connection
+said-of_line : (p : Plain) (number : ℕ) (event : OwnedEvent) (said : Said) (phase : Phase) → IsOfLine p.versions number phase → IsOfLine p.versions number (phase_by (plan_of p [] number) event said phase)
+said-of_line p number event (Wait id used) phase is = by phase is
+  where
+    by : (phase : Phase) → IsOfLine p.versions number phase → IsOfLine p.versions number (phase_on (piece_of event) phase)
+    by (Waiting rest) is = tt
+    by (Offered assignment) is = is
+    by (Up assignment) is = tt
+said-of_line p number event (Refuse id used cause) phase is = is
+said-of_line p number event (saids.Up id) phase is = by phase
+  where
+    by : (phase : Phase) → IsOfLine p.versions number (phase_up phase)
+    by (Waiting rest) = tt
+    by (Offered assignment) = tt
+    by (Up assignment) = tt
+said-of_line p number event (Closed id why) phase is = is
+said-of_line p number event (Reloaded version) phase is = is
+said-of_line p number event (Marked line health) phase is = is
+said-of_line p number event (Offer id used line server to pair send) phase is = λ version backend there found.
+    let plan : plan_of p [] number ≡ Some version.plan = plan-kept p number ∙ ap (option_map (λ (v : Version). v.plan)) there in
+    ap (λ o. (identity_of o line server to).backend) plan ∙ ap (λ o. (option_map_or (identity_at server to) o (nobody to)).backend) found
+
+-- a connection that comes was offered nothing
+arrivals-of_line : (p : Plain) (e : Entry) (n : ℕ) → AllByRecursion (λ (row : Row). IsOfLine p.versions row.version row.phase) (arrivals p n (e ∷ []))
+arrivals-of_line p e n = elim (arrival-one n (max p.clock e.moment) (newest_number p) e.event e.reply.said) [
+  | inl none ↦ subst (AllByRecursion (λ (row : Row). IsOfLine p.versions row.version row.phase)) (sym none) tt
+  | inr one ↦ subst (AllByRecursion (λ (row : Row). IsOfLine p.versions row.version row.phase)) (sym one.2) (tt, tt)
+]
+
 -- What a state has to say for the laws goes on.
 pub sound-step : (p : Plain) → IsSound p → (e : Entry) → answer_in p e.moment e.event ≡ Ok e.reply → version_of e ≡ None → IsSound (after p (e ∷ []))
-sound-step p sound e is brings = record { well = well; written = written; lines = lines }
+sound-step p sound e is brings = record { well = well; written = written; lines = lines; offers = offers }
   where
     well : IsWell (after p (e ∷ []))
     well = well_after p sound.well (e ∷ []) (legal_one p sound.well e is)
@@ -207,6 +245,34 @@ sound-step p sound e is brings = record { well = well; written = written; lines 
         all-more (λ (pair : Table × TableId). IsSome (table_at (after p (e ∷ [])).tables pair.1) × IsWritten p.tables pair) (IsWritten (after p (e ∷ [])).tables) (written_tables (Some v')) (λ pair both'. one pair.1 pair.0 both'.0 both'.1)
         (all-both (λ (pair : Table × TableId). IsSome (table_at (after p (e ∷ [])).tables pair.1)) (IsWritten p.tables) (written_tables (Some v')) (listed-there (after p (e ∷ [])) well k v' found)
         (subst (AllByRecursion (IsWritten p.tables)) (sym same) (sound.written k got.0 got.1)))
+
+    -- a version that is kept has the plan that it had
+    kept-of_line : (number : ℕ) (phase : Phase) → IsOfLine p.versions number phase → IsOfLine (after p (e ∷ [])).versions number phase
+    kept-of_line number (Waiting rest) of_line = tt
+    kept-of_line number (Up assignment) of_line = tt
+    kept-of_line number (Offered given) of_line = λ version backend there found.
+        let got = version-before p sound.well e brings number version there in
+        let plan : version.plan ≡ got.0.plan = ap (λ (x : Version). x.plan) got.2 ∙ (step-plan p e got.0).1.0 in
+        of_line got.0 backend got.1 (ap (λ (x : Plan). find (has_line given.line) x.backends) (sym plan) ∙ found)
+
+    row-of_line : (n : ℕ) (row : Row) → IsOfLine p.versions row.version row.phase → IsOfLine (after p (e ∷ [])).versions (row_after p n (e ∷ []) row).version (row_after p n (e ∷ []) row).phase
+    row-of_line n row of_line = by (speaks_to n row.serial e.reply.said) refl
+      where
+        by : (b : Bool) → speaks_to n row.serial e.reply.said ≡ b → IsOfLine (after p (e ∷ [])).versions (row_after p n (e ∷ []) row).version (row_after p n (e ∷ []) row).phase
+        by false eb = rw eb (kept-of_line row.version row.phase of_line)
+        by true eb = rw eb (kept-of_line row.version (phase_by (plan_of p [] row.version) e.event e.reply.said row.phase) (said-of_line p row.version e.event e.reply.said row.phase of_line))
+
+    offers : (n : ℕ) (own : FrontendRows) → slice_get (after p (e ∷ [])).frontends n ≡ Some own → AllByRecursion (λ (row : Row). IsOfLine (after p (e ∷ [])).versions row.version row.phase) own.rows
+    offers n own there = by (slice_get p.frontends n) refl (sym (frontend-at p (e ∷ []) n) ∙ there)
+      where
+        by : (o : Option FrontendRows) → slice_get p.frontends n ≡ o → option_map (frontend_after p (e ∷ []) n) o ≡ Some own → AllByRecursion (λ (row : Row). IsOfLine (after p (e ∷ [])).versions row.version row.phase) own.rows
+        by None e' is' = nothing is'
+        by (Some before) e' is' =
+            subst (λ (f : FrontendRows). AllByRecursion (λ (row : Row). IsOfLine (after p (e ∷ [])).versions row.version row.phase) f.rows) (some_same is')
+            (rows-after p e n before (λ (row : Row). IsOfLine (after p (e ∷ [])).versions row.version row.phase)
+            (all-more (λ (row : Row). IsOfLine p.versions row.version row.phase)
+            (λ row. IsOfLine (after p (e ∷ [])).versions (row_after p n (e ∷ []) row).version (row_after p n (e ∷ []) row).phase) (before.rows ++ arrivals p n (e ∷ [])) (row-of_line n)
+            (all-append (λ (row : Row). IsOfLine p.versions row.version row.phase) before.rows (arrivals p n (e ∷ [])) (sound.offers n before e') (arrivals-of_line p e n))))
 
 -- What an entry that brings no version leaves apart.
 module _ (part : Part) (p : Plain) (sound : IsSound p) (apart : IsApart part p) (e : Entry) (brings : version_of e ≡ None) where
@@ -256,5 +322,8 @@ module _ (part : Part) (p : Plain) (sound : IsSound p) (apart : IsApart part p) 
       by row (Some v') found is inside =
           let got = version-before p sound.well e brings row.version v' found in
           let same : (id : TableId) → is_own_id part v' id ≡ is_own_id part got.0 id = λ id. ap (λ (x : Version). is_own_id part x id) got.2 ∙ step-own part p e got.0 id in
-          rw found
-          (all-more (λ (t : Track). is_own_id part got.0 t.table ≡ true) (λ (t : Track). is_own_id part v' t.table ≡ true) row.tracks (λ t own. same t.table ∙ own) (rw got.1 at inside))
+          record {
+            tracks = rw found
+                (all-more (λ (t : Track). is_own_id part got.0 t.table ≡ true) (λ (t : Track). is_own_id part v' t.table ≡ true) row.tracks (λ t own. same t.table ∙ own) (rw got.1 at inside.tracks));
+            offered = inside.offered;
+          }

@@ -1,6 +1,6 @@
 -- A part's connection, judged in two states that look the same to the part: its rules say the same, and pick the same
 -- server.
-use Rattle.std.specs.Prelude.{ℕ, zero, suc, Bool, true, false, List, [], map, find, zip, slice_get, Option, Some, None, option_map, option_and_then, Result, refl, ◌+◌, ◌≡◌, ◌==◌, ◌&&◌, ◌||◌, ◌∷◌, ◌++◌, if◌then◌else◌}
+use Rattle.std.specs.Prelude.{ℕ, zero, suc, Bool, true, false, not, is_some, List, [], map, find, zip, slice_get, Option, Some, None, option_map, option_and_then, Result, refl, ◌+◌, ◌≡◌, ◌==◌, ◌&&◌, ◌||◌, ◌∷◌, ◌++◌, if◌then◌else◌}
 use Rattle.std.specs.List.{list_any, AllByRecursion}
 use Rattle.std.specs.Option.{option_map_or, option_or}
 use Rattle.std.proofs.Common.{sym, ap, ◌∙◌}
@@ -9,6 +9,7 @@ use Rattle.list_core.specs.Each.{◌>>=◌}
 use Rattle.addr_core.specs.declared.addr.Addr.{Addr}
 use Rattle.proxy_types.specs.declared.balance.Place.{Place}
 use Rattle.proxy_types.specs.declared.server.ServerIdentity.{ServerIdentity}
+use Rattle.proxy_types.specs.ServerIdentity.{same_server}
 use Rattle.proxy_types.specs.declared.table.Stores.{Stores}
 use Rattle.stick_core.specs.Key.{key_in}
 use Rattle.stick_core.specs.PlainEntries.{tracked_key}
@@ -16,6 +17,7 @@ use Rattle.acl_core.specs.declared.criterion.Criterion.{Criterion}
 use Rattle.acl_core.specs.declared.criterion.Criterion.TheVariants as criteria
 use Rattle.acl_core.specs.declared.criterion.Value.TheVariants as values
 use Rattle.acl_core.specs.Truth.{applies}
+use Rattle.balance_core.specs.declared.load.ServerLoad.{ServerLoad}
 use Rattle.balance_core.specs.Picks.{picked}
 use Rattle.plan_types.specs.Tables.{table_number}
 use Rattle.plan_types.specs.declared.plan.Backend.{Backend}
@@ -34,7 +36,7 @@ use Rattle.conn_model.specs.declared.reply.Cause.{Cause}
 use Rattle.conn_model.specs.declared.reply.Cause.TheVariants.{NoBackend, NoServer}
 use Rattle.conn_model.specs.Words.{or_fault}
 use Rattle.conn_model.specs.Counts.{offered_to, open_in, open_named, served_by}
-use Rattle.conn_model.specs.Servers.{cursor_at, identity_in, load_of, loads_of, pick_in}
+use Rattle.conn_model.specs.Servers.{cursor_at, has_room, identity_in, is_down, load_of, loads_of, pick_in, weight_by}
 use Rattle.conn_model.specs.Tables.{open_tracks, same_id, table_at, trackers, tracks_at}
 use Rattle.conn_model.specs.Rules.{backend_for, counted, current_of, key_in_table, key_of, named_table, numbered_table, own_track, source_value, total_of, tracked_value, view_of, worth, RuleView}
 use Rattle.conn_model.specs.Answer.{candidate_of, numbered_server, server_for, NumberedServer}
@@ -115,11 +117,33 @@ backend_for-side part side v passes number choices default' is = by (find (λ ch
 abbrev given_of : Backend → Option Place → Result NumberedServer Cause
 given_of backend turn = or_fault (NoServer backend.line) turn >>= λ turn. or_fault (NoServer backend.line) (numbered_server backend turn.server)
 
-abbrev picked_of : (ServerIdentity → ℕ) → List (Option Place) → Addr → ℕ → Backend → Result NumberedServer Cause
-picked_of served cursors source number backend = given_of backend (pick_in served backend (cursor_at cursors number) source)
+abbrev picked_of : (ServerIdentity → ℕ) → (Backend → Server → Bool) → List (Option Place) → Addr → ℕ → Backend → Result NumberedServer Cause
+picked_of served barred cursors source number backend = given_of backend (pick_in served barred backend (cursor_at cursors number) source)
 
 abbrev server_by : ℕ → List Backend → (ℕ → Backend → Result NumberedServer Cause) → Option ℕ → Result NumberedServer Cause
 server_by line backends pick number = or_fault (NoBackend line) number >>= λ number. or_fault (NoBackend line) (slice_get backends number) >>= λ backend. pick number backend
+
+-- a pick of a backend of which the servers are counted alike, and barred alike
+module _ (served served' : ServerIdentity → ℕ) (barred barred' : Backend → Server → Bool) (backend : Backend) (counts : (server : Server) → served (identity_in backend server) ≡ served' (identity_in backend server))
+    (bars : (server : Server) → barred backend server ≡ barred' backend server) where
+  loads-alike : loads_of served barred backend ≡ loads_of served' barred' backend
+  loads-alike = go backend.servers
+    where
+      load : Server → Bool → ℕ → ServerLoad
+      load server b n = record { weight = weight_by backend.method b server; has_room = not b && has_room server.limit n; connections = n }
+
+      one : (server : Server) → load_of served barred backend server ≡ load_of served' barred' backend server
+      one server = ap (load server (barred backend server)) (counts server) ∙ ap (λ b. load server b (served' (identity_in backend server))) (bars server)
+
+      go : (servers : List Server) → map (load_of served barred backend) servers ≡ map (load_of served' barred' backend) servers
+      go [] = refl
+      go (server ∷ servers) = cc (one server, go servers)
+
+  pub pick-alike : (as' bs : List (Option Place)) (number : ℕ) (source : Addr) → slice_get as' number ≡ slice_get bs number →
+      pick_in served barred backend (cursor_at as' number) source ≡ pick_in served' barred' backend (cursor_at bs number) source
+  pick-alike as' bs number source same =
+      ap (λ loads. picked loads backend.method (cursor_at as' number) source) loads-alike
+      ∙ ap (λ o. picked (loads_of served' barred' backend) backend.method (option_and_then (λ cursor. cursor) o) source) same
 
 -- Two states, and a version in each, that show the part's connection the same.
 pub record SeatsAlike (part : Part) (s t : Plain) (v w : Version) (id : ConnId) : Type 0 where
@@ -133,6 +157,7 @@ pub record SeatsAlike (part : Part) (s t : Plain) (v w : Version) (id : ConnId) 
   pub named : (name : List ℕ) → part.frontend_names name ≡ true → open_named s.frontends name ≡ open_named t.frontends name
   pub offered : (name : List ℕ) → part.backend_names name ≡ true → offered_to s.frontends name ≡ offered_to t.frontends name
   pub served : (identity : ServerIdentity) → part.backend_names identity.backend ≡ true → served_by s.frontends identity ≡ served_by t.frontends identity
+  pub down : (identity : ServerIdentity) → part.backend_names identity.backend ≡ true → list_any (same_server identity) s.down ≡ list_any (same_server identity) t.down
   pub cursors : (n : ℕ) → owns_backend_at part v.plan n ≡ true → slice_get v.cursors n ≡ slice_get w.cursors n
 
 module _ (part : Part) (s t : Plain) (v w : Version) (f : Frontend) (id : ConnId) (alike : SeatsAlike part s t v w id) (source : Addr) where
@@ -240,36 +265,27 @@ module _ (part : Part) (s t : Plain) (v w : Version) (f : Frontend) (id : ConnId
         (λ choice passes. applies-kept (keeps_criterion part true v.plan f.name) f.acls (worth (left made)) (worth (right made)) worth-same choice.when
         (both (when_passes (keeps_criterion part true v.plan f.name) f.acls choice.when) (keeps_backend part true v.plan choice.backend) passes).0))
 
-    loads-same : (backend : Backend) → part.backend_names backend.name ≡ true → loads_of (served_by s.frontends) backend ≡ loads_of (served_by t.frontends) backend
-    loads-same backend named = go backend.servers
-      where
-        go : (servers : List Server) → map (load_of (served_by s.frontends) backend) servers ≡ map (load_of (served_by t.frontends) backend) servers
-        go [] = refl
-        go (server ∷ servers) =
-            let one : load_of (served_by s.frontends) backend server ≡ load_of (served_by t.frontends) backend server = rw (alike.served (identity_in backend server) named) refl in
-            cc (one, go servers)
-
     pick-same : (number : ℕ) (backend : Backend) → slice_get v.plan.backends number ≡ Some backend → owns_backend_at part v.plan number ≡ true →
-        pick_in (served_by s.frontends) backend (cursor_at v.cursors number) source ≡ pick_in (served_by t.frontends) backend (cursor_at w.cursors number) source
+        pick_in (served_by s.frontends) (is_down s.down) backend (cursor_at v.cursors number) source ≡ pick_in (served_by t.frontends) (is_down t.down) backend (cursor_at w.cursors number) source
     pick-same number backend there owns =
         let named : part.backend_names backend.name ≡ true = rw there at owns in
-        ap (λ loads. picked loads backend.method (cursor_at v.cursors number) source) (loads-same backend named)
-        ∙ ap (λ o. picked (loads_of (served_by t.frontends) backend) backend.method (option_and_then (λ cursor. cursor) o) source) (alike.cursors number owns)
+        pick-alike (served_by s.frontends) (served_by t.frontends) (is_down s.down) (is_down t.down) backend (λ server. alike.served (identity_in backend server) named)
+        (λ server. ap (λ b. is_some server.check && b) (alike.down (identity_in backend server) named)) v.cursors w.cursors number source (alike.cursors number owns)
 
     pub server-same : choices_pass (keeps_backend part true v.plan) (keeps_criterion part true v.plan f.name) f.acls f.choices ≡ true → option_map_or (keeps_backend part true v.plan) f.default true ≡ true →
         server_for (left made) ≡ server_for (right made)
     server-same choices default' =
-        by (backend_for (worth (left made)) f) refl ∙ ap (server_by f.line w.plan.backends (picked_of (served_by t.frontends) w.cursors source)) (backend-same choices)
+        by (backend_for (worth (left made)) f) refl ∙ ap (server_by f.line w.plan.backends (picked_of (served_by t.frontends) (is_down t.down) w.cursors source)) (backend-same choices)
       where
         at : (number : ℕ) → owns_backend_at part v.plan number ≡ true → (o : Option Backend) → slice_get v.plan.backends number ≡ o →
-            server_by f.line v.plan.backends (picked_of (served_by s.frontends) v.cursors source) (Some number) ≡ server_by f.line v.plan.backends (picked_of (served_by t.frontends) w.cursors source) (Some number)
+            server_by f.line v.plan.backends (picked_of (served_by s.frontends) (is_down s.down) v.cursors source) (Some number) ≡ server_by f.line v.plan.backends (picked_of (served_by t.frontends) (is_down t.down) w.cursors source) (Some number)
         at number owns None e = rw e refl
         at number owns (Some backend) e = rw e (ap (given_of backend) (pick-same number backend e owns))
 
         by : (o : Option ℕ) → backend_for (worth (left made)) f ≡ o →
-            server_by f.line v.plan.backends (picked_of (served_by s.frontends) v.cursors source) o ≡ server_by f.line w.plan.backends (picked_of (served_by t.frontends) w.cursors source) o
+            server_by f.line v.plan.backends (picked_of (served_by s.frontends) (is_down s.down) v.cursors source) o ≡ server_by f.line w.plan.backends (picked_of (served_by t.frontends) (is_down t.down) w.cursors source) o
         by None e = refl
         by (Some number) e =
             let owns : owns_backend_at part v.plan number ≡ true = backend_for-side part true (left made) (keeps_criterion part true v.plan f.name) number choices default' e in
             at number owns (slice_get v.plan.backends number) refl
-            ∙ ap (λ (plan : Plan). server_by f.line plan.backends (picked_of (served_by t.frontends) w.cursors source) (Some number)) alike.plan
+            ∙ ap (λ (plan : Plan). server_by f.line plan.backends (picked_of (served_by t.frontends) (is_down t.down) w.cursors source) (Some number)) alike.plan

@@ -1,27 +1,30 @@
 -- A part over a whole run.
-use Rattle.std.specs.Prelude.{ℕ, zero, suc, Bool, true, false, List, [], map, filter, zip, slice_get, Option, Some, None, option_map, is_ok, IsSome, Result, Ok, Err, refl, nat_le, ◌+◌, ◌≤◌, ◌≡◌, ◌==◌, ◌&&◌, ◌∷◌, if◌then◌else◌}
+use Rattle.std.specs.Prelude.{ℕ, zero, suc, Bool, true, false, List, [], map, zip, slice_get, Option, Some, None, option_map, is_ok, IsSome, Result, Ok, Err, refl, nat_le, ◌+◌, ◌≤◌, ◌≡◌, ◌==◌, ◌&&◌, ◌∷◌, if◌then◌else◌}
 use Rattle.std.specs.List.{list_any, AllByRecursion, enumerate_from}
 use Rattle.std.specs.Option.{option_map_or}
 use Rattle.std.proofs.Common.{max, sym, ap, subst, inl, inr, ◌∙◌, arith}
 use Rattle.std.proofs.lemmas.Bool.{false≢true}
 use Rattle.std.proofs.lemmas.Bool.Decides.{nat_tests}
 use Rattle.plan_types.specs.Lines.{LinesDiffer}
+use Rattle.plan_types.specs.declared.plan.Backend.{Backend}
 use Rattle.plan_types.specs.declared.plan.Frontend.{Frontend}
 use Rattle.plan_types.specs.declared.plan.Plan.{Plan}
 use Rattle.plan_types.specs.declared.plan.Table.{Table}
 use Rattle.plan_types.specs.declared.track.TableId.{TableId}
 use Rattle.config_core.specs.Meaning.{meaning}
 use Rattle.conn_model.specs.declared.event.OwnedEvent.{OwnedEvent}
-use Rattle.conn_model.specs.declared.event.OwnedEvent.TheVariants.{Accept, Piece, Connected, ConnectFailed, Close, Expire, Reload}
+use Rattle.conn_model.specs.declared.event.OwnedEvent.TheVariants.{Accept, Piece, Connected, ConnectFailed, Close, Expire, Reload, Mark}
 use Rattle.conn_model.specs.declared.plain.FrontendRows.{FrontendRows}
 use Rattle.conn_model.specs.declared.plain.Listener.{Listener}
 use Rattle.conn_model.specs.declared.plain.Plain.{Plain}
+use Rattle.conn_model.specs.declared.plain.Row.{Row}
 use Rattle.conn_model.specs.declared.plain.TableState.{TableState}
 use Rattle.conn_model.specs.declared.plain.Version.{Version}
 use Rattle.conn_model.specs.declared.reply.Reply.{Reply}
 use Rattle.conn_model.specs.declared.reply.StepFault.{StepFault}
-use Rattle.conn_model.specs.declared.reply.StepFault.TheVariants.{NoListener}
+use Rattle.conn_model.specs.declared.reply.StepFault.TheVariants.{NoListener, NotChecked}
 use Rattle.conn_model.specs.Answer.{answer_in, at_moment, version_at}
+use Rattle.conn_model.specs.Counts.{newest_backend}
 use Rattle.conn_model.specs.History.{after, answer, entry, new_version, number_said, opening, Entry, IsLegal, IsWell}
 use Rattle.conn_model.specs.Tables.{new_id, new_table, same_id, table_at, written_tables}
 use Rattle.conn_model.proofs.Goes.{whole_in_parts}
@@ -30,10 +33,10 @@ use Rattle.conn_model.proofs.Nothing.{after-nil}
 use Rattle.conn_model.proofs.OneTable.{same_id-is}
 use Rattle.conn_model.proofs.Well.{opening_well}
 use Rattle.tenant_laws.specs.Parts.{keeps_apart, owns_backend_at, owns_table, Part}
-use Rattle.tenant_laws.specs.Agreement.{is_own_id, Agree, IsAlike, IsApart, IsInside, IsMeant, IsNamed, IsOutside, IsSound, IsWritten, LookAlike}
-use Rattle.tenant_laws.specs.Runs.{alone, answers_after, answers_to, frontend_of, is_accepted, is_alone, is_on, is_rising, next_state, part_answers, history_with, Steps, TextKeepsApart, TextsKeepApart}
+use Rattle.tenant_laws.specs.Agreement.{is_own_id, Agree, IsAlike, IsApart, IsInside, IsMeant, IsNamed, IsOfLine, IsOutside, IsSound, IsWritten, LookAlike}
+use Rattle.tenant_laws.specs.Runs.{alone, answers_after, answers_to, is_accepted, is_alone, is_on, is_rising, next_state, part_answers, history_with, side_of, Steps, TextKeepsApart, TextsKeepApart}
 use Rattle.tenant_laws.proofs.Lists.{both, nothing, some_same}
-use Rattle.tenant_laws.proofs.Later.{agree-at, answers-same, at-apart, at-sound, from-apart, reloads-same}
+use Rattle.tenant_laws.proofs.Later.{agree-at, alike-same, answers-same, at-apart, at-sound, from-apart, reloads-same, sides-same}
 use Rattle.tenant_laws.proofs.PartReplies.{brings-none}
 use Rattle.tenant_laws.proofs.Step.{listed-there, sound-step}
 use Rattle.tenant_laws.proofs.Outside.{outside-step}
@@ -51,6 +54,7 @@ sound-event p sound moment (Connected id) reply is = sound-step p sound (entry m
 sound-event p sound moment (ConnectFailed id) reply is = sound-step p sound (entry moment (ConnectFailed id) reply) is (brings-none (ConnectFailed id) (number_said reply.said) tt)
 sound-event p sound moment (Close id why) reply is = sound-step p sound (entry moment (Close id why) reply) is (brings-none (Close id why) (number_said reply.said) tt)
 sound-event p sound moment (Expire id) reply is = sound-step p sound (entry moment (Expire id) reply) is (brings-none (Expire id) (number_said reply.said) tt)
+sound-event p sound moment (Mark backend n health) reply is = sound-step p sound (entry moment (Mark backend n health) reply) is (brings-none (Mark backend n health) (number_said reply.said) tt)
 sound-event p sound moment (Reload text) reply is = sound-after-reload p sound moment text reply (text-lines text) is
 
 -- and with each legal history
@@ -97,45 +101,33 @@ opening-written plan last =
       go (k + 1) ts (λ j. let place : (k + 1) + j ≡ k + suc j = omega arith in ap (slice_get plan.tables) place ∙ same (suc j)),
     )
 
+opening-empty : (plan : Plan) (last n : ℕ) (own : FrontendRows) → slice_get (opening plan last).frontends n ≡ Some own → own.rows ≡ []
+opening-empty plan last n own there = go plan.frontends n there
+  where
+    go : (fs : List Frontend) (m : ℕ) → slice_get (map (λ (frontend : Frontend). record { name = frontend.name; serial = last; rows = [] }) fs) m ≡ Some own → own.rows ≡ []
+    go [] m at = nothing at
+    go (f ∷ fs) zero at = ap (λ (x : FrontendRows). x.rows) (sym (some_same at))
+    go (f ∷ fs) (suc m) at = go fs m at
+
 pub sound-opening : (text : List ℕ) (plan : Plan) (last : ℕ) → meaning text ≡ Ok plan → IsSound (opening plan last)
 sound-opening text plan last is = record {
   well = opening_well plan last;
   written = λ k v found. subst (λ (x : Version). AllByRecursion (IsWritten (opening plan last).tables) (written_tables (Some x))) (sym (only-version plan last k v found)) (opening-written plan last);
   lines = λ k v found. subst (λ (x : Version). LinesDiffer x.plan) (sym (only-version plan last k v found)) (text-lines text plan is);
+  offers = λ n own there. subst (AllByRecursion (λ (row : Row). IsOfLine (opening plan last).versions row.version row.phase)) (sym (opening-empty plan last n own there)) tt;
 }
 
 pub apart-opening : (part : Part) (plan : Plan) (last : ℕ) → keeps_apart part plan ≡ true → IsNamed part (opening plan last) → IsApart part (opening plan last)
 apart-opening part plan last keeps named = record {
   plans = λ k v found. ap (λ (x : Version). keeps_apart part x.plan) (only-version plan last k v found) ∙ keeps;
   named = named;
-  outside = λ n own out there. subst (AllByRecursion (IsOutside part (opening plan last).tables)) (sym (empty n own there)) tt;
-  inside = λ n own in' there. subst (AllByRecursion (IsInside part (opening plan last).versions)) (sym (empty n own there)) tt;
+  outside = λ n own out there. subst (AllByRecursion (IsOutside part (opening plan last).tables)) (sym (opening-empty plan last n own there)) tt;
+  inside = λ n own in' there. subst (AllByRecursion (IsInside part (opening plan last).versions)) (sym (opening-empty plan last n own there)) tt;
 }
-  where
-    empty : (n : ℕ) (own : FrontendRows) → slice_get (opening plan last).frontends n ≡ Some own → own.rows ≡ []
-    empty n own there = go plan.frontends n there
-      where
-        go : (fs : List Frontend) (m : ℕ) → slice_get (map (λ (frontend : Frontend). record { name = frontend.name; serial = last; rows = [] }) fs) m ≡ Some own → own.rows ≡ []
-        go [] m at = nothing at
-        go (f ∷ fs) zero at = ap (λ (x : FrontendRows). x.rows) (sym (some_same at))
-        go (f ∷ fs) (suc m) at = go fs m at
 
 -- Agreement.
 
 -- of a state with itself
-alike-same : (part : Part) (p : Plain) → IsApart part p → LookAlike part p p
-alike-same part p apart = record {
-  listeners = refl;
-  names = refl;
-  number = refl;
-  frontends = λ n in'. refl;
-  versions = λ k meant v w found found'.
-      let same : v ≡ w = some_same (sym found ∙ found') in
-      subst (λ (x : Version). IsAlike part p.tables p.tables v x) same (record { number = refl; plan = refl; tables = refl; cursors = λ n owns. refl; entries = λ id own. refl });
-  left = apart;
-  right = apart;
-}
-
 pub agree-same : (part : Part) (p : Plain) → IsApart part p → Agree part p p
 agree-same part p apart = alike-same part (at_moment (max p.clock p.clock) p) (at-apart part p (max p.clock p.clock) apart)
 
@@ -160,6 +152,7 @@ look-turn part p r q sound x y = record {
   names = sym x.names ∙ y.names;
   number = sym x.number ∙ y.number;
   frontends = λ n in'. sym (x.frontends n in') ∙ y.frontends n in';
+  down = λ server named. sym (x.down server named) ∙ y.down server named;
   versions = λ k meant u w found found'.
       let was : IsMeant part p k = before k meant in
       let v = meant-there part p sound.well k was in
@@ -181,46 +174,28 @@ agree-turn part p r q sound x y before =
 
 -- One step of the answers to a part.
 
-part_answers-more : (part : Part) (p : Plain) (moment : ℕ) (event : OwnedEvent) (steps : Steps) → part_answers part p ((moment, event) ∷ steps)
-    ≡ (if is_on part p.listeners event then answer_in p moment event ∷ part_answers part (next_state p moment event (answer_in p moment event)) steps else part_answers part (next_state p moment event (answer_in p moment event)) steps)
-part_answers-more part p moment event steps = by (answer_in p moment event) refl
-  where
-    listed : (b : Bool) (r : Result Reply StepFault) (s : Plain) → is_on part p.listeners event ≡ b → s.listeners ≡ p.listeners →
-        map (λ (pair : (ℕ × OwnedEvent) × Result Reply StepFault). pair.1) (filter (λ (pair : (ℕ × OwnedEvent) × Result Reply StepFault). is_on part p.listeners pair.0.1) (((moment, event), r) ∷ zip steps (answers_to s steps)))
-        ≡ (if is_on part p.listeners event then r ∷ part_answers part s steps else part_answers part s steps)
-    listed true r s on same = rw (on, same) refl
-    listed false r s on same = rw (on, same) refl
-
-    by : (r : Result Reply StepFault) → answer_in p moment event ≡ r → part_answers part p ((moment, event) ∷ steps)
-        ≡ (if is_on part p.listeners event then answer_in p moment event ∷ part_answers part (next_state p moment event (answer_in p moment event)) steps else part_answers part (next_state p moment event (answer_in p moment event)) steps)
-    by (Ok reply) e = rw e (listed (is_on part p.listeners event) (Ok reply) (after p (entry moment event reply ∷ [])) refl refl)
-    by (Err fault) e = rw e (listed (is_on part p.listeners event) (Err fault) p refl refl)
-
 -- a step that the run alone has not
-skipped : (part : Part) (p q : Plain) (moment : ℕ) (event : OwnedEvent) (steps : Steps) → is_on part p.listeners event ≡ false → is_alone part p event (answer_in p moment event) ≡ false →
+skipped : (part : Part) (p q : Plain) (moment : ℕ) (event : OwnedEvent) (steps : Steps) → is_on part p event ≡ false → is_alone part p event (answer_in p moment event) ≡ false →
     part_answers part (next_state p moment event (answer_in p moment event)) steps ≡ part_answers part q (alone part (next_state p moment event (answer_in p moment event)) steps) →
     part_answers part p ((moment, event) ∷ steps) ≡ part_answers part q (alone part p ((moment, event) ∷ steps))
 skipped part p q moment event steps off out rest =
     let p' : Plain = next_state p moment event (answer_in p moment event) in
-    part_answers-more part p moment event steps
-    ∙ ap (λ b. if b then answer_in p moment event ∷ part_answers part p' steps else part_answers part p' steps) off
+    ap (λ b. if b then answer_in p moment event ∷ part_answers part p' steps else part_answers part p' steps) off
     ∙ rest ∙ sym (ap (λ b. part_answers part q (if b then (moment, event) ∷ alone part p' steps else alone part p' steps)) out)
 
 -- one that it has, and that is answered alike
-taken : (part : Part) (p q : Plain) (moment : ℕ) (event : OwnedEvent) (steps : Steps) → p.listeners ≡ q.listeners → is_alone part p event (answer_in p moment event) ≡ true →
+taken : (part : Part) (p q : Plain) (moment : ℕ) (event : OwnedEvent) (steps : Steps) → side_of part p event ≡ side_of part q event → is_alone part p event (answer_in p moment event) ≡ true →
     answer_in p moment event ≡ answer_in q moment event →
     part_answers part (next_state p moment event (answer_in p moment event)) steps
     ≡ part_answers part (next_state q moment event (answer_in q moment event)) (alone part (next_state p moment event (answer_in p moment event)) steps) →
     part_answers part p ((moment, event) ∷ steps) ≡ part_answers part q (alone part p ((moment, event) ∷ steps))
-taken part p q moment event steps listeners in' same rest =
+taken part p q moment event steps sides in' same rest =
     let p' : Plain = next_state p moment event (answer_in p moment event) in
     let q' : Plain = next_state q moment event (answer_in q moment event) in
     let left : Steps = alone part p' steps in
-    part_answers-more part p moment event steps
-    ∙ ap (λ part_answers. if is_on part p.listeners event then answer_in p moment event ∷ part_answers else part_answers) rest
-    ∙ ap (λ r. if is_on part p.listeners event then r ∷ part_answers part q' left else part_answers part q' left) same
-    ∙ ap (λ ls. if is_on part ls event then answer_in q moment event ∷ part_answers part q' left else part_answers part q' left) listeners
-    ∙ sym (part_answers-more part q moment event left)
+    ap (λ part_answers. if is_on part p event then answer_in p moment event ∷ part_answers else part_answers) rest
+    ∙ ap (λ r. if is_on part p event then r ∷ part_answers part q' left else part_answers part q' left) same
+    ∙ ap (λ (o : Option Bool). if option_map_or (λ side. side) o false then answer_in q moment event ∷ part_answers part q' left else part_answers part q' left) sides
     ∙ sym (ap (λ b. part_answers part q (if b then (moment, event) ∷ left else left)) in')
 
 -- The states after a step.
@@ -239,22 +214,21 @@ next-clock p moment event late = by (answer_in p moment event)
     by (Ok reply) = omega (arith, late)
     by (Err fault) = late
 
-next-inside : (part : Part) (p q : Plain) (moment n : ℕ) (event : OwnedEvent) → IsSound p → IsSound q → Agree part p q → p.clock ≤ moment → q.clock ≤ moment →
-    frontend_of p.listeners event ≡ Some n → part.frontends n ≡ true → Agree part (next_state p moment event (answer_in p moment event)) (next_state q moment event (answer_in q moment event))
-next-inside part p q moment n event sound sound' agree late late' on in' =
-    subst (λ (r : Result Reply StepFault). Agree part (next_state p moment event (answer_in p moment event)) (next_state q moment event r)) (answers-same part p q sound sound' agree moment n event late late' on in')
+next-inside : (part : Part) (p q : Plain) (moment : ℕ) (event : OwnedEvent) → IsSound p → IsSound q → Agree part p q → p.clock ≤ moment → q.clock ≤ moment →
+    side_of part p event ≡ Some true → Agree part (next_state p moment event (answer_in p moment event)) (next_state q moment event (answer_in q moment event))
+next-inside part p q moment event sound sound' agree late late' on =
+    subst (λ (r : Result Reply StepFault). Agree part (next_state p moment event (answer_in p moment event)) (next_state q moment event r)) (answers-same part p q sound sound' agree moment event late late' on)
     (by (answer_in p moment event) refl)
   where
     by : (r : Result Reply StepFault) → answer_in p moment event ≡ r → Agree part (next_state p moment event r) (next_state q moment event r)
-    by (Ok reply) e = inside-step part p q sound sound' agree moment n event reply late late' on in' e
+    by (Ok reply) e = inside-step part p q sound sound' agree moment event reply late late' on e
     by (Err fault) e = agree
 
-next-outside : (part : Part) (p q : Plain) (moment n : ℕ) (event : OwnedEvent) → IsSound p → Agree part p q → frontend_of p.listeners event ≡ Some n → part.frontends n ≡ false →
-    Agree part (next_state p moment event (answer_in p moment event)) q
-next-outside part p q moment n event sound agree on out = by (answer_in p moment event) refl
+next-outside : (part : Part) (p q : Plain) (moment : ℕ) (event : OwnedEvent) → IsSound p → Agree part p q → side_of part p event ≡ Some false → Agree part (next_state p moment event (answer_in p moment event)) q
+next-outside part p q moment event sound agree off = by (answer_in p moment event) refl
   where
     by : (r : Result Reply StepFault) → answer_in p moment event ≡ r → Agree part (next_state p moment event r) q
-    by (Ok reply) e = agree-turn part p (after p (entry moment event reply ∷ [])) q sound (outside-step part p sound (from-apart part p (max p.clock q.clock) agree.left) moment n event reply on out e) agree (omega arith)
+    by (Ok reply) e = agree-turn part p (after p (entry moment event reply ∷ [])) q sound (outside-step part p sound (from-apart part p (max p.clock q.clock) agree.left) moment event reply off e) agree (omega arith)
     by (Err fault) e = agree
 
 next-reload : (part : Part) (p q : Plain) (moment : ℕ) (text : List ℕ) → IsSound p → IsSound q → Agree part p q → (is_ok (answer_in p moment (Reload text)) ≡ true → (plan : Plan) → meaning text ≡ Ok plan → keeps_apart part plan ≡ true) →
@@ -268,32 +242,38 @@ next-reload part p q moment text sound sound' agree keeps =
     by (Ok reply) e kept = reload-step part p q sound sound' agree moment text reply (kept refl) e (sym (reloads-same part p q sound sound' agree moment text) ∙ e)
     by (Err fault) e kept = agree
 
--- an event on no frontend is a reload, or an accept of no listener
+-- an event on no side is a reload, or it is refused: an accept of no listener, or a report of no server
 data OnNone (p : Plain) (moment : ℕ) (event : OwnedEvent) : Type 0 where
-  refused : answer_in p moment event ≡ Err NoListener → is_accepted event (answer_in p moment event) ≡ false → OnNone p moment event
+  refused : (fault : StepFault) → answer_in p moment event ≡ Err fault → is_accepted event (answer_in p moment event) ≡ false → OnNone p moment event
   reload : (text : List ℕ) → event ≡ Reload text → OnNone p moment event
 
-on_none : (p : Plain) (moment : ℕ) (event : OwnedEvent) → frontend_of p.listeners event ≡ None → OnNone p moment event
-on_none p moment (Accept listener real) off = by (slice_get p.listeners listener) refl off
+on_none : (part : Part) (p : Plain) (moment : ℕ) (event : OwnedEvent) → side_of part p event ≡ None → OnNone p moment event
+on_none part p moment (Accept listener real) off = by (slice_get p.listeners listener) refl off
   where
-    by : (o : Option Listener) → slice_get p.listeners listener ≡ o → option_map (λ (at : Listener). at.frontend) o ≡ None → OnNone p moment (Accept listener real)
-    by None e is = refused (rw e refl) refl
+    by : (o : Option Listener) → slice_get p.listeners listener ≡ o → option_map part.frontends (option_map (λ (at : Listener). at.frontend) o) ≡ None → OnNone p moment (Accept listener real)
+    by None e is = refused NoListener (rw e refl) refl
     by (Some at) e is = nothing (sym is)
-on_none p moment (Piece id bytes) off = nothing (sym off)
-on_none p moment (Connected id) off = nothing (sym off)
-on_none p moment (ConnectFailed id) off = nothing (sym off)
-on_none p moment (Close id why) off = nothing (sym off)
-on_none p moment (Expire id) off = nothing (sym off)
-on_none p moment (Reload text) off = reload text refl
+on_none part p moment (Piece id bytes) off = nothing (sym off)
+on_none part p moment (Connected id) off = nothing (sym off)
+on_none part p moment (ConnectFailed id) off = nothing (sym off)
+on_none part p moment (Close id why) off = nothing (sym off)
+on_none part p moment (Expire id) off = nothing (sym off)
+on_none part p moment (Reload text) off = reload text refl
+on_none part p moment (Mark number n health) off = by (newest_backend p.versions number) refl off
+  where
+    by : (o : Option Backend) → newest_backend p.versions number ≡ o → option_map (λ (backend : Backend). part.backend_names backend.name) o ≡ None → OnNone p moment (Mark number n health)
+    by None e is = refused NotChecked (rw e refl) refl
+    by (Some backend) e is = nothing (sym is)
 
-not_accepted : (listeners : List Listener) (event : OwnedEvent) (r : Result Reply StepFault) (n : ℕ) → frontend_of listeners event ≡ Some n → is_accepted event r ≡ false
-not_accepted listeners (Accept listener real) r n on = refl
-not_accepted listeners (Piece id bytes) r n on = refl
-not_accepted listeners (Connected id) r n on = refl
-not_accepted listeners (ConnectFailed id) r n on = refl
-not_accepted listeners (Close id why) r n on = refl
-not_accepted listeners (Expire id) r n on = refl
-not_accepted listeners (Reload text) r n on = nothing on
+not_accepted : (part : Part) (p : Plain) (event : OwnedEvent) (r : Result Reply StepFault) (side : Bool) → side_of part p event ≡ Some side → is_accepted event r ≡ false
+not_accepted part p (Accept listener real) r side on = refl
+not_accepted part p (Piece id bytes) r side on = refl
+not_accepted part p (Connected id) r side on = refl
+not_accepted part p (ConnectFailed id) r side on = refl
+not_accepted part p (Close id why) r side on = refl
+not_accepted part p (Expire id) r side on = refl
+not_accepted part p (Reload text) r side on = nothing on
+not_accepted part p (Mark number n health) r side on = refl
 
 reload-agrees : (part : Part) (p q : Plain) (moment : ℕ) (event : OwnedEvent) (text : List ℕ) → event ≡ Reload text → IsSound p → IsSound q → Agree part p q →
     (is_ok (answer_in p moment event) ≡ true → TextKeepsApart part event) → Agree part (next_state p moment event (answer_in p moment event)) (next_state q moment event (answer_in q moment event))
@@ -312,7 +292,7 @@ pub run-same : (part : Part) (steps : Steps) (p q : Plain) (start : ℕ) → IsS
     part_answers part p steps ≡ part_answers part q (alone part p steps)
 run-same part [] p q start sound sound' agree late late' rising keeps = refl
 run-same part ((moment, event) ∷ steps) p q start sound sound' agree late late' rising keeps =
-    by (frontend_of p.listeners event) refl (run-same part steps (next_state p moment event (answer_in p moment event)))
+    by (side_of part p event) refl (run-same part steps (next_state p moment event (answer_in p moment event)))
   where
     parts : (nat_le start moment ≡ true) × (is_rising moment steps ≡ true)
     parts = both (nat_le start moment) (is_rising moment steps) rising
@@ -323,43 +303,43 @@ run-same part ((moment, event) ∷ steps) p q start sound sound' agree late late
     at' : q.clock ≤ moment
     at' = let le : start ≤ moment = (let is : nat_le start moment ≡ true = (both (nat_le start moment) (is_rising moment steps) rising).0 in grind (arith, nat_tests)) in omega (arith, le, late')
 
-    by : (o : Option ℕ) → frontend_of p.listeners event ≡ o →
+    on_by : (o : Option Bool) → side_of part p event ≡ o → is_on part p event ≡ option_map_or (λ side. side) o false
+    on_by o e = ap (λ (o : Option Bool). option_map_or (λ side. side) o false) e
+
+    alone_by : (o : Option Bool) → side_of part p event ≡ o → is_alone part p event (answer_in p moment event) ≡ (if option_map_or (λ side. side) o false then true else is_accepted event (answer_in p moment event))
+    alone_by o e = ap (λ b. if b then true else is_accepted event (answer_in p moment event)) (on_by o e)
+
+    by : (o : Option Bool) → side_of part p event ≡ o →
         ((r : Plain) (m : ℕ) → IsSound (next_state p moment event (answer_in p moment event)) → IsSound r → Agree part (next_state p moment event (answer_in p moment event)) r →
         (next_state p moment event (answer_in p moment event)).clock ≤ m → r.clock ≤ m → is_rising m steps ≡ true → TextsKeepApart part (next_state p moment event (answer_in p moment event)) steps →
         part_answers part (next_state p moment event (answer_in p moment event)) steps ≡ part_answers part r (alone part (next_state p moment event (answer_in p moment event)) steps)) →
         part_answers part p ((moment, event) ∷ steps) ≡ part_answers part q (alone part p ((moment, event) ∷ steps))
-    by (Some n) on rest = side (part.frontends n) refl
-      where
-        side : (b : Bool) → part.frontends n ≡ b → part_answers part p ((moment, event) ∷ steps) ≡ part_answers part q (alone part p ((moment, event) ∷ steps))
-        side true in' =
-            taken part p q moment event steps agree.listeners
-            (ap (λ b. if b then true else is_accepted event (answer_in p moment event)) (ap (λ o. option_map_or part.frontends o false) on ∙ in'))
-            (answers-same part p q sound sound' agree moment n event at at' on in')
-            (rest (next_state q moment event (answer_in q moment event)) moment (next-sound p sound moment event) (next-sound q sound' moment event)
-            (next-inside part p q moment n event sound sound' agree at at' on in') (next-clock p moment event at) (next-clock q moment event at') parts.1 keeps.1)
-        side false out =
-            skipped part p q moment event steps (ap (λ o. option_map_or part.frontends o false) on ∙ out)
-            (ap (λ b. if b then true else is_accepted event (answer_in p moment event)) (ap (λ o. option_map_or part.frontends o false) on ∙ out) ∙ not_accepted p.listeners event (answer_in p moment event) n on)
-            (rest q moment (next-sound p sound moment event) sound' (next-outside part p q moment n event sound agree on out) (next-clock p moment event at) at' parts.1 keeps.1)
-    by None off rest = none (on_none p moment event off)
+    by (Some true) on rest =
+        taken part p q moment event steps (sides-same part p q sound sound' agree event) (alone_by (Some true) on) (answers-same part p q sound sound' agree moment event at at' on)
+        (rest (next_state q moment event (answer_in q moment event)) moment (next-sound p sound moment event) (next-sound q sound' moment event) (next-inside part p q moment event sound sound' agree at at' on)
+        (next-clock p moment event at) (next-clock q moment event at') parts.1 keeps.1)
+    by (Some false) off rest =
+        skipped part p q moment event steps (on_by (Some false) off) (alone_by (Some false) off ∙ not_accepted part p event (answer_in p moment event) false off)
+        (rest q moment (next-sound p sound moment event) sound' (next-outside part p q moment event sound agree off) (next-clock p moment event at) at' parts.1 keeps.1)
+    by None off rest = none (on_none part p moment event off)
       where
         none : OnNone p moment event → part_answers part p ((moment, event) ∷ steps) ≡ part_answers part q (alone part p ((moment, event) ∷ steps))
-        none (refused is out) =
-            skipped part p q moment event steps (ap (λ o. option_map_or part.frontends o false) off)
-            (ap (λ b. if b then true else is_accepted event (answer_in p moment event)) (ap (λ o. option_map_or part.frontends o false) off) ∙ out)
+        none (refused fault is out) =
+            skipped part p q moment event steps (on_by None off) (alone_by None off ∙ out)
             (rest q moment (next-sound p sound moment event) sound' (subst (λ (r : Result Reply StepFault). Agree part (next_state p moment event r) q) (sym is) agree) (next-clock p moment event at) at' parts.1 keeps.1)
         none (reload text is) = decided (is_ok (answer_in p moment event)) refl
           where
+            accepts : (b : Bool) → is_ok (answer_in p moment event) ≡ b → is_alone part p event (answer_in p moment event) ≡ b
+            accepts b e = alone_by None off ∙ ap (λ ev. is_accepted ev (answer_in p moment event)) is ∙ e
+
             decided : (b : Bool) → is_ok (answer_in p moment event) ≡ b → part_answers part p ((moment, event) ∷ steps) ≡ part_answers part q (alone part p ((moment, event) ∷ steps))
             decided true e =
-                taken part p q moment event steps agree.listeners
-                (ap (λ b. if b then true else is_accepted event (answer_in p moment event)) (ap (λ o. option_map_or part.frontends o false) off) ∙ ap (λ ev. is_accepted ev (answer_in p moment event)) is ∙ e)
+                taken part p q moment event steps (sides-same part p q sound sound' agree event) (accepts true e)
                 (subst (λ ev. answer_in p moment ev ≡ answer_in q moment ev) (sym is) (reloads-same part p q sound sound' agree moment text))
                 (rest (next_state q moment event (answer_in q moment event)) moment (next-sound p sound moment event) (next-sound q sound' moment event)
                 (reload-agrees part p q moment event text is sound sound' agree keeps.0) (next-clock p moment event at) (next-clock q moment event at') parts.1 keeps.1)
             decided false e =
-                skipped part p q moment event steps (ap (λ o. option_map_or part.frontends o false) off)
-                (ap (λ b. if b then true else is_accepted event (answer_in p moment event)) (ap (λ o. option_map_or part.frontends o false) off) ∙ ap (λ ev. is_accepted ev (answer_in p moment event)) is ∙ e)
+                skipped part p q moment event steps (on_by None off) (accepts false e)
                 (rest q moment (next-sound p sound moment event) sound' (fault-agrees part p q moment event (answer_in p moment event) agree e) (next-clock p moment event at) at' parts.1 keeps.1)
 
 -- from an opening

@@ -1,16 +1,20 @@
 -- When two states of a balancer look the same to a part.
-use Rattle.std.specs.Prelude.{ℕ, Bool, true, false, List, map, max, slice_get, Some, IfSome, ◌⊎◌, ◌≡◌, ◌&&◌}
+use Rattle.std.specs.Prelude.{ℕ, Bool, true, false, List, map, max, find, slice_get, Some, IfSome, ◌⊎◌, ◌≡◌, ◌&&◌}
 use Rattle.std.specs.List.{list_any, AllByRecursion}
 use Rattle.std.specs.Option.{option_map, option_map_or}
-use Rattle.plan_types.specs.Lines.{LinesDiffer}
+use Rattle.proxy_types.specs.declared.server.ServerIdentity.{ServerIdentity}
+use Rattle.proxy_types.specs.ServerIdentity.{same_server}
+use Rattle.plan_types.specs.Lines.{has_line, LinesDiffer}
+use Rattle.plan_types.specs.declared.plan.Backend.{Backend}
 use Rattle.plan_types.specs.declared.plan.Table.{Table}
 use Rattle.plan_types.specs.declared.track.TableId.{TableId}
 use Rattle.conn_model.specs.declared.plain.FrontendRows.{FrontendRows}
+use Rattle.conn_model.specs.declared.plain.Phase.{Phase}
 use Rattle.conn_model.specs.declared.plain.Plain.{Plain}
 use Rattle.conn_model.specs.declared.plain.Row.{Row}
 use Rattle.conn_model.specs.declared.plain.TableState.{TableState}
 use Rattle.conn_model.specs.declared.plain.Version.{Version}
-use Rattle.conn_model.specs.Answer.{at_moment, version_at}
+use Rattle.conn_model.specs.Answer.{at_moment, offer_in, version_at}
 use Rattle.conn_model.specs.Counts.{server_of}
 use Rattle.conn_model.specs.History.{has_version, newest_number, IsWell}
 use Rattle.conn_model.specs.Tables.{same_id, table_at, written_tables}
@@ -50,9 +54,11 @@ pub record IsOutside (part : Part) (tables : List TableState) (row : Row) : Type
   pub tracks : AllByRecursion (λ track. owns_id part tables track.table ≡ false) row.tracks
   pub offered : is_offered_own part row ≡ false
 
--- what a connection of the part tracks is in the part's tables, by the version that judges it
-abbrev pub IsInside : Part → List Version → Row → Type 0
-IsInside part versions row = AllByRecursion (λ track. option_map_or (λ version. is_own_id part version track.table) (version_at versions row.version) false ≡ true) row.tracks
+-- what a connection of the part tracks is in the part's tables, by the version that judges it, and where it was offered a
+-- server, that is one of a backend of the part
+pub record IsInside (part : Part) (versions : List Version) (row : Row) : Type 0 where
+  pub tracks : AllByRecursion (λ track. option_map_or (λ version. is_own_id part version track.table) (version_at versions row.version) false ≡ true) row.tracks
+  pub offered : option_map_or (λ server. part.backend_names server.backend) (server_of row.phase) true ≡ true
 
 -- the part names its own frontends, and no others
 abbrev pub IsNamed : Part → Plain → Type 0
@@ -75,6 +81,8 @@ pub record LookAlike (part : Part) (p q : Plain) : Type 0 where
   -- the versions that judge its connections
   pub versions : (number : ℕ) → IsMeant part p number → (v w : Version) → version_at p.versions number ≡ Some v → version_at q.versions number ≡ Some w →
       IsAlike part p.tables q.tables v w
+  -- which servers of its backends are down
+  pub down : (server : ServerIdentity) → part.backend_names server.backend ≡ true → list_any (same_server server) p.down ≡ list_any (same_server server) q.down
   pub left : IsApart part p
   pub right : IsApart part q
 
@@ -86,9 +94,17 @@ Agree part p q = LookAlike part (at_moment (max p.clock q.clock) p) (at_moment (
 abbrev pub IsWritten : List TableState → Table × TableId → Type 0
 IsWritten tables pair = option_map (λ state. state.table) (table_at tables pair.1) ≡ Some pair.0
 
+-- a connection that awaits the server that it was offered: that is one of the backend that has its line, by the version
+-- of that number
+abbrev pub IsOfLine : List Version → ℕ → Phase → Type 0
+IsOfLine versions number phase = IfSome (offer_in phase) (λ given. (version : Version) (backend : Backend) →
+    version_at versions number ≡ Some version → find (has_line given.line) version.plan.backends ≡ Some backend → given.server.backend ≡ backend.name)
+
 -- What holds in each state that an opening or a legal history can leave: besides, a table of a version is kept as it was
--- written, and no line is a server's in two backends.
+-- written, no line is a server's in two backends, and what a connection was offered is of the backend that has its line,
+-- by the version that judges the connection.
 pub record IsSound (p : Plain) : Type 0 where
   pub well : IsWell p
   pub written : (number : ℕ) (version : Version) → version_at p.versions number ≡ Some version → AllByRecursion (IsWritten p.tables) (written_tables (Some version))
   pub lines : (number : ℕ) (version : Version) → version_at p.versions number ≡ Some version → LinesDiffer version.plan
+  pub offers : (n : ℕ) (own : FrontendRows) → slice_get p.frontends n ≡ Some own → AllByRecursion (λ row. IsOfLine p.versions row.version row.phase) own.rows

@@ -1,5 +1,5 @@
--- Configurations of two tenants, one that keeps them apart and three that join them, and short runs.
-use Rattle.std.specs.Prelude.{ℕ, Bool, false, List, [], map, codes, Result, Ok, Err, ◌==◌, ◌&&◌, ◌||◌, ◌∷◌, ◌++◌}
+-- Configurations of two tenants, two that keep them apart and three that join them, and short runs.
+use Rattle.std.specs.Prelude.{ℕ, Bool, false, List, [], length, map, codes, Result, Ok, Err, ◌==◌, ◌&&◌, ◌||◌, ◌∷◌, ◌++◌}
 use Rattle.std.specs.Option.{option_map_or}
 use Rattle.std.specs.Str.{bytes_eq}
 use Rattle.addr_core.specs.declared.addr.Addr.TheVariants.{V4}
@@ -7,10 +7,11 @@ use Rattle.config_core.specs.Meaning.{meaning}
 use Rattle.plan_types.specs.Tables.{is_frontend_section}
 use Rattle.conn_model.specs.History.{opening, plan_in}
 use Rattle.conn_model.specs.declared.event.OwnedEvent.{OwnedEvent}
-use Rattle.conn_model.specs.declared.event.OwnedEvent.TheVariants.{Accept}
+use Rattle.conn_model.specs.declared.event.OwnedEvent.TheVariants.{Accept, Mark}
+use Rattle.conn_model.specs.declared.event.Health.TheVariants.{Down}
 use Rattle.conn_model.specs.declared.reply.Reply.{Reply}
 use Rattle.conn_model.specs.declared.reply.Said.{Said}
-use Rattle.conn_model.specs.declared.reply.Said.TheVariants.{Wait, Offer, Refuse, Up, Closed, Reloaded}
+use Rattle.conn_model.specs.declared.reply.Said.TheVariants.{Wait, Offer, Refuse, Up, Closed, Reloaded, Marked}
 use Rattle.conn_model.specs.declared.reply.StepFault.{StepFault}
 use Rattle.tenant_laws.specs.Parts.{keeps_apart, Part}
 use Rattle.tenant_laws.specs.Runs.{alone, part_answers, Steps}
@@ -72,6 +73,12 @@ joined_by_count =
     lines (defaults ++ acorn_head ++ (codes "    tcp-request connection reject if { fe_conn(birch) gt 1 }" ∷ []) ++ acorn_choice ++ acorn_default ++ acorn_backends ++ birch_head ++ birch_default
     ++ birch_backends)
 
+-- both have their servers checked
+abbrev pub two_checked : List ℕ
+two_checked =
+    lines (defaults ++ acorn_head ++ acorn_default ++ (codes "backend acorn" ∷ codes "    server web1 10.11.0.1:8443 check" ∷ codes "    server web2 10.11.0.2:8443 check" ∷ []) ++ birch_head ++ birch_default
+    ++ (codes "backend birch" ∷ codes "    server web1 10.11.0.9:8443 check" ∷ codes "    server web2 10.12.0.2:8443 check" ∷ []))
+
 -- Acorn's, with or without the table of the section `all_sources`, and birch's.
 
 abbrev pub acorn : Bool → Part
@@ -108,6 +115,7 @@ server_said (Refuse id used cause) = 100
 server_said (Up id) = 100
 server_said (Closed id why) = 100
 server_said (Reloaded version) = 100
+server_said (Marked line health) = 100
 
 abbrev pub server_in : Result Reply StepFault → ℕ
 server_in (Ok reply) = server_said reply.said
@@ -128,3 +136,15 @@ birch_first = arrives 1 ∷ arrives 1 ∷ arrives 0 ∷ []
 -- birch is first, once, and then acorn
 abbrev pub birch_once : Steps
 birch_once = arrives 1 ∷ arrives 0 ∷ []
+
+-- the number of the steps that are left in the run of a part alone
+abbrev pub steps_alone : Part → List ℕ → Steps → ℕ
+steps_alone part text steps = option_map_or (λ plan. length (alone part (opening plan 0) steps)) (plan_in (meaning text)) 0
+
+-- the first server of birch, or of acorn, is reported down before a connection to acorn
+
+abbrev pub birch_reported : Steps
+birch_reported = (0, Mark 1 0 Down) ∷ arrives 0 ∷ []
+
+abbrev pub acorn_reported : Steps
+acorn_reported = (0, Mark 0 0 Down) ∷ arrives 0 ∷ []

@@ -1,15 +1,17 @@
 -- What is open in the trial is open in the balancer of the record.
 use Rattle.std.proofs.Common.{◌≡◌, ◌⊎◌, inl, inr, ℕ, zero, suc, ◌+◌, ◌-◌, ◌<◌, ◌^◌, Bool, true, false, List, [], ◌∷◌, ◌++◌, length, Option, Some, None, Result, Ok, Err, refl, ap, sym, subst, ◌∙◌, max, arith}
-use Rattle.std.specs.Prelude.{◌==◌, ◌&&◌, ◌||◌, not, nat_lt, map, filter, find, slice_get, is_some, IsSome, if◌then◌else◌}
+use Rattle.std.specs.Prelude.{◌==◌, ◌&&◌, ◌||◌, not, nat_lt, map, option_map, filter, find, slice_get, is_some, IsSome, if◌then◌else◌}
 use Rattle.std.specs.List.{list_any}
 use Rattle.std.specs.Option.{option_map_or}
 use Rattle.std.proofs.lemmas.Bool.Decides.{nat_tests}
 use Rattle.list_core.specs.Each.{◌>>=◌}
 use Rattle.addr_core.specs.PairValue.{PairValue}
 use Rattle.plan_types.specs.declared.plan.Plan.{Plan}
+use Rattle.conn_core.specs.declared.checked.ServerNumbers.{ServerNumbers}
 use Rattle.conn_model.specs.declared.event.ConnId.{ConnId}
+use Rattle.conn_model.specs.declared.event.Health.{Health}
 use Rattle.conn_model.specs.declared.event.OwnedEvent.{OwnedEvent}
-use Rattle.conn_model.specs.declared.event.OwnedEvent.TheVariants.{Accept, Piece, Connected, ConnectFailed, Close, Expire, Reload}
+use Rattle.conn_model.specs.declared.event.OwnedEvent.TheVariants.{Accept, Piece, Connected, ConnectFailed, Close, Expire, Reload, Mark}
 use Rattle.conn_model.specs.declared.event.Why.TheVariants.{Done}
 use Rattle.conn_model.specs.declared.plain.FrontendRows.{FrontendRows}
 use Rattle.conn_model.specs.declared.plain.Plain.{Plain}
@@ -31,7 +33,7 @@ use Rattle.conn_laws.proofs.Judged.{accept_judged}
 use Rattle.conn_laws.proofs.Offered.{accept_is}
 use Rattle.conn_laws.proofs.Present.{arrivals as arrives_at}
 use Rattle.replay_core.specs.Turns.{plain_after}
-use Rattle.whatif_core.specs.Deciding.{closed, handed, played, stepped}
+use Rattle.whatif_core.specs.Deciding.{closed, numbers_for, played, stepped, taken}
 use Rattle.whatif_core.specs.Reporting.{opened_by, history_report, report_of_turn, trial_opening, turn_of, Report}
 use Rattle.whatif_core.specs.declared.turn.Turn.{Turn}
 
@@ -95,6 +97,7 @@ arrived number serial (ConnectFailed id) said = false
 arrived number serial (Close id why) said = false
 arrived number serial (Expire id) said = false
 arrived number serial (Reload text) said = false
+arrived number serial (Mark backend n health) said = false
 
 has_new : (serial number clock version : ℕ) (real : PairValue) (said : Said) (id : Option ConnId)
     → has serial (arrival_of number clock version real said id) ≡ (leaves_open said && option_map_or (is_conn number serial) id false)
@@ -114,6 +117,7 @@ has_arrived serial number clock version (ConnectFailed id) said = refl
 has_arrived serial number clock version (Close id why) said = refl
 has_arrived serial number clock version (Expire id) said = refl
 has_arrived serial number clock version (Reload text) said = refl
+has_arrived serial number clock version (Mark backend n health) said = refl
 
 -- the open connections after an entry
 has_after : (p : Plain) (e : Entry) (number serial : ℕ) (own : FrontendRows)
@@ -190,6 +194,7 @@ is_accept (ConnectFailed id) = false
 is_accept (Close id why) = false
 is_accept (Expire id) = false
 is_accept (Reload text) = false
+is_accept (Mark number n health) = false
 
 -- the second balancer answers as the first does to whom it speaks, where that is an accept
 abbrev pub Agree : OwnedEvent → Said → Said → Type 0
@@ -200,6 +205,7 @@ Agree (ConnectFailed id) theirs said = Unit {0}
 Agree (Close id why) theirs said = Unit {0}
 Agree (Expire id) theirs said = Unit {0}
 Agree (Reload text) theirs said = Unit {0}
+Agree (Mark number n health) theirs said = Unit {0}
 
 same_accept : (number : ℕ) (event : OwnedEvent) (theirs said : Said) → Agree event theirs said → is_accept_at number event theirs ≡ is_accept_at number event said
 same_accept number (Accept listener real) theirs said agree = ap (λ (id : Option ConnId). option_map_or (λ id. id.frontend == number) id false) agree.0
@@ -209,6 +215,7 @@ same_accept number (ConnectFailed id) theirs said agree = refl
 same_accept number (Close id why) theirs said agree = refl
 same_accept number (Expire id) theirs said agree = refl
 same_accept number (Reload text) theirs said agree = refl
+same_accept number (Mark backend n health) theirs said agree = refl
 
 left_open : (said : Said) → is_judgement said ≡ true → is_last said ≡ false → leaves_open said ≡ true
 left_open (saids.Wait id used) judged open_still = refl
@@ -217,6 +224,7 @@ left_open (saids.Refuse id used cause) judged open_still = absurd (cc)
 left_open (saids.Up id) judged open_still = absurd (cc)
 left_open (saids.Closed id why) judged open_still = absurd (cc)
 left_open (saids.Reloaded version) judged open_still = absurd (cc)
+left_open (saids.Marked line health) judged open_still = absurd (cc)
 
 -- if the second opens a connection, so does the first, or its reply ends it
 same_arrived : (number serial : ℕ) (event : OwnedEvent) (theirs said : Said) → Agree event theirs said → arrived number serial event theirs ≡ true
@@ -235,6 +243,7 @@ same_arrived number serial (ConnectFailed id) theirs said agree is = absurd (cc)
 same_arrived number serial (Close id why) theirs said agree is = absurd (cc)
 same_arrived number serial (Expire id) theirs said agree is = absurd (cc)
 same_arrived number serial (Reload text) theirs said agree is = absurd (cc)
+same_arrived number serial (Mark backend n health) theirs said agree is = absurd (cc)
 
 -- a row that is there, or came, is open after the entry, or the entry ends it
 kept_or_ended : (p : Plain) (e : Entry) (number serial : ℕ) (own : FrontendRows) → (has serial own.rows || arrived number serial e.event e.reply.said) ≡ true
@@ -297,6 +306,7 @@ no_accept number (ConnectFailed id) said is = refl
 no_accept number (Close id why) said is = refl
 no_accept number (Expire id) said is = refl
 no_accept number (Reload text) said is = refl
+no_accept number (Mark backend n health) said is = refl
 
 not_counted : (a b c : ℕ) → a ≡ b → c ≡ 0 → a ≡ b + (0 + c)
 not_counted a b c first none = omega (arith, first, none)
@@ -397,6 +407,7 @@ closed_shut n moment (saids.Refuse id used cause) = shut n moment id (saids.Refu
 closed_shut n moment (saids.Up id) = not_shut n (saids.Up id) refl
 closed_shut n moment (saids.Closed id why) = shut n moment id (saids.Closed id why) (λ number s. refl)
 closed_shut n moment (saids.Reloaded version) = not_shut n (saids.Reloaded version) refl
+closed_shut n moment (saids.Marked line health) = not_shut n (saids.Marked line health) refl
 
 -- so what is left open is open in the first
 shut_below : (n p m : Plain) (said : Said) → IsBelow n p (ends said) → IsShut n said m → IsBelow m p nothing_ended
@@ -451,6 +462,7 @@ past_closed plan n moment (saids.Refuse id used cause) has_past = past_on plan n
 past_closed plan n moment (saids.Up id) has_past = has_past
 past_closed plan n moment (saids.Closed id why) has_past = past_on plan n moment (Close id Done) has_past
 past_closed plan n moment (saids.Reloaded version) has_past = has_past
+past_closed plan n moment (saids.Marked line health) has_past = has_past
 
 listeners_after : (n : Plain) (moment : ℕ) (event : OwnedEvent) (answered : Result Reply StepFault) → (plain_after n moment event answered).listeners ≡ n.listeners
 listeners_after n moment event (Err fault) = refl
@@ -463,6 +475,7 @@ listeners_closed n moment (saids.Refuse id used cause) = listeners_after n momen
 listeners_closed n moment (saids.Up id) = refl
 listeners_closed n moment (saids.Closed id why) = listeners_after n moment (Close id Done) (answer_in n moment (Close id Done))
 listeners_closed n moment (saids.Reloaded version) = refl
+listeners_closed n moment (saids.Marked line health) = refl
 
 -- how the trial answers an event that the balancer of the record answered so
 abbrev pub Outcome : Plain → ℕ → OwnedEvent → Said → Type 0
@@ -523,9 +536,9 @@ accept_outcome plan h n moment listener real reply legal is tied =
       ),
     )
 
--- an event that is handed in
+-- an event that is handed in as it is
 handed_tied : (plan : Plan) (p n : Plain) (moment : ℕ) (event : OwnedEvent) (reply : Reply) → Tied plan p n → Outcome n moment event reply.said
-    → Tied plan (after p (entry moment event reply ∷ [])) (handed n moment event reply.said)
+    → Tied plan (after p (entry moment event reply ∷ [])) (closed moment reply.said (stepped n moment event))
 handed_tied plan p n moment event reply tied outcome =
     let next = stepped n moment event in
     let past = past_closed plan next moment reply.said (past_on plan n moment event (record { past = tied.past; legal = tied.legal; is = tied.is })) in
@@ -558,8 +571,58 @@ reload_tied plan p n moment text reply is tied =
       is = tied.is;
     }
 
+-- a report of a server opens no connection
+reported_below : (n p : Plain) (moment number k : ℕ) (health : Health) → IsBelow n p nothing_ended → IsBelow (stepped n moment (Mark number k health)) p nothing_ended
+reported_below n p moment number k health below = by (answer_in n moment (Mark number k health)) refl
+  where
+    still : (mine : FrontendRows) (s : ℕ) (own : FrontendRows) → ((has s own.rows ≡ true) → (has s mine.rows ≡ true) ⊎ (false ≡ true)) → (has s own.rows ≡ true) ⊎ (false ≡ true)
+        → (has s mine.rows ≡ true) ⊎ (false ≡ true)
+    still mine s own rows (inl is) = rows is
+    still mine s own rows (inr wrong) = inr wrong
+
+    by : (answered : Result Reply StepFault) → answer_in n moment (Mark number k health) ≡ answered → IsBelow (plain_after n moment (Mark number k health) answered) p nothing_ended
+    by (Err fault) is = below
+    by (Ok theirs) is = λ place next there.
+        let e : Entry = entry moment (Mark number k health) theirs in
+        let was = before n e place next there in
+        let old = below place was.own was.there in
+        record {
+          mine = old.mine;
+          there = old.there;
+          serial = ap (λ (own : FrontendRows). own.serial) was.is ∙ plus_none was.own.serial ∙ old.serial;
+          rows = λ s open_now. still old.mine s was.own (old.rows s) (open_after n e place s was.own (ap (λ (own : FrontendRows). has s own.rows) (sym was.is) ∙ open_now)).0;
+        }
+
+-- the trial once it took a report, as one of that server
+taken_tied : (plan : Plan) (p n : Plain) (moment : ℕ) (health : Health) (at : Option ServerNumbers) → Tied plan p n
+    → Tied plan p (taken n moment (option_map (λ (a : ServerNumbers). Mark a.backend a.server health) at))
+taken_tied plan p n moment health None tied = tied
+taken_tied plan p n moment health (Some at) tied =
+    let past = past_on plan n moment (Mark at.backend at.server health) (record { past = tied.past; legal = tied.legal; is = tied.is }) in
+    record {
+      listeners = listeners_after n moment (Mark at.backend at.server health) (answer_in n moment (Mark at.backend at.server health)) ∙ tied.listeners;
+      below = reported_below n p moment at.backend at.server health tied.below;
+      past = past.past;
+      legal = past.legal;
+      is = past.is;
+    }
+
+-- the balancer of the record alone answers an event that is no accept, and what it ends is closed
+closed_tied : (plan : Plan) (p n : Plain) (moment : ℕ) (event : OwnedEvent) (reply : Reply) → is_accept event ≡ false → Tied plan p n
+    → Tied plan (after p (entry moment event reply ∷ [])) (closed moment reply.said n)
+closed_tied plan p n moment event reply none tied =
+    let e : Entry = entry moment event reply in
+    let past = past_closed plan n moment reply.said (record { past = tied.past; legal = tied.legal; is = tied.is }) in
+    record {
+      listeners = listeners_closed n moment reply.said ∙ tied.listeners;
+      below = shut_below n (after p (e ∷ [])) (closed moment reply.said n) reply.said (one_answered n p e none tied.below) (closed_shut n moment reply.said);
+      past = past.past;
+      legal = past.legal;
+      is = past.is;
+    }
+
 entry_tied : (plan : Plan) (h : List Entry) (n : Plain) (moment : ℕ) (event : OwnedEvent) (reply : Reply) → IsLegal (opening plan 0) h → answer_in (after (opening plan 0) h) moment event ≡ Ok reply
-    → Tied plan (after (opening plan 0) h) n → Tied plan (after (after (opening plan 0) h) (entry moment event reply ∷ [])) (played n moment event reply.said)
+    → Tied plan (after (opening plan 0) h) n → Tied plan (after (after (opening plan 0) h) (entry moment event reply ∷ [])) (played (after (opening plan 0) h).versions n moment event reply.said)
 entry_tied plan h n moment (Accept listener real) reply legal is tied =
     handed_tied plan (after (opening plan 0) h) n moment (Accept listener real) reply tied (accept_outcome plan h n moment listener real reply legal is tied)
 entry_tied plan h n moment (Piece id bytes) reply legal is tied =
@@ -573,6 +636,10 @@ entry_tied plan h n moment (Close id why) reply legal is tied =
 entry_tied plan h n moment (Expire id) reply legal is tied =
     handed_tied plan (after (opening plan 0) h) n moment (Expire id) reply tied (outcome_of n moment (Expire id) reply.said refl (λ theirs. tt))
 entry_tied plan h n moment (Reload text) reply legal is tied = reload_tied plan (after (opening plan 0) h) n moment text reply is tied
+entry_tied plan h n moment (Mark number k health) reply legal is tied =
+    let p : Plain = after (opening plan 0) h in
+    let at = numbers_for p.versions n.versions number k in
+    closed_tied plan p (taken n moment (option_map (λ (a : ServerNumbers). Mark a.backend a.server health) at)) moment (Mark number k health) reply refl (taken_tied plan p n moment health at tied)
 
 -- ---- at the openings
 
@@ -612,7 +679,7 @@ all_tied summary plan text trial (e ∷ h) opens legal =
     let o : Plain = opening plan 0 in
     let t : Report = history_report summary o trial h in
     subst (λ p. Tied plan p (history_report summary o trial (e ∷ h)).trial) (whole_in_parts o (opening_well plan 0) (e ∷ []) h legal)
-    (subst (Tied plan (after (after o h) (e ∷ []))) (sym (turn_trial summary (played t.trial e.moment e.event e.reply.said) t (turn_of (after o h) t.trial e)))
+    (subst (Tied plan (after (after o h) (e ∷ []))) (sym (turn_trial summary (played (after o h).versions t.trial e.moment e.event e.reply.said) t (turn_of (after o h) t.trial e)))
     (entry_tied plan h t.trial e.moment e.event e.reply legal.0 legal.1 (all_tied summary plan text trial h opens legal.0)))
 
 -- ---- what is open

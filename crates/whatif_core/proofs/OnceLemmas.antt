@@ -1,27 +1,31 @@
 -- A connection has one difference at the most.
 use Rattle.std.proofs.Common.{◌≡◌, ◌⊎◌, inl, inr, ℕ, ◌+◌, ◌≤◌, Bool, true, false, List, [], ◌∷◌, ◌++◌, Option, Some, None, Result, Ok, Err, refl, ap, sym, subst, ◌∙◌, max, arith}
-use Rattle.std.specs.Prelude.{◌==◌, ◌&&◌, ◌||◌, not, map, filter, find, slice_get, is_some, option_map, if◌then◌else◌}
+use Rattle.std.specs.Prelude.{◌==◌, ◌&&◌, ◌||◌, not, map, filter, find, slice_get, is_some, option_map, option_and_then, if◌then◌else◌}
 use Rattle.std.specs.Option.{option_map_or}
-use Rattle.std.specs.List.{AllByRecursion}
 use Rattle.std.proofs.lemmas.Bool.{eq-eqb, eqb-true}
-use Rattle.std.proofs.lemmas.Bool.Decides.{nat_tests}
+use Rattle.list_core.specs.Each.{◌>>=◌}
 use Rattle.addr_core.specs.PairValue.{PairValue}
 use Rattle.plan_types.specs.declared.plan.Plan.{Plan}
+use Rattle.conn_core.specs.declared.checked.ServerNumbers.{ServerNumbers}
 use Rattle.conn_model.specs.declared.event.ConnId.{ConnId}
+use Rattle.conn_model.specs.declared.event.Health.{Health}
 use Rattle.conn_model.specs.declared.event.OwnedEvent.{OwnedEvent}
-use Rattle.conn_model.specs.declared.event.OwnedEvent.TheVariants.{Accept, Piece, Connected, ConnectFailed, Close, Expire, Reload}
-use Rattle.conn_model.specs.declared.event.Why.TheVariants.{Done, Failed}
+use Rattle.conn_model.specs.declared.event.OwnedEvent.TheVariants.{Accept, Piece, Connected, ConnectFailed, Close, Expire, Reload, Mark}
+use Rattle.conn_model.specs.declared.event.Why.TheVariants.{Done}
 use Rattle.conn_model.specs.declared.plain.FrontendRows.{FrontendRows}
 use Rattle.conn_model.specs.declared.plain.Phase.{Phase}
 use Rattle.conn_model.specs.declared.plain.Phase.TheVariants.{Waiting, Offered, Up}
 use Rattle.conn_model.specs.declared.plain.Plain.{Plain}
 use Rattle.conn_model.specs.declared.plain.Row.{Row}
+use Rattle.conn_model.specs.declared.plain.Version.{Version}
+use Rattle.plan_types.specs.declared.plan.Backend.{Backend}
+use Rattle.plan_types.specs.declared.plan.Server.{Server}
 use Rattle.conn_model.specs.declared.reply.Reply.{Reply}
 use Rattle.conn_model.specs.declared.reply.Said.{Said}
 use Rattle.conn_model.specs.declared.reply.Said.TheVariants as saids
 use Rattle.conn_model.specs.declared.reply.StepFault.{StepFault}
-use Rattle.conn_model.specs.declared.reply.StepFault.TheVariants.{NoSuch}
-use Rattle.conn_model.specs.Answer.{answer_in, at_moment, reply_of, rest_in, row_at, row_in}
+use Rattle.conn_model.specs.declared.reply.StepFault.TheVariants.{NoSuch, NotChecked}
+use Rattle.conn_model.specs.Answer.{answer_in, at_moment, checked_server, reply_of, rest_in, row_at, row_in}
 use Rattle.conn_model.specs.History.{Entry, IsFrontendWell, IsLegal, IsWell, accepts, after, arrivals, entry, frontend_after, has_ended, id_of, is_last, is_reload, leaves_open, opening, phase_by, phase_up, phase_on, plan_of, row_after, speaks_to}
 use Rattle.conn_model.specs.Words.{is_conn, or_fault}
 use Rattle.conn_model.proofs.Goes.{whole_in_parts}
@@ -32,9 +36,9 @@ use Rattle.conn_laws.specs.Deciding.{is_judgement, is_offer, is_wait}
 use Rattle.replay_core.specs.Turns.{plain_after}
 use Rattle.whatif_core.specs.declared.decision.ComparedDecision.{ComparedDecision}
 use Rattle.whatif_core.specs.declared.decision.ComparedDecision.TheVariants as decisions
-use Rattle.whatif_core.specs.Deciding.{closed, decided, decided_by, decision_of, decision_with, difference, handed, played, stepped}
-use Rattle.whatif_core.specs.Reporting.{differs_at, differs_of, history_report, report_of_turn, trial_opening, turn_of, turn_with, HasDiffered, Report}
-use Rattle.whatif_core.proofs.LawLemmas.{accept_outcome, all_tied, and_no, arrived, before, contrary, ends, found_has, has, has_arrived, nothing_ended, one_item, turn_trial, Before, IsBelow, Outcome, Tied}
+use Rattle.whatif_core.specs.Deciding.{closed, decided, decided_by, decided_for, decision_of, difference, handed, is_failure, numbers_for, played, stepped, stepped_for, taken}
+use Rattle.whatif_core.specs.Reporting.{differs_at, differs_of, history_report, trial_opening, turn_of, turn_with, HasDiffered, Report}
+use Rattle.whatif_core.proofs.LawLemmas.{accept_outcome, all_tied, and_no, arrived, before, contrary, ends, found_has, has, has_arrived, nothing_ended, one_item, turn_trial, IsBelow, Outcome, Tied}
 
 -- ---- rows by their serials
 
@@ -114,6 +118,7 @@ waited plan event (saids.Refuse id used cause) phase is = (is, refl)
 waited plan event (saids.Up id) phase is = (sym (once_up phase) ∙ is, refl)
 waited plan event (saids.Closed id why) phase is = (is, refl)
 waited plan event (saids.Reloaded version) phase is = (is, refl)
+waited plan event (saids.Marked line health) phase is = (is, refl)
 
 waited_if : (plan : Option Plan) (event : OwnedEvent) (said : Said) (phase : Phase) (b : Bool) → is_waiting (if b then phase_by plan event said phase else phase) ≡ true → (is_waiting phase ≡ true) × ((is_offer said && b) ≡ false)
 waited_if plan event said phase true is = let both = waited plan event said phase is in (both.0, ap (λ o. o && true) both.1)
@@ -218,6 +223,7 @@ not_come n p below id own there given moment (ConnectFailed other) theirs is cam
 not_come n p below id own there given moment (Close other why) theirs is came = absurd (cc)
 not_come n p below id own there given moment (Expire other) theirs is came = absurd (cc)
 not_come n p below id own there given moment (Reload text) theirs is came = absurd (cc)
+not_come n p below id own there given moment (Mark number k health) theirs is came = absurd (cc)
 
 -- each state is below itself
 pub below_itself : (p : Plain) → IsBelow p p nothing_ended
@@ -243,14 +249,31 @@ waits_closed n moment (saids.Refuse other used cause) id is = waits_stepped n mo
 waits_closed n moment (saids.Up other) id is = is
 waits_closed n moment (saids.Closed other why) id is = waits_stepped n moment (Close other Done) id (λ theirs answers came. absurd (cc)) is
 waits_closed n moment (saids.Reloaded version) id is = is
+waits_closed n moment (saids.Marked line health) id is = is
 
-waits_played : (n : Plain) (moment : ℕ) (event : OwnedEvent) (said : Said) (id : ConnId) → ((theirs : Reply) → answer_in n moment event ≡ Ok theirs → arrived id.frontend id.serial event theirs.said ≡ true → ⊥) →
-    waits_at (played n moment event said) id ≡ true → waits_at n id ≡ true
-waits_played n moment event said id old is = by (is_reload event) is
+-- a report lets no connection wait
+waits_reported : (n : Plain) (moment : ℕ) (health : Health) (at : Option ServerNumbers) (id : ConnId) → waits_at (taken n moment (option_map (λ (a : ServerNumbers). Mark a.backend a.server health) at)) id ≡ true → waits_at n id ≡ true
+waits_reported n moment health None id is = is
+waits_reported n moment health (Some at) id is = waits_stepped n moment (Mark at.backend at.server health) id (λ theirs answers came. absurd (cc)) is
+
+waits_taken : (recorded : List Version) (n : Plain) (moment : ℕ) (event : OwnedEvent) (id : ConnId) → ((theirs : Reply) → answer_in n moment event ≡ Ok theirs → arrived id.frontend id.serial event theirs.said ≡ true → ⊥) →
+    waits_at (stepped_for recorded n moment event) id ≡ true → waits_at n id ≡ true
+waits_taken recorded n moment (Accept listener real) id old is = waits_stepped n moment (Accept listener real) id old is
+waits_taken recorded n moment (Piece own bytes) id old is = waits_stepped n moment (Piece own bytes) id old is
+waits_taken recorded n moment (Connected own) id old is = waits_stepped n moment (Connected own) id old is
+waits_taken recorded n moment (ConnectFailed own) id old is = waits_stepped n moment (ConnectFailed own) id old is
+waits_taken recorded n moment (Close own why) id old is = waits_stepped n moment (Close own why) id old is
+waits_taken recorded n moment (Expire own) id old is = waits_stepped n moment (Expire own) id old is
+waits_taken recorded n moment (Reload text) id old is = waits_stepped n moment (Reload text) id old is
+waits_taken recorded n moment (Mark number k health) id old is = waits_reported n moment health (numbers_for recorded n.versions number k) id is
+
+waits_played : (recorded : List Version) (n : Plain) (moment : ℕ) (event : OwnedEvent) (said : Said) (id : ConnId) → ((theirs : Reply) → answer_in n moment event ≡ Ok theirs → arrived id.frontend id.serial event theirs.said ≡ true → ⊥) →
+    waits_at (played recorded n moment event said) id ≡ true → waits_at n id ≡ true
+waits_played recorded n moment event said id old is = by (is_reload event) is
   where
-    by : (b : Bool) → waits_at (if b then n else handed n moment event said) id ≡ true → waits_at n id ≡ true
+    by : (b : Bool) → waits_at (if b then n else handed recorded n moment event said) id ≡ true → waits_at n id ≡ true
     by true now = now
-    by false now = waits_stepped n moment event id old (waits_closed (stepped n moment event) moment said id now)
+    by false now = waits_taken recorded n moment event id old (waits_closed (stepped_for recorded n moment event) moment said id now)
 
 -- ---- a connection that both do not decide of any more
 
@@ -265,7 +288,7 @@ given_on : (a b c : ℕ) → a ≤ b → a ≤ b + c
 given_on a b c le = omega (arith, le)
 
 past_on : (plan : Plan) (p n : Plain) (moment : ℕ) (event : OwnedEvent) (reply : Reply) (id : ConnId) → Tied plan p n → answer_in p moment event ≡ Ok reply → IsPast p n id →
-    IsPast (after p (entry moment event reply ∷ [])) (played n moment event reply.said) id
+    IsPast (after p (entry moment event reply ∷ [])) (played p.versions n moment event reply.said) id
 past_on plan p n moment event reply id tied is past =
     let e : Entry = entry moment event reply in
     record {
@@ -277,7 +300,7 @@ past_on plan p n moment event reply id tied is past =
             | inl waits ↦ waits
             | inr came ↦ absurd (not_come p p (below_itself p) id past.own past.there past.given moment event reply is came)
           ])
-          (waits_played n moment event reply.said id (not_come n p tied.below id past.own past.there past.given moment event) second);
+          (waits_played p.versions n moment event reply.said id (not_come n p tied.below id past.own past.there past.given moment event) second);
     }
 
 -- ---- what a difference says
@@ -289,18 +312,64 @@ decides q (saids.Refuse id used cause) = refl
 decides q (saids.Up id) = refl
 decides q (saids.Closed id why) = refl
 decides q (saids.Reloaded version) = refl
+decides q (saids.Marked line health) = refl
+
+-- a report decides nothing of a connection, so it makes no difference as which server the trial takes it
+report_undecided : (q : Plain) (moment number k : ℕ) (health : Health) → decided q moment (Mark number k health) ≡ None
+report_undecided q moment number k health = by (checked_server q.versions number k)
+  where
+    answer : Option (Backend × Server) → Result Reply StepFault
+    answer found = or_fault NotChecked found >>= λ found. Ok (reply_of (saids.Marked found.1.line health))
+
+    by : (found : Option (Backend × Server)) → decided_by (plain_after q moment (Mark number k health) (answer found)) (Mark number k health) (answer found) ≡ None
+    by None = refl
+    by (Some found) = refl
+
+taken_undecided : (n : Plain) (moment : ℕ) (health : Health) (at : Option ServerNumbers) → option_and_then (decided n moment) (option_map (λ (a : ServerNumbers). Mark a.backend a.server health) at) ≡ None
+taken_undecided n moment health None = refl
+taken_undecided n moment health (Some at) = report_undecided n moment at.backend at.server health
+
+pub same_decided : (recorded : List Version) (n : Plain) (moment : ℕ) (event : OwnedEvent) → decided_for recorded n moment event ≡ decided n moment event
+same_decided recorded n moment (Accept listener real) = refl
+same_decided recorded n moment (Piece id bytes) = refl
+same_decided recorded n moment (Connected id) = refl
+same_decided recorded n moment (ConnectFailed id) = refl
+same_decided recorded n moment (Close id why) = refl
+same_decided recorded n moment (Expire id) = refl
+same_decided recorded n moment (Reload text) = refl
+same_decided recorded n moment (Mark number k health) = taken_undecided n moment health (numbers_for recorded n.versions number k) ∙ sym (report_undecided n moment number k health)
+
+-- an event that decides is handed in as it is
+same_stepped : (recorded : List Version) (n : Plain) (moment : ℕ) (event : OwnedEvent) → is_some (decided n moment event) ≡ true → stepped_for recorded n moment event ≡ stepped n moment event
+same_stepped recorded n moment (Accept listener real) is = refl
+same_stepped recorded n moment (Piece id bytes) is = refl
+same_stepped recorded n moment (Connected id) is = refl
+same_stepped recorded n moment (ConnectFailed id) is = refl
+same_stepped recorded n moment (Close id why) is = refl
+same_stepped recorded n moment (Expire id) is = refl
+same_stepped recorded n moment (Reload text) is = refl
+same_stepped recorded n moment (Mark number k health) is =
+    contrary (is_some (decided n moment (Mark number k health))) (stepped_for recorded n moment (Mark number k health) ≡ stepped n moment (Mark number k health)) is (ap is_some (report_undecided n moment number k health))
 
 pub record IsJudgedSo (q : Plain) (moment : ℕ) (event : OwnedEvent) : Type 0 where
   pub reply : Reply
   pub answers : answer_in q moment event ≡ Ok reply
+  pub no_failure : is_failure event ≡ false
   pub judged : is_judgement reply.said ≡ true
+
+-- what a reply decides where its event is no failure
+unless_failure : (b : Bool) (o : Option ComparedDecision) → is_some (if b then None else o) ≡ true → (b ≡ false) × (is_some o ≡ true)
+unless_failure true o is = absurd (let wrong : false ≡ true = is in cc)
+unless_failure false o is = (refl, is)
 
 pub judged_so : (q : Plain) (moment : ℕ) (event : OwnedEvent) → is_some (decided q moment event) ≡ true → IsJudgedSo q moment event
 judged_so q moment event is = by (answer_in q moment event) refl is
   where
-    by : (answer : Result Reply StepFault) → answer_in q moment event ≡ answer → is_some (decided_by (stepped q moment event) answer) ≡ true → IsJudgedSo q moment event
+    by : (answer : Result Reply StepFault) → answer_in q moment event ≡ answer → is_some (decided_by (stepped q moment event) event answer) ≡ true → IsJudgedSo q moment event
     by (Err fault) answers now = absurd (let wrong : false ≡ true = now in cc)
-    by (Ok reply) answers now = record { reply = reply; answers = answers; judged = sym (decides (stepped q moment event) reply.said) ∙ now }
+    by (Ok reply) answers now =
+        let both = unless_failure (is_failure event) (decision_of (stepped q moment event) reply.said) now in
+        record { reply = reply; answers = answers; no_failure = both.0; judged = sym (decides (stepped q moment event) reply.said) ∙ both.1 }
 
 pub both_decide : (was would : Option ComparedDecision) → is_some (difference was would) ≡ true → (is_some was ≡ true) × (is_some would ≡ true)
 both_decide None would is = absurd (let wrong : false ≡ true = is in cc)
@@ -314,9 +383,13 @@ wait_decision q (saids.Refuse id used cause) is = absurd (cc)
 wait_decision q (saids.Up id) is = absurd (cc)
 wait_decision q (saids.Closed id why) is = absurd (cc)
 wait_decision q (saids.Reloaded version) is = absurd (cc)
+wait_decision q (saids.Marked line health) is = absurd (cc)
 
-pub decided_wait : (q : Plain) (moment : ℕ) (event : OwnedEvent) (reply : Reply) → answer_in q moment event ≡ Ok reply → is_wait reply.said ≡ true → decided q moment event ≡ Some decisions.Wait
-decided_wait q moment event reply is waits = ap (decided_by (stepped q moment event)) is ∙ wait_decision (stepped q moment event) reply.said waits
+pub decided_wait : (q : Plain) (moment : ℕ) (event : OwnedEvent) (reply : Reply) → answer_in q moment event ≡ Ok reply → is_failure event ≡ false → is_wait reply.said ≡ true → decided q moment event ≡ Some decisions.Wait
+decided_wait q moment event reply is no_failure waits =
+    ap (decided_by (stepped q moment event) event) is
+    ∙ ap (λ b. if b then None else decision_of (stepped q moment event) reply.said) no_failure
+    ∙ wait_decision (stepped q moment event) reply.said waits
 
 pub then_waits : (said : Said) → is_judgement said ≡ true → is_last said ≡ false → is_offer said ≡ false → is_wait said ≡ true
 then_waits (saids.Wait id used) judged lasts unoffered = refl
@@ -325,6 +398,7 @@ then_waits (saids.Refuse id used cause) judged lasts unoffered = absurd (cc)
 then_waits (saids.Up id) judged lasts unoffered = absurd (cc)
 then_waits (saids.Closed id why) judged lasts unoffered = absurd (cc)
 then_waits (saids.Reloaded version) judged lasts unoffered = absurd (cc)
+then_waits (saids.Marked line health) judged lasts unoffered = absurd (cc)
 
 pub and_left : (a b : Bool) → (a && b) ≡ false → b ≡ true → a ≡ false
 and_left true b is one = absurd (let wrong : true ≡ false = sym one ∙ is in cc)
@@ -351,8 +425,8 @@ differs p n moment event reply id is = by (is_reload event) refl is
     by : (b : Bool) → is_reload event ≡ b → differs_of (if b then None else Some (turn_with p n (entry moment event reply))) ≡ Some id → Differs p n moment event reply id
     by true reload now = absurd (let wrong : None ≡ Some id = now in cc)
     by false other now =
-        let both = chosen_some (is_some (difference (decided p moment event) (decided n moment event))) (id_of reply.said) id now in
-        record { no_reload = other; some = both.0; whom = both.1 }
+        let both = chosen_some (is_some (difference (decided p moment event) (decided_for p.versions n moment event))) (id_of reply.said) id now in
+        record { no_reload = other; some = ap (λ d. is_some (difference (decided p moment event) d)) (sym (same_decided p.versions n moment event)) ∙ both.0; whom = both.1 }
 
 -- both answers to an event that is judged speak to one connection
 pub same_whom : (plan : Plan) (h : List Entry) (n : Plain) (moment : ℕ) (event : OwnedEvent) (reply theirs : Reply) → IsLegal (opening plan 0) h → answer_in (after (opening plan 0) h) moment event ≡ Ok reply →
@@ -368,6 +442,8 @@ same_whom plan h n moment (ConnectFailed id) reply theirs legal is tied answers 
 same_whom plan h n moment (Close id why) reply theirs legal is tied answers other = (answered n moment (Close id why) theirs answers).speaks ∙ sym (answered (after (opening plan 0) h) moment (Close id why) reply is).speaks
 same_whom plan h n moment (Expire id) reply theirs legal is tied answers other = (answered n moment (Expire id) theirs answers).speaks ∙ sym (answered (after (opening plan 0) h) moment (Expire id) reply is).speaks
 same_whom plan h n moment (Reload text) reply theirs legal is tied answers other = absurd (cc)
+same_whom plan h n moment (Mark number k health) reply theirs legal is tied answers other =
+    ap id_of (answered n moment (Mark number k health) theirs answers).says ∙ sym (ap id_of (answered (after (opening plan 0) h) moment (Mark number k health) reply is).says)
 
 -- the connection of an answer has a serial that was given out once it is answered
 pub record IsGiven (p : Plain) (id : ConnId) : Type 0 where
@@ -420,11 +496,13 @@ given_on_answer p well moment (ConnectFailed own) reply id is other whom = old_h
 given_on_answer p well moment (Close own why) reply id is other whom = old_here p well moment (Close own why) reply own id whom (answered p moment (Close own why) reply is)
 given_on_answer p well moment (Expire own) reply id is other whom = old_here p well moment (Expire own) reply own id whom (answered p moment (Expire own) reply is)
 given_on_answer p well moment (Reload text) reply id is other whom = absurd (cc)
+given_on_answer p well moment (Mark number k health) reply id is other whom =
+    absurd (let wrong : None ≡ Some id = sym (ap id_of (answered p moment (Mark number k health) reply is).says) ∙ whom in cc)
 
 -- ---- a difference is the last of its connection
 
 past_by : (plan : Plan) (h : List Entry) (n : Plain) (moment : ℕ) (event : OwnedEvent) (reply : Reply) (id : ConnId) → IsLegal (opening plan 0) h → answer_in (after (opening plan 0) h) moment event ≡ Ok reply →
-    Tied plan (after (opening plan 0) h) n → Differs (after (opening plan 0) h) n moment event reply id → IsPast (after (after (opening plan 0) h) (entry moment event reply ∷ [])) (played n moment event reply.said) id
+    Tied plan (after (opening plan 0) h) n → Differs (after (opening plan 0) h) n moment event reply id → IsPast (after (after (opening plan 0) h) (entry moment event reply ∷ [])) (played (after (opening plan 0) h).versions n moment event reply.said) id
 past_by plan h n moment event reply id legal is tied has =
     let p : Plain = after (opening plan 0) h in
     let e : Entry = entry moment event reply in
@@ -441,12 +519,14 @@ past_by plan h n moment event reply id legal is tied has =
       given = given.given;
       once = λ first second.
           let we_wait : is_wait reply.said ≡ true = is_let_wait (waits_at p id) _ reply.said id has.whom judged (waits_after p e id first) in
-          let handed_on : waits_at (handed n moment event reply.said) id ≡ true = sym (ap (λ b. waits_at (if b then n else handed n moment event reply.said) id) has.no_reload) ∙ second in
-          let stepped_on : waits_at (stepped n moment event) id ≡ true = waits_closed (stepped n moment event) moment reply.said id handed_on in
+          let handed_on : waits_at (handed p.versions n moment event reply.said) id ≡ true = sym (ap (λ b. waits_at (if b then n else handed p.versions n moment event reply.said) id) has.no_reload) ∙ second in
+          let taken_on : waits_at (stepped_for p.versions n moment event) id ≡ true = waits_closed (stepped_for p.versions n moment event) moment reply.said id handed_on in
+          let stepped_on : waits_at (stepped n moment event) id ≡ true = sym (ap (λ q. waits_at q id) (same_stepped p.versions n moment event sides.1)) ∙ taken_on in
           let theirs_on : waits_at (after n (entry moment event theirs ∷ [])) id ≡ true = sym (ap (λ a. waits_at (plain_after n moment event a) id) other.answers) ∙ stepped_on in
           let they_wait : is_wait theirs.said ≡ true = is_let_wait (waits_at n id) _ theirs.said id whom other.judged (waits_after n (entry moment event theirs) id theirs_on) in
           let none : is_some (difference (decided p moment event) (decided n moment event)) ≡ false =
-          ap (λ d. is_some (difference d (decided n moment event))) (decided_wait p moment event reply is we_wait) ∙ ap (λ d. is_some (difference (Some decisions.Wait) d)) (decided_wait n moment event theirs other.answers they_wait) in
+          ap (λ d. is_some (difference d (decided n moment event))) (decided_wait p moment event reply is ours.no_failure we_wait)
+          ∙ ap (λ d. is_some (difference (Some decisions.Wait) d)) (decided_wait n moment event theirs other.answers ours.no_failure they_wait) in
           contrary (is_some (difference (decided p moment event) (decided n moment event))) ⊥ has.some none;
     }
 
@@ -457,28 +537,28 @@ not_judged : (said other : Said) → said ≡ other → is_judgement other ≡ f
 not_judged said other is none judged = contrary (is_judgement said) ⊥ judged (ap is_judgement is ∙ none)
 
 -- two decisions of one event on a connection that waits in neither, or in one
-not_again : (plan : Plan) (p n : Plain) (moment : ℕ) (event : OwnedEvent) (reply theirs : Reply) (id : ConnId) → answer_in p moment event ≡ Ok reply → is_judgement reply.said ≡ true → id_of reply.said ≡ Some id →
+not_again : (plan : Plan) (p n : Plain) (moment : ℕ) (event : OwnedEvent) (reply theirs : Reply) (id : ConnId) → answer_in p moment event ≡ Ok reply → is_failure event ≡ false → is_judgement reply.said ≡ true → id_of reply.said ≡ Some id →
     answer_in n moment event ≡ Ok theirs → IsPast p n id → ⊥
-not_again plan p n moment (Accept listener real) reply theirs id is judged whom answers past =
+not_again plan p n moment (Accept listener real) reply theirs id is no_failure judged whom answers past =
     not_new p p (below_itself p) id past.own past.there past.given reply.said (answered p moment (Accept listener real) reply is) whom
-not_again plan p n moment (Piece own bytes) reply theirs id is judged whom answers past =
+not_again plan p n moment (Piece own bytes) reply theirs id is no_failure judged whom answers past =
     let same : own ≡ id = same_conn own id (id_of reply.said) (answered p moment (Piece own bytes) reply is).speaks whom in
     let a = received (at_moment moment p) own bytes reply is in
     let b = received (at_moment moment n) own bytes theirs answers in
     past.once (ap (waits_at p) (sym same) ∙ waits_here p own a.row a.row_is (ap is_some a.waits)) (ap (waits_at n) (sym same) ∙ waits_here n own b.row b.row_is (ap is_some b.waits))
-not_again plan p n moment (Connected own) reply theirs id is judged whom answers past = not_judged reply.said (saids.Up own) (ap (λ (r : Reply). r.said) (sym (server_answered p own (saids.Up own) reply is).reply_is)) refl judged
-not_again plan p n moment (ConnectFailed own) reply theirs id is judged whom answers past =
-    not_judged reply.said (saids.Closed own Failed) (ap (λ (r : Reply). r.said) (sym (server_answered p own (saids.Closed own Failed) reply is).reply_is)) refl judged
-not_again plan p n moment (Close own why) reply theirs id is judged whom answers past =
+not_again plan p n moment (Connected own) reply theirs id is no_failure judged whom answers past = not_judged reply.said (saids.Up own) (ap (λ (r : Reply). r.said) (sym (server_answered p own (saids.Up own) reply is).reply_is)) refl judged
+not_again plan p n moment (ConnectFailed own) reply theirs id is no_failure judged whom answers past = absurd (let wrong : true ≡ false = no_failure in cc)
+not_again plan p n moment (Close own why) reply theirs id is no_failure judged whom answers past =
     let one = bind-ok (or_fault NoSuch (row_at p.frontends own)) _ reply is in
     let same : reply_of (saids.Closed own why) ≡ reply = let it : Ok (reply_of (saids.Closed own why)) ≡ Ok reply = one.2 in cc in
     not_judged reply.said (saids.Closed own why) (ap (λ (r : Reply). r.said) (sym same)) refl judged
-not_again plan p n moment (Expire own) reply theirs id is judged whom answers past =
+not_again plan p n moment (Expire own) reply theirs id is no_failure judged whom answers past =
     let same : own ≡ id = same_conn own id (id_of reply.said) (answered p moment (Expire own) reply is).speaks whom in
     let a = expired (at_moment moment p) (max p.clock moment) own reply is in
     let b = expired (at_moment moment n) (max n.clock moment) own theirs answers in
     past.once (ap (waits_at p) (sym same) ∙ waits_here p own a.row a.row_is (ap is_some a.waits)) (ap (waits_at n) (sym same) ∙ waits_here n own b.row b.row_is (ap is_some b.waits))
-not_again plan p n moment (Reload text) reply theirs id is judged whom answers past = not_judged reply.said _ (answered p moment (Reload text) reply is).says refl judged
+not_again plan p n moment (Reload text) reply theirs id is no_failure judged whom answers past = not_judged reply.said _ (answered p moment (Reload text) reply is).says refl judged
+not_again plan p n moment (Mark number k health) reply theirs id is no_failure judged whom answers past = not_judged reply.said _ (answered p moment (Mark number k health) reply is).says refl judged
 
 -- ---- along a history
 
@@ -489,7 +569,7 @@ past_at plan text trial (e ∷ h) id opens legal has =
     let o : Plain = opening plan 0 in
     let t : Report = history_report false o trial h in
     subst (λ p. IsPast p (history_report false o trial (e ∷ h)).trial id) (whole_in_parts o (opening_well plan 0) (e ∷ []) h legal)
-    (subst (λ n. IsPast (after (after o h) (e ∷ [])) n id) (sym (turn_trial false (played t.trial e.moment e.event e.reply.said) t (turn_of (after o h) t.trial e)))
+    (subst (λ n. IsPast (after (after o h) (e ∷ [])) n id) (sym (turn_trial false (played (after o h).versions t.trial e.moment e.event e.reply.said) t (turn_of (after o h) t.trial e)))
     (elim has [
       | inl now ↦ past_by plan h t.trial e.moment e.event e.reply id legal.0 legal.1 (all_tied false plan text trial h opens legal.0) (differs (after o h) t.trial e.moment e.event e.reply id now)
       | inr before_it ↦ past_on plan (after o h) t.trial e.moment e.event e.reply id (all_tied false plan text trial h opens legal.0) legal.1 (past_at plan text trial h id opens legal.0 before_it)
@@ -504,5 +584,5 @@ one_difference plan text trial h e id opens legal first second =
     let sides = both_decide (decided p e.moment e.event) (decided n e.moment e.event) has.some in
     let ours = judged_so p e.moment e.event sides.0 in
     let other = judged_so n e.moment e.event sides.1 in
-    not_again plan p n e.moment e.event e.reply other.reply id legal.1 (ap (λ (r : Reply). is_judgement r.said) (same_reply (answer_in p e.moment e.event) e.reply ours.reply legal.1 ours.answers) ∙ ours.judged) has.whom other.answers
+    not_again plan p n e.moment e.event e.reply other.reply id legal.1 ours.no_failure (ap (λ (r : Reply). is_judgement r.said) (same_reply (answer_in p e.moment e.event) e.reply ours.reply legal.1 ours.answers) ∙ ours.judged) has.whom other.answers
     (past_at plan text trial h id opens legal.0 first)

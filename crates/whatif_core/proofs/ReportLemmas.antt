@@ -29,7 +29,7 @@ turn_prefixed sent summary next t (Some turn) =
 
 entry_prefixed : (sent : List ℕ) (summary : Bool) (p : Plain) (t : Report) (e : Option Entry) → report_by summary p (prefixed sent t) e ≡ prefixed sent (report_by summary p t e)
 entry_prefixed sent summary p t None = refl
-entry_prefixed sent summary p t (Some e) = turn_prefixed sent summary (played t.trial e.moment e.event e.reply.said) t (turn_of p t.trial e)
+entry_prefixed sent summary p t (Some e) = turn_prefixed sent summary (played p.versions t.trial e.moment e.event e.reply.said) t (turn_of p t.trial e)
 
 pub lines_prefixed : (sent : List ℕ) (summary : Bool) (s : Standing) (t : Report) (lines : List (List ℕ)) → report_on_lines summary s (prefixed sent t) lines ≡ prefixed sent (report_on_lines summary s t lines)
 lines_prefixed sent summary s t [] = refl
@@ -54,30 +54,30 @@ earlier_report summary s t lines =
 
 -- ---- one line
 
-pub both_parts : (s u : Both) (line : List ℕ) → both_on s line ≡ Ok u → (on_line s.checked line ≡ Ok u.checked) × (u.trial ≡ trial_with s.trial (entry_at s.checked line))
+pub both_parts : (s u : Both) (line : List ℕ) → both_on s line ≡ Ok u → (on_line s.checked line ≡ Ok u.checked) × (u.trial ≡ trial_with s.checked.plain.versions s.trial (entry_at s.checked line))
 both_parts s u line is = by (on_line s.checked line) is
   where
-    by : (step : Result Standing CheckFault) → (step >>= λ next. Ok (record { checked = next; trial = trial_with s.trial (entry_at s.checked line) })) ≡ Ok u
-        → (step ≡ Ok u.checked) × (u.trial ≡ trial_with s.trial (entry_at s.checked line))
+    by : (step : Result Standing CheckFault) → (step >>= λ next. Ok (record { checked = next; trial = trial_with s.checked.plain.versions s.trial (entry_at s.checked line) })) ≡ Ok u
+        → (step ≡ Ok u.checked) × (u.trial ≡ trial_with s.checked.plain.versions s.trial (entry_at s.checked line))
     by (Err fault) step = absurd (cc)
     by (Ok next) step =
-        let both : Both = record { checked = next; trial = trial_with s.trial (entry_at s.checked line) } in
+        let both : Both = record { checked = next; trial = trial_with s.checked.plain.versions s.trial (entry_at s.checked line) } in
         let same : both ≡ u = cc in (ap (λ b. Ok b.checked) same, sym (ap (λ b. b.trial) same))
 
 pub both_wrong : (s : Both) (line : List ℕ) (fault : CheckFault) → both_on s line ≡ Err fault → on_line s.checked line ≡ Err fault
 both_wrong s line fault is = by (on_line s.checked line) is
   where
-    by : (step : Result Standing CheckFault) → ◌>>=◌ {B = Both} step (λ next. Ok (record { checked = next; trial = trial_with s.trial (entry_at s.checked line) })) ≡ Err fault → step ≡ Err fault
+    by : (step : Result Standing CheckFault) → ◌>>=◌ {B = Both} step (λ next. Ok (record { checked = next; trial = trial_with s.checked.plain.versions s.trial (entry_at s.checked line) })) ≡ Err fault → step ≡ Err fault
     by (Err other) step = let same : other ≡ fault = cc in ap (λ f. Err f) same
     by (Ok next) step = absurd (cc)
 
-pub both_right : (s : Both) (line : List ℕ) (next : Standing) (trial : Plain) → on_line s.checked line ≡ Ok next → trial ≡ trial_with s.trial (entry_at s.checked line)
+pub both_right : (s : Both) (line : List ℕ) (next : Standing) (trial : Plain) → on_line s.checked line ≡ Ok next → trial ≡ trial_with s.checked.plain.versions s.trial (entry_at s.checked line)
     → both_on s line ≡ Ok (record { checked = next; trial = trial })
 both_right s line next trial step is =
-    ap (λ r. r >>= λ u. Ok (record { checked = u; trial = trial_with s.trial (entry_at s.checked line) })) step ∙ ap (λ p. Ok (record { checked = next; trial = p })) (sym is)
+    ap (λ r. r >>= λ u. Ok (record { checked = u; trial = trial_with s.checked.plain.versions s.trial (entry_at s.checked line) })) step ∙ ap (λ p. Ok (record { checked = next; trial = p })) (sym is)
 
 pub both_fault : (s : Both) (line : List ℕ) (fault : CheckFault) → on_line s.checked line ≡ Err fault → both_on s line ≡ Err fault
-both_fault s line fault step = ap (λ r. r >>= λ u. Ok (record { checked = u; trial = trial_with s.trial (entry_at s.checked line) })) step
+both_fault s line fault step = ap (λ r. r >>= λ u. Ok (record { checked = u; trial = trial_with s.checked.plain.versions s.trial (entry_at s.checked line) })) step
 
 -- ---- the journal after a line
 
@@ -95,10 +95,10 @@ turn_noted now k t u next (Some turn) is =
 abbrev by_entry : Both → Option Entry → Option Turn
 by_entry t e = option_and_then (turn_of t.checked.plain t.trial) e
 
-entry_noted : (now : List ℕ) (k : Noted) (t u : Both) (e : Option Entry) → u.trial ≡ trial_with t.trial e
+entry_noted : (now : List ℕ) (k : Noted) (t u : Both) (e : Option Entry) → u.trial ≡ trial_with t.checked.plain.versions t.trial e
     → report_from now (noted_with k (by_entry t e)) u ≡ report_by k.summary t.checked.plain (report_from now k t) e
 entry_noted now k t u None is = ap (λ p. record { trial = p; peers = k.peers; text = now ++ k.unsent; sums = k.sums }) is
-entry_noted now k t u (Some e) is = turn_noted now k t u (played t.trial e.moment e.event e.reply.said) (turn_of t.checked.plain t.trial e) is
+entry_noted now k t u (Some e) is = turn_noted now k t u (played t.checked.plain.versions t.trial e.moment e.event e.reply.said) (turn_of t.checked.plain t.trial e) is
 
 -- a right line, with what both decide in the journal
 pub line_report : (now : List ℕ) (k : Noted) (t u : Both) (line : List ℕ) (more : List (List ℕ)) → both_on t line ≡ Ok u

@@ -1,17 +1,19 @@
 -- What is hidden in a report is hidden behind a difference, or is not due in the trial.
 use Rattle.std.proofs.Common.{◌≡◌, ◌⊎◌, inl, inr, ℕ, ◌+◌, ◌≤◌, Bool, true, false, List, [], ◌∷◌, ◌++◌, Option, Some, None, Result, Ok, Err, refl, ap, sym, subst, ◌∙◌, max, arith}
-use Rattle.std.specs.Prelude.{◌==◌, ◌&&◌, ◌||◌, not, map, filter, find, slice_get, is_some, nat_le, option_map, if◌then◌else◌}
+use Rattle.std.specs.Prelude.{◌==◌, ◌&&◌, ◌||◌, not, filter, slice_get, is_some, nat_le, option_map, if◌then◌else◌}
 use Rattle.std.specs.Option.{option_map_or}
-use Rattle.std.specs.List.{AllByRecursion}
 use Rattle.std.proofs.lemmas.Bool.{eq-eqb, eqb-true}
 use Rattle.addr_core.specs.PairValue.{PairValue}
 use Rattle.plan_types.specs.declared.plan.Frontend.{Frontend}
 use Rattle.plan_types.specs.declared.plan.Plan.{Plan}
+use Rattle.conn_core.specs.declared.checked.ServerNumbers.{ServerNumbers}
 use Rattle.conn_model.specs.declared.event.ConnId.{ConnId}
+use Rattle.conn_model.specs.declared.event.Health.{Health}
+use Rattle.conn_model.specs.declared.plain.Assignment.{Assignment}
 use Rattle.conn_model.specs.declared.event.OwnedEvent.{OwnedEvent}
-use Rattle.conn_model.specs.declared.event.OwnedEvent.TheVariants.{Accept, Piece, Connected, ConnectFailed, Close, Expire, Reload}
+use Rattle.conn_model.specs.declared.event.OwnedEvent.TheVariants.{Accept, Piece, Connected, ConnectFailed, Close, Expire, Reload, Mark}
 use Rattle.conn_model.specs.declared.event.TheConstants.{HEADER_WAIT}
-use Rattle.conn_model.specs.declared.event.Why.TheVariants.{Done, Failed}
+use Rattle.conn_model.specs.declared.event.Why.TheVariants.{Done}
 use Rattle.conn_model.specs.declared.plain.FrontendRows.{FrontendRows}
 use Rattle.conn_model.specs.declared.plain.Phase.{Phase}
 use Rattle.conn_model.specs.declared.plain.Phase.TheVariants.{Waiting, Offered, Up}
@@ -23,23 +25,22 @@ use Rattle.conn_model.specs.declared.reply.Said.{Said}
 use Rattle.conn_model.specs.declared.reply.Said.TheVariants as saids
 use Rattle.conn_model.specs.declared.reply.StepFault.{StepFault}
 use Rattle.conn_model.specs.declared.reply.StepFault.TheVariants.{NoSuch, NotDue}
-use Rattle.conn_model.specs.Answer.{answer_in, at_moment, awaits_server, new_row, reply_of, rest_in, row_at, row_in}
+use Rattle.conn_model.specs.Answer.{answer_in, at_moment, awaits_server, offer_in, new_row, reply_of, rest_in, row_at, row_in}
 use Rattle.conn_model.specs.History.{Entry, IsFrontendWell, IsLegal, IsWell, after, arrival_of, arrivals, entry, frontend_after, has_ended, id_of, is_last, is_reload, leaves_open, opening, phase_by, plan_of, row_after, speaks_to}
 use Rattle.conn_model.specs.Words.{is_conn, or_fault}
 use Rattle.conn_model.proofs.Goes.{whole_in_parts}
 use Rattle.conn_model.proofs.Lists.{all-at, all-each, all-found, all-map, and_true, get-from_zero}
-use Rattle.conn_model.proofs.Replies.{answered, bind-ok, expired, received, server_answered, IsNew}
+use Rattle.conn_model.proofs.Replies.{answered, bind-ok, expired, has_failed, received, server_answered, IsNew}
 use Rattle.conn_model.proofs.Well.{after-nil, opening_well, well_after}
 use Rattle.conn_laws.specs.Deciding.{is_judgement, is_offer, is_wait, IsJudged, Waiter}
 use Rattle.conn_laws.proofs.Judged.{piece_judged}
 use Rattle.conn_laws.proofs.Present.{waits_there}
 use Rattle.replay_core.specs.Turns.{plain_after}
-use Rattle.whatif_core.specs.declared.decision.ComparedDecision.{ComparedDecision}
 use Rattle.whatif_core.specs.declared.decision.ComparedDecision.TheVariants as decisions
-use Rattle.whatif_core.specs.Deciding.{closed, decided, decided_by, decision_of, difference, handed, offer_of, played, stepped}
-use Rattle.whatif_core.specs.Reporting.{differs_at, differs_of, history_report, trial_opening, turn_of, turn_with, HasDiffered, IsSeen, Report}
+use Rattle.whatif_core.specs.Deciding.{closed, decided, decided_by, decision_of, difference, handed, is_failure, numbers_for, offer_of, played, stepped, taken}
+use Rattle.whatif_core.specs.Reporting.{differs_of, history_report, trial_opening, turn_of, turn_with, HasDiffered, IsSeen}
 use Rattle.whatif_core.proofs.LawLemmas.{accept_outcome, all_tied, and_no, arrived, contrary, ends, turn_trial, Outcome, Tied}
-use Rattle.whatif_core.proofs.OnceLemmas.{and_left, below_itself, decided_wait, decides, found, found_mapped, found_serial, is_let_wait, is_waiting, judged_so, not_new, offers, old_given, on_piece, once_up, same_conn, same_reply, same_whom, speaks, spoken, then_waits, waits_after, waits_at, waits_here, waits_in, IsGiven, Waited}
+use Rattle.whatif_core.proofs.OnceLemmas.{same_decided, and_left, below_itself, decided_wait, decides, found, found_mapped, found_serial, is_waiting, not_new, offers, old_given, on_piece, once_up, same_conn, same_reply, same_whom, spoken, then_waits, waits_after, waits_at, waits_here, waits_in, Waited}
 
 -- ---- a connection that waits on
 
@@ -78,6 +79,7 @@ waits_by plan event (saids.Refuse id used cause) phase other is = is
 waits_by plan event (saids.Up id) phase other is = once_up phase ∙ is
 waits_by plan event (saids.Closed id why) phase other is = is
 waits_by plan event (saids.Reloaded version) phase other is = is
+waits_by plan event (saids.Marked line health) phase other is = is
 
 waits_if : (plan : Option Plan) (event : OwnedEvent) (said : Said) (phase : Phase) (b : Bool) → (is_offer said && b) ≡ false → is_waiting phase ≡ true → is_waiting (if b then phase_by plan event said phase else phase) ≡ true
 waits_if plan event said phase true other is = waits_by plan event said phase (and_left (is_offer said) true other refl) is
@@ -128,6 +130,7 @@ waits_open (saids.Refuse id used cause) is = absurd (cc)
 waits_open (saids.Up id) is = absurd (cc)
 waits_open (saids.Closed id why) is = absurd (cc)
 waits_open (saids.Reloaded version) is = absurd (cc)
+waits_open (saids.Marked line health) is = absurd (cc)
 
 came_in : (id : ConnId) (clock version : ℕ) (real : PairValue) (said : Said) → id_of said ≡ Some id → leaves_open said ≡ true → found id.serial (arrival_of id.frontend clock version real said (id_of said)) ≡ Some (new_row id.serial version real clock)
 came_in id clock version real said whom stays = rw (whom, stays, eq-eqb id.frontend id.frontend refl, eq-eqb id.serial id.serial refl) refl
@@ -161,8 +164,11 @@ waits_new q well moment listener real reply id new whom waits =
 
 -- ---- decisions
 
-decided_some : (q : Plain) (moment : ℕ) (event : OwnedEvent) (reply : Reply) → answer_in q moment event ≡ Ok reply → is_judgement reply.said ≡ true → is_some (decided q moment event) ≡ true
-decided_some q moment event reply is judged = ap (λ a. is_some (decided_by (stepped q moment event) a)) is ∙ decides (stepped q moment event) reply.said ∙ judged
+decided_some : (q : Plain) (moment : ℕ) (event : OwnedEvent) (reply : Reply) → answer_in q moment event ≡ Ok reply → is_failure event ≡ false → is_judgement reply.said ≡ true → is_some (decided q moment event) ≡ true
+decided_some q moment event reply is no_failure judged =
+    ap (λ a. is_some (decided_by (stepped q moment event) event a)) is
+    ∙ ap (λ b. is_some (if b then None else decision_of (stepped q moment event) reply.said)) no_failure
+    ∙ decides (stepped q moment event) reply.said ∙ judged
 
 unlike_wait : (q : Plain) (said : Said) → is_judgement said ≡ true → is_wait said ≡ false → is_some (difference (Some decisions.Wait) (decision_of q said)) ≡ true
 unlike_wait q (saids.Wait id used) judged other = absurd (cc)
@@ -175,23 +181,28 @@ unlike_wait q (saids.Refuse id used cause) judged other = refl
 unlike_wait q (saids.Up id) judged other = absurd (cc)
 unlike_wait q (saids.Closed id why) judged other = absurd (cc)
 unlike_wait q (saids.Reloaded version) judged other = absurd (cc)
+unlike_wait q (saids.Marked line health) judged other = absurd (cc)
 
 differs_made : (p n : Plain) (moment : ℕ) (event : OwnedEvent) (reply : Reply) (id : ConnId) → is_reload event ≡ false → is_some (difference (decided p moment event) (decided n moment event)) ≡ true → id_of reply.said ≡ Some id →
     differs_of (turn_of p n (entry moment event reply)) ≡ Some id
 differs_made p n moment event reply id other some whom =
-    ap (λ b. differs_of (if b then None else Some (turn_with p n (entry moment event reply)))) other ∙ ap (λ b. if b then id_of reply.said else None) some ∙ whom
+    ap (λ b. differs_of (if b then None else Some (turn_with p n (entry moment event reply)))) other
+    ∙ ap (λ b. if b then id_of reply.said else None) (ap (λ d. is_some (difference (decided p moment event) d)) (same_decided p.versions n moment event) ∙ some)
+    ∙ whom
 
 -- the record lets it wait, and so does the trial, or that is a difference
-both_wait : (p n : Plain) (moment : ℕ) (event : OwnedEvent) (reply theirs : Reply) (id : ConnId) → is_reload event ≡ false → answer_in p moment event ≡ Ok reply → is_wait reply.said ≡ true → id_of reply.said ≡ Some id →
+both_wait : (p n : Plain) (moment : ℕ) (event : OwnedEvent) (reply theirs : Reply) (id : ConnId) → is_reload event ≡ false → is_failure event ≡ false → answer_in p moment event ≡ Ok reply → is_wait reply.said ≡ true → id_of reply.said ≡ Some id →
     answer_in n moment event ≡ Ok theirs → is_judgement theirs.said ≡ true → (is_wait theirs.said ≡ true) ⊎ (differs_of (turn_of p n (entry moment event reply)) ≡ Some id)
-both_wait p n moment event reply theirs id other is waits whom answers judged = by (is_wait theirs.said) refl
+both_wait p n moment event reply theirs id other no_failure is waits whom answers judged = by (is_wait theirs.said) refl
   where
     by : (b : Bool) → is_wait theirs.said ≡ b → (is_wait theirs.said ≡ true) ⊎ (differs_of (turn_of p n (entry moment event reply)) ≡ Some id)
     by true they = inl they
     by false they =
         let some : is_some (difference (decided p moment event) (decided n moment event)) ≡ true =
-        ap (λ d. is_some (difference d (decided n moment event))) (decided_wait p moment event reply is waits)
-        ∙ ap (λ a. is_some (difference (Some decisions.Wait) (decided_by (stepped n moment event) a))) answers ∙ unlike_wait (stepped n moment event) theirs.said judged they in
+        ap (λ d. is_some (difference d (decided n moment event))) (decided_wait p moment event reply is no_failure waits)
+        ∙ ap (λ a. is_some (difference (Some decisions.Wait) (decided_by (stepped n moment event) event a))) answers
+        ∙ ap (λ b. is_some (difference (Some decisions.Wait) (if b then None else decision_of (stepped n moment event) theirs.said))) no_failure
+        ∙ unlike_wait (stepped n moment event) theirs.said judged they in
         inr (differs_made p n moment event reply id other some whom)
 
 -- ---- the trial
@@ -225,11 +236,12 @@ closed_on n well moment (saids.Refuse other used cause) id lasts is = closed_oth
 closed_on n well moment (saids.Up other) id lasts is = is
 closed_on n well moment (saids.Closed other why) id lasts is = closed_other n well moment other id lasts is
 closed_on n well moment (saids.Reloaded version) id lasts is = is
+closed_on n well moment (saids.Marked line health) id lasts is = is
 
 -- the trial after an event that was handed in, whose answer neither ends the connection nor offers it a server
 handed_on : (n : Plain) → IsWell n → (moment : ℕ) (event : OwnedEvent) (said : Said) (id : ConnId) → ((fault : StepFault) → answer_in n moment event ≡ Err fault → waits_at n id ≡ true) →
     ((theirs : Reply) → answer_in n moment event ≡ Ok theirs → (waits_at (after n (entry moment event theirs ∷ [])) id ≡ true) × IsWell (after n (entry moment event theirs ∷ []))) →
-    ends said id.frontend id.serial ≡ false → waits_at (handed n moment event said) id ≡ true
+    ends said id.frontend id.serial ≡ false → waits_at (closed moment said (stepped n moment event)) id ≡ true
 handed_on n well moment event said id refused goes lasts = by (answer_in n moment event) refl
   where
     by : (answer : Result Reply StepFault) → answer_in n moment event ≡ answer → waits_at (closed moment said (plain_after n moment event answer)) id ≡ true
@@ -244,10 +256,10 @@ well_next plan q past legal is moment event reply answers =
     let longer : IsLegal o (entry moment event reply ∷ past) = (legal, ap (λ m. answer_in m moment event) (sym is) ∙ answers) in
     subst IsWell (sym (whole_in_parts o (opening_well plan 0) (entry moment event reply ∷ []) past longer) ∙ ap (λ m. after m (entry moment event reply ∷ [])) (sym is)) (well_after o (opening_well plan 0) (entry moment event reply ∷ past) longer)
 
--- the entry says nothing to the connection: it waits on in the trial
-elsewhere : (plan : Plan) (h : List Entry) (n : Plain) (moment : ℕ) (event : OwnedEvent) (reply : Reply) (id : ConnId) → IsLegal (opening plan 0) h → answer_in (after (opening plan 0) h) moment event ≡ Ok reply →
-    Tied plan (after (opening plan 0) h) n → is_reload event ≡ false → speaks_to id.frontend id.serial reply.said ≡ false → waits_at n id ≡ true → waits_at (handed n moment event reply.said) id ≡ true
-elsewhere plan h n moment event reply id legal is tied other quiet waits =
+-- the entry says nothing to the connection, and its event is handed in as it is: it waits on in the trial
+elsewhere_as : (plan : Plan) (h : List Entry) (n : Plain) (moment : ℕ) (event : OwnedEvent) (reply : Reply) (id : ConnId) → IsLegal (opening plan 0) h → answer_in (after (opening plan 0) h) moment event ≡ Ok reply →
+    Tied plan (after (opening plan 0) h) n → is_reload event ≡ false → speaks_to id.frontend id.serial reply.said ≡ false → waits_at n id ≡ true → waits_at (closed moment reply.said (stepped n moment event)) id ≡ true
+elsewhere_as plan h n moment event reply id legal is tied other quiet waits =
     let well = well_of plan n tied.past tied.legal tied.is in
     handed_on n well moment event reply.said id (λ fault answers. waits)
     (λ theirs answers.
@@ -255,9 +267,35 @@ elsewhere plan h n moment event reply id legal is tied other quiet waits =
     (waits_kept n well (entry moment event theirs) id waits none.0 none.1, well_next plan n tied.past tied.legal tied.is moment event theirs answers))
     (silent reply.said id quiet).0
 
+-- so does it where a report is taken as one of that server
+reported_elsewhere : (plan : Plan) (n : Plain) (past : List Entry) → IsLegal (opening plan 0) past → n ≡ after (opening plan 0) past → (moment : ℕ) (health : Health) (at : Option ServerNumbers) (said : Said) (id : ConnId) →
+    ends said id.frontend id.serial ≡ false → waits_at n id ≡ true → waits_at (closed moment said (taken n moment (option_map (λ (a : ServerNumbers). Mark a.backend a.server health) at))) id ≡ true
+reported_elsewhere plan n past legal is moment health None said id lasts waits = closed_on n (well_of plan n past legal is) moment said id lasts waits
+reported_elsewhere plan n past legal is moment health (Some at) said id lasts waits =
+    let event : OwnedEvent = Mark at.backend at.server health in
+    let well = well_of plan n past legal is in
+    handed_on n well moment event said id (λ fault answers. waits)
+    (λ theirs answers.
+    let none = silent theirs.said id (ap (λ o. option_map_or (is_conn id.frontend id.serial) o false) (ap id_of (answered n moment event theirs answers).says)) in
+    (waits_kept n well (entry moment event theirs) id waits none.0 none.1, well_next plan n past legal is moment event theirs answers))
+    lasts
+
+elsewhere : (plan : Plan) (h : List Entry) (n : Plain) (moment : ℕ) (event : OwnedEvent) (reply : Reply) (id : ConnId) → IsLegal (opening plan 0) h → answer_in (after (opening plan 0) h) moment event ≡ Ok reply →
+    Tied plan (after (opening plan 0) h) n → is_reload event ≡ false → speaks_to id.frontend id.serial reply.said ≡ false → waits_at n id ≡ true →
+    waits_at (handed (after (opening plan 0) h).versions n moment event reply.said) id ≡ true
+elsewhere plan h n moment (Accept listener real) reply id legal is tied other quiet waits = elsewhere_as plan h n moment (Accept listener real) reply id legal is tied other quiet waits
+elsewhere plan h n moment (Piece own bytes) reply id legal is tied other quiet waits = elsewhere_as plan h n moment (Piece own bytes) reply id legal is tied other quiet waits
+elsewhere plan h n moment (Connected own) reply id legal is tied other quiet waits = elsewhere_as plan h n moment (Connected own) reply id legal is tied other quiet waits
+elsewhere plan h n moment (ConnectFailed own) reply id legal is tied other quiet waits = elsewhere_as plan h n moment (ConnectFailed own) reply id legal is tied other quiet waits
+elsewhere plan h n moment (Close own why) reply id legal is tied other quiet waits = elsewhere_as plan h n moment (Close own why) reply id legal is tied other quiet waits
+elsewhere plan h n moment (Expire own) reply id legal is tied other quiet waits = elsewhere_as plan h n moment (Expire own) reply id legal is tied other quiet waits
+elsewhere plan h n moment (Reload text) reply id legal is tied other quiet waits = elsewhere_as plan h n moment (Reload text) reply id legal is tied other quiet waits
+elsewhere plan h n moment (Mark number k health) reply id legal is tied other quiet waits =
+    reported_elsewhere plan n tied.past tied.legal tied.is moment health (numbers_for (after (opening plan 0) h).versions n.versions number k) reply.said id (silent reply.said id quiet).0 waits
+
 -- both let it wait
 lets_wait : (plan : Plan) (n : Plain) (moment : ℕ) (event : OwnedEvent) (reply theirs : Reply) (id : ConnId) (past : List Entry) → IsLegal (opening plan 0) past → n ≡ after (opening plan 0) past →
-    answer_in n moment event ≡ Ok theirs → waits_at (after n (entry moment event theirs ∷ [])) id ≡ true → is_wait reply.said ≡ true → waits_at (handed n moment event reply.said) id ≡ true
+    answer_in n moment event ≡ Ok theirs → waits_at (after n (entry moment event theirs ∷ [])) id ≡ true → is_wait reply.said ≡ true → waits_at (closed moment reply.said (stepped n moment event)) id ≡ true
 lets_wait plan n moment event reply theirs id past legal is answers on waits =
     handed_on n (well_of plan n past legal is) moment event reply.said id (λ fault refused. absurd (let wrong : Err fault ≡ Ok theirs = sym refused ∙ answers in cc))
     (λ found found_is. (
@@ -267,7 +305,7 @@ lets_wait plan n moment event reply theirs id past legal is answers on waits =
     (ap (λ b. b && speaks_to id.frontend id.serial reply.said) (waits_open reply.said waits).1)
 
 abbrev WaitsOn : Plain → Plain → ℕ → OwnedEvent → Reply → ConnId → Type 0
-WaitsOn p n moment event reply id = (differs_of (turn_of p n (entry moment event reply)) ≡ Some id) ⊎ (waits_at (handed n moment event reply.said) id ≡ true)
+WaitsOn p n moment event reply id = (differs_of (turn_of p n (entry moment event reply)) ≡ Some id) ⊎ (waits_at (handed p.versions n moment event reply.said) id ≡ true)
 
 -- a newcomer that the record lets wait
 comes : (plan : Plan) (h : List Entry) (n : Plain) (moment listener : ℕ) (real : PairValue) (reply : Reply) (id : ConnId) → IsLegal (opening plan 0) h → answer_in (after (opening plan 0) h) moment (Accept listener real) ≡ Ok reply →
@@ -279,7 +317,7 @@ comes plan h n moment listener real reply id legal is tied whom waits = by (acce
 
     by : Outcome n moment (Accept listener real) reply.said → WaitsOn p n moment (Accept listener real) reply id
     by (inl (fault, refused, none)) = absurd (cc)
-    by (inr (theirs, answers, agree)) = elim (both_wait p n moment (Accept listener real) reply theirs id refl is waits whom answers agree.2) [
+    by (inr (theirs, answers, agree)) = elim (both_wait p n moment (Accept listener real) reply theirs id refl refl is waits whom answers agree.2) [
       | inl they ↦ inr (lets_wait plan n moment (Accept listener real) reply theirs id tied.past tied.legal tied.is answers
           (waits_new n (well_of plan n tied.past tied.legal tied.is) moment listener real theirs id (answered n moment (Accept listener real) theirs answers) (agree.0 ∙ whom) they) waits)
       | inr different ↦ inl different
@@ -293,7 +331,7 @@ goes_on plan h n moment id bytes reply legal is tied waits there =
     let judged = judged_on plan n tied.past tied.legal tied.is moment id bytes there in
     let theirs : Reply = judged.0 in
     let old = answered n moment (Piece id bytes) theirs judged.1 in
-    elim (both_wait p n moment (Piece id bytes) reply theirs id refl is waits (answered p moment (Piece id bytes) reply is).speaks judged.1 judged.2) [
+    elim (both_wait p n moment (Piece id bytes) reply theirs id refl refl is waits (answered p moment (Piece id bytes) reply is).speaks judged.1 judged.2) [
       | inl they ↦ (
           let open_still = waits_open theirs.said they in
           inr (lets_wait plan n moment (Piece id bytes) reply theirs id tied.past tied.legal tied.is judged.1
@@ -357,7 +395,18 @@ on_entry plan h n moment event reply id legal is tied other waits there before c
             neither (Up assignment) awaits waits = let wrong : false ≡ true = waits in cc
     spoken_on (ConnectFailed own) same spoken_to =
         let now = ap (λ ev. answer_in p moment ev) (sym same) ∙ is in
-        over (saids.Closed own Failed) refl (ap (λ (r : Reply). r.said) (server_answered p own (saids.Closed own Failed) reply now).reply_is) spoken_to
+        let got = has_failed (at_moment moment p) own reply now in
+        let one : own ≡ id = spoken_id id own reply.said (answered p moment (ConnectFailed own) reply now).speaks spoken_to in
+        let here = waiting_row_at p id waits in
+        absurd (not_both got.row here.row got.given got.offered here.waits (let twice : Some got.row ≡ Some here.row = sym got.row_is ∙ ap (row_at p.frontends) one ∙ here.there in cc))
+      where
+        not_both : (a b : Row) (given : Assignment) → offer_in a.phase ≡ Some given → is_waiting b.phase ≡ true → a ≡ b → ⊥
+        not_both a b given offered waits same = neither b.phase (ap (λ (r : Row). offer_in r.phase) (sym same) ∙ offered) waits
+          where
+            neither : (phase : Phase) → offer_in phase ≡ Some given → is_waiting phase ≡ true → ⊥
+            neither (Waiting rest) offered waits = let wrong : None ≡ Some given = offered in cc
+            neither (Offered assignment) offered waits = let wrong : false ≡ true = waits in cc
+            neither (Up assignment) offered waits = let wrong : false ≡ true = waits in cc
     spoken_on (Close own why) same spoken_to =
         let now = ap (λ ev. answer_in p moment ev) (sym same) ∙ is in
         let one = bind-ok (or_fault NoSuch (row_at p.frontends own)) _ reply now in
@@ -367,6 +416,9 @@ on_entry plan h n moment event reply id legal is tied other waits there before c
         let now = ap (λ ev. answer_in p moment ev) (sym same) ∙ is in
         over (saids.Refuse own 0 Expired) refl (ap (λ (r : Reply). r.said) (expired p (max p.clock moment) own reply now).reply_is) spoken_to
     spoken_on (Reload text) same spoken_to = contrary (is_reload event) (WaitsOn p n moment event reply id) (ap is_reload same) other
+    spoken_on (Mark number k health) same spoken_to =
+        let now = ap (λ ev. answer_in p moment ev) (sym same) ∙ is in
+        contrary (speaks_to id.frontend id.serial reply.said) (WaitsOn p n moment event reply id) spoken_to (ap (speaks_to id.frontend id.serial) (answered p moment (Mark number k health) reply now).says)
 
     by : (b : Bool) → speaks_to id.frontend id.serial reply.said ≡ b → WaitsOn p n moment event reply id
     by true spoken_to = spoken_on event refl spoken_to
@@ -386,12 +438,14 @@ at_entry plan h n moment (Accept listener real) reply id legal is tied came befo
     opens (saids.Up id) stays other = absurd (cc)
     opens (saids.Closed id why) stays other = absurd (cc)
     opens (saids.Reloaded version) stays other = absurd (cc)
+    opens (saids.Marked line health) stays other = absurd (cc)
 at_entry plan h n moment (Piece own bytes) reply id legal is tied came before came_too w = absurd (cc)
 at_entry plan h n moment (Connected own) reply id legal is tied came before came_too w = absurd (cc)
 at_entry plan h n moment (ConnectFailed own) reply id legal is tied came before came_too w = absurd (cc)
 at_entry plan h n moment (Close own why) reply id legal is tied came before came_too w = absurd (cc)
 at_entry plan h n moment (Expire own) reply id legal is tied came before came_too w = absurd (cc)
 at_entry plan h n moment (Reload text) reply id legal is tied came before came_too w = absurd (cc)
+at_entry plan h n moment (Mark number k health) reply id legal is tied came before came_too w = absurd (cc)
 
 nobody_waits : (plan : Plan) (id : ConnId) → waits_at (after (opening plan 0) []) id ≡ false
 nobody_waits plan id = ap (λ q. waits_at q id) (after-nil (opening plan 0) (opening_well plan 0)) ∙ by (slice_get (opening plan 0).frontends id.frontend) refl
@@ -422,12 +476,12 @@ waits_in_both plan text trial (e ∷ h) id opens legal waits =
     tied : Tied plan p n
     tied = all_tied false plan text trial h opens legal.0
 
-    next : (history_report false o trial (e ∷ h)).trial ≡ played n e.moment e.event e.reply.said
-    next = turn_trial false (played n e.moment e.event e.reply.said) (history_report false o trial h) (turn_of p n e)
+    next : (history_report false o trial (e ∷ h)).trial ≡ played p.versions n e.moment e.event e.reply.said
+    next = turn_trial false (played p.versions n e.moment e.event e.reply.said) (history_report false o trial h) (turn_of p n e)
 
     handed_next : is_reload e.event ≡ false → WaitsOn p n e.moment e.event e.reply id → IsKnown plan trial (e ∷ h) id
     handed_next other (inl different) = inl (inl different)
-    handed_next other (inr on) = inr (ap (λ q. waits_at q id) next ∙ ap (λ b. waits_at (if b then n else handed n e.moment e.event e.reply.said) id) other ∙ on)
+    handed_next other (inr on) = inr (ap (λ q. waits_at q id) next ∙ ap (λ b. waits_at (if b then n else handed p.versions n e.moment e.event e.reply.said) id) other ∙ on)
 
     came_next : is_reload e.event ≡ false → Waited (waits_at p id) (arrived id.frontend id.serial e.event e.reply.said) e.reply.said id.frontend id.serial → arrived id.frontend id.serial e.event e.reply.said ≡ true → IsKnown plan trial (e ∷ h) id
     came_next other w came = handed_next other (at_entry plan h n e.moment e.event e.reply id legal.0 legal.1 tied came (waits_at p id) (arrived id.frontend id.serial e.event e.reply.said) w)
@@ -439,7 +493,7 @@ waits_in_both plan text trial (e ∷ h) id opens legal waits =
 
     reload_next : is_reload e.event ≡ true → IsKnown plan trial h id → IsKnown plan trial (e ∷ h) id
     reload_next is (inl different) = inl (inr different)
-    reload_next is (inr there) = inr (ap (λ q. waits_at q id) next ∙ ap (λ b. waits_at (if b then n else handed n e.moment e.event e.reply.said) id) is ∙ there)
+    reload_next is (inr there) = inr (ap (λ q. waits_at q id) next ∙ ap (λ b. waits_at (if b then n else handed p.versions n e.moment e.event e.reply.said) id) is ∙ there)
 
     no_arrival : (event : OwnedEvent) (said : Said) → is_reload event ≡ true → arrived id.frontend id.serial event said ≡ true → ⊥
     no_arrival (Accept listener real) said is came = absurd (cc)
@@ -449,6 +503,7 @@ waits_in_both plan text trial (e ∷ h) id opens legal waits =
     no_arrival (Close own why) said is came = absurd (cc)
     no_arrival (Expire own) said is came = absurd (cc)
     no_arrival (Reload text) said is came = absurd (cc)
+    no_arrival (Mark number k health) said is came = absurd (cc)
 
     by : Waited (waits_at p id) (arrived id.frontend id.serial e.event e.reply.said) e.reply.said id.frontend id.serial → (waits_at p id ≡ true → IsKnown plan trial h id) → IsKnown plan trial (e ∷ h) id
     by w earlier = on (is_reload e.event) refl
@@ -469,7 +524,7 @@ abbrev IsDecidedOr : Plain → ℕ → OwnedEvent → Type 0
 IsDecidedOr n moment event = (is_some (decided n moment event) ≡ true) ⊎ (answer_in n moment event ≡ Err NotDue)
 
 piece_seen : (plan : Plan) (n : Plain) (past : List Entry) → IsLegal (opening plan 0) past → n ≡ after (opening plan 0) past → (moment : ℕ) (id : ConnId) (bytes : List ℕ) → waits_at n id ≡ true → is_some (decided n moment (Piece id bytes)) ≡ true
-piece_seen plan n past legal is moment id bytes waits = let judged = judged_on plan n past legal is moment id bytes waits in decided_some n moment (Piece id bytes) judged.0 judged.1 judged.2
+piece_seen plan n past legal is moment id bytes waits = let judged = judged_on plan n past legal is moment id bytes waits in decided_some n moment (Piece id bytes) judged.0 judged.1 refl judged.2
 
 expiry_seen : (n : Plain) (moment : ℕ) (id : ConnId) → waits_at n id ≡ true → IsDecidedOr n moment (Expire id)
 expiry_seen n moment id waits = of (waiting_row_at n id waits)
@@ -479,12 +534,12 @@ expiry_seen n moment id waits = of (waiting_row_at n id waits)
       where
         by_rest : (rest : Option _) → rest_in here.row.phase ≡ rest → is_some rest ≡ true → (b : Bool) → nat_le (here.row.accepted + HEADER_WAIT) (max n.clock moment) ≡ b → IsDecidedOr n moment (Expire id)
         by_rest None none is b due = absurd (let wrong : false ≡ true = is in cc)
-        by_rest (Some rest) some is true due = inl (decided_some n moment (Expire id) (reply_of (saids.Refuse id 0 Expired)) (rw (here.there, some, due) refl) refl)
+        by_rest (Some rest) some is true due = inl (decided_some n moment (Expire id) (reply_of (saids.Refuse id 0 Expired)) (rw (here.there, some, due) refl) refl refl)
         by_rest (Some rest) some is false due = inr (rw (here.there, some, due) refl)
 
-pub seen : (plan : Plan) (text : List ℕ) (trial : Plain) (h : List Entry) (e : Entry) (id : ConnId) → trial_opening plan text ≡ Ok trial → IsLegal (opening plan 0) (e ∷ h) → is_judgement e.reply.said ≡ true → id_of e.reply.said ≡ Some id →
+pub seen : (plan : Plan) (text : List ℕ) (trial : Plain) (h : List Entry) (e : Entry) (id : ConnId) → trial_opening plan text ≡ Ok trial → IsLegal (opening plan 0) (e ∷ h) → is_failure e.event ≡ false → is_judgement e.reply.said ≡ true → id_of e.reply.said ≡ Some id →
     IsSeen (opening plan 0) trial id e h
-seen plan text trial h e id opens legal judged whom = by e.event refl
+seen plan text trial h e id opens legal no_failure judged whom = by e.event refl
   where
     o : Plain
     o = opening plan 0
@@ -509,7 +564,7 @@ seen plan text trial h e id opens legal judged whom = by e.event refl
       where
         of : Outcome n e.moment (Accept listener real) e.reply.said → IsSeen o trial id e h
         of (inl (fault, refused, wrong)) = absurd (cc)
-        of (inr (theirs, found, agree)) = inl (ap (λ ev. is_some (decided n e.moment ev)) is ∙ decided_some n e.moment (Accept listener real) theirs found agree.2)
+        of (inr (theirs, found, agree)) = inl (ap (λ ev. is_some (decided n e.moment ev)) is ∙ decided_some n e.moment (Accept listener real) theirs found refl agree.2)
     by (Piece own bytes) is =
         let got = received (at_moment e.moment p) own bytes e.reply (answers (Piece own bytes) is) in
         let same : own ≡ id = same_conn own id (id_of e.reply.said) (answered p e.moment (Piece own bytes) e.reply (answers (Piece own bytes) is)).speaks whom in
@@ -518,7 +573,7 @@ seen plan text trial h e id opens legal judged whom = by e.event refl
           | inr there ↦ inl (ap (λ ev. is_some (decided n e.moment ev)) (is ∙ ap (λ i. Piece i bytes) same) ∙ piece_seen plan n tied.past tied.legal tied.is e.moment id bytes there)
         ]
     by (Connected own) is = none (saids.Up own) (ap (λ (r : Reply). r.said) (server_answered p own (saids.Up own) e.reply (answers (Connected own) is)).reply_is) refl
-    by (ConnectFailed own) is = none (saids.Closed own Failed) (ap (λ (r : Reply). r.said) (server_answered p own (saids.Closed own Failed) e.reply (answers (ConnectFailed own) is)).reply_is) refl
+    by (ConnectFailed own) is = contrary (is_failure e.event) (IsSeen o trial id e h) (ap is_failure is) no_failure
     by (Close own why) is =
         let one = bind-ok (or_fault NoSuch (row_at p.frontends own)) _ e.reply (answers (Close own why) is) in
         let it : reply_of (saids.Closed own why) ≡ e.reply = let both : Ok (reply_of (saids.Closed own why)) ≡ Ok e.reply = one.2 in cc in
@@ -535,3 +590,4 @@ seen plan text trial h e id opens legal judged whom = by e.event refl
           ]
         ]
     by (Reload text) is = none _ (sym (answered p e.moment (Reload text) e.reply (answers (Reload text) is)).says) refl
+    by (Mark number k health) is = none _ (sym (answered p e.moment (Mark number k health) e.reply (answers (Mark number k health) is)).says) refl

@@ -1,21 +1,25 @@
--- What a balancer decides of a connection, when two decisions differ, and how events are handed to the trial.
+-- What a balancer decides of a connection, when two decisions differ, and how the trial takes events of the record.
 use Rattle.std.specs.Prelude.{ℕ, Bool, true, false, not, List, [], ◌++◌, codes, ◌&&◌, Option, Some, None, is_some, option_map, option_and_then, Result, Ok, Err, if◌then◌else◌}
 use Rattle.std.specs.Str.{bytes_eq}
 use Rattle.text_core.specs.Decimal.{decimal}
 use Rattle.conn_model.specs.declared.event.ConnId.{ConnId}
 use Rattle.conn_model.specs.declared.event.OwnedEvent.{OwnedEvent}
-use Rattle.conn_model.specs.declared.event.OwnedEvent.TheVariants.{Close}
+use Rattle.conn_model.specs.declared.event.OwnedEvent.TheVariants.{Accept, Piece, Connected, ConnectFailed, Close, Expire, Reload, Mark}
 use Rattle.conn_model.specs.declared.event.Why.TheVariants.{Done}
 use Rattle.conn_model.specs.declared.plain.Plain.{Plain}
+use Rattle.conn_model.specs.declared.plain.Version.{Version}
 use Rattle.conn_model.specs.declared.reply.Cause.{Cause}
 use Rattle.conn_model.specs.declared.reply.Cause.TheVariants.{Line, Header, Expired, NoBackend, NoServer}
 use Rattle.conn_model.specs.declared.reply.Reply.{Reply}
 use Rattle.conn_model.specs.declared.reply.Said.{Said}
 use Rattle.conn_model.specs.declared.reply.Said.TheVariants as saids
 use Rattle.conn_model.specs.declared.reply.StepFault.{StepFault}
-use Rattle.conn_model.specs.Answer.{answer_in, row_at}
+use Rattle.conn_model.specs.Answer.{answer_in, checked_server, row_at}
 use Rattle.conn_model.specs.Counts.{server_of}
 use Rattle.conn_model.specs.History.{id_of, is_reload}
+use Rattle.conn_model.specs.Servers.{identity_in}
+use Rattle.conn_core.specs.Checked.{checked_numbers}
+use Rattle.conn_core.specs.declared.checked.ServerNumbers.{ServerNumbers}
 use Rattle.conn_core.specs.Summaries.{names_of}
 use Rattle.event_text.specs.Replies.{cause_text}
 use Rattle.replay_core.specs.Turns.{plain_after}
@@ -41,14 +45,31 @@ decision_with names (saids.Refuse id used cause) = Some (Refuse cause)
 decision_with names (saids.Up id) = None
 decision_with names (saids.Closed id why) = None
 decision_with names (saids.Reloaded version) = None
+decision_with names (saids.Marked line health) = None
 
 -- what a reply decides of its connection, in the state after it
 abbrev pub decision_of : Plain → Said → Option ComparedDecision
 decision_of p said = decision_with (option_and_then (offered_at p) (id_of said)) said
 
-abbrev pub decided_by : Plain → Result Reply StepFault → Option ComparedDecision
-decided_by p (Ok reply) = decision_of p reply.said
-decided_by p (Err fault) = None
+-- the event says that the server of a connection is out of reach
+abbrev pub is_failure : OwnedEvent → Bool
+is_failure (Accept listener real) = false
+is_failure (Piece id bytes) = false
+is_failure (Connected id) = false
+is_failure (ConnectFailed id) = true
+is_failure (Close id why) = false
+is_failure (Expire id) = false
+is_failure (Reload text) = false
+is_failure (Mark number n health) = false
+
+-- What the reply to an event decides. A connection that is moved from a server out of reach to another one of its backend
+-- was decided of before.
+abbrev pub decision_on : Plain → OwnedEvent → Said → Option ComparedDecision
+decision_on p event said = if is_failure event then None else decision_of p said
+
+abbrev pub decided_by : Plain → OwnedEvent → Result Reply StepFault → Option ComparedDecision
+decided_by p event (Ok reply) = decision_on p event reply.said
+decided_by p event (Err fault) = None
 
 -- a balancer once an event was handed in; a fault changes nothing
 abbrev pub stepped : Plain → ℕ → OwnedEvent → Plain
@@ -56,7 +77,7 @@ stepped p moment event = plain_after p moment event (answer_in p moment event)
 
 -- what a balancer decides when an event is handed in, if it decides anything
 abbrev pub decided : Plain → ℕ → OwnedEvent → Option ComparedDecision
-decided p moment event = decided_by (stepped p moment event) (answer_in p moment event)
+decided p moment event = decided_by (stepped p moment event) event (answer_in p moment event)
 
 -- ---- two decisions
 
@@ -118,8 +139,40 @@ is_let_in trial (saids.Refuse id used cause) = has_let_in trial id
 is_let_in trial (saids.Up id) = false
 is_let_in trial (saids.Closed id why) = false
 is_let_in trial (saids.Reloaded version) = false
+is_let_in trial (saids.Marked line health) = false
 
 -- ---- events of the record, handed to the trial
+
+-- the server that these numbers name in the newest of the recorded versions: its numbers in the newest of the others
+abbrev pub numbers_for : List Version → List Version → ℕ → ℕ → Option ServerNumbers
+numbers_for recorded others number n =
+    option_and_then (λ found. checked_numbers others (identity_in found.0 found.1)) (checked_server recorded number n)
+
+-- What the trial takes an event of the record as. A report is one of the checked server that is known there by the same
+-- names and address, if there is one.
+abbrev pub event_for : List Version → List Version → OwnedEvent → Option OwnedEvent
+event_for recorded others (Accept listener real) = Some (Accept listener real)
+event_for recorded others (Piece id bytes) = Some (Piece id bytes)
+event_for recorded others (Connected id) = Some (Connected id)
+event_for recorded others (ConnectFailed id) = Some (ConnectFailed id)
+event_for recorded others (Close id why) = Some (Close id why)
+event_for recorded others (Expire id) = Some (Expire id)
+event_for recorded others (Reload text) = Some (Reload text)
+event_for recorded others (Mark number n health) =
+    option_map (λ at. Mark at.backend at.server health) (numbers_for recorded others number n)
+
+-- a balancer once it took an event, if there is one
+abbrev pub taken : Plain → ℕ → Option OwnedEvent → Plain
+taken p moment None = p
+taken p moment (Some event) = stepped p moment event
+
+-- the trial once it took an event of the record
+abbrev pub stepped_for : List Version → Plain → ℕ → OwnedEvent → Plain
+stepped_for recorded trial moment event = taken trial moment (event_for recorded trial.versions event)
+
+-- what it decides then, if it decides anything
+abbrev pub decided_for : List Version → Plain → ℕ → OwnedEvent → Option ComparedDecision
+decided_for recorded trial moment event = option_and_then (decided trial moment) (event_for recorded trial.versions event)
 
 -- if the reply of the record ends a connection, the trial closes it too; this changes nothing if it is not open
 abbrev pub closed : ℕ → Said → Plain → Plain
@@ -129,13 +182,14 @@ closed moment (saids.Refuse id used cause) p = stepped p moment (Close id Done)
 closed moment (saids.Up id) p = p
 closed moment (saids.Closed id why) p = stepped p moment (Close id Done)
 closed moment (saids.Reloaded version) p = p
+closed moment (saids.Marked line health) p = p
 
-abbrev pub handed : Plain → ℕ → OwnedEvent → Said → Plain
-handed p moment event said = closed moment said (stepped p moment event)
+abbrev pub handed : List Version → Plain → ℕ → OwnedEvent → Said → Plain
+handed recorded trial moment event said = closed moment said (stepped_for recorded trial moment event)
 
--- the state after an event of the record with its reply; a reload of the record is not handed in
-abbrev pub played : Plain → ℕ → OwnedEvent → Said → Plain
-played p moment event said = if is_reload event then p else handed p moment event said
+-- the trial after an event of the record with its reply; a reload of the record is not handed in
+abbrev pub played : List Version → Plain → ℕ → OwnedEvent → Said → Plain
+played recorded trial moment event said = if is_reload event then trial else handed recorded trial moment event said
 
 -- ---- texts
 

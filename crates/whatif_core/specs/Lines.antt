@@ -5,6 +5,7 @@ use Rattle.text_core.specs.Parts.{parts, is_line_feed}
 use Rattle.addr_core.specs.declared.addr.Endpoint.{Endpoint}
 use Rattle.conn_model.specs.declared.event.OwnedEvent.{OwnedEvent}
 use Rattle.conn_model.specs.declared.plain.Plain.{Plain}
+use Rattle.conn_model.specs.declared.plain.Version.{Version}
 use Rattle.conn_model.specs.declared.reply.Reply.{Reply}
 use Rattle.conn_model.specs.declared.reply.StepFault.{StepFault}
 use Rattle.conn_model.specs.Answer.{answer_in}
@@ -16,7 +17,7 @@ use Rattle.audit_core.specs.declared.due.Due.{Due}
 use Rattle.audit_core.specs.declared.due.Due.TheVariants as dues
 use Rattle.audit_core.specs.declared.fault.CheckFault.{CheckFault}
 use Rattle.whatif_core.specs.declared.turn.Turn.{Turn}
-use Rattle.whatif_core.specs.Deciding.{decided, decision_of, handed, is_let_in, played, stepped}
+use Rattle.whatif_core.specs.Deciding.{decided_for, decision_on, handed, is_let_in, played, stepped_for}
 use Rattle.whatif_core.specs.Reporting.{empty_report, report_with, turn_of, Report}
 
 -- how far the balancer of the record is checked, and the state of the trial
@@ -51,13 +52,14 @@ entry_at s line = option_and_then (λ timed. entry_by timed.0 timed.1 (answer_in
 
 -- ---- a line
 
-abbrev pub trial_with : Plain → Option Entry → Plain
-trial_with trial None = trial
-trial_with trial (Some e) = played trial e.moment e.event e.reply.said
+-- the trial after that entry, where those were the versions of the balancer of the record
+abbrev pub trial_with : List Version → Plain → Option Entry → Plain
+trial_with recorded trial None = trial
+trial_with recorded trial (Some e) = played recorded trial e.moment e.event e.reply.said
 
 -- after a line
 abbrev pub both_on : Both → List ℕ → Result Both CheckFault
-both_on s line = on_line s.checked line >>= λ next. Ok (record { checked = next; trial = trial_with s.trial (entry_at s.checked line) })
+both_on s line = on_line s.checked line >>= λ next. Ok (record { checked = next; trial = trial_with s.checked.plain.versions s.trial (entry_at s.checked line) })
 
 -- what both decide of the entry that begins at a line
 abbrev pub turn_at : Both → List ℕ → Option Turn
@@ -70,15 +72,15 @@ turn_after p trial moment event answered = record {
   moment = moment;
   id = id_of answered.1.said;
   peer = answered.0;
-  was = decision_of p answered.1.said;
-  would = decided trial moment event;
-  let_in = is_let_in (stepped trial moment event) answered.1.said;
+  was = decision_on p event answered.1.said;
+  would = decided_for p.versions trial moment event;
+  let_in = is_let_in (stepped_for p.versions trial moment event) answered.1.said;
 }
 
--- the trial after an event that was answered so
-abbrev pub handed_after : Plain → ℕ → OwnedEvent → Option (Option Endpoint × Reply) → Plain
-handed_after trial moment event None = trial
-handed_after trial moment event (Some answered) = handed trial moment event answered.1.said
+-- the trial after an event that was answered so, where those are the versions of the balancer of the record
+abbrev pub handed_after : List Version → Plain → ℕ → OwnedEvent → Option (Option Endpoint × Reply) → Plain
+handed_after recorded trial moment event None = trial
+handed_after recorded trial moment event (Some answered) = handed recorded trial moment event answered.1.said
 
 -- ---- all lines
 

@@ -19,7 +19,7 @@ use Rattle.replay_core.specs.Turns.{plain_after}
 use Rattle.whatif_core.specs.declared.decision.ComparedDecision.{ComparedDecision}
 use Rattle.whatif_core.specs.declared.decision.ComparedDecision.TheVariants.{Wait, Offer, Refuse}
 use Rattle.whatif_core.specs.declared.turn.Turn.{Turn}
-use Rattle.whatif_core.specs.Deciding.{decided, decision_text, difference, is_let_in, played, stepped}
+use Rattle.whatif_core.specs.Deciding.{decided, decided_for, decision_text, difference, is_let_in, played, stepped_for}
 use Rattle.whatif_core.specs.Sums.{no_sums, sums_text, sums_with, Sums}
 
 -- ---- one entry
@@ -31,8 +31,8 @@ turn_with p trial e = record {
   id = id_of e.reply.said;
   peer = event_peer e.event;
   was = decided p e.moment e.event;
-  would = decided trial e.moment e.event;
-  let_in = is_let_in (stepped trial e.moment e.event) e.reply.said;
+  would = decided_for p.versions trial e.moment e.event;
+  let_in = is_let_in (stepped_for p.versions trial e.moment e.event) e.reply.said;
 }
 
 -- a reload decides nothing of a connection
@@ -119,7 +119,7 @@ report_of_turn summary next t (Some turn) = record {
 
 -- the report with an entry more, before which the balancer of the record was in that state
 abbrev pub report_with : Bool → Plain → Report → Entry → Report
-report_with summary p t e = report_of_turn summary (played t.trial e.moment e.event e.reply.said) t (turn_of p t.trial e)
+report_with summary p t e = report_of_turn summary (played p.versions t.trial e.moment e.event e.reply.said) t (turn_of p t.trial e)
 
 -- the report of a history of the balancer of the record, from these states on
 abbrev pub history_report : Bool → Plain → Plain → List Entry → Report

@@ -38,7 +38,7 @@ pub fn named(said: &Said) -> Option<ConnId>
         | Said::Refuse { id, .. }
         | Said::Up { id }
         | Said::Closed { id, .. } => Some(*id),
-        Said::Reloaded { .. } => None,
+        Said::Reloaded { .. } | Said::Marked { .. } => None,
     }
 }
 
@@ -79,7 +79,9 @@ pub fn decision_in(
             Ok(Some(offered))
         }
         Said::Refuse { cause, .. } => Ok(Some(ComparedDecision::Refuse(*cause))),
-        Said::Up { .. } | Said::Closed { .. } | Said::Reloaded { .. } => Ok(None),
+        Said::Up { .. } | Said::Closed { .. } | Said::Reloaded { .. } | Said::Marked { .. } => Ok(
+            None,
+        ),
     }
 }
 

@@ -1,5 +1,5 @@
 //! Laws of the trial, over whole histories.
-ghost use Rattle.std.specs.Prelude.{◌≡◌, ◌∷◌, ℕ, Bool, true, List, IsSome, Ok, Some};
+ghost use Rattle.std.specs.Prelude.{◌≡◌, ◌∷◌, ℕ, Bool, true, false, List, IsSome, Ok, Some};
 ghost use Rattle.addr_core.specs.PairValue.{PairValue};
 ghost use Rattle.plan_types.specs.declared.plan.Plan.{Plan};
 ghost use Rattle.conn_model.specs.declared.event.ConnId.{ConnId};
@@ -9,6 +9,7 @@ ghost use Rattle.conn_model.specs.declared.plain.Plain.{Plain};
 ghost use Rattle.conn_model.specs.declared.reply.Reply.{Reply};
 ghost use Rattle.conn_model.specs.Answer.{answer_in, row_at};
 ghost use Rattle.conn_model.specs.History.{after, answer, id_of, opening, Entry, IsLegal};
+ghost use Rattle.whatif_core.specs.Deciding.{is_failure};
 ghost use Rattle.whatif_core.specs.Reporting.{differs_at, history_report, trial_opening, HasDiffered, IsSeen};
 
 /// After each legal history, a connection that is open in the trial is open in the balancer of the record, under the
@@ -31,12 +32,13 @@ pub fn open_in_both()
 /// A connection has one difference at the most: where it had one, no later entry has one on it. None is hidden but by
 /// that: where the balancer of the record lets a connection wait, offers it a server or refuses it, and it has had no
 /// difference, the trial decides too, except at an expiry that is not due there, which comes only where moments fall.
+/// An offer of another server of its backend, where one is out of reach, is no decision on a connection.
 pub fn differences_are_seen_once()
     ensures once { (plan : Plan) (text : List ℕ) (trial : Plain) (h : List Entry) (e : Entry) (id : ConnId) →
         trial_opening plan text ≡ Ok trial → IsLegal (opening plan 0) (e ∷ h) →
         HasDiffered (opening plan 0) trial id h → differs_at (opening plan 0) trial (e ∷ h) ≡ Some id → ⊥ }
     ensures seen { (plan : Plan) (text : List ℕ) (trial : Plain) (h : List Entry) (e : Entry) (id : ConnId) →
         trial_opening plan text ≡ Ok trial → IsLegal (opening plan 0) (e ∷ h) →
-        is_judgement e.reply.said ≡ true → id_of e.reply.said ≡ Some id →
+        is_failure e.event ≡ false → is_judgement e.reply.said ≡ true → id_of e.reply.said ≡ Some id →
         IsSeen (opening plan 0) trial id e h }
 {}

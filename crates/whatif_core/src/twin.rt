@@ -14,12 +14,13 @@ ghost use Rattle.audit_core.specs.declared.fault.CheckFault.{CheckFault as Fault
 ghost use Rattle.audit_core.specs.declared.fault.TheConstants.{MOST_RECORD_LINES};
 ghost use Rattle.conn_model.specs.declared.event.OwnedEvent.{OwnedEvent};
 ghost use Rattle.whatif_core.specs.Deciding.{closed, decided, decision_of, decision_with, has_let_in, is_let_in, stepped};
+ghost use Rattle.whatif_core.specs.Deciding.{decided_for, decision_on, is_failure, numbers_for, stepped_for};
 ghost use Rattle.whatif_core.specs.Lines.{both_on, handed_after, turn_after, turn_at};
 
 use crate::decision::{ComparedDecision, decision_in, named};
 use crate::turn::Turn;
 use audit_core::{Auditor, CheckFault, again, answer};
-use conn_core::{Core, ServerNames};
+use conn_core::{Core, ServerNames, ServerNumbers};
 use conn_model::event::{ConnId, Event, PIECE_LIMIT, Why};
 use conn_model::reply::Said;
 use event_text::FirstLine;
@@ -58,7 +59,8 @@ fn trial_names<'a>(trial: &'a Core, said: &Said) -> Option<ServerNames<'a>>
         | Said::Refuse { .. }
         | Said::Up { .. }
         | Said::Closed { .. }
-        | Said::Reloaded { .. } => None,
+        | Said::Reloaded { .. }
+        | Said::Marked { .. } => None,
     }
 }
 
@@ -72,8 +74,64 @@ fn recorded_names<'a>(auditor: &'a Auditor, said: &Said) -> Option<ServerNames<'
         | Said::Refuse { .. }
         | Said::Up { .. }
         | Said::Closed { .. }
-        | Said::Reloaded { .. } => None,
+        | Said::Reloaded { .. }
+        | Said::Marked { .. } => None,
     }
+}
+
+/// Whether an event says that the server of a connection is out of reach.
+fn is_failure(event: &Event<'_>) -> bool
+    ensures { result ≡ is_failure (owned_event event.now) }
+{
+    match event {
+        Event::ConnectFailed(_) => true,
+        Event::Accept(..)
+        | Event::Piece(..)
+        | Event::Connected(_)
+        | Event::Close(..)
+        | Event::Expire(_)
+        | Event::Reload(_)
+        | Event::Mark(..) => false,
+    }
+}
+
+/// What the reply to an event decides in the trial. A connection that is moved to another server of its backend was
+/// decided of before.
+fn trial_decision(
+    alloc: Global,
+    trial: &Core,
+    event: &Event<'_>,
+    said: &Said,
+) -> Result<Option<ComparedDecision>, AllocError>
+    ensures { IfOk result (λ would. would ≡ decision_on trial.now (owned_event event.now) said.now) }
+{
+    if is_failure(event) {
+        return Ok(None);
+    }
+    decision_in(alloc, said, trial_names(trial, said))
+}
+
+/// The same of the balancer of the record.
+fn recorded_decision(
+    alloc: Global,
+    auditor: &Auditor,
+    event: &Event<'_>,
+    said: &Said,
+) -> Result<Option<ComparedDecision>, AllocError>
+    ensures { IfOk result (λ was. was ≡ decision_on auditor.now.plain (owned_event event.now) said.now) }
+{
+    if is_failure(event) {
+        return Ok(None);
+    }
+    decision_in(alloc, said, recorded_names(auditor, said))
+}
+
+/// The numbers in the trial of the server that these numbers name in the record.
+fn numbers_for(auditor: &Auditor, trial: &Core, number: u16, place: u16) -> Option<ServerNumbers>
+    ensures { result ≡ numbers_for auditor.now.plain.versions trial.now.versions number place }
+{
+    let found = auditor.checked(number, place)?;
+    trial.checked_numbers(&found)
 }
 
 /// What the trial decides of an event.
@@ -88,9 +146,40 @@ fn hand_in(
     ensures stepped { OnOk result (trial.new ≡ stepped trial.old moment (owned_event event.now)) }
 {
     match answer(trial, moment, event) {
-        Ok(Ok(reply)) => decision_in(alloc, &reply.said, trial_names(trial, &reply.said)),
+        Ok(Ok(reply)) => trial_decision(alloc, trial, event, &reply.said),
         Ok(Err(_)) => Ok(None),
         Err(_) => Err(AllocError),
+    }
+}
+
+/// What the trial decides of an event of the record. A report is taken as one of the checked server that is known there by
+/// the same names and address, if there is one.
+fn hand_on(
+    alloc: Global,
+    auditor: &Auditor,
+    trial: &mut Core,
+    moment: u64,
+    event: &Event<'_>,
+) -> Result<Option<ComparedDecision>, AllocError>
+    requires piece { HasPieceInLimit (owned_event event.now) }
+    ensures decided { IfOk result (λ would. would ≡ decided_for auditor.now.plain.versions trial.old moment (owned_event event.now)) }
+    ensures stepped { OnOk result (trial.new ≡ stepped_for auditor.now.plain.versions trial.old moment (owned_event event.now)) }
+{
+    match *event {
+        Event::Mark(number, place, health) => match numbers_for(auditor, trial, number, place) {
+            Some(at) => {
+                let taken = Event::Mark(at.backend, at.server, health);
+                hand_in(alloc, trial, moment, &taken)
+            }
+            None => Ok(None),
+        },
+        Event::Accept(..)
+        | Event::Piece(..)
+        | Event::Connected(_)
+        | Event::ConnectFailed(_)
+        | Event::Close(..)
+        | Event::Expire(_)
+        | Event::Reload(_) => hand_in(alloc, trial, moment, event),
     }
 }
 
@@ -114,9 +203,11 @@ fn close_ended(trial: &mut Core, moment: u64, said: &Said) -> Result<bool, Alloc
             close(trial, moment, *id)?;
             Ok(false)
         }
-        Said::Wait { .. } | Said::Offer { .. } | Said::Up { .. } | Said::Reloaded { .. } => {
-            Ok(false)
-        }
+        Said::Wait { .. }
+        | Said::Offer { .. }
+        | Said::Up { .. }
+        | Said::Reloaded { .. }
+        | Said::Marked { .. } => Ok(false),
     }
 }
 
@@ -130,13 +221,13 @@ fn play(
 ) -> Result<Option<Turn>, AllocError>
     requires piece { HasPieceInLimit (owned_event event.now) }
     ensures turn { IfOk result (λ turn. turn ≡ option_map (turn_after auditor.now.plain trial.old moment (owned_event event.now)) (due_reply auditor.now.due)) }
-    ensures trial { OnOk result (trial.new ≡ handed_after trial.old moment (owned_event event.now) (due_reply auditor.now.due)) }
+    ensures trial { OnOk result (trial.new ≡ handed_after auditor.now.plain.versions trial.old moment (owned_event event.now) (due_reply auditor.now.due)) }
 {
     match auditor.answered() {
         None => Ok(None),
         Some((peer, reply)) => {
-            let was = decision_in(alloc, &reply.said, recorded_names(auditor, &reply.said))?;
-            let would = hand_in(alloc, trial, moment, event)?;
+            let was = recorded_decision(alloc, auditor, event, &reply.said)?;
+            let would = hand_on(alloc, auditor, trial, moment, event)?;
             let let_in = close_ended(trial, moment, &reply.said)?;
             Ok(Some(Turn {
                 moment,

@@ -18,4 +18,4 @@ pub returns-clause-ok : goal.returns-clause-ok
 returns-clause-ok c =
     tracking_once c.args.rows.now c.pass.new.self c.track_all.new.rows c.args.id c.requires.coming.0 c.args.arrival.now (present c.args.tracks.now) c.requires.coming.1
     (has_entered c.args.rows.now c.reserve.new.self c.insert.new.self c.pass.new.self c.args.id c.requires.coming.0 c.args.arrival.now c.requires.coming.1 c.in_ok-reserve.ensures.room c.in_ok-reserve.ensures.same c.in_ok-_serial.ensures.ok c.pass.ensures) c.track_all.ensures.frontends
-    c.track_all.ensures.versions c.track_all.ensures.tables
+    c.track_all.ensures.versions c.track_all.ensures.tables c.track_all.ensures.down

@@ -34,11 +34,11 @@ returns-clause-reply c = λ judge state same.
     ∙ ap (λ f. decision (candidate_of state c.args.id judge.version f) c.args.used c.args.judged no_tracks) alike.1
 
 pub returns-clause-new : goal.returns-clause-new
-returns-clause-new c = λ event.
+returns-clause-new c = λ bytes.
     let some = c.in-Some.ensures.some in
-    let p : Plain = record { clock = 0; listeners = []; frontends = c.args.rows.now.frontends; versions = c.args.rows.now.versions; tables = c.args.rows.now.tables } in
+    let p : Plain = record { clock = 0; listeners = []; frontends = c.args.rows.now.frontends; versions = c.args.rows.now.versions; tables = c.args.rows.now.tables; down = c.args.rows.now.down } in
     let decided = verdict (view_of (candidate_of p c.args.id some.0.version some.0.frontend) c.args.judged.source.addr) some.0.frontend no_tracks in
-    let reply = some.1 p c.args.used (record { own = refl; named = λ name. refl; offered = λ name. refl; served = λ server. refl; tracks = refl; tracked = refl; tables = refl }) in
-    settled_once c.args.rows.now c.track_all.new.rows c.settle.new.rows event c.args.id c.args.version c.args.used c.args.judged decided.result c.in-Some.decision c.reply.result
+    let reply = some.1 p c.args.used (record { own = refl; named = λ name. refl; offered = λ name. refl; served = λ server. refl; tracks = refl; tracked = refl; tables = refl; down = refl }) in
+    settled_once c.args.rows.now c.track_all.new.rows c.settle.new.rows bytes c.args.id c.args.version c.args.used c.args.judged decided.result c.in-Some.decision c.reply.result
     (judged_open c.args.rows.now.frontends c.args.id c.args.version c.requires.there)
-    (ap (λ (r : Reply). r.said) reply) c.track_all.ensures.frontends c.track_all.ensures.versions c.track_all.ensures.clock c.track_all.ensures.tables c.settle.ensures c.reply.ensures
+    (ap (λ (r : Reply). r.said) reply) c.track_all.ensures.frontends c.track_all.ensures.versions c.track_all.ensures.clock c.track_all.ensures.tables c.track_all.ensures.down c.settle.ensures c.reply.ensures

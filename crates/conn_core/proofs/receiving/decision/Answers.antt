@@ -18,6 +18,7 @@ use Rattle.conn_core.specs.Tracking.{ArePossible, IsPossible}
 use Rattle.conn_core.proofs.JudgingLemmas.{can_offer, own_number}
 use Rattle.conn_core.proofs.SeenLemmas.{rows_now}
 use Rattle.conn_core.proofs.receiving.decision.Goals as goal
+use Rattle.conn_model.specs.Servers.{is_down}
 
 pub decide-requires : goal.decide-requires
 decide-requires c =
@@ -49,10 +50,10 @@ returns-clause-can c = λ there.
 
 pub returns-clause-offers : goal.returns-clause-offers
 returns-clause-offers c =
-    let p : Plain = record { clock = 0; listeners = []; frontends = c.args.rows.now.frontends; versions = c.args.rows.now.versions; tables = c.args.rows.now.tables } in
+    let p : Plain = record { clock = 0; listeners = []; frontends = c.args.rows.now.frontends; versions = c.args.rows.now.versions; tables = c.args.rows.now.tables; down = c.args.rows.now.down } in
     let some = returns-clause-some c in
     let reply : reply_by c.args.id 0 c.decide.new.decision ≡ decision (candidate_of p c.args.id some.0.version some.0.frontend) 0 c.args.judged no_tracks =
-    some.1 p 0 (record { own = refl; named = λ name. refl; offered = λ name. refl; served = λ server. refl; tracks = refl; tracked = refl; tables = refl }) in
-    can_offer (served_by c.args.rows.now.frontends) c.args.rows.now.versions c.args.version some.0.version c.args.id 0 c.decide.new.decision.outcome c.requires some.0.kept
-    (subst (λ (r : Reply). OffersWell (served_by c.args.rows.now.frontends) some.0.version.plan r.said) (sym reply)
+    some.1 p 0 (record { own = refl; named = λ name. refl; offered = λ name. refl; served = λ server. refl; tracks = refl; tracked = refl; tables = refl; down = refl }) in
+    can_offer (served_by c.args.rows.now.frontends) (is_down c.args.rows.now.down) c.args.rows.now.versions c.args.version some.0.version c.args.id 0 c.decide.new.decision.outcome c.requires some.0.kept
+    (subst (λ (r : Reply). OffersWell (served_by c.args.rows.now.frontends) (is_down c.args.rows.now.down) some.0.version.plan r.said) (sym reply)
     (decision-offers (candidate_of p c.args.id some.0.version some.0.frontend) 0 c.args.judged no_tracks))

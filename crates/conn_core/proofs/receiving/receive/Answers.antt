@@ -62,7 +62,7 @@ returns-in-Whole-clause-reply c = λ p same.
     let says = subst (λ (s : RowsValue). (j : Judge s.frontends s.versions c.args.id c.args.row.now.version) (state : Plain) → IsSeen c.args.id state s →
     c.decide.result ≡ decision (candidate_of state c.args.id j.version j.frontend) c.in-Whole.used c.judged_pair-judged.result no_tracks) c.feed.ensures.new c.decide.ensures.reply in
     let reply : c.decide.result ≡ decision (candidate_of p c.args.id judge.version judge.frontend) c.in-Whole.used (judged_pair found.0.real c.in-Whole.meaning) no_tracks =
-    says (judge_fed c.args.rows.now.frontends c.args.rows.now.versions c.args.id c.args.row.now.version c.args.piece.now judge) p (seen_fed c.args.id c.args.piece.now p c.args.rows.now same.frontends same.tables)
+    says (judge_fed c.args.rows.now.frontends c.args.rows.now.versions c.args.id c.args.row.now.version c.args.piece.now judge) p (seen_fed c.args.id c.args.piece.now p c.args.rows.now same.frontends same.tables same.down)
     ∙ ap (λ j. decision (candidate_of p c.args.id judge.version judge.frontend) c.in-Whole.used j no_tracks)
     (c.judged_pair-judged.ensures ∙ ap (λ (s : RowSummary). judged_pair s.real c.in-Whole.meaning) c.requires.waits.2) in
     piece_by p c.args.rows.now c.args.id c.args.piece.now found c.args.row.now same c.requires.waits.1 c.requires.waits.2 judge
@@ -73,9 +73,9 @@ pub returns-in-Whole-clause-new : goal.returns-in-Whole-clause-new
 unfolding judge_fed
 returns-in-Whole-clause-new c =
     let judge = c.requires.judge in
-    let p : Plain = record { clock = 0; listeners = []; frontends = c.args.rows.now.frontends; versions = c.args.rows.now.versions; tables = c.args.rows.now.tables } in
+    let p : Plain = record { clock = 0; listeners = []; frontends = c.args.rows.now.frontends; versions = c.args.rows.now.versions; tables = c.args.rows.now.tables; down = c.args.rows.now.down } in
     let says = subst (λ (s : RowsValue). (j : Judge s.frontends s.versions c.args.id c.args.row.now.version) (state : Plain) → IsSeen c.args.id state s →
     c.decide.result ≡ decision (candidate_of state c.args.id j.version j.frontend) c.in-Whole.used c.judged_pair-judged.result no_tracks) c.feed.ensures.new c.decide.ensures.reply in
-    let reply = says (judge_fed c.args.rows.now.frontends c.args.rows.now.versions c.args.id c.args.row.now.version c.args.piece.now judge) p (seen_fed c.args.id c.args.piece.now p c.args.rows.now refl refl) in
-    decided_once c.args.rows.now c.feed.new.self c.decide.new.rows (Piece c.args.id c.args.piece.now) c.args.id c.args.row.now.version c.args.piece.now p judge.version judge.frontend c.in-Whole.used c.judged_pair-judged.result c.decide.result
-    reply c.feed.ensures.new (c.decide.ensures.new (Piece c.args.id c.args.piece.now))
+    let reply = says (judge_fed c.args.rows.now.frontends c.args.rows.now.versions c.args.id c.args.row.now.version c.args.piece.now judge) p (seen_fed c.args.id c.args.piece.now p c.args.rows.now refl refl refl) in
+    decided_once c.args.rows.now c.feed.new.self c.decide.new.rows c.args.piece.now c.args.id c.args.row.now.version c.args.piece.now p judge.version judge.frontend c.in-Whole.used c.judged_pair-judged.result c.decide.result
+    reply c.feed.ensures.new (c.decide.ensures.new c.args.piece.now)

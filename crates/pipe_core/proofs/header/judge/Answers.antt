@@ -39,7 +39,10 @@ unreachable-requires g c =
       | inl up ↦ subst (UsesAtMost 0) up.1 uses
       | inr other ↦ elim other [
         | inl closed ↦ subst (UsesAtMost 0) closed.2 uses
-        | inr reloaded ↦ subst (UsesAtMost 0) reloaded.1 uses
+        | inr named ↦ elim named [
+          | inl reloaded ↦ subst (UsesAtMost 0) reloaded.1 uses
+          | inr marked ↦ subst (UsesAtMost 0) marked.2 uses
+        ]
       ]
     ]
 

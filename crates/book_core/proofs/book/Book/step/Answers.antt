@@ -1,9 +1,10 @@
-use Rattle.std.proofs.Common.{rules, ◌≡◌, ◌≤◌, ◌+◌, ap, arith, ◌∙◌}
+use Rattle.std.proofs.Common.{rules, ◌≡◌, ◌≤◌, ◌<◌, ◌+◌, ap, arith, ◌∙◌}
+use Rattle.std.proofs.lemmas.Result.{err_from_is_err_and}
 use Rattle.conn_model.specs.History.{entry, owned_event, Entry}
 use Rattle.record_core.specs.Records.{history_of}
 use Rattle.conn_model.specs.Counts.{open_connections}
-use Rattle.book_core.specs.Book.{state_of, with_entry, BookState}
-use Rattle.book_core.proofs.BookLemmas.{book_goes_on, made_by_step, state_few, state_well}
+use Rattle.book_core.specs.Book.{state_of, with_entry, BookState, MOST_RECORDS}
+use Rattle.book_core.proofs.BookLemmas.{book_goes_on, fault_in_book, made_by_step, state_few, state_well}
 use Rattle.book_core.proofs.OpenLemmas.{open_after_answer}
 use Rattle.book_core.proofs.book.Book.step.Goals as goal
 
@@ -37,3 +38,10 @@ returns-clause-few c =
     let before : BookState = state_of c.self.inside.base c.self.inside.journal.items c.self.inside.segments c.self.inside.core c.self.inside.made in
     let few : open_connections before.state ≤ open_connections before.base + before.made = state_few before c.self.invariant in
     rw (← c.self.view_is) (search rules, omega (arith, few))
+
+pub returns-in_err-reply-clause-fault : goal.returns-in_err-reply-clause-fault
+returns-in_err-reply-clause-fault c =
+    let before : BookState = state_of c.self.inside.base c.self.inside.journal.items c.self.inside.segments c.self.inside.core c.self.inside.made in
+    let few : before.made < MOST_RECORDS = search rules in
+    let p = err_from_is_err_and c.from_residual.result c.from_residual.ensures.1 in
+    rw (p.1, p.2, ← c.self.view_is) (fault_in_book before c.args.moment (owned_event c.args.event.now) c.in_err-reply.field-0.0 few c.in_err-reply.ensures.plain_fault)

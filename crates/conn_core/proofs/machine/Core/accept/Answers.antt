@@ -59,9 +59,10 @@ after_is c =
       frontends = with_item c.in_ok-id.field-0.id.frontend (entered c.self.inside.rows.versions arrival decision) c.self.inside.rows.frontends;
       versions = settled_versions c.in_ok-id.field-0.version decision.outcome c.self.inside.rows.versions;
       tables = tables_passed passed c.self.inside.rows.frontends c.self.inside.rows.tables (reply c);
+      down = c.self.inside.rows.down;
     } in
     let enters : state_of c.self.inside.listeners c.enter.new.rows ≡ left c.max-now.result c.max-now.result =
-    ap (λ (s : RowsState). record { clock = c.enter.new.rows.clock; listeners = c.self.inside.listeners; frontends = s.frontends; versions = s.versions; tables = s.tables }) c.in-Ok.ensures.ok
+    ap (λ (s : RowsState). record { clock = c.enter.new.rows.clock; listeners = c.self.inside.listeners; frontends = s.frontends; versions = s.versions; tables = s.tables; down = s.down }) c.in-Ok.ensures.ok
     ∙ ap (λ n. left n c.max-now.result) c.in-Ok.ensures.clock in
     subst (IsAfter (state c) (entry c.args.moment (Accept c.args.listener c.args.real) (reply c))) (ap (λ n. left n n) (sym now) ∙ sym enters)
     (accepted (state c) c.self.invariant c.args.moment c.args.listener arrival decision c.in_ok-id.field-0.id own next.there next.next next.version now is)

@@ -60,6 +60,7 @@ returns-clause-reply c =
     let sees = view_at_accept p p.clock number c.args.real own version frontend facts there (well_at q c.self.invariant.well number own there).given (record {
       rows = refl;
       tables = refl;
+      down = refl;
       version_is = refl;
       frontend_is = refl;
       name = sums.name;

@@ -35,6 +35,7 @@ returns-clause-some c =
     (record {
       rows = ap (λ (p : Plain). p.frontends) c.self.view_is;
       tables = ap (λ (p : Plain). (at_moment c.args.moment p).tables) c.self.view_is;
+      down = ap (λ (p : Plain). p.down) c.self.view_is;
       version_is = refl;
       frontend_is = refl;
       name = sums.name;

@@ -34,6 +34,7 @@ forget_after-requires c = λ last.
       frontends = spoken before.versions (Piece c.args.id c.args.piece.now) c.args.id c.receive-reply.result before.frontends;
       versions = with_said c.in_ok-row.row.version c.receive-reply.result.said before.versions;
       tables = tables_by before.clock before.frontends before.tables c.receive-reply.result;
+      down = before.down;
     } in
     let pass : RowsValue → RowsValue = λ r. record r { tables = tables_alive c.max-now.result (open_tracks r.frontends) r.tables; clock = c.max-now.result } in
     let leaves : state_of_rows c.receive-reply.new.rows ≡ left (pass (record c.self.inside.rows { spare = c.reserve.new.self.spare })) =
@@ -63,7 +64,7 @@ answer_is : (c : goal.After-forget_after) → answer_in (state c) c.args.moment 
 unfolding state passed
 answer_is c =
     c.receive-reply.ensures.reply (at_moment c.args.moment (state c))
-    (record { frontends = ap (λ (r : RowsValue). r.frontends) (sym (passes c)); versions = ap (λ (r : RowsValue). r.versions) (sym (passes c)); tables = ap (λ (r : RowsValue). r.tables) (sym (passes c)) })
+    (record { frontends = ap (λ (r : RowsValue). r.frontends) (sym (passes c)); versions = ap (λ (r : RowsValue). r.versions) (sym (passes c)); tables = ap (λ (r : RowsValue). r.tables) (sym (passes c)); down = ap (λ (r : RowsValue). r.down) (sym (passes c)) })
 
 after_is : (c : goal.After-forget_after) → IsAfter (state c) (entry c.args.moment (Piece c.args.id c.args.piece.now) c.receive-reply.result)
     (state_of c.self.inside.listeners c.forget_after.new.rows)
@@ -79,10 +80,11 @@ after_is c =
       frontends = spoken before.versions (Piece c.args.id c.args.piece.now) c.args.id c.receive-reply.result before.frontends;
       versions = with_said version c.receive-reply.result.said before.versions;
       tables = tables_by before.clock before.frontends before.tables c.receive-reply.result;
+      down = before.down;
     } in
     let last : Bool = is_last c.receive-reply.result.said in
     let leaves : state_of c.self.inside.listeners c.receive-reply.new.rows ≡ left found.0.version (passed c) =
-    ap (λ (s : RowsState). record { clock = c.receive-reply.new.rows.clock; listeners = c.self.inside.listeners; frontends = s.frontends; versions = s.versions; tables = s.tables }) c.receive-reply.ensures.new
+    ap (λ (s : RowsState). record { clock = c.receive-reply.new.rows.clock; listeners = c.self.inside.listeners; frontends = s.frontends; versions = s.versions; tables = s.tables; down = s.down }) c.receive-reply.ensures.new
     ∙ ap (λ n. record (left c.in_ok-row.row.version c.pass.new.self) { clock = n }) c.receive-reply.ensures.clock
     ∙ ap (left c.in_ok-row.row.version) (passes c) ∙ ap (λ (s : RowSummary). left s.version (passed c)) c.in_ok-row.ensures.ok.2 in
     subst (IsAfter (state c) (entry c.args.moment (Piece c.args.id c.args.piece.now) c.receive-reply.result))

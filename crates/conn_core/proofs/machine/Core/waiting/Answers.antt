@@ -80,5 +80,5 @@ returns-clause-some c = if_some (SeesOpen c.self.inside.rows c.args.id c.in-Ok.r
       };
       version_is = sees.version_is;
       frontend_is = sees.frontend_is;
-      view = sees.view (at_moment c.args.moment q) (record { own = refl; named = λ name. refl; offered = λ name. refl; served = λ server. refl; tracks = refl; tracked = refl; tables = refl });
+      view = sees.view (at_moment c.args.moment q) (record { own = refl; named = λ name. refl; offered = λ name. refl; served = λ server. refl; tracks = refl; tracked = refl; tables = refl; down = refl });
     })

@@ -16,7 +16,9 @@ end_all_empty-requires c =
     ap (total (λ (own : StoredFrontend). length own.rows)) all ∙ total-empty c.args.plan.frontends c.args.last
 
 pub returns-in-Ok : goal.returns-in-Ok
-returns-in-Ok c = opened c.args.plan c.args.last c.in_ok-frontends.frontends.items c.in-Ok.kept.versions c.in_ok-tables.tables (search rules) (search rules) (search rules) (search rules) c.in_ok-tables.ensures.clock
+returns-in-Ok c =
+    rw c.new-in-Ok.ensures.items
+    (opened c.args.plan c.args.last c.in_ok-frontends.frontends.items c.in-Ok.kept.versions c.in_ok-tables.tables (search rules) (search rules) (search rules) (search rules) c.in_ok-tables.ensures.clock)
 
 pub invariant_of-result : goal.invariant_of-result
 invariant_of-result c =

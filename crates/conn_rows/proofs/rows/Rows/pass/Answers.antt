@@ -26,6 +26,7 @@ returns c =
       tables = tables;
       clock = c.args.moment;
       spare = c.self.inside.tables.spare;
+      down = c.self.inside.down.items;
     } in
     let passing : RowsValue → RowsValue = λ v. record v { tables = tables_alive c.args.moment (open_tracks v.frontends) v.tables; clock = c.args.moment } in
     rw c.pass.ensures.value (ap with_tables alive ∙ ap passing c.self.view_is)

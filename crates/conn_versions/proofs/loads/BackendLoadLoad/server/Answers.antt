@@ -7,6 +7,7 @@ use Rattle.conn_model.specs.Servers.{identity_in}
 use Rattle.conn_versions.proofs.Identities.{identity_within}
 use Rattle.conn_versions.proofs.ServerLoads.{load_past, load_there}
 use Rattle.conn_versions.proofs.loads.BackendLoadLoad.server.Goals as goal
+use Rattle.conn_versions.specs.Barred.{is_barred}
 
 pub count-requires : goal.count-requires
 count-requires c =
@@ -26,10 +27,10 @@ returns-in-Some c =
     let less : c.args.number < length c.self.inside.backend.now.servers = slice_get_within c.self.inside.backend.now.servers c.args.number c.in-Some.server.now there in
     let many = c.self.invariant.slots.many in
     let found = slice_get-get_or c.self.inside.places.now c.args.number first (omega (arith, less, many)) in
-    rw (c.load_of.ensures, c.count.ensures, c.from.ensures, ← c.self.view_is)
-    (sym (load_there c.self.inside.slots.now c.self.inside.backend.now c.self.inside.places.now c.args.number c.in-Some.server.now (get_or c.self.inside.places.now c.args.number first) c.self.invariant there found))
+    rw (c.load_of.ensures, c.bars-is_barred.ensures, c.count.ensures, c.from.ensures, ← c.self.view_is)
+    (sym (load_there c.self.inside.slots.now (is_barred c.self.inside.barred.down.now c.self.inside.barred.lines.now) c.self.inside.backend.now c.self.inside.places.now c.args.number c.in-Some.server.now (get_or c.self.inside.places.now c.args.number first) c.self.invariant there found))
 
 pub returns-in-None : goal.returns-in-None
 returns-in-None c =
     let none : slice_get c.self.inside.backend.now.servers c.args.number ≡ None = rw c.as_slice.ensures at (sym c.item.ensures ∙ ap option_copied c.in-None.is) in
-    rw (← c.self.view_is) (sym (load_past c.self.inside.slots.now c.self.inside.backend.now c.args.number none))
+    rw (← c.self.view_is) (sym (load_past c.self.inside.slots.now (is_barred c.self.inside.barred.down.now c.self.inside.barred.lines.now) c.self.inside.backend.now c.args.number none))

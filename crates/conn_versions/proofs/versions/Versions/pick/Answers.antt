@@ -9,6 +9,7 @@ use Rattle.list_core.proofs.Items.{one_item}
 use Rattle.conn_model.proofs.Lists.{nowhere}
 use Rattle.conn_versions.proofs.Founds.{found_backend, found_version, within_own, FoundBackend, FoundVersion}
 use Rattle.conn_versions.proofs.versions.Versions.pick.Goals as goal
+use Rattle.conn_versions.specs.Barred.{is_barred}
 
 pub place_of-requires : goal.place_of-requires
 place_of-requires c = subst (Rise (λ version. version.number)) (sym c.as_slice.ensures.value) c.self.invariant.kept.rise
@@ -63,8 +64,8 @@ returns-then-number-len-clause-picked c =
     let cursor : c.cursor_at.result ≡ cursor_at kept.cursors c.args.backend =
     c.cursor_at.ensures ∙ ap (λ cs. cursor_at cs c.from-number.result) c.as_slice-then-number-len-2.ensures ∙ ap (cursor_at c.index-kept.result.now.cursors) c.from-number.ensures
     ∙ ap (λ v. cursor_at v.cursors c.args.backend) same in
-    c.pick.ensures ∙ ap (λ b. option_map (λ turn. turn.server) (pick_in (open_to c.self.inside.slots) b c.cursor_at.result c.args.source.now)) own
-    ∙ ap (λ last. option_map (λ turn. turn.server) (pick_in (open_to c.self.inside.slots) backend last c.args.source.now)) cursor)
+    c.pick.ensures ∙ ap (λ b. option_map (λ turn. turn.server) (pick_in (open_to c.self.inside.slots) (is_barred c.args.barred.down.now c.args.barred.lines.now) b c.cursor_at.result c.args.source.now)) own
+    ∙ ap (λ last. option_map (λ turn. turn.server) (pick_in (open_to c.self.inside.slots) (is_barred c.args.barred.down.now c.args.barred.lines.now) backend last c.args.source.now)) cursor)
 
 pub returns-else-number-len-clause-picked : goal.returns-else-number-len-clause-picked
 returns-else-number-len-clause-picked c =
