@@ -3,6 +3,9 @@ use clap::{Arg, ArgAction, Command, value_parser};
 use proxy_types::MOST_WORKERS;
 use std::alloc::{AllocError, Global};
 
+/// The version of the program.
+pub const VERSION: &str = "0.1.0";
+
 /// How many workers there are if the words do not say.
 const DEFAULT_WORKERS: &str = "2";
 
@@ -110,16 +113,21 @@ fn serve<'a>(alloc: Global) -> Result<Command<'a>, AllocError> {
         .value_parser(value_parser!(u16).range(1..=i64::from(MOST_WORKERS)))
         .default_value(DEFAULT_WORKERS)
         .help("How many threads judge connections and pass them on, 1 to 64");
+    let stats = Arg::new(alloc, "stats")
+        .long("stats")
+        .value_name("ADDR")
+        .help("Answers `GET /metrics` on this address, as 127.0.0.1:9101");
     Command::new(alloc, "serve")
         .about("Takes connections and passes them on, until standard input says `quit` or ends")
         .arg(file(alloc))?
-        .arg(workers)
+        .arg(workers)?
+        .arg(stats)
 }
 
 /// The commands and their words.
 pub fn commands<'a>(alloc: Global) -> Result<Command<'a>, AllocError> {
     Command::new(alloc, "l4proxy")
-        .version("0.1.0")
+        .version(VERSION)
         .about("A layer 4 load balancer")
         .subcommand_required(true)
         .disable_help_subcommand(true)

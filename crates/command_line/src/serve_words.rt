@@ -10,6 +10,8 @@ use std::alloc::{AllocError, Global};
 #[derive(Drop)]
 pub struct ServeWords {
     pub file: String,
+    /// Where it is asked for its state.
+    pub stats: Option<String>,
     /// 1 to 64.
     pub workers: u16,
     pub ghost some_workers: { 1 ≤ workers },
@@ -21,7 +23,15 @@ impl ServeWords {
     pub fn of(alloc: Global, given: &ArgMatches<'_>) -> Result<ServeWords, AllocError> {
         let mut file = String::new(alloc);
         file.push_str(given.get_str("FILE").unwrap_or(""))?;
+        let stats = match given.get_str("stats") {
+            Some(word) => Some(String::from_str(alloc, word)?),
+            None => None,
+        };
         let workers = given.get_one("workers").unwrap_or(1).clamp(1, MOST_WORKERS);
-        Ok(ServeWords { file, workers })
+        Ok(ServeWords {
+            file,
+            stats,
+            workers,
+        })
     }
 }

@@ -8,6 +8,7 @@ use conn_model::reply::{Reply, StepFault};
 use desk_core::{Opening, Pass};
 use link_core::{Clock, Door, DoorEvent, Gate, Link};
 use rtrb::{Producer, PushError};
+use status_core::Reloads;
 use std::sync::Wait;
 use std::sync::ledger::Ledger;
 
@@ -63,6 +64,7 @@ impl<'a, M: Ledger, K: Link, D: Door<Link = K>> Acceptor<'a, M, K, D> {
         let mut lanes = lanes;
         let mut accepted = 0u64;
         let mut held = None;
+        let mut reloads = Reloads::NONE;
         if !have_begun(context, lanes.len() as u64) {
             return Came {
                 began: false,
@@ -94,6 +96,7 @@ impl<'a, M: Ledger, K: Link, D: Door<Link = K>> Acceptor<'a, M, K, D> {
                 DoorEvent::Reload(text) => {
                     let moment = context.clock.now();
                     let answer = context.desk.reload(rt, pass, moment, text.as_str());
+                    reloads.note(answer.is_ok());
                     if let Ok(receipt) = &answer {
                         context.note(rt, receipt.number);
                     }
@@ -106,6 +109,9 @@ impl<'a, M: Ledger, K: Link, D: Door<Link = K>> Acceptor<'a, M, K, D> {
                         context.note(rt, receipt.number);
                     }
                     door.report(&reply_to(answer));
+                }
+                DoorEvent::Status(asks) => {
+                    door.report_status(context.status(rt, asks.as_slice(), reloads));
                 }
                 DoorEvent::Idle => context.clock.rest(),
                 DoorEvent::Closed => break,

@@ -5,6 +5,7 @@ ghost use Rattle.conn_model.specs.HandedIn.{HasPieceInLimit};
 ghost use Rattle.desk_core.specs.Driving.{driven_event};
 
 use crate::leases::Leases;
+use crate::meters::Meters;
 use crate::recorder::Alert;
 use addr_core::Pair;
 use book_core::Receipt;
@@ -24,6 +25,7 @@ pub(crate) struct WorkerContext<'a, M: Ledger, O: Ledger, B: Opening, G, C> {
     pub(crate) gate: &'a G,
     pub(crate) clock: &'a C,
     pub(crate) alert: &'a Alert,
+    pub(crate) meters: &'a Meters,
     /// How many turns a worker and the acceptor make at the most.
     pub(crate) turns: u64,
 }

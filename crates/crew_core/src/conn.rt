@@ -14,6 +14,7 @@ use conn_model::settings::Settings;
 use link_core::{Flags, Link, Progress, Ready, Spares, pump};
 use plan_types::Redispatch;
 use relay_core::{Relay, Way};
+use status_core::Sent;
 use std::alloc::AllocError;
 
 /// What a connection waits for.
@@ -190,6 +191,14 @@ impl<K: Link> Conn<K> {
             server: time_begun(self.times.server, was.server, server_is_active, now),
         };
         self.waited_for = self.waited_for();
+    }
+
+    /// How many bytes were written to its links since it was asked last.
+    pub(crate) fn take_sent(&mut self) -> Sent {
+        Sent {
+            to_servers: self.server_flags.take_sent(),
+            to_clients: self.client_flags.take_sent(),
+        }
     }
 
     /// What is due, if anything is.

@@ -14,6 +14,7 @@ ghost use Rattle.crew_core.specs.Outlets.{HasHandedOn};
 
 use crate::acceptor::{Acceptor, Came, LANE};
 use crate::calls::WorkerContext;
+use crate::meters::Meters;
 use crate::outlet::{Outlet, Sink, empty};
 use crate::recorder::Alert;
 use crate::table::Table;
@@ -82,6 +83,7 @@ pub struct Crew<M: Ledger, O: Ledger, B: Opening, L, S: Sink> {
 struct Rooms<M: Ledger, O: Ledger, K: Link, L: Dial<Link = K>> {
     states: Vec<WorkerState<K>>,
     lanes: Vec<Producer<NewConn<K>>>,
+    meters: Meters,
     passes: Vec<Pass<M>>,
     dials: Vec<L>,
     lists: Vec<LeaseList<O>>,
@@ -122,10 +124,11 @@ fn make_lists<O: Ledger>(
     }
 }
 
-/// Makes all rooms for so many workers.
+/// Makes all rooms for so many workers, and meters for so many frontends.
 fn make_rooms<M: Ledger, O: Ledger, K: Link, L: Dial<Link = K> + Drop>(
     alloc: Global,
     workers: usize,
+    frontends: usize,
 ) -> Result<Rooms<M, O, K, L>, AllocError>
     requires { workers ≤ MOST_WORKERS }
     ensures states { IfOk result (λ r. vec_len r.states ≡ workers) }
@@ -142,6 +145,7 @@ fn make_rooms<M: Ledger, O: Ledger, K: Link, L: Dial<Link = K> + Drop>(
         states.push(state)?;
         lanes.push(lane)?;
     }
+    let meters = Meters::new(alloc, frontends)?;
     let passes = Vec::with_capacity(alloc, workers + 1)?;
     let dials = Vec::with_capacity(alloc, workers)?;
     let (lists, left) = make_lists(alloc, workers)?;
@@ -149,6 +153,7 @@ fn make_rooms<M: Ledger, O: Ledger, K: Link, L: Dial<Link = K> + Drop>(
         Ok(workers) => Ok(Rooms {
             states,
             lanes,
+            meters,
             passes,
             dials,
             lists,
@@ -229,7 +234,9 @@ fn work_beside<
     let Team { workers, acceptor } = team;
     let (_all, came) = thread::join(
         rt,
-        || attend_each(rt, context, workers),
+        ||
+            requires { IsSend M.row × IsSend O.row × IsSend B.row × IsSend K.row × IsSend L.row }
+        { attend_each(rt, context, workers) },
         move || acceptor.accept_all(rt, context),
     );
     context.alert.end();
@@ -453,16 +460,18 @@ pub fn run_crew<
     ensures dials { IfErr result (λ fault. fault.1.dials ≡ dials) }
     ensures outlet { IfErr result (λ fault. fault.1.outlet ≡ outlet) }
 {
+    let frontends = book.base().frontends.len();
     let mut desk = Desk::<M, O, B>::new(alloc, book, made, leases);
     if let Err(fault) = can_spawn(rt, alloc, dials.len() + 1) {
         return Err((fault, idle(alloc, desk, dials, outlet)));
     }
-    let Ok(rooms) = make_rooms::<M, O, K, L>(alloc, dials.len()) else {
+    let Ok(rooms) = make_rooms::<M, O, K, L>(alloc, dials.len(), frontends) else {
         return Err((CrewFault::NoMemory, idle(alloc, desk, dials, outlet)));
     };
     let Rooms {
         states,
         lanes,
+        meters,
         mut passes,
         dials: mut dials_back,
         mut lists,
@@ -478,6 +487,7 @@ pub fn run_crew<
         gate,
         clock,
         alert: &alert,
+        meters: &meters,
         turns: setup.turns,
     };
     let acceptor = Acceptor {

@@ -13,6 +13,7 @@ mod crew;
 mod engine;
 mod idle;
 mod leases;
+mod meters;
 mod outlet;
 mod queue;
 mod record_sink;

@@ -4,9 +4,11 @@ ghost use Rattle.rtrb.specs.Ring.{known_items, received, sent, IsPair};
 ghost use Rattle.book_core.specs.Book.{with_ring};
 ghost use Rattle.crew_core.specs.Outlets.{HasHandedOn};
 
+use crate::meters::Meters;
 use desk_core::{ClosedDesk, Opening};
 use record_core::Segment;
 use rtrb::Consumer;
+use std::sync::Wait;
 use std::sync::ledger::Ledger;
 
 /// How many segments a ring has room for.
@@ -37,27 +39,42 @@ pub struct Outlet<S: Sink> {
     pub sink: S,
 }
 
-/// The next segment of the ring, if there is one, goes to the sink. How many the sink refused, with those before.
-fn hand_next<S: Sink>(outlet: &mut Outlet<S>, refused: u64) -> Option<u64>
+/// The next segment of the ring, if there is one, is counted and goes to the sink. How many the sink refused, with those
+/// before.
+fn hand_next<S: Sink, R: Wait>(
+    rt: &R,
+    meters: &Meters,
+    outlet: &mut Outlet<S>,
+    refused: u64,
+) -> Option<u64>
     ensures some { IfSome result (λ total. HasHandedOn S.takes S.refuses refused outlet.old total outlet.new) }
     ensures none { IfNone result (HasHandedOn S.takes S.refuses refused outlet.old refused outlet.new) }
 {
     let Ok(segment) = outlet.segments.pop() else {
         return None;
     };
-    match outlet.sink.take(segment) {
+    meters.note_segment(rt, &segment);
+    let records = segment.records.len() as u64;
+    let answer = outlet.sink.take(segment);
+    meters.note_handled(records, answer.is_ok());
+    match answer {
         Ok(()) => Some(refused),
         Err(_) => Some(refused.saturating_add(1)),
     }
 }
 
 /// The segments of the ring go to the sink, `RING` at the most. How many of them it refused, with those before.
-pub(crate) fn drain<S: Sink>(outlet: &mut Outlet<S>, refused: u64) -> u64
+pub(crate) fn drain<S: Sink, R: Wait>(
+    rt: &R,
+    meters: &Meters,
+    outlet: &mut Outlet<S>,
+    refused: u64,
+) -> u64
     ensures { HasHandedOn S.takes S.refuses refused outlet.old result outlet.new }
 {
     let mut total = refused;
     for _segment in 0..RING {
-        match hand_next(outlet, total) {
+        match hand_next(rt, meters, outlet, total) {
             Some(count) => total = count,
             None => break,
         }

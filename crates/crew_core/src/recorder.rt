@@ -63,6 +63,11 @@ impl Alert {
         self.parker.unpark();
     }
 
+    /// How many segments the sink refused so far.
+    pub(crate) fn refused(&self) -> u64 {
+        self.refused.load(Ordering::SeqCst)
+    }
+
     /// What keeps the record from going out, if anything does.
     pub(crate) fn backlog(&self) -> Option<Backlog> {
         let backlog = Backlog {
@@ -80,6 +85,7 @@ impl Alert {
 impl<'a, M: Ledger, O: Ledger, B: Opening, G: Gate, C: Clock> WorkerContext<'a, M, O, B, G, C> {
     /// A record of that number was made. If it ends a segment, those in memory are handed to the recorder.
     pub(crate) fn note<R: Wait>(&self, rt: &R, number: u64) {
+        self.meters.note_made();
         if number % SEGMENT == 0 {
             self.cut(rt, SEGMENT);
         }
@@ -94,6 +100,7 @@ impl<'a, M: Ledger, O: Ledger, B: Opening, G: Gate, C: Clock> WorkerContext<'a, 
         }
         match self.desk.cut(rt) {
             Ok(()) => {
+                self.meters.note_cut();
                 self.alert.waiting.store(0, Ordering::SeqCst);
                 self.alert.parker.unpark();
             }
@@ -128,7 +135,7 @@ impl<'a, M: Ledger, O: Ledger, B: Opening, G: Gate, C: Clock> WorkerContext<'a, 
         let mut refused = 0u64;
         let mut latest = self.clock.now();
         for _round in rt.forever() {
-            refused = drain(&mut outlet, refused);
+            refused = drain(rt, self.meters, &mut outlet, refused);
             self.alert.refused.store(refused, Ordering::SeqCst);
             if self.alert.is_over.load(Ordering::SeqCst) {
                 return (outlet, refused);

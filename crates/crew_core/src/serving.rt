@@ -246,6 +246,7 @@ impl<M: Ledger, O: Ledger, K: Link, L: Dial<Link = K>> Worker<M, O, K, L> {
         context: &WorkerContext<'_, M, O, B, G, C>,
         key: usize,
     ) {
+        context.meters.note_failed_dial();
         let has_pause = match self.state.table.conn(key) {
             Some(conn) => conn.begin_pause(context.clock.now()),
             None => false,
@@ -297,6 +298,7 @@ impl<M: Ledger, O: Ledger, K: Link, L: Dial<Link = K>> Worker<M, O, K, L> {
         key: usize,
         to: &Endpoint,
     ) {
+        context.meters.note_retry();
         if let Some(conn) = self.state.table.conn(key) {
             conn.end_pause(*to);
         }
@@ -382,6 +384,7 @@ impl<M: Ledger, O: Ledger, K: Link, L: Dial<Link = K>> Worker<M, O, K, L> {
         };
         let progress = conn.relay(spares, buffer.as_mut_slice());
         conn.note_activity(context.clock.now());
+        context.meters.note_sent(conn.take_sent());
         match progress {
             None => self.close(rt, context, key, Why::Done),
             Some(Progress::Fault) => self.close(rt, context, key, Why::Fault),

@@ -1,12 +1,16 @@
 //! What standard input says while `l4proxy serve` runs.
+use crate::stats;
+use crate::stats::StatusFault;
 use arrayvec::ArrayVec;
 use config_core::{OpenFault, read_plan};
 use crew_core::Clock;
 use log::{Log, warn};
-use socket_core::{CheckPlan, Command, CommandSender, Pace, SystemClock};
-use std::alloc::AllocError;
+use socket_core::{Command, CommandSender, DoorPlan, Pace, StatusAsker, SystemClock};
+use status_core::Outline;
+use std::alloc::{AllocError, Global};
 use std::io::Read;
 use std::rt::Files;
+use std::sync::Arc;
 use std::time::Duration;
 use std::{fs, io, rt, thread};
 
@@ -26,13 +30,38 @@ struct Ear<'a, R: rt::Clock> {
     rt: &'a R,
     file: &'a str,
     commands: CommandSender,
+    questions: Questions,
     clock: SystemClock<'a, R>,
     unknown: Pace,
     unreadable: Pace,
     full: Pace,
+    unasked: Pace,
 }
 
-impl<'a, R: Files + AllocGlobal + rt::Clock + Log> Ear<'a, R> {
+/// What the reader of standard input needs to ask for the state.
+#[derive(Drop)]
+pub struct Questions {
+    pub asker: StatusAsker,
+    /// When the program was started, in ms since 1970.
+    pub started: u64,
+    /// The sections of the first configuration.
+    pub first: Arc<Outline, Global>,
+}
+
+impl<'a, R: Files + AllocGlobal + rt::Clock + Log + Eprint> Ear<'a, R> {
+    /// Writes the state on standard error.
+    fn say_status(&mut self) {
+        let questions = &mut self.questions;
+        let why = match stats::say(self.rt, &mut questions.asker, questions.started) {
+            Ok(()) => return,
+            Err(StatusFault::Unknown) => "it did not come",
+            Err(StatusFault::NoMemory) => "no memory",
+        };
+        if self.unasked.allows(self.clock.now()) {
+            warn!(self.rt; "no status is written: {why}");
+        }
+    }
+
     /// Hands the text of the file to the door. If the file cannot be read, nothing changes.
     fn reload(&mut self) {
         let Ok(text) = fs::read_to_string(self.rt, self.file) else {
@@ -41,24 +70,24 @@ impl<'a, R: Files + AllocGlobal + rt::Clock + Log> Ear<'a, R> {
             }
             return;
         };
-        let Ok(checks) = self.checks_of(text.as_str()) else {
+        let Ok(plan) = self.plan_of(text.as_str()) else {
             if self.unreadable.allows(self.clock.now()) {
                 warn!(self.rt; "nothing is reloaded: no memory for {}", self.file);
             }
             return;
         };
-        if !self.hand_in(Command::Reload(text, checks)) && self.full.allows(self.clock.now()) {
+        if !self.hand_in(Command::Reload(text, plan)) && self.full.allows(self.clock.now()) {
             warn!(self.rt; "nothing is reloaded: too many reloads wait");
         }
     }
 
-    /// Which servers a text has checked. A text with a fault has none, and is refused.
-    fn checks_of(&self, text: &str) -> Result<CheckPlan, AllocError> {
+    /// What the door has to know of a text. One with a fault is refused.
+    fn plan_of(&self, text: &str) -> Result<DoorPlan, AllocError> {
         let alloc = self.rt.alloc();
         match read_plan(alloc, text) {
-            Ok(plan) => CheckPlan::of(alloc, &plan),
+            Ok(plan) => DoorPlan::later(alloc, &plan, &self.questions.first),
             Err(OpenFault::NoMemory) => Err(AllocError),
-            Err(_) => Ok(CheckPlan::none(alloc)),
+            Err(_) => DoorPlan::none(alloc),
         }
     }
 
@@ -79,10 +108,11 @@ impl<'a, R: Files + AllocGlobal + rt::Clock + Log> Ear<'a, R> {
     fn hear(&mut self, line: &[u8]) -> bool {
         match line.strip_suffix(b"\r").unwrap_or(line) {
             b"reload" => self.reload(),
+            b"status" => self.say_status(),
             b"quit" => return false,
             _ => {
                 if self.unknown.allows(self.clock.now()) {
-                    warn!(self.rt; "a line of standard input is skipped: it is neither `reload` nor `quit`");
+                    warn!(self.rt; "a line of standard input is skipped: it is none of `reload`, `status` and `quit`");
                 }
             }
         }
@@ -119,11 +149,12 @@ impl<'a, R: Files + AllocGlobal + rt::Clock + Log> Ear<'a, R> {
 }
 
 /// Hands the words of standard input to the door: `reload` reads the file again, `quit` and the end of the input close
-/// the door. Other lines are skipped, whatever their length.
-pub fn read_words<'a, R: Files + AllocGlobal + io::Input + rt::Clock + Log>(
+/// the door; `status` writes the state on standard error. Other lines are skipped, whatever their length.
+pub fn read_words<'a, R: Files + AllocGlobal + io::Input + rt::Clock + Log + Eprint>(
     rt: &'a R,
     file: &'a str,
     commands: CommandSender,
+    questions: Questions,
 ) {
     // Without the time the sender is dropped here, which closes the door.
     let Ok(clock) = SystemClock::start(rt) else {
@@ -133,10 +164,12 @@ pub fn read_words<'a, R: Files + AllocGlobal + io::Input + rt::Clock + Log>(
         rt,
         file,
         commands,
+        questions,
         clock,
         unknown: Pace::new(),
         unreadable: Pace::new(),
         full: Pace::new(),
+        unasked: Pace::new(),
     };
     ear.listen(&mut rt.reader());
     let _is_in = ear.commands.send(Command::Quit);

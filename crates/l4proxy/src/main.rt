@@ -14,7 +14,8 @@
 //! 3 if something cannot be read or written, or memory ran out.
 #![tactic(auto)]
 
-use crate::serve::ServeSetup;
+use crate::input::Questions;
+use crate::serve::{ServeSetup, Watch};
 use clap::error::ErrorKind;
 use command_line::{ServeWords, commands};
 use crew_core::CrewFault;
@@ -28,6 +29,7 @@ use std::{env, io, rt, thread};
 
 mod input;
 mod serve;
+mod stats;
 
 /// What the words ask for.
 #[derive(Drop)]
@@ -67,23 +69,36 @@ fn arguments(rt: &(impl env::Env + AllocGlobal + Eprint)) -> Result<Vec<String>,
     }
 }
 
+/// Does what the command line asks for, unless that is to serve: then its words. Or else the status.
+fn words_to_serve<R: env::Env + Files + AllocGlobal + io::Input + Print + Eprint + rt::Clock>(
+    rt: &R,
+    terminals: Terminals,
+) -> Result<ServeWords, u8> {
+    let words = arguments(rt)?;
+    match run(rt, words.as_slice(), terminals) {
+        Ok(Asked::Serve(words)) => Ok(words),
+        Ok(Asked::Done(status)) => Err(status),
+        Err(error) => Err(print_usage(rt, &error)),
+    }
+}
+
 fn main(rt: HostRuntime) -> ExitCode {
     let terminals = Terminals {
         output: rt.stdout().is_terminal(),
         errors: rt.stderr().is_terminal(),
     };
-    let asked = match arguments(&rt) {
-        Ok(words) => run(&rt, words.as_slice(), terminals),
+    let words = match words_to_serve(&rt, terminals) {
+        Ok(words) => words,
         Err(status) => return ExitCode::from(status),
-    };
-    let words = match asked {
-        Ok(Asked::Serve(words)) => words,
-        Ok(Asked::Done(status)) => return ExitCode::from(status),
-        Err(error) => return ExitCode::from(print_usage(&rt, &error)),
     };
     let clock = match SystemClock::start(&rt) {
         Ok(clock) => clock,
         Err(error) => return ExitCode::from(serve::fail(&rt, &error)),
+    };
+    let started = stats::time_of_start(&rt);
+    let listener = match stats::listen(&rt, &words) {
+        Ok(listener) => listener,
+        Err(status) => return ExitCode::from(status),
     };
     let setup = match serve::open(&rt, &clock, &words) {
         Ok(setup) => setup,
@@ -95,18 +110,39 @@ fn main(rt: HostRuntime) -> ExitCode {
         mut door,
         commands,
         dials,
+        watch,
     } = setup;
+    let Watch {
+        asker,
+        stats_asker,
+        first,
+    } = watch;
+    let questions = Questions {
+        asker,
+        started,
+        first,
+    };
     // What goes to a thread is made here, where the runtime is known. The reader of standard input is not waited for:
-    // it may be in a read when the crew ends for another cause.
+    // it may be in a read when the crew ends for another cause. Nor is the thread that answers requests for the state.
     let ServeWords { file, workers, .. } = words;
     let reader = match rt.clone() {
         Ok(handle) => thread::spawn(&rt, move || {
-            input::read_words(&handle, file.as_str(), commands)
+            input::read_words(&handle, file.as_str(), commands, questions)
         })
         .is_ok(),
         Err(_) => false,
     };
-    if !reader {
+    let is_answering = match listener {
+        Some(listener) => match rt.clone() {
+            Ok(handle) => thread::spawn(&rt, move || {
+                stats::answer(&handle, &listener, stats_asker, started)
+            })
+            .is_ok(),
+            Err(_) => false,
+        },
+        None => true,
+    };
+    if !reader || !is_answering {
         book.end();
         return ExitCode::from(serve::fail(&rt, &CrewFault::Spawn));
     }

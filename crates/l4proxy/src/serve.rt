@@ -17,18 +17,22 @@ use log::Log;
 use record_core::Segment;
 use rtrb::Consumer;
 use socket_core::{
-    CheckPlan, CommandSender, DialFault, Listeners, SocketDial, SocketDoor, SocketLink,
+    CommandSender, DialFault, DoorPlan, Listeners, SocketDial, SocketDoor, SocketLink, StatusAsker,
     SystemClock, listen, make_dials,
 };
+use status_core::{CrewStatus, Outline};
 use std::alloc::{AllocError, Global};
 use std::net::Net;
 use std::rt::Files;
-use std::sync::Wait;
+use std::sync::{Arc, Wait};
 use std::thread::Threads;
 use std::{fmt, fs, io, rt};
 
 /// How many descriptors are left for all that is no connection, listener or poll.
 const OTHER_FILES: u64 = 12;
+
+/// How many `--stats` takes: its listener, and the one client that it answers at a time.
+const STATS_FILES: u64 = 2;
 
 /// What is ready before the first connection is taken.
 pub struct ServeSetup<'a, R: Net + Log + rt::Clock> {
@@ -38,6 +42,26 @@ pub struct ServeSetup<'a, R: Net + Log + rt::Clock> {
     pub door: SocketDoor<'a, R, SystemClock<'a, R>>,
     pub commands: CommandSender,
     pub dials: Vec<SocketDial<'a, R>>,
+    pub watch: Watch,
+}
+
+/// What asks for the state, and what names the frontends by their numbers.
+#[derive(Drop)]
+pub struct Watch {
+    /// For the reader of standard input.
+    pub asker: StatusAsker,
+    /// For the listener of `--stats`.
+    pub stats_asker: StatusAsker,
+    /// The sections of the first configuration.
+    pub first: Arc<Outline, Global>,
+}
+
+/// What is open to the outside before the first connection is taken.
+struct ServeSockets<'a, R: Net + Log + rt::Clock> {
+    door: SocketDoor<'a, R, SystemClock<'a, R>>,
+    commands: CommandSender,
+    dials: Vec<SocketDial<'a, R>>,
+    watch: Watch,
 }
 
 /// Says on standard error what keeps it from serving.
@@ -90,11 +114,11 @@ fn addresses(alloc: Global, book: &Book) -> Result<Vec<Endpoint>, AllocError> {
     Ok(all)
 }
 
-/// Which servers the configuration of a book has checked.
-fn checks_of(alloc: Global, book: &Book) -> Result<CheckPlan, AllocError> {
+/// What the door knows of the configuration of a book.
+fn door_plan(alloc: Global, book: &Book) -> Result<DoorPlan, AllocError> {
     match book.base().versions.as_slice().last() {
-        Some(version) => CheckPlan::of(alloc, &version.plan),
-        None => Ok(CheckPlan::none(alloc)),
+        Some(version) => DoorPlan::first(alloc, &version.plan),
+        None => DoorPlan::none(alloc),
     }
 }
 
@@ -124,15 +148,22 @@ fn open_files<R: Files + AllocGlobal>(rt: &R) -> Option<u64> {
 }
 
 /// How many connections may be open at one time: each takes two descriptors, beside those of the listeners, of the
-/// workers' and the door's polls with their wakers, one for the check of each server, and some for all else.
+/// workers' and the door's polls with their wakers, one for the check of each server, those of `--stats`, and some for all
+/// else.
 fn most_connections<R: Files + AllocGlobal>(
     rt: &R,
     listeners: usize,
     checks: usize,
-    workers: u16,
+    words: &ServeWords,
 ) -> u64 {
-    let polls = u64::from(workers).saturating_add(1).saturating_mul(2);
+    let polls = u64::from(words.workers).saturating_add(1).saturating_mul(2);
+    let stats = if words.stats.is_some() {
+        STATS_FILES
+    } else {
+        0
+    };
     let others = polls
+        .saturating_add(stats)
         .saturating_add(listeners as u64)
         .saturating_add(checks as u64)
         .saturating_add(OTHER_FILES);
@@ -142,46 +173,73 @@ fn most_connections<R: Files + AllocGlobal>(
     }
 }
 
-/// Binds the book's listeners, all of them before any connection is taken, and makes what watches them.
+/// What asks the door for the state.
+fn make_watch<'a, R: Net + Log + rt::Clock>(
+    door: &mut SocketDoor<'a, R, SystemClock<'a, R>>,
+    first: Arc<Outline, Global>,
+) -> Result<Watch, AllocError> {
+    Ok(Watch {
+        asker: door.add_asker()?,
+        stats_asker: door.add_asker()?,
+        first,
+    })
+}
+
+/// Binds the book's listeners, all of them before any connection is taken.
+fn bind<R: Net + AllocGlobal + Eprint>(rt: &R, book: &Book) -> Result<Listeners, u8> {
+    let Ok(addresses) = addresses(rt.alloc(), book) else {
+        return Err(fail(rt, &DialFault::NoMemory));
+    };
+    match listen(rt, rt.alloc(), addresses.as_slice()) {
+        Ok(listeners) => {
+            say_listeners(rt, book, &listeners);
+            Ok(listeners)
+        }
+        Err(fault) => Err(fail(rt, &fault)),
+    }
+}
+
+/// What the door knows of the configuration of a book, and an owner more of its sections.
+fn open_plan<R: AllocGlobal + Eprint>(
+    rt: &R,
+    book: &Book,
+) -> Result<(DoorPlan, Arc<Outline, Global>), u8> {
+    let Ok(plan) = door_plan(rt.alloc(), book) else {
+        return Err(fail(rt, &DialFault::NoMemory));
+    };
+    match Arc::try_clone(&plan.outline) {
+        Ok(first) => Ok((plan, first)),
+        Err(_) => Err(fail(rt, &DialFault::NoMemory)),
+    }
+}
+
+/// Binds the book's listeners, and makes what watches them.
 fn open_sockets<'a, R: Files + Net + Log + rt::Clock + AllocGlobal + Eprint>(
     rt: &'a R,
     clock: &'a SystemClock<'a, R>,
     book: &Book,
-    workers: u16,
-) -> Result<
-    (
-        SocketDoor<'a, R, SystemClock<'a, R>>,
-        CommandSender,
-        Vec<SocketDial<'a, R>>,
-    ),
-    u8,
->
-    ensures { IfOk result (λ all. vec_len all.2 ≡ workers) }
+    words: &ServeWords,
+) -> Result<ServeSockets<'a, R>, u8>
+    ensures { IfOk result (λ sockets. vec_len sockets.dials ≡ words.now.workers) }
 {
     let alloc = rt.alloc();
-    let addresses = match addresses(alloc, book) {
-        Ok(addresses) => addresses,
-        Err(_) => return Err(fail(rt, &DialFault::NoMemory)),
-    };
-    let listeners = match listen(rt, alloc, addresses.as_slice()) {
-        Ok(listeners) => listeners,
-        Err(fault) => return Err(fail(rt, &fault)),
-    };
-    say_listeners(rt, book, &listeners);
-    let checks = match checks_of(alloc, book) {
-        Ok(checks) => checks,
-        Err(_) => return Err(fail(rt, &DialFault::NoMemory)),
-    };
-    let most = most_connections(rt, listeners.len(), checks.len(), workers);
-    let (mut door, commands) = match SocketDoor::new(rt, alloc, clock, listeners, most) {
+    let listeners = bind(rt, book)?;
+    let (plan, first) = open_plan(rt, book)?;
+    let most = most_connections(rt, listeners.len(), plan.checks.len(), words);
+    let (mut door, commands) = match SocketDoor::new(rt, alloc, clock, listeners, plan, most) {
         Ok(opened) => opened,
         Err(fault) => return Err(fail(rt, &fault)),
     };
-    if door.check(checks).is_err() {
+    let Ok(watch) = make_watch(&mut door, first) else {
         return Err(fail(rt, &DialFault::NoMemory));
-    }
-    match make_dials(rt, alloc, &mut door, workers) {
-        Ok(dials) => Ok((door, commands, dials)),
+    };
+    match make_dials(rt, alloc, &mut door, words.workers) {
+        Ok(dials) => Ok(ServeSockets {
+            door,
+            commands,
+            dials,
+            watch,
+        }),
         Err(fault) => Err(fail(rt, &fault)),
     }
 }
@@ -199,14 +257,23 @@ pub fn open<'a, R: Files + Net + Log + rt::Clock + AllocGlobal + Eprint>(
     ensures dials { IfOk result (λ setup. vec_len setup.dials ≡ words.now.workers) }
 {
     let (book, segments) = read_book(rt, words.file.as_str())?;
-    match open_sockets(rt, clock, &book, words.workers) {
-        Ok((door, commands, dials)) => Ok(ServeSetup {
-            book,
-            segments,
-            door,
-            commands,
-            dials,
-        }),
+    match open_sockets(rt, clock, &book, words) {
+        Ok(sockets) => {
+            let ServeSockets {
+                door,
+                commands,
+                dials,
+                watch,
+            } = sockets;
+            Ok(ServeSetup {
+                book,
+                segments,
+                door,
+                commands,
+                dials,
+                watch,
+            })
+        }
         Err(status) => {
             book.end();
             Err(status)
@@ -275,6 +342,10 @@ impl<'a, R: Eprint, D: Door<Link = SocketLink>> Door for ReadyDoor<'a, R, D> {
 
     fn report(&mut self, answer: &Result<Reply, StepFault>) {
         self.door.report(answer);
+    }
+
+    fn report_status(&mut self, status: Result<CrewStatus, AllocError>) {
+        self.door.report_status(status);
     }
 
     fn warn(&mut self, backlog: &Backlog) {

@@ -14,6 +14,8 @@ pub struct Flags {
     pub is_reset: bool,
     /// Bytes came from the link or went to it since `take_activity`.
     pub is_active: bool,
+    /// How many bytes were written to the link since `take_sent`.
+    pub sent: u64,
 }
 
 impl Flags {
@@ -25,6 +27,7 @@ impl Flags {
             is_closed: false,
             is_reset: false,
             is_active: false,
+            sent: 0,
         }
     }
 
@@ -36,6 +39,7 @@ impl Flags {
             is_closed: false,
             is_reset: false,
             is_active: false,
+            sent: 0,
         }
     }
 
@@ -47,6 +51,16 @@ impl Flags {
         let was_active = self.is_active;
         self.is_active = false;
         was_active
+    }
+
+    /// How many bytes were written to the link since it was asked last.
+    pub fn take_sent(&mut self) -> u64
+        ensures answer { result ≡ self.old.sent }
+        ensures flags { self.new ≡ record self.old { sent = 0 } }
+    {
+        let sent = self.sent;
+        self.sent = 0;
+        sent
     }
 
     pub fn raise(&mut self, ready: &Ready) {

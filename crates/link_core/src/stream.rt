@@ -43,7 +43,7 @@ fn can_move(relay: &Relay, way: Way, input: &Flags, output: &Flags) -> bool {
     reads || output.writes && relay.holds(way)
 }
 
-/// Lowers what a burst found not to be ready, and notes which of the links moved bytes.
+/// Lowers what a burst found not to be ready, and notes which of the links moved bytes, and how many were written.
 fn note(burst: &Burst, input: &mut Flags, output: &mut Flags) {
     match burst.stop {
         BurstStop::Full | BurstStop::NoRoom => {}
@@ -52,7 +52,10 @@ fn note(burst: &Burst, input: &mut Flags, output: &mut Flags) {
     }
     input.is_active |= burst.read > 0;
     match burst.drained {
-        Drained::Bytes(_) => output.is_active = true,
+        Drained::Bytes(count) => {
+            output.is_active = true;
+            output.sent = output.sent.saturating_add(count as u64);
+        }
         Drained::Blocked => output.writes = false,
         Drained::Empty => {}
     }

@@ -3,9 +3,12 @@
 ghost use Rattle.std.specs.Prelude.{◌≡◌};
 
 use addr_core::{Endpoint, Pair};
+use conn_model::ask::Ask;
 use conn_model::event::Health;
 use conn_model::reply::{Reply, StepFault};
 use device_core::{Input, Output};
+use status_core::CrewStatus;
+use std::alloc::AllocError;
 
 /// A connection of bytes that does not wait: where nothing can be read or written at this moment, a call is blocked.
 /// Dropping it ends it.
@@ -29,6 +32,8 @@ pub enum DoorEvent<K> {
     Reload(String),
     /// A server is down or up from now on: the numbers of its backend in the newest configuration and of it in its backend.
     Mark(u16, u16, Health),
+    /// Somebody asks for the state of the crew, with how many connections are open to each of these.
+    Status(Vec<Ask>),
     /// Nothing came. The door may have waited before it said so.
     Idle,
     /// Nothing will come any more.
@@ -53,6 +58,11 @@ pub trait Door {
 
     /// What became of the reload or of the mark that was last handed out.
     fn report(&mut self, answer: &Result<Reply, StepFault>);
+
+    /// The state that was asked for last, unless there was no memory for it.
+    fn report_status(&mut self, status: Result<CrewStatus, AllocError>) {
+        let _status = status;
+    }
 
     /// The record does not go out as it should. This is called again and again while it is so.
     fn warn(&mut self, backlog: &Backlog);

@@ -7,6 +7,7 @@ use list_core::Duplicate;
 use mio::net::TcpStream;
 use mio::{Interest, Registry, Token};
 use proxy_types::ServerIdentity;
+use status_core::ServerHealth;
 use std::alloc::{AllocError, Global};
 use std::io::ErrorKind;
 use std::net::Net;
@@ -298,6 +299,19 @@ impl Checks {
 
     pub fn is_empty(&self) -> bool {
         self.all.is_empty()
+    }
+
+    /// Which of the servers are up, by their numbers.
+    pub fn health(&self) -> Result<Vec<ServerHealth>, AllocError> {
+        let mut health = Vec::with_capacity(self.alloc, self.all.len())?;
+        for watched in self.all.iter() {
+            health.push(ServerHealth {
+                backend: watched.server.backend,
+                server: watched.server.server,
+                is_up: watched.trend.is_up,
+            })?;
+        }
+        Ok(health)
     }
 
     /// How many ms there are at most until something is due.

@@ -1,5 +1,5 @@
 //! What an operator asks for, on its way to the door.
-use crate::check_plan::CheckPlan;
+use crate::door_plan::DoorPlan;
 use mio::Waker;
 use rtrb::{Producer, PushError};
 use std::alloc::Global;
@@ -11,8 +11,8 @@ pub const MOST_COMMANDS: usize = 64;
 /// What an operator asks for.
 #[derive(Drop)]
 pub enum Command {
-    /// The configuration of that text is to come into force, which has these servers checked.
-    Reload(String, CheckPlan),
+    /// The configuration of that text is to come into force; what the door knows of it.
+    Reload(String, DoorPlan),
     /// No connection is accepted any more, and those that are open are ended.
     Quit,
 }

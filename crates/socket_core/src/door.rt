@@ -1,19 +1,22 @@
-//! The door: connections of the listeners, and the commands of an operator.
+//! The door: connections of the listeners, the commands of an operator, and questions for the state.
 use crate::alarm::Alarm;
-use crate::check_plan::CheckPlan;
 use crate::checks::{Checks, HealthChange};
 use crate::commands::{Command, CommandSender, MOST_COMMANDS};
+use crate::door_plan::DoorPlan;
 use crate::fd_budget::{FdBudget, FdPermit};
 use crate::link::SocketLink;
 use crate::listeners::{ListenFault, Listeners};
 use crate::pace::Pace;
 use crate::ports::{AcceptResult, Ports};
+use crate::status_line::{StatusAnswer, StatusAsker, StatusEnd, status_line};
+use conn_model::ask::Ask;
 use conn_model::event::Health;
 use conn_model::reply::{Reply, Said, StepFault};
 use link_core::{Backlog, Clock, Door, DoorEvent};
 use log::{Log, info, warn};
 use mio::Waker;
 use rtrb::{Consumer, RingBuffer};
+use status_core::{CrewStatus, Outline, ProxyStatus};
 use std::alloc::{AllocError, Global};
 use std::net::Net;
 use std::sync::Arc;
@@ -33,6 +36,7 @@ const PAUSE: u64 = 10;
 #[derive(Drop)]
 pub struct SocketDoor<'a, R: Log, C: Clock> {
     rt: &'a R,
+    alloc: Global,
     clock: &'a C,
     ports: Ports,
     commands: Consumer<Command>,
@@ -59,20 +63,28 @@ pub struct SocketDoor<'a, R: Log, C: Clock> {
     /// How many lost segments of the record were reported.
     segments: u64,
     checks: Checks,
-    /// What the configuration has checked that was handed out last.
-    next_checks: Option<CheckPlan>,
     /// When the checks were last looked after.
     tended: u64,
+    /// What is known of the configuration that was handed out last.
+    next_plan: Option<DoorPlan>,
+    /// The sections of the configuration in force, and the number of its version.
+    outline: Arc<Outline, Global>,
+    version: u64,
+    /// Where the state is asked for.
+    askers: Vec<StatusEnd>,
+    /// The place of the asker whose question was handed out last, and the number of that question.
+    asked: Option<(usize, u64)>,
 }
 
 impl<'a, R: Log + Net, C: Clock> SocketDoor<'a, R, C> {
-    /// A door over these listeners, and the sender by which commands come to it. No more than `most` connections are open
-    /// at one time.
+    /// A door over these listeners for the first configuration, of which it knows that, and the sender by which commands
+    /// come to it. No more than `most` connections are open at one time.
     pub fn new(
         rt: &'a R,
         alloc: Global,
         clock: &'a C,
         listeners: Listeners,
+        plan: DoorPlan,
         most: u64,
     ) -> Result<(SocketDoor<'a, R, C>, CommandSender), ListenFault> {
         let ports = Ports::new(rt, alloc, listeners)?;
@@ -80,8 +92,10 @@ impl<'a, R: Log + Net, C: Clock> SocketDoor<'a, R, C> {
         let (to_door, commands) = RingBuffer::new(alloc, MOST_COMMANDS)?;
         let sender = CommandSender::new(to_door, Arc::try_clone(&waker)?);
         let budget = FdBudget::new(most, Arc::try_clone(&waker)?);
-        let door = SocketDoor {
+        let DoorPlan { checks, outline } = plan;
+        let mut door = SocketDoor {
             rt,
+            alloc,
             clock,
             ports,
             commands,
@@ -101,20 +115,19 @@ impl<'a, R: Log + Net, C: Clock> SocketDoor<'a, R, C> {
             unmarked: Pace::new(),
             segments: 0,
             checks: Checks::new(alloc),
-            next_checks: None,
             tended: 0,
+            next_plan: None,
+            outline,
+            version: 1,
+            askers: Vec::new(alloc),
+            asked: None,
         };
+        door.checks.put_in_force(checks, clock.now())?;
         Ok((door, sender))
     }
 }
 
 impl<'a, R: Log + Net, C: Clock> SocketDoor<'a, R, C> {
-    /// Has the door check the servers of the first configuration.
-    pub fn check(&mut self, plan: CheckPlan) -> Result<(), AllocError> {
-        let now = self.clock.now();
-        self.checks.put_in_force(plan, now)
-    }
-
     /// Has the door wake the next worker where a connection is for it. The workers are added in their order.
     pub fn add_worker(&mut self, alarm: Arc<Alarm, Global>) -> Result<(), AllocError> {
         Ok(self.workers.push(alarm)?)
@@ -205,11 +218,22 @@ impl<'a, R: Log + Net, C: Clock> SocketDoor<'a, R, C> {
         }
     }
 
+    /// A change of a server, a question for the state, or a connection, in this order.
+    fn next_report_or_conn(&mut self) -> Option<DoorEvent<SocketLink>> {
+        if let Some((backend, server, health)) = self.checks.next_report() {
+            return Some(DoorEvent::Mark(backend, server, health));
+        }
+        match self.next_question() {
+            Some(asks) => Some(DoorEvent::Status(asks)),
+            None => self.accept(),
+        }
+    }
+
     /// What came, if anything did. Words come first, so that connections cannot keep them waiting.
     fn next_event(&mut self) -> Option<DoorEvent<SocketLink>> {
         match self.next_command() {
-            Some(Command::Reload(text, checks)) => {
-                self.next_checks = Some(checks);
+            Some(Command::Reload(text, plan)) => {
+                self.next_plan = Some(plan);
                 Some(DoorEvent::Reload(text))
             }
             Some(Command::Quit) => {
@@ -217,10 +241,7 @@ impl<'a, R: Log + Net, C: Clock> SocketDoor<'a, R, C> {
                 self.wake_all();
                 Some(DoorEvent::Closed)
             }
-            None => match self.checks.next_report() {
-                Some((backend, server, health)) => Some(DoorEvent::Mark(backend, server, health)),
-                None => self.accept(),
-            },
+            None => self.next_report_or_conn(),
         }
     }
 
@@ -259,13 +280,16 @@ impl<'a, R: Log + Net, C: Clock> SocketDoor<'a, R, C> {
         }
     }
 
-    /// What is checked from now on, once a configuration is in force.
-    fn put_checks_in_force(&mut self) {
+    /// What is checked and told from now on, once a configuration is in force as the version of that number.
+    fn put_plan_in_force(&mut self, version: u64) {
+        self.version = version;
         let now = self.clock.now();
-        if let Some(checks) = self.next_checks.take() {
-            if self.checks.put_in_force(checks, now).is_err() {
-                warn!(self.rt; "no memory to check the servers of the new configuration");
-            }
+        let Some(DoorPlan { checks, outline }) = self.next_plan.take() else {
+            return;
+        };
+        self.outline = outline;
+        if self.checks.put_in_force(checks, now).is_err() {
+            warn!(self.rt; "no memory to check the servers of the new configuration");
         }
     }
 
@@ -295,6 +319,55 @@ impl<'a, R: Log + Net, C: Clock> SocketDoor<'a, R, C> {
 }
 
 impl<'a, R: Log, C: Clock> SocketDoor<'a, R, C> {
+    /// What asks for the state from another thread.
+    pub fn add_asker(&mut self) -> Result<StatusAsker, AllocError> {
+        let (asker, end) = status_line(self.alloc, Arc::try_clone(&self.waker)?)?;
+        self.askers.push(end)?;
+        Ok(asker)
+    }
+
+    /// The first question that waits, if one does: the place of its asker, and its number.
+    fn take_question(&mut self) -> Option<(usize, u64)> {
+        for (place, end) in self.askers.iter_mut().enumerate() {
+            if let Ok(number) = end.questions.pop() {
+                return Some((place, number));
+            }
+        }
+        None
+    }
+
+    /// Of what it is asked how much is open, if somebody asks for the state. Without memory for that it is answered at once.
+    fn next_question(&mut self) -> Option<Vec<Ask>> {
+        self.asked = Some(self.take_question()?);
+        match self.outline.asks(self.alloc) {
+            Ok(asks) => Some(asks),
+            Err(_) => {
+                self.answer(None);
+                None
+            }
+        }
+    }
+
+    /// Hands the state to who asked for it last.
+    fn answer(&mut self, status: Option<ProxyStatus>) {
+        let Some((place, number)) = self.asked.take() else {
+            return;
+        };
+        if let Some(end) = self.askers.get_mut(place) {
+            let _full = end.answers.push(StatusAnswer { number, status });
+        }
+    }
+
+    /// The state of the crew with what the door knows besides.
+    fn whole_status(&self, crew: CrewStatus) -> Result<ProxyStatus, AllocError> {
+        Ok(ProxyStatus {
+            outline: Arc::try_clone(&self.outline)?,
+            version: self.version,
+            health: self.checks.health()?,
+            crew,
+        })
+    }
+
     /// Says that a mark is refused, in at most one line a second.
     fn say_unmarked(&mut self, fault: &StepFault) {
         if self.unmarked.allows(self.clock.now()) {
@@ -304,7 +377,7 @@ impl<'a, R: Log, C: Clock> SocketDoor<'a, R, C> {
 
     /// Says that a reload is refused, in one line.
     fn say_not_reloaded(&mut self, fault: &StepFault) {
-        self.next_checks = None;
+        self.next_plan = None;
         match fault {
             StepFault::BadConfig(fault) => warn!(self.rt; "the reload is refused: {fault}"),
             StepFault::BindChanged => {
@@ -339,7 +412,7 @@ impl<'a, R: Log + Net, C: Clock> Door for SocketDoor<'a, R, C> {
             Ok(reply) => match &reply.said {
                 Said::Reloaded { version } => {
                     info!(self.rt; "reloaded as version {version}");
-                    self.put_checks_in_force();
+                    self.put_plan_in_force(*version);
                 }
                 Said::Marked { line: _, health } => self.say_mark(*health),
                 _ => {}
@@ -347,6 +420,15 @@ impl<'a, R: Log + Net, C: Clock> Door for SocketDoor<'a, R, C> {
             Err(fault) if self.checks.drop_report() => self.say_unmarked(fault),
             Err(fault) => self.say_not_reloaded(fault),
         }
+    }
+
+    /// Answers the question that was handed out last.
+    fn report_status(&mut self, status: Result<CrewStatus, AllocError>) {
+        let status = match status {
+            Ok(crew) => self.whole_status(crew).ok(),
+            Err(_) => None,
+        };
+        self.answer(status);
     }
 
     /// Says that records wait or are lost, in at most one line a second for each of the two. Lost segments are reported

@@ -1,4 +1,5 @@
-//! The sockets of a crew: listeners, connections to servers, and the commands of an operator.
+//! The sockets of a crew: listeners, connections to servers, the commands of an operator, and the listener that is asked for
+//! its state.
 //!
 //! No other crate opens a socket. What is decided about a connection is not decided here.
 #![tactic(auto)]
@@ -10,9 +11,12 @@ pub use commands::{Command, CommandSender};
 pub use dial::SocketDial;
 pub use dials::{DialFault, make_dials};
 pub use door::SocketDoor;
+pub use door_plan::DoorPlan;
 pub use link::{Socket, SocketLink};
 pub use listeners::{ListenFault, Listeners, listen};
 pub use pace::Pace;
+pub use stats::StatsListener;
+pub use status_line::StatusAsker;
 
 mod addresses;
 mod alarm;
@@ -23,11 +27,14 @@ mod commands;
 mod dial;
 mod dials;
 mod door;
+mod door_plan;
 mod fd_budget;
 mod link;
 mod listeners;
 mod pace;
 mod ports;
+mod stats;
+mod status_line;
 mod trend;
 
 use mio::Token;
