@@ -37,8 +37,8 @@ done'''
 BARE = b'frontend bare\nbind 127.0.0.1:9000 accept-proxy\ndefault_backend raw\nbackend raw\nserver s 10.0.0.13:443\n'
 VERDICT = re.compile(rb'line \d+: ([A-Z]\w+ )?[A-Z]\w+\n')
 REPLIES = re.compile(rb'((wait|offer|refuse|up|closed|reloaded|count|fault) [^\n]+\n)*')
-COMPARED = re.compile(rb'changed 0 of \d+\nother server \d+\nlet in 0\n')
-DIFFERENT = re.compile(rb'(conn [^\n]+\n)+(\d+ was [^\n]+\n)+changed \d+ of \d+\nother server \d+\nlet in \d+\n')
+COMPARED = re.compile(rb'changed 0 of \d+\nother server \d+\nlet in 0\nlost 0\nsaved 0\n')
+DIFFERENT = re.compile(rb'(conn [^\n]+\n)+(\d+ was [^\n]+\n)*changed \d+ of \d+\nother server \d+\nlet in \d+\nlost \d+\nsaved \d+\n')
 AUDITED = re.compile(rb'(conn [^\n]+\n)*checked \d+ open \d+\n')
 FAULT = re.compile(rb'line \d+: (WrongReply|Format|TooLong)\n')
 

@@ -79,7 +79,7 @@ class Twin:
         self.balancer = plain.Balancer(old)
         assert self.balancer.step(0, 'reload', new) == 'reloaded 2'
         self.lines, self.pairs, self.kinds = [], {}, collections.Counter()
-        self.changed = self.other_server = self.let_in = self.accepted = 0
+        self.changed = self.other_server = self.let_in = self.accepted = self.lost = self.saved = 0
 
     def turn(self, moment, verb, words, said, decision, real, identity):
         """An event with the reply and the decision of the record, the peer of its connection, and what the server is known by
@@ -90,7 +90,9 @@ class Twin:
             return self.report(moment, words[2], identity)
         if verb != 'reload':
             answer = self.balancer.step(moment, verb, *words)
-            if verb != 'failed':
+            if verb == 'failed':
+                self.part(f'conn {name} at {moment}', said.split(' ')[0], answer.split(' ')[0])
+            else:
                 self.compare(f'conn {name} at {moment} real {real}', decision, Decision.of(answer, self.balancer))
             self.let_in += said.startswith('refuse ') and name in self.balancer.open
         if said.startswith(('refuse ', 'closed ')):
@@ -102,6 +104,15 @@ class Twin:
             for place in range(len(backend.servers)):
                 if backend.identity(place) == identity[:3]:
                     self.balancer.step(moment, 'server', str(number), str(place), how)
+
+    def part(self, front, was, would):
+        """A server is out of reach: each of the two offers another one or closes the connection, if that is open there."""
+        if (was, would) == ('offer', 'closed'):
+            self.lost += 1
+            self.lines.append(f'{front}: was moved, would be closed failed')
+        if (was, would) == ('closed', 'offer'):
+            self.saved += 1
+            self.lines.append(f'{front}: was closed failed, would be moved')
 
     def compare(self, front, was, would):
         if was is None or would is None:
@@ -119,7 +130,8 @@ class Twin:
         lines = [] if is_summary else list(self.lines)
         lines += [f'{count} {pair}' for pair, count in self.pairs.items()]
         lines += [f'changed {self.changed} of {self.accepted}', f'other server {self.other_server}', f'let in {self.let_in}']
-        return ''.join(line + '\n' for line in lines), 1 if self.changed else 0
+        lines += [f'lost {self.lost}', f'saved {self.saved}']
+        return ''.join(line + '\n' for line in lines), 1 if self.changed or self.lost or self.saved else 0
 
 
 class Played:
@@ -237,12 +249,13 @@ def main():
             wrong += [f'{draw_texts.__name__}, {what}' for what in compared(program, pathlib.Path(room), played)]
         for twin in played.twins:
             kinds += twin.kinds
-            counts += collections.Counter(changed=twin.changed, other_server=twin.other_server, let_in=twin.let_in)
-        if draw_texts is of_frontends and played.twins[0].changed:
+            counts += collections.Counter(changed=twin.changed, other_server=twin.other_server, let_in=twin.let_in, lost=twin.lost, saved=twin.saved)
+        first = played.twins[0]
+        if draw_texts is of_frontends and (first.changed or first.lost or first.saved):
             wrong.append('the model finds a difference of a text from itself')
     wrong += [f'no {was} that would be {would} was drawn' for was, would in sorted(PAIRS - set(kinds))]
-    wrong += [f'nothing counts as {name}' for name in ('changed', 'other_server', 'let_in') if not counts[name]]
-    print('\n'.join(wrong) or f'{counts["changed"]} differences of {len(kinds)} kinds, {counts["let_in"]} let in')
+    wrong += [f'nothing counts as {name}' for name in ('changed', 'other_server', 'let_in', 'lost', 'saved') if not counts[name]]
+    print('\n'.join(wrong) or f'{counts["changed"]} differences of {len(kinds)} kinds, {counts["let_in"]} let in, {counts["lost"]} lost, {counts["saved"]} saved')
     return 1 if wrong else 0
 
 

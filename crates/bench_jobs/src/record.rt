@@ -61,9 +61,9 @@ fn whatif(
         &mut lines,
     );
     match found {
-        Ok(Comparison::Compared(changed)) => Ok(with_number(
+        Ok(Comparison::Compared(differing)) => Ok(with_number(
             with_bytes(0, lines.as_slice()),
-            changed,
+            differing,
         )),
         Ok(_) => Err(JobFault::Config),
         Err(_) => Err(JobFault::Device),

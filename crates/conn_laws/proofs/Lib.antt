@@ -6,3 +6,5 @@ pub mod Unserved
 pub mod Refused
 pub mod Present
 pub mod Judged
+pub mod Rows
+pub mod Moves

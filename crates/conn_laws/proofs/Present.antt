@@ -49,7 +49,7 @@ at_mapped f [] n y is = absurd (nowhere n y is)
 at_mapped f (x ∷ xs) zero y is = (x, refl, cc)
 at_mapped f (x ∷ xs) (suc n) y is = at_mapped f xs n y is
 
-at_numbered : {X : Type 0} (f : ℕ → X → X) (k : ℕ) (xs : List X) (n : ℕ) (y : X) → slice_get (map_from f k xs) n ≡ Some y → (x : X) × (slice_get xs n ≡ Some x) × (f (k + n) x ≡ y)
+pub at_numbered : {X : Type 0} (f : ℕ → X → X) (k : ℕ) (xs : List X) (n : ℕ) (y : X) → slice_get (map_from f k xs) n ≡ Some y → (x : X) × (slice_get xs n ≡ Some x) × (f (k + n) x ≡ y)
 at_numbered f k [] n y is = absurd (nowhere n y is)
 at_numbered f k (x ∷ xs) zero y is =
     let same : f k x ≡ y = cc in

@@ -1,9 +1,12 @@
 //! Why a connection is offered a server, and why it is refused; and what a step tracks.
-ghost use Rattle.std.specs.Prelude.{◌≡◌, ◌<◌, ◌^◌, ◌-◌, ◌++◌, ◌↔◌, ℕ, true, false, List, [], length, slice_get, Some, Ok};
+ghost use Rattle.std.specs.Prelude.{◌≡◌, ◌==◌, ◌<◌, ◌≤◌, ◌^◌, ◌+◌, ◌-◌, ◌++◌, ◌↔◌, ℕ, true, false, List, [], length, slice_get, Some, Ok};
+ghost use Rattle.std.specs.List.{IsDistinct};
 ghost use Rattle.addr_core.specs.PairValue.{PairValue};
 ghost use Rattle.pp_any.specs.declared.rest.Rest.{Rest};
 ghost use Rattle.plan_types.specs.declared.plan.Plan.{Plan};
+ghost use Rattle.plan_types.specs.declared.plan.TheConstants.{MOST_MOVES};
 ghost use Rattle.plan_types.specs.declared.track.Track.{Track};
+ghost use Rattle.plan_types.specs.Moves.{moves_of};
 ghost use Rattle.config_core.specs.Meaning.{meaning};
 ghost use Rattle.conn_model.specs.declared.event.ConnId.{ConnId};
 ghost use Rattle.conn_model.specs.declared.event.OwnedEvent.{OwnedEvent};
@@ -19,6 +22,7 @@ ghost use Rattle.conn_model.specs.Words.{row_at};
 ghost use Rattle.conn_model.specs.Answer.{rest_in};
 ghost use Rattle.conn_model.specs.History.{after, answer, joined, opening, Entry, IsLegal};
 ghost use Rattle.conn_laws.specs.Deciding.{is_offer, is_wait, may_offer, tries_rules, Arrival, IsCause, IsJudged, IsLeftWaiting, IsLetWait, IsOfferedAtAccept, IsOfferedAtPiece, Says, Waiter, IsMoved};
+ghost use Rattle.conn_laws.specs.Moving.{lines_offered};
 
 /// After each legal history the version in force has the frontend of each listener, and the version of its accept that of
 /// each connection that waits. So while the frontend has a serial left each client that comes is let in to wait, offered a
@@ -72,6 +76,19 @@ pub fn offered_exactly_when()
     ensures tracks_nothing { (p : Plain) (h : List Entry) (moment : ℕ) (event : OwnedEvent)
         (reply : Reply) → answer p h moment event ≡ Ok reply →
         tries_rules event ≡ false → reply.tracks.items ≡ [] }
+{}
+
+/// Moves end: a connection is never offered a server twice, and where it is moved to another one it was offered at most as
+/// many before as its backend allows moves. So it is offered nine servers at the most, the first one among them.
+pub fn moves_end()
+    ensures differ { (plan : Plan) (last : ℕ) (h : List Entry) → IsLegal (opening plan last) h → (id : ConnId) →
+        IsDistinct (λ a b. a == b) (lines_offered id h) }
+    ensures fewer { (plan : Plan) (last : ℕ) (h : List Entry) → IsLegal (opening plan last) h →
+        (id : ConnId) (said : Said) (tracks : List Track)
+        (moved : IsMoved (after (opening plan last) h) id said tracks) →
+        length (lines_offered id h) ≤ moves_of moved.backend.retries moved.backend.redispatch }
+    ensures most { (plan : Plan) (last : ℕ) (h : List Entry) → IsLegal (opening plan last) h → (id : ConnId) →
+        length (lines_offered id h) ≤ MOST_MOVES + 1 }
 {}
 
 /// Each refusal names the connection that it is of, and the line that decided, or the fault of the header, or that no

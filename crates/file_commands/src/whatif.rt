@@ -45,9 +45,9 @@ fn say_refused(rt: &(impl AllocGlobal + Eprint), named: &Named<'_>, text: &str, 
     }
 }
 
-/// Plays a record, and writes the line of each decision that differs, unless a summary is wanted, and then what was
-/// counted. The configurations are read before the record is opened. On a terminal, the progress of a long record is
-/// reported.
+/// Plays a record, and writes the line of each decision that differs and of each connection that is lost or saved, unless
+/// a summary is wanted, and then what was counted. The configurations are read before the record is opened. On a terminal,
+/// the progress of a long record is reported.
 fn play_files<R: Files + AllocGlobal + Print + Eprint + rt::Clock>(
     rt: &R,
     named: &Named<'_>,
@@ -80,7 +80,7 @@ fn play_files<R: Files + AllocGlobal + Print + Eprint + rt::Clock>(
         &mut again,
         &mut writer,
     ) {
-        Ok(Comparison::Compared(changed)) => { if changed == 0 { DONE } else { REFUSED } }
+        Ok(Comparison::Compared(differing)) => { if differing == 0 { DONE } else { REFUSED } }
         Ok(Comparison::Wrong(fault)) => {
             say_wrong(rt, named.old, old.as_str(), named.record, &fault);
             REFUSED

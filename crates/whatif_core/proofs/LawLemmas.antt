@@ -134,7 +134,7 @@ not_true true is = absurd (cc)
 not_true false is = refl
 
 -- one that is open after it
-open_after : (p : Plain) (e : Entry) (number serial : ℕ) (own : FrontendRows) → has serial (frontend_after p (e ∷ []) number own).rows ≡ true
+pub open_after : (p : Plain) (e : Entry) (number serial : ℕ) (own : FrontendRows) → has serial (frontend_after p (e ∷ []) number own).rows ≡ true
     → ((has serial own.rows ≡ true) ⊎ (arrived number serial e.event e.reply.said ≡ true)) × (ends e.reply.said number serial ≡ false)
 open_after p e number serial own is =
     let both = and_true (has serial own.rows || arrived number serial e.event e.reply.said) (not (ends e.reply.said number serial)) (sym (has_after p e number serial own) ∙ is) in

@@ -7,4 +7,7 @@ pub mod HistoryLemmas
 pub mod OutcomeLemmas
 pub mod LawLemmas
 pub mod OnceLemmas
+pub mod WaitingLemmas
+pub mod MovedLemmas
 pub mod SeenLemmas
+pub mod PartedLemmas

@@ -70,7 +70,7 @@ found_serial serial (other ∷ rows) row is = by (other.serial == serial) refl i
     by true here there later = let same : Some other ≡ Some row = rw here at there in let one : other ≡ row = cc in ap (λ (r : Row). r.serial) (sym one) ∙ eqb-true other.serial serial here
     by false here there later = later (rw here at there)
 
-found_filtered : (serial : ℕ) (test : ℕ → Bool) (rows : List Row) (row : Row) → found serial (filter (λ r. test r.serial) rows) ≡ Some row → (test serial ≡ true) × (found serial rows ≡ Some row)
+pub found_filtered : (serial : ℕ) (test : ℕ → Bool) (rows : List Row) (row : Row) → found serial (filter (λ r. test r.serial) rows) ≡ Some row → (test serial ≡ true) × (found serial rows ≡ Some row)
 found_filtered serial test [] row is = absurd (let wrong : None ≡ Some row = is in cc)
 found_filtered serial test (other ∷ rows) row is = by (test other.serial) refl (other.serial == serial) refl is (found_filtered serial test rows row)
   where
@@ -84,7 +84,7 @@ found_filtered serial test (other ∷ rows) row is = by (test other.serial) refl
         contrary (test serial) ((test serial ≡ true) × (found serial (other ∷ rows) ≡ Some row)) rest.0 not_kept
     by false drops false here there later = let rest = later (rw drops at there) in (rest.0, rw here rest.1)
 
-found_appended : (serial : ℕ) (xs ys : List Row) (row : Row) → found serial (xs ++ ys) ≡ Some row → (found serial xs ≡ Some row) ⊎ (found serial ys ≡ Some row)
+pub found_appended : (serial : ℕ) (xs ys : List Row) (row : Row) → found serial (xs ++ ys) ≡ Some row → (found serial xs ≡ Some row) ⊎ (found serial ys ≡ Some row)
 found_appended serial [] ys row is = inr is
 found_appended serial (other ∷ xs) ys row is = by (other.serial == serial) refl is (found_appended serial xs ys row)
   where
@@ -133,7 +133,7 @@ pub record Waited (before came : Bool) (said : Said) (number serial : ℕ) : Typ
   pub lasts : ends said number serial ≡ false
   pub unoffered : offers said number serial ≡ false
 
-not_false : (a b : Bool) → not ((a && b) || false) ≡ true → (a && b) ≡ false
+pub not_false : (a b : Bool) → not ((a && b) || false) ≡ true → (a && b) ≡ false
 not_false true true is = absurd (cc)
 not_false true false is = refl
 not_false false b is = refl
@@ -229,78 +229,86 @@ not_come n p below id own there given moment (Mark number k health) theirs is ca
 pub below_itself : (p : Plain) → IsBelow p p nothing_ended
 below_itself p number own there = record { mine = own; there = there; serial = refl; rows = λ s is. inl is }
 
--- ---- who waits in the trial
+-- ---- what holds in the trial
 
-waits_stepped : (n : Plain) (moment : ℕ) (event : OwnedEvent) (id : ConnId) → ((theirs : Reply) → answer_in n moment event ≡ Ok theirs → arrived id.frontend id.serial event theirs.said ≡ true → ⊥) →
-    waits_at (stepped n moment event) id ≡ true → waits_at n id ≡ true
-waits_stepped n moment event id old is = by (answer_in n moment event) refl is
+-- what holds of a connection after an entry held of it before, or it came
+abbrev pub IsBrought : (Plain → ConnId → Bool) → Type 0
+IsBrought holds = (q : Plain) (e : Entry) (id : ConnId) → holds (after q (e ∷ [])) id ≡ true → (holds q id ≡ true) ⊎ (arrived id.frontend id.serial e.event e.reply.said ≡ true)
+
+waits_brought : IsBrought waits_at
+waits_brought q e id is = (waits_after q e id is).first
+
+held_stepped : (holds : Plain → ConnId → Bool) → IsBrought holds → (n : Plain) (moment : ℕ) (event : OwnedEvent) (id : ConnId) → ((theirs : Reply) → answer_in n moment event ≡ Ok theirs → arrived id.frontend id.serial event theirs.said ≡ true → ⊥) →
+    holds (stepped n moment event) id ≡ true → holds n id ≡ true
+held_stepped holds brought n moment event id old is = by (answer_in n moment event) refl is
   where
-    by : (answer : Result Reply StepFault) → answer_in n moment event ≡ answer → waits_at (plain_after n moment event answer) id ≡ true → waits_at n id ≡ true
+    by : (answer : Result Reply StepFault) → answer_in n moment event ≡ answer → holds (plain_after n moment event answer) id ≡ true → holds n id ≡ true
     by (Err fault) answers now = now
-    by (Ok theirs) answers now = elim (waits_after n (entry moment event theirs) id now).first [
-      | inl waits ↦ waits
+    by (Ok theirs) answers now = elim (brought n (entry moment event theirs) id now) [
+      | inl before_it ↦ before_it
       | inr came ↦ absurd (old theirs answers came)
     ]
 
-waits_closed : (n : Plain) (moment : ℕ) (said : Said) (id : ConnId) → waits_at (closed moment said n) id ≡ true → waits_at n id ≡ true
-waits_closed n moment (saids.Wait other used) id is = is
-waits_closed n moment (saids.Offer other used line server to judged send) id is = is
-waits_closed n moment (saids.Refuse other used cause) id is = waits_stepped n moment (Close other Done) id (λ theirs answers came. absurd (cc)) is
-waits_closed n moment (saids.Up other) id is = is
-waits_closed n moment (saids.Closed other why) id is = waits_stepped n moment (Close other Done) id (λ theirs answers came. absurd (cc)) is
-waits_closed n moment (saids.Reloaded version) id is = is
-waits_closed n moment (saids.Marked line health) id is = is
+held_closed : (holds : Plain → ConnId → Bool) → IsBrought holds → (n : Plain) (moment : ℕ) (said : Said) (id : ConnId) → holds (closed moment said n) id ≡ true → holds n id ≡ true
+held_closed holds brought n moment (saids.Wait other used) id is = is
+held_closed holds brought n moment (saids.Offer other used line server to judged send) id is = is
+held_closed holds brought n moment (saids.Refuse other used cause) id is = held_stepped holds brought n moment (Close other Done) id (λ theirs answers came. absurd (cc)) is
+held_closed holds brought n moment (saids.Up other) id is = is
+held_closed holds brought n moment (saids.Closed other why) id is = held_stepped holds brought n moment (Close other Done) id (λ theirs answers came. absurd (cc)) is
+held_closed holds brought n moment (saids.Reloaded version) id is = is
+held_closed holds brought n moment (saids.Marked line health) id is = is
 
--- a report lets no connection wait
-waits_reported : (n : Plain) (moment : ℕ) (health : Health) (at : Option ServerNumbers) (id : ConnId) → waits_at (taken n moment (option_map (λ (a : ServerNumbers). Mark a.backend a.server health) at)) id ≡ true → waits_at n id ≡ true
-waits_reported n moment health None id is = is
-waits_reported n moment health (Some at) id is = waits_stepped n moment (Mark at.backend at.server health) id (λ theirs answers came. absurd (cc)) is
+-- a report lets no connection in
+held_reported : (holds : Plain → ConnId → Bool) → IsBrought holds → (n : Plain) (moment : ℕ) (health : Health) (at : Option ServerNumbers) (id : ConnId) →
+    holds (taken n moment (option_map (λ (a : ServerNumbers). Mark a.backend a.server health) at)) id ≡ true → holds n id ≡ true
+held_reported holds brought n moment health None id is = is
+held_reported holds brought n moment health (Some at) id is = held_stepped holds brought n moment (Mark at.backend at.server health) id (λ theirs answers came. absurd (cc)) is
 
-waits_taken : (recorded : List Version) (n : Plain) (moment : ℕ) (event : OwnedEvent) (id : ConnId) → ((theirs : Reply) → answer_in n moment event ≡ Ok theirs → arrived id.frontend id.serial event theirs.said ≡ true → ⊥) →
-    waits_at (stepped_for recorded n moment event) id ≡ true → waits_at n id ≡ true
-waits_taken recorded n moment (Accept listener real) id old is = waits_stepped n moment (Accept listener real) id old is
-waits_taken recorded n moment (Piece own bytes) id old is = waits_stepped n moment (Piece own bytes) id old is
-waits_taken recorded n moment (Connected own) id old is = waits_stepped n moment (Connected own) id old is
-waits_taken recorded n moment (ConnectFailed own) id old is = waits_stepped n moment (ConnectFailed own) id old is
-waits_taken recorded n moment (Close own why) id old is = waits_stepped n moment (Close own why) id old is
-waits_taken recorded n moment (Expire own) id old is = waits_stepped n moment (Expire own) id old is
-waits_taken recorded n moment (Reload text) id old is = waits_stepped n moment (Reload text) id old is
-waits_taken recorded n moment (Mark number k health) id old is = waits_reported n moment health (numbers_for recorded n.versions number k) id is
+held_taken : (holds : Plain → ConnId → Bool) → IsBrought holds → (recorded : List Version) (n : Plain) (moment : ℕ) (event : OwnedEvent) (id : ConnId) →
+    ((theirs : Reply) → answer_in n moment event ≡ Ok theirs → arrived id.frontend id.serial event theirs.said ≡ true → ⊥) → holds (stepped_for recorded n moment event) id ≡ true → holds n id ≡ true
+held_taken holds brought recorded n moment (Accept listener real) id old is = held_stepped holds brought n moment (Accept listener real) id old is
+held_taken holds brought recorded n moment (Piece own bytes) id old is = held_stepped holds brought n moment (Piece own bytes) id old is
+held_taken holds brought recorded n moment (Connected own) id old is = held_stepped holds brought n moment (Connected own) id old is
+held_taken holds brought recorded n moment (ConnectFailed own) id old is = held_stepped holds brought n moment (ConnectFailed own) id old is
+held_taken holds brought recorded n moment (Close own why) id old is = held_stepped holds brought n moment (Close own why) id old is
+held_taken holds brought recorded n moment (Expire own) id old is = held_stepped holds brought n moment (Expire own) id old is
+held_taken holds brought recorded n moment (Reload text) id old is = held_stepped holds brought n moment (Reload text) id old is
+held_taken holds brought recorded n moment (Mark number k health) id old is = held_reported holds brought n moment health (numbers_for recorded n.versions number k) id is
 
-waits_played : (recorded : List Version) (n : Plain) (moment : ℕ) (event : OwnedEvent) (said : Said) (id : ConnId) → ((theirs : Reply) → answer_in n moment event ≡ Ok theirs → arrived id.frontend id.serial event theirs.said ≡ true → ⊥) →
-    waits_at (played recorded n moment event said) id ≡ true → waits_at n id ≡ true
-waits_played recorded n moment event said id old is = by (is_reload event) is
+held_played : (holds : Plain → ConnId → Bool) → IsBrought holds → (recorded : List Version) (n : Plain) (moment : ℕ) (event : OwnedEvent) (said : Said) (id : ConnId) →
+    ((theirs : Reply) → answer_in n moment event ≡ Ok theirs → arrived id.frontend id.serial event theirs.said ≡ true → ⊥) → holds (played recorded n moment event said) id ≡ true → holds n id ≡ true
+held_played holds brought recorded n moment event said id old is = by (is_reload event) is
   where
-    by : (b : Bool) → waits_at (if b then n else handed recorded n moment event said) id ≡ true → waits_at n id ≡ true
+    by : (b : Bool) → holds (if b then n else handed recorded n moment event said) id ≡ true → holds n id ≡ true
     by true now = now
-    by false now = waits_taken recorded n moment event id old (waits_closed (stepped_for recorded n moment event) moment said id now)
+    by false now = held_taken holds brought recorded n moment event id old (held_closed holds brought (stepped_for recorded n moment event) moment said id now)
 
--- ---- a connection that both do not decide of any more
+-- ---- a connection of which that does not hold in both any more
 
--- it was let in or refused before, and does not wait in both
-record IsPast (p n : Plain) (id : ConnId) : Type 0 where
-  own : FrontendRows
-  there : slice_get p.frontends id.frontend ≡ Some own
-  given : id.serial ≤ own.serial
-  once : waits_at p id ≡ true → waits_at n id ≡ true → ⊥
+-- it was let in or refused before, and that does not hold of it in both
+pub record IsPast (holds : Plain → ConnId → Bool) (p n : Plain) (id : ConnId) : Type 0 where
+  pub own : FrontendRows
+  pub there : slice_get p.frontends id.frontend ≡ Some own
+  pub given : id.serial ≤ own.serial
+  pub once : holds p id ≡ true → holds n id ≡ true → ⊥
 
 given_on : (a b c : ℕ) → a ≤ b → a ≤ b + c
 given_on a b c le = omega (arith, le)
 
-past_on : (plan : Plan) (p n : Plain) (moment : ℕ) (event : OwnedEvent) (reply : Reply) (id : ConnId) → Tied plan p n → answer_in p moment event ≡ Ok reply → IsPast p n id →
-    IsPast (after p (entry moment event reply ∷ [])) (played p.versions n moment event reply.said) id
-past_on plan p n moment event reply id tied is past =
+pub past_on : (holds : Plain → ConnId → Bool) → IsBrought holds → (plan : Plan) (p n : Plain) (moment : ℕ) (event : OwnedEvent) (reply : Reply) (id : ConnId) → Tied plan p n → answer_in p moment event ≡ Ok reply → IsPast holds p n id →
+    IsPast holds (after p (entry moment event reply ∷ [])) (played p.versions n moment event reply.said) id
+past_on holds brought plan p n moment event reply id tied is past =
     let e : Entry = entry moment event reply in
     record {
       own = frontend_after p (e ∷ []) id.frontend past.own;
       there = get-from_zero (frontend_after p (e ∷ [])) p.frontends id.frontend past.own past.there;
       given = given_on id.serial past.own.serial _ past.given;
       once = λ first second. past.once
-          (elim (waits_after p e id first).first [
-            | inl waits ↦ waits
+          (elim (brought p e id first) [
+            | inl before_it ↦ before_it
             | inr came ↦ absurd (not_come p p (below_itself p) id past.own past.there past.given moment event reply is came)
           ])
-          (waits_played p.versions n moment event reply.said id (not_come n p tied.below id past.own past.there past.given moment event) second);
+          (held_played holds brought p.versions n moment event reply.said id (not_come n p tied.below id past.own past.there past.given moment event) second);
     }
 
 -- ---- what a difference says
@@ -487,7 +495,7 @@ old_here : (p : Plain) → IsWell p → (moment : ℕ) (event : OwnedEvent) (rep
 old_here p well moment event reply own id whom old =
     given_after p moment event reply id (subst (IsGiven p) (same_conn own id (id_of reply.said) old.speaks whom) (old_given p well own old.row old.there))
 
-given_on_answer : (p : Plain) → IsWell p → (moment : ℕ) (event : OwnedEvent) (reply : Reply) (id : ConnId) → answer_in p moment event ≡ Ok reply → is_reload event ≡ false → id_of reply.said ≡ Some id →
+pub given_on_answer : (p : Plain) → IsWell p → (moment : ℕ) (event : OwnedEvent) (reply : Reply) (id : ConnId) → answer_in p moment event ≡ Ok reply → is_reload event ≡ false → id_of reply.said ≡ Some id →
     IsGiven (after p (entry moment event reply ∷ [])) id
 given_on_answer p well moment (Accept listener real) reply id is other whom = new_given p moment listener real reply id (answered p moment (Accept listener real) reply is) whom
 given_on_answer p well moment (Piece own bytes) reply id is other whom = old_here p well moment (Piece own bytes) reply own id whom (answered p moment (Piece own bytes) reply is)
@@ -502,7 +510,7 @@ given_on_answer p well moment (Mark number k health) reply id is other whom =
 -- ---- a difference is the last of its connection
 
 past_by : (plan : Plan) (h : List Entry) (n : Plain) (moment : ℕ) (event : OwnedEvent) (reply : Reply) (id : ConnId) → IsLegal (opening plan 0) h → answer_in (after (opening plan 0) h) moment event ≡ Ok reply →
-    Tied plan (after (opening plan 0) h) n → Differs (after (opening plan 0) h) n moment event reply id → IsPast (after (after (opening plan 0) h) (entry moment event reply ∷ [])) (played (after (opening plan 0) h).versions n moment event reply.said) id
+    Tied plan (after (opening plan 0) h) n → Differs (after (opening plan 0) h) n moment event reply id → IsPast waits_at (after (after (opening plan 0) h) (entry moment event reply ∷ [])) (played (after (opening plan 0) h).versions n moment event reply.said) id
 past_by plan h n moment event reply id legal is tied has =
     let p : Plain = after (opening plan 0) h in
     let e : Entry = entry moment event reply in
@@ -520,7 +528,7 @@ past_by plan h n moment event reply id legal is tied has =
       once = λ first second.
           let we_wait : is_wait reply.said ≡ true = is_let_wait (waits_at p id) _ reply.said id has.whom judged (waits_after p e id first) in
           let handed_on : waits_at (handed p.versions n moment event reply.said) id ≡ true = sym (ap (λ b. waits_at (if b then n else handed p.versions n moment event reply.said) id) has.no_reload) ∙ second in
-          let taken_on : waits_at (stepped_for p.versions n moment event) id ≡ true = waits_closed (stepped_for p.versions n moment event) moment reply.said id handed_on in
+          let taken_on : waits_at (stepped_for p.versions n moment event) id ≡ true = held_closed waits_at waits_brought (stepped_for p.versions n moment event) moment reply.said id handed_on in
           let stepped_on : waits_at (stepped n moment event) id ≡ true = sym (ap (λ q. waits_at q id) (same_stepped p.versions n moment event sides.1)) ∙ taken_on in
           let theirs_on : waits_at (after n (entry moment event theirs ∷ [])) id ≡ true = sym (ap (λ a. waits_at (plain_after n moment event a) id) other.answers) ∙ stepped_on in
           let they_wait : is_wait theirs.said ≡ true = is_let_wait (waits_at n id) _ theirs.said id whom other.judged (waits_after n (entry moment event theirs) id theirs_on) in
@@ -538,7 +546,7 @@ not_judged said other is none judged = contrary (is_judgement said) ⊥ judged (
 
 -- two decisions of one event on a connection that waits in neither, or in one
 not_again : (plan : Plan) (p n : Plain) (moment : ℕ) (event : OwnedEvent) (reply theirs : Reply) (id : ConnId) → answer_in p moment event ≡ Ok reply → is_failure event ≡ false → is_judgement reply.said ≡ true → id_of reply.said ≡ Some id →
-    answer_in n moment event ≡ Ok theirs → IsPast p n id → ⊥
+    answer_in n moment event ≡ Ok theirs → IsPast waits_at p n id → ⊥
 not_again plan p n moment (Accept listener real) reply theirs id is no_failure judged whom answers past =
     not_new p p (below_itself p) id past.own past.there past.given reply.said (answered p moment (Accept listener real) reply is) whom
 not_again plan p n moment (Piece own bytes) reply theirs id is no_failure judged whom answers past =
@@ -563,16 +571,16 @@ not_again plan p n moment (Mark number k health) reply theirs id is no_failure j
 -- ---- along a history
 
 past_at : (plan : Plan) (text : List ℕ) (trial : Plain) (h : List Entry) (id : ConnId) → trial_opening plan text ≡ Ok trial → IsLegal (opening plan 0) h → HasDiffered (opening plan 0) trial id h →
-    IsPast (after (opening plan 0) h) (history_report false (opening plan 0) trial h).trial id
+    IsPast waits_at (after (opening plan 0) h) (history_report false (opening plan 0) trial h).trial id
 past_at plan text trial [] id opens legal has = absurd has
 past_at plan text trial (e ∷ h) id opens legal has =
     let o : Plain = opening plan 0 in
     let t : Report = history_report false o trial h in
-    subst (λ p. IsPast p (history_report false o trial (e ∷ h)).trial id) (whole_in_parts o (opening_well plan 0) (e ∷ []) h legal)
-    (subst (λ n. IsPast (after (after o h) (e ∷ [])) n id) (sym (turn_trial false (played (after o h).versions t.trial e.moment e.event e.reply.said) t (turn_of (after o h) t.trial e)))
+    subst (λ p. IsPast waits_at p (history_report false o trial (e ∷ h)).trial id) (whole_in_parts o (opening_well plan 0) (e ∷ []) h legal)
+    (subst (λ n. IsPast waits_at (after (after o h) (e ∷ [])) n id) (sym (turn_trial false (played (after o h).versions t.trial e.moment e.event e.reply.said) t (turn_of (after o h) t.trial e)))
     (elim has [
       | inl now ↦ past_by plan h t.trial e.moment e.event e.reply id legal.0 legal.1 (all_tied false plan text trial h opens legal.0) (differs (after o h) t.trial e.moment e.event e.reply id now)
-      | inr before_it ↦ past_on plan (after o h) t.trial e.moment e.event e.reply id (all_tied false plan text trial h opens legal.0) legal.1 (past_at plan text trial h id opens legal.0 before_it)
+      | inr before_it ↦ past_on waits_at waits_brought plan (after o h) t.trial e.moment e.event e.reply id (all_tied false plan text trial h opens legal.0) legal.1 (past_at plan text trial h id opens legal.0 before_it)
     ]))
 
 pub one_difference : (plan : Plan) (text : List ℕ) (trial : Plain) (h : List Entry) (e : Entry) (id : ConnId) → trial_opening plan text ≡ Ok trial → IsLegal (opening plan 0) (e ∷ h) →

@@ -48,9 +48,9 @@ report_right_text summary config other text trial s right started is =
     ∙ ap (λ n. report_of_record summary (record { checked = start (opening plan 0); trial = n }) text) is
     ∙ report_history summary plan trial text found.0 (subst (λ p. IsWell (opening p 0)) same started.2) found.1
 
-pub compared : (summary : Bool) (config other text sent : List ℕ) (trial : Plain) (s : Both) (held : Option (List ℕ)) (changed : ℕ) → IsRight config other text trial → IsStarted config s.checked
-    → s.trial ≡ trial → Printed summary s text sent held changed → IsCompared summary config other text sent held changed
-compared summary config other text sent trial s held changed right started is printed =
+pub compared : (summary : Bool) (config other text sent : List ℕ) (trial : Plain) (s : Both) (held : Option (List ℕ)) (differing : ℕ) → IsRight config other text trial → IsStarted config s.checked
+    → s.trial ≡ trial → Printed summary s text sent held differing → IsCompared summary config other text sent held differing
+compared summary config other text sent trial s held differing right started is printed =
     let plan = right.opened.plan in
     let found = records plan text right.checked right.right in
     let same = report_right_text summary config other text trial s right started is in
@@ -65,7 +65,7 @@ compared summary config other text sent trial s held changed right started is pr
       is_record = whole.is_record;
       reads = found.1;
       wrote = printed.wrote ∙ ap (λ t. Some (sent ++ written_of t)) same;
-      counts = printed.counts ∙ ap (λ (t : Report). t.sums.changed) same;
+      counts = printed.counts ∙ ap (λ (t : Report). t.sums.differing) same;
     }
 
 output_is : (summary : Bool) (config other text : List ℕ) (plan : Plan) (trial : Plain) (g : List Entry) → meaning config ≡ Ok plan → trial_opening plan other ≡ Ok trial
@@ -82,9 +82,9 @@ output_right summary config other text trial s right started is =
     ap written_of (report_right_text summary config other text trial s right started is)
     ∙ output_is summary config other text plan trial found.0 right.opened.means right.opened.opens found.1
 
-pub output_compared : (summary : Bool) (config other text sent : List ℕ) (held : Option (List ℕ)) (changed : ℕ) → IsCompared summary config other text sent held changed
+pub output_compared : (summary : Bool) (config other text sent : List ℕ) (held : Option (List ℕ)) (differing : ℕ) → IsCompared summary config other text sent held differing
     → held ≡ Some (sent ++ whatif_output summary config other text)
-output_compared summary config other text sent held changed is =
+output_compared summary config other text sent held differing is =
     is.wrote ∙ ap (λ xs. Some (sent ++ xs)) (output_is summary config other text is.plan is.trial is.history is.means is.opens is.reads)
 
 -- the check of a right text comes to its end

@@ -1,524 +1,34 @@
--- What is hidden in a report is hidden behind a difference, or is not due in the trial.
-use Rattle.std.proofs.Common.{◌≡◌, ◌⊎◌, inl, inr, ℕ, ◌+◌, ◌≤◌, Bool, true, false, List, [], ◌∷◌, ◌++◌, Option, Some, None, Result, Ok, Err, refl, ap, sym, subst, ◌∙◌, max, arith}
-use Rattle.std.specs.Prelude.{◌==◌, ◌&&◌, ◌||◌, not, filter, slice_get, is_some, nat_le, option_map, if◌then◌else◌}
-use Rattle.std.specs.Option.{option_map_or}
-use Rattle.std.proofs.lemmas.Bool.{eq-eqb, eqb-true}
-use Rattle.addr_core.specs.PairValue.{PairValue}
-use Rattle.plan_types.specs.declared.plan.Frontend.{Frontend}
+-- What is hidden in a report is hidden behind a difference, or behind a connection that was lost or saved, or is not due in the trial.
+use Rattle.std.proofs.Common.{◌≡◌, ◌⊎◌, inl, inr, ℕ, ◌+◌, Bool, true, false, List, ◌∷◌, Option, Some, None, Result, Ok, Err, refl, ap, sym, ◌∙◌, max}
+use Rattle.std.specs.Prelude.{is_some, nat_le, if◌then◌else◌}
 use Rattle.plan_types.specs.declared.plan.Plan.{Plan}
-use Rattle.conn_core.specs.declared.checked.ServerNumbers.{ServerNumbers}
 use Rattle.conn_model.specs.declared.event.ConnId.{ConnId}
-use Rattle.conn_model.specs.declared.event.Health.{Health}
-use Rattle.conn_model.specs.declared.plain.Assignment.{Assignment}
 use Rattle.conn_model.specs.declared.event.OwnedEvent.{OwnedEvent}
 use Rattle.conn_model.specs.declared.event.OwnedEvent.TheVariants.{Accept, Piece, Connected, ConnectFailed, Close, Expire, Reload, Mark}
 use Rattle.conn_model.specs.declared.event.TheConstants.{HEADER_WAIT}
-use Rattle.conn_model.specs.declared.event.Why.TheVariants.{Done}
-use Rattle.conn_model.specs.declared.plain.FrontendRows.{FrontendRows}
-use Rattle.conn_model.specs.declared.plain.Phase.{Phase}
-use Rattle.conn_model.specs.declared.plain.Phase.TheVariants.{Waiting, Offered, Up}
 use Rattle.conn_model.specs.declared.plain.Plain.{Plain}
-use Rattle.conn_model.specs.declared.plain.Row.{Row}
 use Rattle.conn_model.specs.declared.reply.Cause.TheVariants.{Expired}
 use Rattle.conn_model.specs.declared.reply.Reply.{Reply}
 use Rattle.conn_model.specs.declared.reply.Said.{Said}
 use Rattle.conn_model.specs.declared.reply.Said.TheVariants as saids
-use Rattle.conn_model.specs.declared.reply.StepFault.{StepFault}
 use Rattle.conn_model.specs.declared.reply.StepFault.TheVariants.{NoSuch, NotDue}
-use Rattle.conn_model.specs.Answer.{answer_in, at_moment, awaits_server, offer_in, new_row, reply_of, rest_in, row_at, row_in}
-use Rattle.conn_model.specs.History.{Entry, IsFrontendWell, IsLegal, IsWell, after, arrival_of, arrivals, entry, frontend_after, has_ended, id_of, is_last, is_reload, leaves_open, opening, phase_by, plan_of, row_after, speaks_to}
-use Rattle.conn_model.specs.Words.{is_conn, or_fault}
-use Rattle.conn_model.proofs.Goes.{whole_in_parts}
-use Rattle.conn_model.proofs.Lists.{all-at, all-each, all-found, all-map, and_true, get-from_zero}
-use Rattle.conn_model.proofs.Replies.{answered, bind-ok, expired, has_failed, received, server_answered, IsNew}
-use Rattle.conn_model.proofs.Well.{after-nil, opening_well, well_after}
-use Rattle.conn_laws.specs.Deciding.{is_judgement, is_offer, is_wait, IsJudged, Waiter}
-use Rattle.conn_laws.proofs.Judged.{piece_judged}
-use Rattle.conn_laws.proofs.Present.{waits_there}
-use Rattle.replay_core.specs.Turns.{plain_after}
-use Rattle.whatif_core.specs.declared.decision.ComparedDecision.TheVariants as decisions
-use Rattle.whatif_core.specs.Deciding.{closed, decided, decided_by, decision_of, difference, handed, is_failure, numbers_for, offer_of, played, stepped, taken}
-use Rattle.whatif_core.specs.Reporting.{differs_of, history_report, trial_opening, turn_of, turn_with, HasDiffered, IsSeen}
-use Rattle.whatif_core.proofs.LawLemmas.{accept_outcome, all_tied, and_no, arrived, contrary, ends, turn_trial, Outcome, Tied}
-use Rattle.whatif_core.proofs.OnceLemmas.{same_decided, and_left, below_itself, decided_wait, decides, found, found_mapped, found_serial, is_waiting, not_new, offers, old_given, on_piece, once_up, same_conn, same_reply, same_whom, spoken, then_waits, waits_after, waits_at, waits_here, waits_in, Waited}
-
--- ---- a connection that waits on
-
-found_on : (serial : ℕ) (xs ys : List Row) (row : Row) → found serial xs ≡ Some row → found serial (xs ++ ys) ≡ Some row
-found_on serial [] ys row is = absurd (let wrong : None ≡ Some row = is in cc)
-found_on serial (other ∷ xs) ys row is = by (other.serial == serial) refl is (found_on serial xs ys row)
-  where
-    by : (b : Bool) → (other.serial == serial) ≡ b → found serial (other ∷ xs) ≡ Some row → (found serial xs ≡ Some row → found serial (xs ++ ys) ≡ Some row) → found serial (other ∷ xs ++ ys) ≡ Some row
-    by true here there later = let same : Some other ≡ Some row = rw here at there in rw here same
-    by false here there later = rw here (later (rw here at there))
-
-found_next : (serial : ℕ) (xs ys : List Row) → found serial xs ≡ None → found serial (xs ++ ys) ≡ found serial ys
-found_next serial [] ys none = refl
-found_next serial (other ∷ xs) ys none = by (other.serial == serial) refl none (found_next serial xs ys)
-  where
-    by : (b : Bool) → (other.serial == serial) ≡ b → found serial (other ∷ xs) ≡ None → (found serial xs ≡ None → found serial (xs ++ ys) ≡ found serial ys) → found serial (other ∷ xs ++ ys) ≡ found serial ys
-    by true here there later = absurd (let wrong : Some other ≡ None = rw here at there in cc)
-    by false here there later = rw here (later (rw here at there))
-
-found_kept : (serial : ℕ) (test : ℕ → Bool) (rows : List Row) (row : Row) → test serial ≡ true → found serial rows ≡ Some row → found serial (filter (λ r. test r.serial) rows) ≡ Some row
-found_kept serial test [] row keeps is = absurd (let wrong : None ≡ Some row = is in cc)
-found_kept serial test (other ∷ rows) row keeps is = by (test other.serial) refl (other.serial == serial) refl is (found_kept serial test rows row keeps)
-  where
-    by : (a : Bool) → test other.serial ≡ a → (b : Bool) → (other.serial == serial) ≡ b → found serial (other ∷ rows) ≡ Some row →
-        (found serial rows ≡ Some row → found serial (filter (λ r. test r.serial) rows) ≡ Some row) → found serial (filter (λ r. test r.serial) (other ∷ rows)) ≡ Some row
-    by true stays true here there later = let same : Some other ≡ Some row = rw here at there in rw (stays, here) same
-    by true stays false here there later = rw (stays, here) (later (rw here at there))
-    by false drops true here there later =
-        contrary (test serial) (found serial (filter (λ r. test r.serial) (other ∷ rows)) ≡ Some row) keeps (ap test (sym (eqb-true other.serial serial here)) ∙ drops)
-    by false drops false here there later = rw drops (later (rw here at there))
-
-waits_by : (plan : Option Plan) (event : OwnedEvent) (said : Said) (phase : Phase) → is_offer said ≡ false → is_waiting phase ≡ true → is_waiting (phase_by plan event said phase) ≡ true
-waits_by plan event (saids.Wait id used) phase other is = on_piece _ phase ∙ is
-waits_by plan event (saids.Offer id used line server to judged send) phase other is = absurd (cc)
-waits_by plan event (saids.Refuse id used cause) phase other is = is
-waits_by plan event (saids.Up id) phase other is = once_up phase ∙ is
-waits_by plan event (saids.Closed id why) phase other is = is
-waits_by plan event (saids.Reloaded version) phase other is = is
-waits_by plan event (saids.Marked line health) phase other is = is
-
-waits_if : (plan : Option Plan) (event : OwnedEvent) (said : Said) (phase : Phase) (b : Bool) → (is_offer said && b) ≡ false → is_waiting phase ≡ true → is_waiting (if b then phase_by plan event said phase else phase) ≡ true
-waits_if plan event said phase true other is = waits_by plan event said phase (and_left (is_offer said) true other refl) is
-waits_if plan event said phase false other is = is
-
-not_either : (a : Bool) → a ≡ false → not (a || false) ≡ true
-not_either true is = absurd (cc)
-not_either false is = refl
-
--- a row that waits, old or new, waits after an entry that neither ends its connection nor offers it a server
-row_waits : (q : Plain) (e : Entry) (number serial : ℕ) (own : FrontendRows) (row : Row) → found serial (own.rows ++ arrivals q number (e ∷ [])) ≡ Some row → is_waiting row.phase ≡ true → row.serial ≡ serial →
-    ends e.reply.said number serial ≡ false → offers e.reply.said number serial ≡ false → waits_in (found serial (frontend_after q (e ∷ []) number own).rows) ≡ true
-row_waits q e number serial own row there waits same lasts unoffered =
-    let live : List Row = filter (λ r. not (has_ended number (e ∷ []) r.serial)) (own.rows ++ arrivals q number (e ∷ [])) in
-    let kept : found serial live ≡ Some row = found_kept serial (λ n. not (has_ended number (e ∷ []) n)) (own.rows ++ arrivals q number (e ∷ [])) row (not_either (ends e.reply.said number serial) lasts) there in
-    ap waits_in (found_mapped serial (row_after q number (e ∷ [])) (λ r. refl) live) ∙ ap (λ o. waits_in (option_map (row_after q number (e ∷ [])) o)) kept
-    ∙ waits_if (plan_of q [] row.version) e.event e.reply.said row.phase (speaks_to number row.serial e.reply.said) (ap (λ n. is_offer e.reply.said && speaks_to number n e.reply.said) same ∙ unoffered) waits
-
--- the row of a connection that waits
-record WaitingRow (q : Plain) (id : ConnId) : Type 0 where
-  row : Row
-  there : row_at q.frontends id ≡ Some row
-  waits : is_waiting row.phase ≡ true
-
-waiting_row_at : (q : Plain) (id : ConnId) → waits_at q id ≡ true → WaitingRow q id
-waiting_row_at q id is = by (row_at q.frontends id) refl is
-  where
-    by : (o : Option Row) → row_at q.frontends id ≡ o → waits_in o ≡ true → WaitingRow q id
-    by None none now = absurd (let wrong : false ≡ true = now in cc)
-    by (Some row) there now = record { row = row; there = there; waits = now }
-
--- a connection that waits waits after such an entry
-waits_kept : (q : Plain) → IsWell q → (e : Entry) (id : ConnId) → waits_at q id ≡ true → ends e.reply.said id.frontend id.serial ≡ false → offers e.reply.said id.frontend id.serial ≡ false → waits_at (after q (e ∷ [])) id ≡ true
-waits_kept q well e id is lasts unoffered =
-    let here = waiting_row_at q id is in
-    let given = old_given q well id here.row here.there in
-    let in_own : found id.serial given.own.rows ≡ Some here.row = sym (ap (λ (o : Option FrontendRows). row_in id.serial o) given.there) ∙ here.there in
-    let next : slice_get (after q (e ∷ [])).frontends id.frontend ≡ Some (frontend_after q (e ∷ []) id.frontend given.own) = get-from_zero (frontend_after q (e ∷ [])) q.frontends id.frontend given.own given.there in
-    ap (λ (o : Option FrontendRows). waits_in (row_in id.serial o)) next
-    ∙ row_waits q e id.frontend id.serial given.own here.row (found_on id.serial given.own.rows (arrivals q id.frontend (e ∷ [])) here.row in_own) here.waits (found_serial id.serial given.own.rows here.row in_own) lasts unoffered
-
--- ---- a connection that comes and waits
-
-waits_open : (said : Said) → is_wait said ≡ true → (leaves_open said ≡ true) × (is_last said ≡ false) × (is_offer said ≡ false)
-waits_open (saids.Wait id used) is = (refl, refl, refl)
-waits_open (saids.Offer id used line server to judged send) is = absurd (cc)
-waits_open (saids.Refuse id used cause) is = absurd (cc)
-waits_open (saids.Up id) is = absurd (cc)
-waits_open (saids.Closed id why) is = absurd (cc)
-waits_open (saids.Reloaded version) is = absurd (cc)
-waits_open (saids.Marked line health) is = absurd (cc)
-
-came_in : (id : ConnId) (clock version : ℕ) (real : PairValue) (said : Said) → id_of said ≡ Some id → leaves_open said ≡ true → found id.serial (arrival_of id.frontend clock version real said (id_of said)) ≡ Some (new_row id.serial version real clock)
-came_in id clock version real said whom stays = rw (whom, stays, eq-eqb id.frontend id.frontend refl, eq-eqb id.serial id.serial refl) refl
-
--- no open connection has the serial of a newcomer
-new_serial : (q : Plain) → IsWell q → (id : ConnId) (own : FrontendRows) → slice_get q.frontends id.frontend ≡ Some own → id.serial ≡ own.serial + 1 → found id.serial own.rows ≡ None
-new_serial q well id own there next = by (found id.serial own.rows) refl
-  where
-    by : (o : Option Row) → found id.serial own.rows ≡ o → found id.serial own.rows ≡ None
-    by None none = none
-    by (Some row) is =
-        let fine = all-at (IsFrontendWell q.versions) q.frontends id.frontend own well.frontends there in
-        let here = all-found (λ r. r.serial ≤ own.serial) (λ r. r.serial == id.serial) own.rows row fine.given is in
-        let same : row.serial ≡ id.serial = eqb-true row.serial id.serial here.1 in
-        let less : row.serial ≤ own.serial = here.0 in
-        absurd (omega (arith, same, less, next))
-
-waits_new : (q : Plain) → IsWell q → (moment listener : ℕ) (real : PairValue) (reply : Reply) (id : ConnId) → IsNew q reply.said → id_of reply.said ≡ Some id → is_wait reply.said ≡ true →
-    waits_at (after q (entry moment (Accept listener real) reply ∷ [])) id ≡ true
-waits_new q well moment listener real reply id new whom waits =
-    let e : Entry = entry moment (Accept listener real) reply in
-    let same : new.id ≡ id = same_conn new.id id (id_of reply.said) new.speaks whom in
-    let there : slice_get q.frontends id.frontend ≡ Some new.own = ap (λ (i : ConnId). slice_get q.frontends i.frontend) (sym same) ∙ new.there in
-    let next : id.serial ≡ new.own.serial + 1 = ap (λ (i : ConnId). i.serial) (sym same) ∙ new.next in
-    let open_still = waits_open reply.said waits in
-    let rows = found_next id.serial new.own.rows (arrivals q id.frontend (e ∷ [])) (new_serial q well id new.own there next) ∙ came_in id _ _ real reply.said whom open_still.0 in
-    let now : slice_get (after q (e ∷ [])).frontends id.frontend ≡ Some (frontend_after q (e ∷ []) id.frontend new.own) = get-from_zero (frontend_after q (e ∷ [])) q.frontends id.frontend new.own there in
-    ap (λ (o : Option FrontendRows). waits_in (row_in id.serial o)) now
-    ∙ row_waits q e id.frontend id.serial new.own _ rows refl refl
-    (ap (λ b. b && speaks_to id.frontend id.serial reply.said) open_still.1) (ap (λ b. b && speaks_to id.frontend id.serial reply.said) open_still.2)
-
--- ---- decisions
+use Rattle.conn_model.specs.Answer.{answer_in, at_moment, reply_of, rest_in, row_at}
+use Rattle.conn_model.specs.History.{Entry, IsLegal, after, id_of, opening}
+use Rattle.conn_model.specs.Words.{or_fault}
+use Rattle.conn_model.proofs.Replies.{answered, bind-ok, expired, received, server_answered}
+use Rattle.conn_laws.specs.Deciding.{is_judgement}
+use Rattle.whatif_core.specs.Deciding.{after_failure, decided, decided_by, decision_of, is_failure, stepped}
+use Rattle.whatif_core.specs.Reporting.{history_report, trial_opening, IsSeen}
+use Rattle.whatif_core.proofs.LawLemmas.{accept_outcome, all_tied, contrary, Outcome, Tied}
+use Rattle.whatif_core.proofs.OnceLemmas.{decides, same_conn, waits_at, waits_here}
+use Rattle.whatif_core.proofs.WaitingLemmas.{judged_on, waiting_row_at, waits_in_both, WaitingRow}
+use Rattle.whatif_core.proofs.MovedLemmas.{failed_awaits, failure_answered, offered_in_both, of_three, outcome_is}
 
 decided_some : (q : Plain) (moment : ℕ) (event : OwnedEvent) (reply : Reply) → answer_in q moment event ≡ Ok reply → is_failure event ≡ false → is_judgement reply.said ≡ true → is_some (decided q moment event) ≡ true
 decided_some q moment event reply is no_failure judged =
     ap (λ a. is_some (decided_by (stepped q moment event) event a)) is
     ∙ ap (λ b. is_some (if b then None else decision_of (stepped q moment event) reply.said)) no_failure
     ∙ decides (stepped q moment event) reply.said ∙ judged
-
-unlike_wait : (q : Plain) (said : Said) → is_judgement said ≡ true → is_wait said ≡ false → is_some (difference (Some decisions.Wait) (decision_of q said)) ≡ true
-unlike_wait q (saids.Wait id used) judged other = absurd (cc)
-unlike_wait q (saids.Offer id used line server to judged2 send) judged other = by _
-  where
-    by : (names : Option (List ℕ × List ℕ)) → is_some (difference (Some decisions.Wait) (Some (offer_of names line))) ≡ true
-    by None = refl
-    by (Some names) = refl
-unlike_wait q (saids.Refuse id used cause) judged other = refl
-unlike_wait q (saids.Up id) judged other = absurd (cc)
-unlike_wait q (saids.Closed id why) judged other = absurd (cc)
-unlike_wait q (saids.Reloaded version) judged other = absurd (cc)
-unlike_wait q (saids.Marked line health) judged other = absurd (cc)
-
-differs_made : (p n : Plain) (moment : ℕ) (event : OwnedEvent) (reply : Reply) (id : ConnId) → is_reload event ≡ false → is_some (difference (decided p moment event) (decided n moment event)) ≡ true → id_of reply.said ≡ Some id →
-    differs_of (turn_of p n (entry moment event reply)) ≡ Some id
-differs_made p n moment event reply id other some whom =
-    ap (λ b. differs_of (if b then None else Some (turn_with p n (entry moment event reply)))) other
-    ∙ ap (λ b. if b then id_of reply.said else None) (ap (λ d. is_some (difference (decided p moment event) d)) (same_decided p.versions n moment event) ∙ some)
-    ∙ whom
-
--- the record lets it wait, and so does the trial, or that is a difference
-both_wait : (p n : Plain) (moment : ℕ) (event : OwnedEvent) (reply theirs : Reply) (id : ConnId) → is_reload event ≡ false → is_failure event ≡ false → answer_in p moment event ≡ Ok reply → is_wait reply.said ≡ true → id_of reply.said ≡ Some id →
-    answer_in n moment event ≡ Ok theirs → is_judgement theirs.said ≡ true → (is_wait theirs.said ≡ true) ⊎ (differs_of (turn_of p n (entry moment event reply)) ≡ Some id)
-both_wait p n moment event reply theirs id other no_failure is waits whom answers judged = by (is_wait theirs.said) refl
-  where
-    by : (b : Bool) → is_wait theirs.said ≡ b → (is_wait theirs.said ≡ true) ⊎ (differs_of (turn_of p n (entry moment event reply)) ≡ Some id)
-    by true they = inl they
-    by false they =
-        let some : is_some (difference (decided p moment event) (decided n moment event)) ≡ true =
-        ap (λ d. is_some (difference d (decided n moment event))) (decided_wait p moment event reply is no_failure waits)
-        ∙ ap (λ a. is_some (difference (Some decisions.Wait) (decided_by (stepped n moment event) event a))) answers
-        ∙ ap (λ b. is_some (difference (Some decisions.Wait) (if b then None else decision_of (stepped n moment event) theirs.said))) no_failure
-        ∙ unlike_wait (stepped n moment event) theirs.said judged they in
-        inr (differs_made p n moment event reply id other some whom)
-
--- ---- the trial
-
--- a state after a legal history judges a piece of a connection that waits
-judged_on : (plan : Plan) (q : Plain) (past : List Entry) → IsLegal (opening plan 0) past → q ≡ after (opening plan 0) past → (moment : ℕ) (id : ConnId) (bytes : List ℕ) → waits_at q id ≡ true → IsJudged (answer_in q moment (Piece id bytes))
-judged_on plan q past legal is moment id bytes waits =
-    let here = waiting_row_at q id waits in
-    piece_judged q moment id bytes (subst (λ m. Waiter m id) (sym is) (waits_there plan 0 past legal id here.row (ap (λ (m : Plain). row_at m.frontends id) (sym is) ∙ here.there) here.waits))
-
-silent : (said : Said) (id : ConnId) → speaks_to id.frontend id.serial said ≡ false → (ends said id.frontend id.serial ≡ false) × (offers said id.frontend id.serial ≡ false)
-silent said id is = (ap (λ b. is_last said && b) is ∙ and_no (is_last said), ap (λ b. is_offer said && b) is ∙ and_no (is_offer said))
-
-well_of : (plan : Plan) (q : Plain) (past : List Entry) → IsLegal (opening plan 0) past → q ≡ after (opening plan 0) past → IsWell q
-well_of plan q past legal is = subst IsWell (sym is) (well_after (opening plan 0) (opening_well plan 0) past legal)
-
--- closing another connection leaves it waiting
-closed_other : (n : Plain) → IsWell n → (moment : ℕ) (other id : ConnId) → is_conn id.frontend id.serial other ≡ false → waits_at n id ≡ true → waits_at (stepped n moment (Close other Done)) id ≡ true
-closed_other n well moment other id apart is = by (answer_in n moment (Close other Done)) refl
-  where
-    by : (answer : Result Reply StepFault) → answer_in n moment (Close other Done) ≡ answer → waits_at (plain_after n moment (Close other Done) answer) id ≡ true
-    by (Err fault) answers = is
-    by (Ok reply) answers =
-        let quiet = silent reply.said id (ap (λ o. option_map_or (is_conn id.frontend id.serial) o false) (answered n moment (Close other Done) reply answers).speaks ∙ apart) in
-        waits_kept n well (entry moment (Close other Done) reply) id is quiet.0 quiet.1
-
-closed_on : (n : Plain) → IsWell n → (moment : ℕ) (said : Said) (id : ConnId) → ends said id.frontend id.serial ≡ false → waits_at n id ≡ true → waits_at (closed moment said n) id ≡ true
-closed_on n well moment (saids.Wait other used) id lasts is = is
-closed_on n well moment (saids.Offer other used line server to judged send) id lasts is = is
-closed_on n well moment (saids.Refuse other used cause) id lasts is = closed_other n well moment other id lasts is
-closed_on n well moment (saids.Up other) id lasts is = is
-closed_on n well moment (saids.Closed other why) id lasts is = closed_other n well moment other id lasts is
-closed_on n well moment (saids.Reloaded version) id lasts is = is
-closed_on n well moment (saids.Marked line health) id lasts is = is
-
--- the trial after an event that was handed in, whose answer neither ends the connection nor offers it a server
-handed_on : (n : Plain) → IsWell n → (moment : ℕ) (event : OwnedEvent) (said : Said) (id : ConnId) → ((fault : StepFault) → answer_in n moment event ≡ Err fault → waits_at n id ≡ true) →
-    ((theirs : Reply) → answer_in n moment event ≡ Ok theirs → (waits_at (after n (entry moment event theirs ∷ [])) id ≡ true) × IsWell (after n (entry moment event theirs ∷ []))) →
-    ends said id.frontend id.serial ≡ false → waits_at (closed moment said (stepped n moment event)) id ≡ true
-handed_on n well moment event said id refused goes lasts = by (answer_in n moment event) refl
-  where
-    by : (answer : Result Reply StepFault) → answer_in n moment event ≡ answer → waits_at (closed moment said (plain_after n moment event answer)) id ≡ true
-    by (Err fault) answers = closed_on n well moment said id lasts (refused fault answers)
-    by (Ok theirs) answers = let on = goes theirs answers in closed_on (after n (entry moment event theirs ∷ [])) on.1 moment said id lasts on.0
-
--- what a state after a legal history is after one answer more is well
-well_next : (plan : Plan) (q : Plain) (past : List Entry) → IsLegal (opening plan 0) past → q ≡ after (opening plan 0) past → (moment : ℕ) (event : OwnedEvent) (reply : Reply) → answer_in q moment event ≡ Ok reply →
-    IsWell (after q (entry moment event reply ∷ []))
-well_next plan q past legal is moment event reply answers =
-    let o : Plain = opening plan 0 in
-    let longer : IsLegal o (entry moment event reply ∷ past) = (legal, ap (λ m. answer_in m moment event) (sym is) ∙ answers) in
-    subst IsWell (sym (whole_in_parts o (opening_well plan 0) (entry moment event reply ∷ []) past longer) ∙ ap (λ m. after m (entry moment event reply ∷ [])) (sym is)) (well_after o (opening_well plan 0) (entry moment event reply ∷ past) longer)
-
--- the entry says nothing to the connection, and its event is handed in as it is: it waits on in the trial
-elsewhere_as : (plan : Plan) (h : List Entry) (n : Plain) (moment : ℕ) (event : OwnedEvent) (reply : Reply) (id : ConnId) → IsLegal (opening plan 0) h → answer_in (after (opening plan 0) h) moment event ≡ Ok reply →
-    Tied plan (after (opening plan 0) h) n → is_reload event ≡ false → speaks_to id.frontend id.serial reply.said ≡ false → waits_at n id ≡ true → waits_at (closed moment reply.said (stepped n moment event)) id ≡ true
-elsewhere_as plan h n moment event reply id legal is tied other quiet waits =
-    let well = well_of plan n tied.past tied.legal tied.is in
-    handed_on n well moment event reply.said id (λ fault answers. waits)
-    (λ theirs answers.
-    let none = silent theirs.said id (ap (λ o. option_map_or (is_conn id.frontend id.serial) o false) (same_whom plan h n moment event reply theirs legal is tied answers other) ∙ quiet) in
-    (waits_kept n well (entry moment event theirs) id waits none.0 none.1, well_next plan n tied.past tied.legal tied.is moment event theirs answers))
-    (silent reply.said id quiet).0
-
--- so does it where a report is taken as one of that server
-reported_elsewhere : (plan : Plan) (n : Plain) (past : List Entry) → IsLegal (opening plan 0) past → n ≡ after (opening plan 0) past → (moment : ℕ) (health : Health) (at : Option ServerNumbers) (said : Said) (id : ConnId) →
-    ends said id.frontend id.serial ≡ false → waits_at n id ≡ true → waits_at (closed moment said (taken n moment (option_map (λ (a : ServerNumbers). Mark a.backend a.server health) at))) id ≡ true
-reported_elsewhere plan n past legal is moment health None said id lasts waits = closed_on n (well_of plan n past legal is) moment said id lasts waits
-reported_elsewhere plan n past legal is moment health (Some at) said id lasts waits =
-    let event : OwnedEvent = Mark at.backend at.server health in
-    let well = well_of plan n past legal is in
-    handed_on n well moment event said id (λ fault answers. waits)
-    (λ theirs answers.
-    let none = silent theirs.said id (ap (λ o. option_map_or (is_conn id.frontend id.serial) o false) (ap id_of (answered n moment event theirs answers).says)) in
-    (waits_kept n well (entry moment event theirs) id waits none.0 none.1, well_next plan n past legal is moment event theirs answers))
-    lasts
-
-elsewhere : (plan : Plan) (h : List Entry) (n : Plain) (moment : ℕ) (event : OwnedEvent) (reply : Reply) (id : ConnId) → IsLegal (opening plan 0) h → answer_in (after (opening plan 0) h) moment event ≡ Ok reply →
-    Tied plan (after (opening plan 0) h) n → is_reload event ≡ false → speaks_to id.frontend id.serial reply.said ≡ false → waits_at n id ≡ true →
-    waits_at (handed (after (opening plan 0) h).versions n moment event reply.said) id ≡ true
-elsewhere plan h n moment (Accept listener real) reply id legal is tied other quiet waits = elsewhere_as plan h n moment (Accept listener real) reply id legal is tied other quiet waits
-elsewhere plan h n moment (Piece own bytes) reply id legal is tied other quiet waits = elsewhere_as plan h n moment (Piece own bytes) reply id legal is tied other quiet waits
-elsewhere plan h n moment (Connected own) reply id legal is tied other quiet waits = elsewhere_as plan h n moment (Connected own) reply id legal is tied other quiet waits
-elsewhere plan h n moment (ConnectFailed own) reply id legal is tied other quiet waits = elsewhere_as plan h n moment (ConnectFailed own) reply id legal is tied other quiet waits
-elsewhere plan h n moment (Close own why) reply id legal is tied other quiet waits = elsewhere_as plan h n moment (Close own why) reply id legal is tied other quiet waits
-elsewhere plan h n moment (Expire own) reply id legal is tied other quiet waits = elsewhere_as plan h n moment (Expire own) reply id legal is tied other quiet waits
-elsewhere plan h n moment (Reload text) reply id legal is tied other quiet waits = elsewhere_as plan h n moment (Reload text) reply id legal is tied other quiet waits
-elsewhere plan h n moment (Mark number k health) reply id legal is tied other quiet waits =
-    reported_elsewhere plan n tied.past tied.legal tied.is moment health (numbers_for (after (opening plan 0) h).versions n.versions number k) reply.said id (silent reply.said id quiet).0 waits
-
--- both let it wait
-lets_wait : (plan : Plan) (n : Plain) (moment : ℕ) (event : OwnedEvent) (reply theirs : Reply) (id : ConnId) (past : List Entry) → IsLegal (opening plan 0) past → n ≡ after (opening plan 0) past →
-    answer_in n moment event ≡ Ok theirs → waits_at (after n (entry moment event theirs ∷ [])) id ≡ true → is_wait reply.said ≡ true → waits_at (closed moment reply.said (stepped n moment event)) id ≡ true
-lets_wait plan n moment event reply theirs id past legal is answers on waits =
-    handed_on n (well_of plan n past legal is) moment event reply.said id (λ fault refused. absurd (let wrong : Err fault ≡ Ok theirs = sym refused ∙ answers in cc))
-    (λ found found_is. (
-      subst (λ (r : Reply). waits_at (after n (entry moment event r ∷ [])) id ≡ true) (same_reply (answer_in n moment event) theirs found answers found_is) on,
-      well_next plan n past legal is moment event found found_is,
-    ))
-    (ap (λ b. b && speaks_to id.frontend id.serial reply.said) (waits_open reply.said waits).1)
-
-abbrev WaitsOn : Plain → Plain → ℕ → OwnedEvent → Reply → ConnId → Type 0
-WaitsOn p n moment event reply id = (differs_of (turn_of p n (entry moment event reply)) ≡ Some id) ⊎ (waits_at (handed p.versions n moment event reply.said) id ≡ true)
-
--- a newcomer that the record lets wait
-comes : (plan : Plan) (h : List Entry) (n : Plain) (moment listener : ℕ) (real : PairValue) (reply : Reply) (id : ConnId) → IsLegal (opening plan 0) h → answer_in (after (opening plan 0) h) moment (Accept listener real) ≡ Ok reply →
-    Tied plan (after (opening plan 0) h) n → id_of reply.said ≡ Some id → is_wait reply.said ≡ true → WaitsOn (after (opening plan 0) h) n moment (Accept listener real) reply id
-comes plan h n moment listener real reply id legal is tied whom waits = by (accept_outcome plan h n moment listener real reply legal is tied)
-  where
-    p : Plain
-    p = after (opening plan 0) h
-
-    by : Outcome n moment (Accept listener real) reply.said → WaitsOn p n moment (Accept listener real) reply id
-    by (inl (fault, refused, none)) = absurd (cc)
-    by (inr (theirs, answers, agree)) = elim (both_wait p n moment (Accept listener real) reply theirs id refl refl is waits whom answers agree.2) [
-      | inl they ↦ inr (lets_wait plan n moment (Accept listener real) reply theirs id tied.past tied.legal tied.is answers
-          (waits_new n (well_of plan n tied.past tied.legal tied.is) moment listener real theirs id (answered n moment (Accept listener real) theirs answers) (agree.0 ∙ whom) they) waits)
-      | inr different ↦ inl different
-    ]
-
--- a piece after which it waits on in the record
-goes_on : (plan : Plan) (h : List Entry) (n : Plain) (moment : ℕ) (id : ConnId) (bytes : List ℕ) (reply : Reply) → IsLegal (opening plan 0) h → answer_in (after (opening plan 0) h) moment (Piece id bytes) ≡ Ok reply →
-    Tied plan (after (opening plan 0) h) n → is_wait reply.said ≡ true → waits_at n id ≡ true → WaitsOn (after (opening plan 0) h) n moment (Piece id bytes) reply id
-goes_on plan h n moment id bytes reply legal is tied waits there =
-    let p : Plain = after (opening plan 0) h in
-    let judged = judged_on plan n tied.past tied.legal tied.is moment id bytes there in
-    let theirs : Reply = judged.0 in
-    let old = answered n moment (Piece id bytes) theirs judged.1 in
-    elim (both_wait p n moment (Piece id bytes) reply theirs id refl refl is waits (answered p moment (Piece id bytes) reply is).speaks judged.1 judged.2) [
-      | inl they ↦ (
-          let open_still = waits_open theirs.said they in
-          inr (lets_wait plan n moment (Piece id bytes) reply theirs id tied.past tied.legal tied.is judged.1
-          (waits_kept n (well_of plan n tied.past tied.legal tied.is) (entry moment (Piece id bytes) theirs) id there
-          (ap (λ b. b && speaks_to id.frontend id.serial theirs.said) open_still.1) (ap (λ b. b && speaks_to id.frontend id.serial theirs.said) open_still.2)) waits))
-      | inr different ↦ inl different
-    ]
-
--- ---- along a history
-
-abbrev IsKnown : Plan → Plain → List Entry → ConnId → Type 0
-IsKnown plan trial h id = HasDiffered (opening plan 0) trial id h ⊎ (waits_at (history_report false (opening plan 0) trial h).trial id ≡ true)
-
--- the same connection
-spoken_id : (id own : ConnId) (said : Said) → id_of said ≡ Some own → speaks_to id.frontend id.serial said ≡ true → own ≡ id
-spoken_id id own said whom is = same_conn own id (id_of said) whom (spoken id (id_of said) is)
-
--- it waited before the entry and after it in the record, and before it in the trial
-on_entry : (plan : Plan) (h : List Entry) (n : Plain) (moment : ℕ) (event : OwnedEvent) (reply : Reply) (id : ConnId) → IsLegal (opening plan 0) h → answer_in (after (opening plan 0) h) moment event ≡ Ok reply →
-    Tied plan (after (opening plan 0) h) n → is_reload event ≡ false → waits_at (after (opening plan 0) h) id ≡ true → waits_at n id ≡ true → (before came : Bool) → Waited before came reply.said id.frontend id.serial →
-    WaitsOn (after (opening plan 0) h) n moment event reply id
-on_entry plan h n moment event reply id legal is tied other waits there before came w = by (speaks_to id.frontend id.serial reply.said) refl
-  where
-    p : Plain
-    p = after (opening plan 0) h
-
-    last_not : speaks_to id.frontend id.serial reply.said ≡ true → is_last reply.said ≡ false
-    last_not spoken_to = and_left (is_last reply.said) (speaks_to id.frontend id.serial reply.said) w.lasts spoken_to
-
-    over : (said : Said) → is_last said ≡ true → said ≡ reply.said → speaks_to id.frontend id.serial reply.said ≡ true → WaitsOn p n moment event reply id
-    over said last same spoken_to = contrary (is_last reply.said) (WaitsOn p n moment event reply id) (ap is_last (sym same) ∙ last) (last_not spoken_to)
-
-    spoken_on : (ev : OwnedEvent) → event ≡ ev → speaks_to id.frontend id.serial reply.said ≡ true → WaitsOn p n moment event reply id
-    spoken_on (Accept listener real) same spoken_to =
-        let now = ap (λ ev. answer_in p moment ev) (sym same) ∙ is in
-        let here = waiting_row_at p id waits in
-        let given = old_given p (well_after (opening plan 0) (opening_well plan 0) h legal) id here.row here.there in
-        absurd (not_new p p (below_itself p) id given.own given.there given.given reply.said (answered p moment (Accept listener real) reply now) (spoken id (id_of reply.said) spoken_to))
-    spoken_on (Piece own bytes) same spoken_to =
-        let now = ap (λ ev. answer_in p moment ev) (sym same) ∙ is in
-        let one : own ≡ id = spoken_id id own reply.said (answered p moment (Piece own bytes) reply now).speaks spoken_to in
-        let of_id : event ≡ Piece id bytes = same ∙ ap (λ i. Piece i bytes) one in
-        let mine : answer_in p moment (Piece id bytes) ≡ Ok reply = ap (λ ev. answer_in p moment ev) (sym of_id) ∙ is in
-        let judged = judged_on plan p h legal refl moment id bytes waits in
-        let judged_reply : is_judgement reply.said ≡ true = ap (λ (r : Reply). is_judgement r.said) (same_reply (answer_in p moment (Piece id bytes)) reply judged.0 mine judged.1) ∙ judged.2 in
-        let we_wait : is_wait reply.said ≡ true = then_waits reply.said judged_reply (last_not spoken_to) (and_left (is_offer reply.said) (speaks_to id.frontend id.serial reply.said) w.unoffered spoken_to) in
-        subst (λ ev. WaitsOn p n moment ev reply id) (sym of_id) (goes_on plan h n moment id bytes reply legal mine tied we_wait there)
-    spoken_on (Connected own) same spoken_to =
-        let now = ap (λ ev. answer_in p moment ev) (sym same) ∙ is in
-        let got = server_answered p own (saids.Up own) reply now in
-        let one : own ≡ id = spoken_id id own reply.said (answered p moment (Connected own) reply now).speaks spoken_to in
-        let here = waiting_row_at p id waits in
-        absurd (not_both got.row here.row got.awaits here.waits (let twice : Some got.row ≡ Some here.row = sym got.row_is ∙ ap (row_at p.frontends) one ∙ here.there in cc))
-      where
-        not_both : (a b : Row) → awaits_server a.phase ≡ true → is_waiting b.phase ≡ true → a ≡ b → ⊥
-        not_both a b awaits waits same = neither b.phase (ap (λ (r : Row). awaits_server r.phase) (sym same) ∙ awaits) waits
-          where
-            neither : (phase : Phase) → awaits_server phase ≡ true → is_waiting phase ≡ true → ⊥
-            neither (Waiting rest) awaits waits = let wrong : false ≡ true = awaits in cc
-            neither (Offered assignment) awaits waits = let wrong : false ≡ true = waits in cc
-            neither (Up assignment) awaits waits = let wrong : false ≡ true = waits in cc
-    spoken_on (ConnectFailed own) same spoken_to =
-        let now = ap (λ ev. answer_in p moment ev) (sym same) ∙ is in
-        let got = has_failed (at_moment moment p) own reply now in
-        let one : own ≡ id = spoken_id id own reply.said (answered p moment (ConnectFailed own) reply now).speaks spoken_to in
-        let here = waiting_row_at p id waits in
-        absurd (not_both got.row here.row got.given got.offered here.waits (let twice : Some got.row ≡ Some here.row = sym got.row_is ∙ ap (row_at p.frontends) one ∙ here.there in cc))
-      where
-        not_both : (a b : Row) (given : Assignment) → offer_in a.phase ≡ Some given → is_waiting b.phase ≡ true → a ≡ b → ⊥
-        not_both a b given offered waits same = neither b.phase (ap (λ (r : Row). offer_in r.phase) (sym same) ∙ offered) waits
-          where
-            neither : (phase : Phase) → offer_in phase ≡ Some given → is_waiting phase ≡ true → ⊥
-            neither (Waiting rest) offered waits = let wrong : None ≡ Some given = offered in cc
-            neither (Offered assignment) offered waits = let wrong : false ≡ true = waits in cc
-            neither (Up assignment) offered waits = let wrong : false ≡ true = waits in cc
-    spoken_on (Close own why) same spoken_to =
-        let now = ap (λ ev. answer_in p moment ev) (sym same) ∙ is in
-        let one = bind-ok (or_fault NoSuch (row_at p.frontends own)) _ reply now in
-        let it : reply_of (saids.Closed own why) ≡ reply = let both : Ok (reply_of (saids.Closed own why)) ≡ Ok reply = one.2 in cc in
-        over (saids.Closed own why) refl (ap (λ (r : Reply). r.said) it) spoken_to
-    spoken_on (Expire own) same spoken_to =
-        let now = ap (λ ev. answer_in p moment ev) (sym same) ∙ is in
-        over (saids.Refuse own 0 Expired) refl (ap (λ (r : Reply). r.said) (expired p (max p.clock moment) own reply now).reply_is) spoken_to
-    spoken_on (Reload text) same spoken_to = contrary (is_reload event) (WaitsOn p n moment event reply id) (ap is_reload same) other
-    spoken_on (Mark number k health) same spoken_to =
-        let now = ap (λ ev. answer_in p moment ev) (sym same) ∙ is in
-        contrary (speaks_to id.frontend id.serial reply.said) (WaitsOn p n moment event reply id) spoken_to (ap (speaks_to id.frontend id.serial) (answered p moment (Mark number k health) reply now).says)
-
-    by : (b : Bool) → speaks_to id.frontend id.serial reply.said ≡ b → WaitsOn p n moment event reply id
-    by true spoken_to = spoken_on event refl spoken_to
-    by false quiet = inr (elsewhere plan h n moment event reply id legal is tied other quiet there)
-
--- it came at the entry, and waits
-at_entry : (plan : Plan) (h : List Entry) (n : Plain) (moment : ℕ) (event : OwnedEvent) (reply : Reply) (id : ConnId) → IsLegal (opening plan 0) h → answer_in (after (opening plan 0) h) moment event ≡ Ok reply →
-    Tied plan (after (opening plan 0) h) n → arrived id.frontend id.serial event reply.said ≡ true → (before came : Bool) → Waited before came reply.said id.frontend id.serial → WaitsOn (after (opening plan 0) h) n moment event reply id
-at_entry plan h n moment (Accept listener real) reply id legal is tied came before came_too w =
-    let both = and_true (leaves_open reply.said) (speaks_to id.frontend id.serial reply.said) came in
-    comes plan h n moment listener real reply id legal is tied (spoken id (id_of reply.said) both.1) (opens reply.said both.0 (and_left (is_offer reply.said) (speaks_to id.frontend id.serial reply.said) w.unoffered both.1))
-  where
-    opens : (said : Said) → leaves_open said ≡ true → is_offer said ≡ false → is_wait said ≡ true
-    opens (saids.Wait id used) stays other = refl
-    opens (saids.Offer id used line server to judged send) stays other = absurd (cc)
-    opens (saids.Refuse id used cause) stays other = absurd (cc)
-    opens (saids.Up id) stays other = absurd (cc)
-    opens (saids.Closed id why) stays other = absurd (cc)
-    opens (saids.Reloaded version) stays other = absurd (cc)
-    opens (saids.Marked line health) stays other = absurd (cc)
-at_entry plan h n moment (Piece own bytes) reply id legal is tied came before came_too w = absurd (cc)
-at_entry plan h n moment (Connected own) reply id legal is tied came before came_too w = absurd (cc)
-at_entry plan h n moment (ConnectFailed own) reply id legal is tied came before came_too w = absurd (cc)
-at_entry plan h n moment (Close own why) reply id legal is tied came before came_too w = absurd (cc)
-at_entry plan h n moment (Expire own) reply id legal is tied came before came_too w = absurd (cc)
-at_entry plan h n moment (Reload text) reply id legal is tied came before came_too w = absurd (cc)
-at_entry plan h n moment (Mark number k health) reply id legal is tied came before came_too w = absurd (cc)
-
-nobody_waits : (plan : Plan) (id : ConnId) → waits_at (after (opening plan 0) []) id ≡ false
-nobody_waits plan id = ap (λ q. waits_at q id) (after-nil (opening plan 0) (opening_well plan 0)) ∙ by (slice_get (opening plan 0).frontends id.frontend) refl
-  where
-    by : (o : Option FrontendRows) → slice_get (opening plan 0).frontends id.frontend ≡ o → waits_in (row_in id.serial o) ≡ false
-    by None none = refl
-    by (Some own) there =
-        let none : own.rows ≡ [] =
-        all-at (λ f. f.rows ≡ []) (opening plan 0).frontends id.frontend own
-        (all-map (λ f. f.rows ≡ []) (λ (frontend : Frontend). record { name = frontend.name; serial = 0; rows = [] }) plan.frontends (all-each _ plan.frontends (λ frontend. refl))) there in
-        ap (λ rows. waits_in (found id.serial rows)) none
-
--- a connection that waits in the record waits in the trial, unless it has had a difference
-waits_in_both : (plan : Plan) (text : List ℕ) (trial : Plain) (h : List Entry) (id : ConnId) → trial_opening plan text ≡ Ok trial → IsLegal (opening plan 0) h → waits_at (after (opening plan 0) h) id ≡ true → IsKnown plan trial h id
-waits_in_both plan text trial [] id opens legal waits = contrary (waits_at (after (opening plan 0) []) id) (IsKnown plan trial [] id) waits (nobody_waits plan id)
-waits_in_both plan text trial (e ∷ h) id opens legal waits =
-    by (waits_after (after (opening plan 0) h) e id (ap (λ q. waits_at q id) (whole_in_parts (opening plan 0) (opening_well plan 0) (e ∷ []) h legal) ∙ waits)) (waits_in_both plan text trial h id opens legal.0)
-  where
-    o : Plain
-    o = opening plan 0
-
-    p : Plain
-    p = after o h
-
-    n : Plain
-    n = (history_report false o trial h).trial
-
-    tied : Tied plan p n
-    tied = all_tied false plan text trial h opens legal.0
-
-    next : (history_report false o trial (e ∷ h)).trial ≡ played p.versions n e.moment e.event e.reply.said
-    next = turn_trial false (played p.versions n e.moment e.event e.reply.said) (history_report false o trial h) (turn_of p n e)
-
-    handed_next : is_reload e.event ≡ false → WaitsOn p n e.moment e.event e.reply id → IsKnown plan trial (e ∷ h) id
-    handed_next other (inl different) = inl (inl different)
-    handed_next other (inr on) = inr (ap (λ q. waits_at q id) next ∙ ap (λ b. waits_at (if b then n else handed p.versions n e.moment e.event e.reply.said) id) other ∙ on)
-
-    came_next : is_reload e.event ≡ false → Waited (waits_at p id) (arrived id.frontend id.serial e.event e.reply.said) e.reply.said id.frontend id.serial → arrived id.frontend id.serial e.event e.reply.said ≡ true → IsKnown plan trial (e ∷ h) id
-    came_next other w came = handed_next other (at_entry plan h n e.moment e.event e.reply id legal.0 legal.1 tied came (waits_at p id) (arrived id.frontend id.serial e.event e.reply.said) w)
-
-    kept_next : is_reload e.event ≡ false → Waited (waits_at p id) (arrived id.frontend id.serial e.event e.reply.said) e.reply.said id.frontend id.serial → waits_at p id ≡ true → IsKnown plan trial h id → IsKnown plan trial (e ∷ h) id
-    kept_next other w before_it (inl different) = inl (inr different)
-    kept_next other w before_it (inr there) =
-        handed_next other (on_entry plan h n e.moment e.event e.reply id legal.0 legal.1 tied other before_it there (waits_at p id) (arrived id.frontend id.serial e.event e.reply.said) w)
-
-    reload_next : is_reload e.event ≡ true → IsKnown plan trial h id → IsKnown plan trial (e ∷ h) id
-    reload_next is (inl different) = inl (inr different)
-    reload_next is (inr there) = inr (ap (λ q. waits_at q id) next ∙ ap (λ b. waits_at (if b then n else handed p.versions n e.moment e.event e.reply.said) id) is ∙ there)
-
-    no_arrival : (event : OwnedEvent) (said : Said) → is_reload event ≡ true → arrived id.frontend id.serial event said ≡ true → ⊥
-    no_arrival (Accept listener real) said is came = absurd (cc)
-    no_arrival (Piece own bytes) said is came = absurd (cc)
-    no_arrival (Connected own) said is came = absurd (cc)
-    no_arrival (ConnectFailed own) said is came = absurd (cc)
-    no_arrival (Close own why) said is came = absurd (cc)
-    no_arrival (Expire own) said is came = absurd (cc)
-    no_arrival (Reload text) said is came = absurd (cc)
-    no_arrival (Mark number k health) said is came = absurd (cc)
-
-    by : Waited (waits_at p id) (arrived id.frontend id.serial e.event e.reply.said) e.reply.said id.frontend id.serial → (waits_at p id ≡ true → IsKnown plan trial h id) → IsKnown plan trial (e ∷ h) id
-    by w earlier = on (is_reload e.event) refl
-      where
-        on : (b : Bool) → is_reload e.event ≡ b → IsKnown plan trial (e ∷ h) id
-        on true is = elim w.first [
-          | inl before_it ↦ reload_next is (earlier before_it)
-          | inr came ↦ absurd (no_arrival e.event e.reply.said is came)
-        ]
-        on false other = elim w.first [
-          | inl before_it ↦ kept_next other w before_it (earlier before_it)
-          | inr came ↦ came_next other w came
-        ]
-
--- ---- what is seen
 
 abbrev IsDecidedOr : Plain → ℕ → OwnedEvent → Type 0
 IsDecidedOr n moment event = (is_some (decided n moment event) ≡ true) ⊎ (answer_in n moment event ≡ Err NotDue)
@@ -537,9 +47,24 @@ expiry_seen n moment id waits = of (waiting_row_at n id waits)
         by_rest (Some rest) some is true due = inl (decided_some n moment (Expire id) (reply_of (saids.Refuse id 0 Expired)) (rw (here.there, some, due) refl) refl refl)
         by_rest (Some rest) some is false due = inr (rw (here.there, some, due) refl)
 
-pub seen : (plan : Plan) (text : List ℕ) (trial : Plain) (h : List Entry) (e : Entry) (id : ConnId) → trial_opening plan text ≡ Ok trial → IsLegal (opening plan 0) (e ∷ h) → is_failure e.event ≡ false → is_judgement e.reply.said ≡ true → id_of e.reply.said ≡ Some id →
+-- of a connection whose server is out of reach by the record
+failure_seen : (plan : Plan) (text : List ℕ) (trial : Plain) (h : List Entry) (e : Entry) (own id : ConnId) → trial_opening plan text ≡ Ok trial → IsLegal (opening plan 0) (e ∷ h) → e.event ≡ ConnectFailed own → id_of e.reply.said ≡ Some id →
     IsSeen (opening plan 0) trial id e h
-seen plan text trial h e id opens legal no_failure judged whom = by e.event refl
+failure_seen plan text trial h e own id opens legal is whom =
+    let p : Plain = after (opening plan 0) h in
+    let n : Plain = (history_report false (opening plan 0) trial h).trial in
+    let now : answer_in p e.moment (ConnectFailed own) ≡ Ok e.reply = ap (λ ev. answer_in p e.moment ev) (sym is) ∙ legal.1 in
+    let same : own ≡ id = same_conn own id (id_of e.reply.said) (answered p e.moment (ConnectFailed own) e.reply now).speaks whom in
+    let of_id : e.event ≡ ConnectFailed id = is ∙ ap ConnectFailed same in
+    let mine : answer_in p e.moment (ConnectFailed id) ≡ Ok e.reply = ap (λ ev. answer_in p e.moment ev) (sym of_id) ∙ legal.1 in
+    of_three (offered_in_both plan text trial h id opens legal.0 (failed_awaits p e.moment id e.reply mine)) (λ different. inr (inr (inl different))) (λ parted. inr (inr (inr (inl parted))))
+    (λ there.
+    let theirs = failure_answered n e.moment id there in
+    inr (inl (ap (λ ev. is_some (after_failure n e.moment ev)) of_id ∙ ap is_some (outcome_is n e.moment id theirs.0 theirs.1))))
+
+pub seen : (plan : Plan) (text : List ℕ) (trial : Plain) (h : List Entry) (e : Entry) (id : ConnId) → trial_opening plan text ≡ Ok trial → IsLegal (opening plan 0) (e ∷ h) → is_judgement e.reply.said ≡ true → id_of e.reply.said ≡ Some id →
+    IsSeen (opening plan 0) trial id e h
+seen plan text trial h e id opens legal judged whom = by e.event refl
   where
     o : Plain
     o = opening plan 0
@@ -569,11 +94,11 @@ seen plan text trial h e id opens legal no_failure judged whom = by e.event refl
         let got = received (at_moment e.moment p) own bytes e.reply (answers (Piece own bytes) is) in
         let same : own ≡ id = same_conn own id (id_of e.reply.said) (answered p e.moment (Piece own bytes) e.reply (answers (Piece own bytes) is)).speaks whom in
         elim (waits_in_both plan text trial h id opens legal.0 (ap (waits_at p) (sym same) ∙ waits_here p own got.row got.row_is (ap is_some got.waits))) [
-          | inl different ↦ inr (inl different)
+          | inl different ↦ inr (inr (inl different))
           | inr there ↦ inl (ap (λ ev. is_some (decided n e.moment ev)) (is ∙ ap (λ i. Piece i bytes) same) ∙ piece_seen plan n tied.past tied.legal tied.is e.moment id bytes there)
         ]
     by (Connected own) is = none (saids.Up own) (ap (λ (r : Reply). r.said) (server_answered p own (saids.Up own) e.reply (answers (Connected own) is)).reply_is) refl
-    by (ConnectFailed own) is = contrary (is_failure e.event) (IsSeen o trial id e h) (ap is_failure is) no_failure
+    by (ConnectFailed own) is = failure_seen plan text trial h e own id opens legal is whom
     by (Close own why) is =
         let one = bind-ok (or_fault NoSuch (row_at p.frontends own)) _ e.reply (answers (Close own why) is) in
         let it : reply_of (saids.Closed own why) ≡ e.reply = let both : Ok (reply_of (saids.Closed own why)) ≡ Ok e.reply = one.2 in cc in
@@ -583,11 +108,29 @@ seen plan text trial h e id opens legal no_failure judged whom = by e.event refl
         let same : own ≡ id = same_conn own id (id_of e.reply.said) (answered p e.moment (Expire own) e.reply (answers (Expire own) is)).speaks whom in
         let of_id : e.event ≡ Expire id = is ∙ ap Expire same in
         elim (waits_in_both plan text trial h id opens legal.0 (ap (waits_at p) (sym same) ∙ waits_here p own got.row got.row_is (ap is_some got.waits))) [
-          | inl different ↦ inr (inl different)
+          | inl different ↦ inr (inr (inl different))
           | inr there ↦ elim (expiry_seen n e.moment id there) [
             | inl some ↦ inl (ap (λ ev. is_some (decided n e.moment ev)) of_id ∙ some)
-            | inr early ↦ inr (inr (ap (λ ev. answer_in n e.moment ev) of_id ∙ early))
+            | inr early ↦ inr (inr (inr (inr (ap (λ ev. answer_in n e.moment ev) of_id ∙ early))))
           ]
         ]
     by (Reload text) is = none _ (sym (answered p e.moment (Reload text) e.reply (answers (Reload text) is)).says) refl
     by (Mark number k health) is = none _ (sym (answered p e.moment (Mark number k health) e.reply (answers (Mark number k health) is)).says) refl
+
+-- so where the record ends it, too
+pub failures_seen : (plan : Plan) (text : List ℕ) (trial : Plain) (h : List Entry) (e : Entry) (id : ConnId) → trial_opening plan text ≡ Ok trial → IsLegal (opening plan 0) (e ∷ h) → is_failure e.event ≡ true → id_of e.reply.said ≡ Some id →
+    IsSeen (opening plan 0) trial id e h
+failures_seen plan text trial h e id opens legal fails whom = by e.event refl
+  where
+    none : (event : OwnedEvent) → e.event ≡ event → is_failure event ≡ false → IsSeen (opening plan 0) trial id e h
+    none event is other = contrary (is_failure e.event) (IsSeen (opening plan 0) trial id e h) fails (ap is_failure is ∙ other)
+
+    by : (event : OwnedEvent) → e.event ≡ event → IsSeen (opening plan 0) trial id e h
+    by (Accept listener real) is = none (Accept listener real) is refl
+    by (Piece own bytes) is = none (Piece own bytes) is refl
+    by (Connected own) is = none (Connected own) is refl
+    by (ConnectFailed own) is = failure_seen plan text trial h e own id opens legal is whom
+    by (Close own why) is = none (Close own why) is refl
+    by (Expire own) is = none (Expire own) is refl
+    by (Reload text) is = none (Reload text) is refl
+    by (Mark number k health) is = none (Mark number k health) is refl

@@ -51,6 +51,10 @@ pair_within text pairs n is = (position-Some (has_text text) pairs n (first_of_i
 pub three_texts : (out a b c : List ℕ) → ((out ++ a) ++ b) ++ c ≡ out ++ ((a ++ b) ++ c)
 three_texts out a b c = ap (λ xs. xs ++ c) (append_assoc out a b) ∙ append_assoc out (a ++ b) c
 
+-- and four
+pub four_texts : (out a b c d : List ℕ) → (((out ++ a) ++ b) ++ c) ++ d ≡ out ++ (((a ++ b) ++ c) ++ d)
+four_texts out a b c d = ap (λ xs. xs ++ d) (three_texts out a b c) ∙ append_assoc out ((a ++ b) ++ c) d
+
 -- the item that is counted again
 pub pair_there : (text : List ℕ) (pairs : List PairCount) (n : ℕ) (pair : PairCount) (count : ℕ) → position (has_text text) pairs ≡ Some n → pair ≡ get_or pairs n pair → count ≡ one_more pair.count
     → slice_set pairs n (record { text = pair.text; count = count }) ≡ pairs_on text pairs

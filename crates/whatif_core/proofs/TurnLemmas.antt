@@ -1,4 +1,4 @@
--- What both balancers decide of the entry that begins at a line.
+-- What both balancers say of the entry that begins at a line.
 use Rattle.std.proofs.Common.{◌≡◌, ℕ, ◌+◌, Bool, true, false, List, [], ◌∷◌, Option, Some, None, Result, Ok, Err, refl, ap, sym, ◌∙◌}
 use Rattle.std.specs.Prelude.{option_and_then, option_map, is_some, slice_get, ◌==◌, ◌||◌, if◌then◌else◌}
 use Rattle.std.specs.Option.{option_map_or}
@@ -38,7 +38,7 @@ use Rattle.audit_core.specs.Verdict.{fault_at, is_too_long}
 use Rattle.audit_core.specs.declared.due.Due.{Due}
 use Rattle.audit_core.specs.declared.due.Due.TheVariants as dues
 use Rattle.audit_core.specs.declared.fault.CheckKind.TheVariants.{Format, TooLong}
-use Rattle.whatif_core.specs.Deciding.{closed, decided, decided_by, event_for, is_let_in, numbers_for, taken}
+use Rattle.whatif_core.specs.Deciding.{after_failure, after_failure_by, closed, decided, decided_by, event_for, is_let_in, numbers_for, taken}
 use Rattle.whatif_core.specs.declared.turn.Turn.{Turn}
 use Rattle.whatif_core.specs.Lines.{both_on, entry_at, entry_by, event_at, event_due, handed_after, trial_with, turn_after, turn_at, whole_in, Both}
 use Rattle.whatif_core.specs.Reporting.{turn_of}
@@ -177,6 +177,8 @@ answered_turn p trial moment event (Ok reply) other is =
       was = decided_by (plain_after p moment event a) event a;
       would = option_and_then (decided trial moment) taken_as;
       let_in = is_let_in (taken trial moment taken_as) reply.said;
+      came = after_failure_by event a;
+      would_come = option_and_then (after_failure trial moment) taken_as;
     }
 
 answered_trial : (p trial : Plain) (moment : ℕ) (event : OwnedEvent) (answered : Result Reply StepFault) → is_reload event ≡ false → answer_in p moment event ≡ answered

@@ -121,13 +121,13 @@ whole summary sent s text now k t same =
     ∙ append_assoc sent (report_of_record summary s text).text (sums_text (report_of_record summary s text).sums)
 
 -- the lines were written or are in the journal, and then the counts
-pub sums_wrote : (summary : Bool) (sent : List ℕ) (s : Both) (text : List ℕ) (mid new : Option (List ℕ)) (j k : Noted) (t : Both) (changed : ℕ) → j ≡ nothing_noted summary
-    → Wrote sent j s text mid k t → ((now : List ℕ) → mid ≡ Some now → new ≡ Some (now ++ (k.unsent ++ sums_text k.sums))) → changed ≡ k.sums.changed → Printed summary s text sent new changed
-sums_wrote summary sent s text mid new j k t changed none wrote prints counts =
+pub sums_wrote : (summary : Bool) (sent : List ℕ) (s : Both) (text : List ℕ) (mid new : Option (List ℕ)) (j k : Noted) (t : Both) (differing : ℕ) → j ≡ nothing_noted summary
+    → Wrote sent j s text mid k t → ((now : List ℕ) → mid ≡ Some now → new ≡ Some (now ++ (k.unsent ++ sums_text k.sums))) → differing ≡ k.sums.differing → Printed summary s text sent new differing
+sums_wrote summary sent s text mid new j k t differing none wrote prints counts =
     let same = wrote.same ∙ from_nothing summary sent s text j none in
     record {
       wrote = prints wrote.now wrote.is_held ∙ ap (λ xs. Some xs) (whole summary sent s text wrote.now k t same);
-      counts = counts ∙ ap (λ (u : Report). u.sums.changed) same;
+      counts = counts ∙ ap (λ (u : Report). u.sums.differing) same;
     }
 
 pub sums_front : (summary : Bool) (sent : List ℕ) (s : Both) (text : List ℕ) (mid new : Option (List ℕ)) (j k : Noted) (t : Both) → j ≡ nothing_noted summary

@@ -1,5 +1,6 @@
--- What a balancer decides of a connection, when two decisions differ, and how the trial takes events of the record.
-use Rattle.std.specs.Prelude.{ℕ, Bool, true, false, not, List, [], ◌++◌, codes, ◌&&◌, Option, Some, None, is_some, option_map, option_and_then, Result, Ok, Err, if◌then◌else◌}
+-- What a balancer decides of a connection and of one whose server is out of reach, when two of them differ, and how the
+-- trial takes events of the record.
+use Rattle.std.specs.Prelude.{ℕ, Bool, true, false, not, List, [], ◌++◌, codes, ◌&&◌, ◌||◌, Option, Some, None, is_some, option_map, option_and_then, Result, Ok, Err, if◌then◌else◌}
 use Rattle.std.specs.Str.{bytes_eq}
 use Rattle.text_core.specs.Decimal.{decimal}
 use Rattle.conn_model.specs.declared.event.ConnId.{ConnId}
@@ -21,8 +22,11 @@ use Rattle.conn_model.specs.Servers.{identity_in}
 use Rattle.conn_core.specs.Checked.{checked_numbers}
 use Rattle.conn_core.specs.declared.checked.ServerNumbers.{ServerNumbers}
 use Rattle.conn_core.specs.Summaries.{names_of}
+use Rattle.conn_laws.specs.Deciding.{is_offer}
 use Rattle.event_text.specs.Replies.{cause_text}
 use Rattle.replay_core.specs.Turns.{plain_after}
+use Rattle.whatif_core.specs.declared.decision.AfterFailure.{AfterFailure}
+use Rattle.whatif_core.specs.declared.decision.AfterFailure.TheVariants.{Moved, Ended}
 use Rattle.whatif_core.specs.declared.decision.ComparedDecision.{ComparedDecision}
 use Rattle.whatif_core.specs.declared.decision.ComparedDecision.TheVariants.{Wait, Offer, Refuse}
 
@@ -78,6 +82,46 @@ stepped p moment event = plain_after p moment event (answer_in p moment event)
 -- what a balancer decides when an event is handed in, if it decides anything
 abbrev pub decided : Plain → ℕ → OwnedEvent → Option ComparedDecision
 decided p moment event = decided_by (stepped p moment event) event (answer_in p moment event)
+
+-- ---- connections whose server is out of reach
+
+-- what comes of such a connection by the reply: it is offered another server of its backend, or it ends
+abbrev pub failure_outcome : Said → AfterFailure
+failure_outcome said = if is_offer said then Moved else Ended
+
+-- the same, if the event says that its server is out of reach
+abbrev pub after_failure_on : OwnedEvent → Said → Option AfterFailure
+after_failure_on event said = if is_failure event then Some (failure_outcome said) else None
+
+abbrev pub after_failure_by : OwnedEvent → Result Reply StepFault → Option AfterFailure
+after_failure_by event (Ok reply) = after_failure_on event reply.said
+after_failure_by event (Err fault) = None
+
+-- what a balancer does with the connection when that is handed in, if it answers
+abbrev pub after_failure : Plain → ℕ → OwnedEvent → Option AfterFailure
+after_failure p moment event = after_failure_by event (answer_in p moment event)
+
+abbrev pub is_moved : Option AfterFailure → Bool
+is_moved None = false
+is_moved (Some Moved) = true
+is_moved (Some Ended) = false
+
+abbrev pub is_ended : Option AfterFailure → Bool
+is_ended None = false
+is_ended (Some Moved) = false
+is_ended (Some Ended) = true
+
+-- the record moved the connection, and the trial ends it
+abbrev pub is_lost : Option AfterFailure → Option AfterFailure → Bool
+is_lost came would_come = is_moved came && is_ended would_come
+
+-- the record ended the connection, and the trial moves it
+abbrev pub is_saved : Option AfterFailure → Option AfterFailure → Bool
+is_saved came would_come = is_ended came && is_moved would_come
+
+-- one of the two
+abbrev pub is_parted : Option AfterFailure → Option AfterFailure → Bool
+is_parted came would_come = is_lost came would_come || is_saved came would_come
 
 -- ---- two decisions
 
@@ -173,6 +217,11 @@ stepped_for recorded trial moment event = taken trial moment (event_for recorded
 -- what it decides then, if it decides anything
 abbrev pub decided_for : List Version → Plain → ℕ → OwnedEvent → Option ComparedDecision
 decided_for recorded trial moment event = option_and_then (decided trial moment) (event_for recorded trial.versions event)
+
+-- and what comes of a connection then, if the event says that its server is out of reach
+abbrev pub after_failure_for : List Version → Plain → ℕ → OwnedEvent → Option AfterFailure
+after_failure_for recorded trial moment event =
+    option_and_then (after_failure trial moment) (event_for recorded trial.versions event)
 
 -- if the reply of the record ends a connection, the trial closes it too; this changes nothing if it is not open
 abbrev pub closed : ℕ → Said → Plain → Plain

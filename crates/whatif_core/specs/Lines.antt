@@ -17,7 +17,7 @@ use Rattle.audit_core.specs.declared.due.Due.{Due}
 use Rattle.audit_core.specs.declared.due.Due.TheVariants as dues
 use Rattle.audit_core.specs.declared.fault.CheckFault.{CheckFault}
 use Rattle.whatif_core.specs.declared.turn.Turn.{Turn}
-use Rattle.whatif_core.specs.Deciding.{decided_for, decision_on, handed, is_let_in, played, stepped_for}
+use Rattle.whatif_core.specs.Deciding.{after_failure_for, after_failure_on, decided_for, decision_on, handed, is_let_in, played, stepped_for}
 use Rattle.whatif_core.specs.Reporting.{empty_report, report_with, turn_of, Report}
 
 -- how far the balancer of the record is checked, and the state of the trial
@@ -75,6 +75,8 @@ turn_after p trial moment event answered = record {
   was = decision_on p event answered.1.said;
   would = decided_for p.versions trial moment event;
   let_in = is_let_in (stepped_for p.versions trial moment event) answered.1.said;
+  came = after_failure_on event answered.1.said;
+  would_come = after_failure_for p.versions trial moment event;
 }
 
 -- the trial after an event that was answered so, where those are the versions of the balancer of the record

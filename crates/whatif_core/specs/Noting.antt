@@ -69,7 +69,7 @@ pub record Writes (sent : List ℕ) (j : Noted) (s : Both) (text : List ℕ) (le
   pub is_left : left ≡ Some rest
   pub same : whole_report now k t (kept ++ rest) ≡ whole_report sent j s text
 
--- The whole report of a text was written, with its counts, and so many decisions differ.
-pub record Printed (summary : Bool) (s : Both) (text sent : List ℕ) (held : Option (List ℕ)) (changed : ℕ) : Type 0 where
+-- The whole report of a text was written, with its counts, and so often anything differs.
+pub record Printed (summary : Bool) (s : Both) (text sent : List ℕ) (held : Option (List ℕ)) (differing : ℕ) : Type 0 where
   pub wrote : held ≡ Some (sent ++ written_of (report_of_record summary s text))
-  pub counts : changed ≡ (report_of_record summary s text).sums.changed
+  pub counts : differing ≡ (report_of_record summary s text).sums.differing

@@ -1,4 +1,4 @@
--- The report of a history: a line for each decision that differs, and the counts.
+-- The report of a history: a line for each decision that differs and each connection that is lost or saved, and the counts.
 use Rattle.std.specs.Prelude.{◌≡◌, ◌⊎◌, ℕ, Bool, true, false, List, [], ◌∷◌, ◌++◌, codes, Option, Some, None, is_some, Result, Ok, Err, if◌then◌else◌}
 use Rattle.text_core.specs.Decimal.{decimal}
 use Rattle.addr_core.specs.Text.{endpoint_text}
@@ -19,7 +19,7 @@ use Rattle.replay_core.specs.Turns.{plain_after}
 use Rattle.whatif_core.specs.declared.decision.ComparedDecision.{ComparedDecision}
 use Rattle.whatif_core.specs.declared.decision.ComparedDecision.TheVariants.{Wait, Offer, Refuse}
 use Rattle.whatif_core.specs.declared.turn.Turn.{Turn}
-use Rattle.whatif_core.specs.Deciding.{decided, decided_for, decision_text, difference, is_let_in, played, stepped_for}
+use Rattle.whatif_core.specs.Deciding.{after_failure, after_failure_for, decided, decided_for, decision_text, difference, is_let_in, is_lost, is_parted, is_saved, played, stepped_for}
 use Rattle.whatif_core.specs.Sums.{no_sums, sums_text, sums_with, Sums}
 
 -- ---- one entry
@@ -33,6 +33,8 @@ turn_with p trial e = record {
   was = decided p e.moment e.event;
   would = decided_for p.versions trial e.moment e.event;
   let_in = is_let_in (stepped_for p.versions trial e.moment e.event) e.reply.said;
+  came = after_failure p e.moment e.event;
+  would_come = after_failure_for p.versions trial e.moment e.event;
 }
 
 -- a reload decides nothing of a connection
@@ -87,9 +89,22 @@ line_by peers turn None pair = []
 line_by peers turn (Some id) None = []
 line_by peers turn (Some id) (Some pair) = difference_line turn.moment id (real_of turn.peer (peers id)) pair
 
--- the line of what both decided, if that differs
+-- the line of a connection that is lost or saved; its peer is not known any more
+abbrev pub parting_text : ℕ → ConnId → Bool → Bool → List ℕ
+parting_text moment id true saved = where_text moment id None ++ codes ": was moved, would be closed failed\n"
+parting_text moment id false true = where_text moment id None ++ codes ": was closed failed, would be moved\n"
+parting_text moment id false false = []
+
+abbrev pub parting_by : Turn → Option ConnId → List ℕ
+parting_by turn None = []
+parting_by turn (Some id) =
+    parting_text turn.moment id (is_lost turn.came turn.would_come) (is_saved turn.came turn.would_come)
+
+-- The line of what both decided, if that differs, or that of a connection that is lost or saved. Where a server is out of
+-- reach nothing is decided, so there is one of them at the most.
 abbrev pub turn_line : (ConnId → Option Endpoint) → Turn → List ℕ
-turn_line peers turn = line_by peers turn turn.id (difference turn.was turn.would)
+turn_line peers turn =
+    line_by peers turn turn.id (difference turn.was turn.would) ++ parting_by turn turn.id
 
 -- a summary leaves the lines out
 abbrev pub shown : Bool → List ℕ → List ℕ
@@ -145,12 +160,31 @@ abbrev pub HasDiffered : Plain → Plain → ConnId → List Entry → Type 0
 HasDiffered p trial id [] = ⊥
 HasDiffered p trial id (e ∷ h) = (differs_at p trial (e ∷ h) ≡ Some id) ⊎ HasDiffered p trial id h
 
--- An entry on a connection is seen in the report: the trial decides too, or the connection has had a difference before, or
--- the time for its header is not over there.
+-- the connection that is lost or saved
+abbrev pub parted_of : Option Turn → Option ConnId
+parted_of None = None
+parted_of (Some turn) = if is_parted turn.came turn.would_come then turn.id else None
+
+-- the connection that is lost or saved at the last entry of a history
+abbrev pub parted_at : Plain → Plain → List Entry → Option ConnId
+parted_at p trial [] = None
+parted_at p trial (e ∷ h) = parted_of (turn_of (after p h) (history_report false p trial h).trial e)
+
+-- and one that was lost or saved in the history
+abbrev pub HasParted : Plain → Plain → ConnId → List Entry → Type 0
+HasParted p trial id [] = ⊥
+HasParted p trial id (e ∷ h) = (parted_at p trial (e ∷ h) ≡ Some id) ⊎ HasParted p trial id h
+
+-- An entry on a connection is seen in the report: the trial decides too, or moves or ends the connection where its server
+-- is out of reach, or the connection has had a difference before, or was lost or saved before, or the time for its header
+-- is not over there.
 abbrev pub IsSeen : Plain → Plain → ConnId → Entry → List Entry → Type 0
 IsSeen p trial id e h =
     (is_some (decided (history_report false p trial h).trial e.moment e.event) ≡ true)
-    ⊎ (HasDiffered p trial id h ⊎ (answer_in (history_report false p trial h).trial e.moment e.event ≡ Err NotDue))
+    ⊎ ((is_some (after_failure (history_report false p trial h).trial e.moment e.event) ≡ true)
+    ⊎ (HasDiffered p trial id h
+    ⊎ (HasParted p trial id h
+    ⊎ (answer_in (history_report false p trial h).trial e.moment e.event ≡ Err NotDue))))
 
 -- what is written: the lines, and then the counts
 abbrev pub written_of : Report → List ℕ

@@ -49,7 +49,7 @@ IsPlayed config other text = (trial : Plain) × IsRight config other text trial
 
 -- what comes of two configurations and a text
 abbrev pub IsComparison : List ℕ → List ℕ → List ℕ → Comparison → Type 0
-IsComparison config other text (Compared changed) = IsPlayed config other text
+IsComparison config other text (Compared differing) = IsPlayed config other text
 IsComparison config other text (Wrong fault) = IsFaultOf config text fault.kind fault.line
 IsComparison config other text (Refused fault) = IsRefused config other fault
 
@@ -69,9 +69,9 @@ output_by summary (Err fault) other text = fault_text (fault_at 0 (Config fault)
 abbrev pub whatif_output : Bool → List ℕ → List ℕ → List ℕ → List ℕ
 whatif_output summary config other text = output_by summary (meaning config) other text
 
--- The text is the record of a legal history; the report of that history was written after what was written before, and so
--- many of its decisions differ.
-pub record IsCompared (summary : Bool) (config other text sent : List ℕ) (held : Option (List ℕ)) (changed : ℕ) : Type 0 where
+-- The text is the record of a legal history; the report of that history was written after what was written before, and
+-- anything differs so often in it: a decision, or what comes of a connection whose server is out of reach.
+pub record IsCompared (summary : Bool) (config other text sent : List ℕ) (held : Option (List ℕ)) (differing : ℕ) : Type 0 where
   pub plan : Plan
   pub trial : Plain
   pub history : List Entry
@@ -81,4 +81,4 @@ pub record IsCompared (summary : Bool) (config other text sent : List ℕ) (held
   pub is_record : IsRecord history (parts is_line_feed text)
   pub reads : history_on (opening plan 0) [] 0 LinePlace.between (parts is_line_feed text) ≡ Ok history
   pub wrote : held ≡ Some (sent ++ written_of (history_report summary (opening plan 0) trial history))
-  pub counts : changed ≡ (history_report summary (opening plan 0) trial history).sums.changed
+  pub counts : differing ≡ (history_report summary (opening plan 0) trial history).sums.differing

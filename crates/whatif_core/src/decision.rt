@@ -1,6 +1,7 @@
-//! What a balancer decides of a connection.
+//! What a balancer decides of a connection, and what comes of one whose server is out of reach.
 ghost use Rattle.std.specs.Prelude.{◌≡◌, Some, IfOk, option_map};
-ghost use Rattle.whatif_core.specs.Deciding.{alike, decision_with, is_other_server, offer_of, same_kind};
+ghost use Rattle.whatif_core.specs.Deciding.{alike, decision_with, failure_outcome, is_ended, is_lost, is_moved};
+ghost use Rattle.whatif_core.specs.Deciding.{is_other_server, is_saved, offer_of, same_kind};
 ghost use Rattle.conn_model.specs.History.{id_of};
 ghost use Rattle.conn_core.specs.Summaries.{names_in};
 
@@ -26,6 +27,15 @@ pub enum ComparedDecision {
     },
     /// It is refused.
     Refuse(Cause),
+}
+
+/// What comes of a connection whose server is out of reach.
+#[derive(Clone, Copy, Debug, PartialEq, Eq)]
+pub enum AfterFailure {
+    /// It is offered another server of its backend.
+    Moved,
+    /// It ends.
+    Ended,
 }
 
 /// Of whom a reply speaks.
@@ -139,4 +149,51 @@ pub fn is_other_server(was: &ComparedDecision, would: &ComparedDecision) -> bool
         },
         ComparedDecision::Wait | ComparedDecision::Refuse(_) => false,
     }
+}
+
+/// What comes of a connection whose server is out of reach, by the reply.
+pub fn failure_outcome(said: &Said) -> AfterFailure
+    ensures { result ≡ failure_outcome said.now }
+{
+    match said {
+        Said::Offer { .. } => AfterFailure::Moved,
+        Said::Wait { .. }
+        | Said::Refuse { .. }
+        | Said::Up { .. }
+        | Said::Closed { .. }
+        | Said::Reloaded { .. }
+        | Said::Marked { .. } => AfterFailure::Ended,
+    }
+}
+
+fn is_moved(outcome: Option<AfterFailure>) -> bool
+    ensures { result ≡ is_moved outcome }
+{
+    match outcome {
+        Some(AfterFailure::Moved) => true,
+        Some(AfterFailure::Ended) | None => false,
+    }
+}
+
+fn is_ended(outcome: Option<AfterFailure>) -> bool
+    ensures { result ≡ is_ended outcome }
+{
+    match outcome {
+        Some(AfterFailure::Ended) => true,
+        Some(AfterFailure::Moved) | None => false,
+    }
+}
+
+/// Whether the record moved the connection, and the trial ends it.
+pub fn is_lost(came: Option<AfterFailure>, would_come: Option<AfterFailure>) -> bool
+    ensures { result ≡ is_lost came would_come }
+{
+    is_moved(came) && is_ended(would_come)
+}
+
+/// Whether the record ended the connection, and the trial moves it.
+pub fn is_saved(came: Option<AfterFailure>, would_come: Option<AfterFailure>) -> bool
+    ensures { result ≡ is_saved came would_come }
+{
+    is_ended(came) && is_moved(would_come)
 }

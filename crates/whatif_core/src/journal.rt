@@ -3,11 +3,12 @@
 ghost use Rattle.std.specs.Prelude.{◌≡◌, ◌++◌, [], Option, Some, OnOk};
 ghost use Rattle.whatif_core.specs.Noting.{noted_in, noted_with, nothing_noted};
 ghost use Rattle.whatif_core.specs.Sums.{sums_text, sums_with};
-ghost use Rattle.whatif_core.specs.Reporting.{peers_on, real_of, shown, turn_line, waiting, with_peer};
+ghost use Rattle.whatif_core.specs.Deciding.{difference};
+ghost use Rattle.whatif_core.specs.Reporting.{line_by, peers_on, real_of, shown, turn_line, waiting, with_peer};
 
 use crate::decision::ComparedDecision;
 use crate::tally::DecisionTally;
-use crate::text::write_difference;
+use crate::text::{write_difference, write_parting};
 use crate::turn::Turn;
 use addr_core::Endpoint;
 use audit_core::Name;
@@ -55,11 +56,11 @@ impl WhatifJournal {
         self.unsent.as_slice()
     }
 
-    /// How many decisions differ.
-    pub fn changed(&self) -> u64
-        ensures { result ≡ (noted_in self.now).sums.changed }
+    /// How often anything differs.
+    pub fn differing(&self) -> u64
+        ensures { result ≡ (noted_in self.now).sums.differing }
     {
-        self.tally.changed()
+        self.tally.differing()
     }
 
     /// Forgets lines that were written.
@@ -69,7 +70,7 @@ impl WhatifJournal {
         self.unsent.clear();
     }
 
-    /// Adds what both balancers decided of an entry.
+    /// Adds what both balancers say of an entry.
     pub fn note(&mut self, turn: &Turn) -> Result<(), AllocError>
         ensures { OnOk result (noted_in self.new ≡ noted_with (noted_in self.old) (Some turn.now)) }
     {
@@ -104,11 +105,29 @@ impl WhatifJournal {
         let Some(id) = turn.id else {
             return Ok(());
         };
+        self.note_difference(&id, turn)?;
+        write_parting(
+            &mut self.unsent,
+            turn.moment,
+            &id,
+            turn.is_lost(),
+            turn.is_saved(),
+        )
+    }
+
+    /// Adds the line of two decisions on a connection, if they differ.
+    fn note_difference(&mut self, id: &ConnId, turn: &Turn) -> Result<(), AllocError>
+        ensures { OnOk result (noted_in self.new ≡ record (noted_in self.old) {
+          unsent = (noted_in self.old).unsent
+              ++ line_by (noted_in self.old).peers turn.now (Some id.now)
+              (difference turn.now.was turn.now.would);
+        }) }
+    {
         let Some((was, would)) = turn.difference() else {
             return Ok(());
         };
-        let real = self.real(&id, turn.peer);
-        write_difference(&mut self.unsent, turn.moment, &id, real, was, would)
+        let real = self.real(id, turn.peer);
+        write_difference(&mut self.unsent, turn.moment, id, real, was, would)
     }
 
     fn note_peer(&mut self, turn: &Turn) -> Result<(), AllocError>

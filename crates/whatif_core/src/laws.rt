@@ -10,7 +10,8 @@ ghost use Rattle.conn_model.specs.declared.reply.Reply.{Reply};
 ghost use Rattle.conn_model.specs.Answer.{answer_in, row_at};
 ghost use Rattle.conn_model.specs.History.{after, answer, id_of, opening, Entry, IsLegal};
 ghost use Rattle.whatif_core.specs.Deciding.{is_failure};
-ghost use Rattle.whatif_core.specs.Reporting.{differs_at, history_report, trial_opening, HasDiffered, IsSeen};
+ghost use Rattle.whatif_core.specs.Reporting.{differs_at, history_report, parted_at, trial_opening};
+ghost use Rattle.whatif_core.specs.Reporting.{HasDiffered, HasParted, IsSeen};
 
 /// After each legal history, a connection that is open in the trial is open in the balancer of the record, under the
 /// same name. So one that the trial alone lets in is closed at once. Each accept that the balancer of the record answers is
@@ -29,16 +30,28 @@ pub fn open_in_both()
         × (id_of theirs.said ≡ id_of reply.said) }
 {}
 
-/// A connection has one difference at the most: where it had one, no later entry has one on it. None is hidden but by
-/// that: where the balancer of the record lets a connection wait, offers it a server or refuses it, and it has had no
-/// difference, the trial decides too, except at an expiry that is not due there, which comes only where moments fall.
-/// An offer of another server of its backend, where one is out of reach, is no decision on a connection.
+/// A connection has one difference at the most: where it had one, no later entry has one on it. It is lost or saved
+/// once at the most. Nothing is hidden except by that: where the balancer of the record lets a connection wait, offers it
+/// a server or refuses it, and it has had no difference and was neither lost nor saved, the trial decides too, except at
+/// an expiry that is not due there, which comes only where moments fall. Where the server of such a connection is out of
+/// reach, the trial moves or ends it too, whichever of the two the record did: so it is counted as lost or saved exactly
+/// if one of them moves it and the other ends it.
 pub fn differences_are_seen_once()
     ensures once { (plan : Plan) (text : List ℕ) (trial : Plain) (h : List Entry) (e : Entry) (id : ConnId) →
         trial_opening plan text ≡ Ok trial → IsLegal (opening plan 0) (e ∷ h) →
         HasDiffered (opening plan 0) trial id h → differs_at (opening plan 0) trial (e ∷ h) ≡ Some id → ⊥ }
+    ensures parted_once { (plan : Plan) (text : List ℕ) (trial : Plain) (h : List Entry) (e : Entry)
+        (id : ConnId) →
+        trial_opening plan text ≡ Ok trial → IsLegal (opening plan 0) (e ∷ h) →
+        HasParted (opening plan 0) trial id h →
+        parted_at (opening plan 0) trial (e ∷ h) ≡ Some id → ⊥ }
     ensures seen { (plan : Plan) (text : List ℕ) (trial : Plain) (h : List Entry) (e : Entry) (id : ConnId) →
         trial_opening plan text ≡ Ok trial → IsLegal (opening plan 0) (e ∷ h) →
-        is_failure e.event ≡ false → is_judgement e.reply.said ≡ true → id_of e.reply.said ≡ Some id →
+        is_judgement e.reply.said ≡ true → id_of e.reply.said ≡ Some id →
+        IsSeen (opening plan 0) trial id e h }
+    ensures failures_are_seen { (plan : Plan) (text : List ℕ) (trial : Plain) (h : List Entry)
+        (e : Entry) (id : ConnId) →
+        trial_opening plan text ≡ Ok trial → IsLegal (opening plan 0) (e ∷ h) →
+        is_failure e.event ≡ true → id_of e.reply.said ≡ Some id →
         IsSeen (opening plan 0) trial id e h }
 {}

@@ -1,5 +1,5 @@
 //! What another configuration would have decided: the record of a balancer is played against it, and each decision that
-//! differs is written.
+//! differs is written, and each connection that only one of the two moves when its server is out of reach.
 #![tactic(auto)]
 
 pub use comparison::Comparison;

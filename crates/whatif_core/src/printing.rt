@@ -35,7 +35,7 @@ fn reading_again(fault: ReadFault) -> PrintFault
     }
 }
 
-/// Takes a line, and adds to the journal what both decide of the entry that begins there.
+/// Takes a line, and adds to the journal what both say of the entry that begins there.
 fn take_line(twin: &mut Twin, journal: &mut WhatifJournal, line: &[u8]) -> Result<(), PrintFault>
     requires { length line.now ≤ MOST_LINE_BYTES }
     ensures ok { OnOk result (both_on twin.old line.now ≡ Ok twin.new) }
@@ -89,8 +89,8 @@ fn send_many<O: Output>(journal: &mut WhatifJournal, writer: &mut O) -> Result<(
     send(journal, writer)
 }
 
-/// Reads a record that is right once more, and writes the line of each decision that differs; the last ones are left to be
-/// sent.
+/// Reads a record that is right once more, and writes the line of each decision that differs and of each connection that
+/// is lost or saved; the last ones are left to be sent.
 fn print_lines<I: Input, O: Output>(
     twin: &mut Twin,
     journal: &mut WhatifJournal,
@@ -131,23 +131,23 @@ fn print_lines<I: Input, O: Output>(
 /// Adds the counts, and writes what is left in the journal.
 fn print_sums<O: Output>(journal: &mut WhatifJournal, writer: &mut O) -> Result<u64, PrintFault>
     ensures ok { OnOk result ((sent : List ℕ) → O.held writer.old ≡ Some sent → O.held writer.new ≡ Some (sent ++ ((noted_in journal.old).unsent ++ sums_text (noted_in journal.old).sums))) }
-    ensures changed { IfOk result (λ changed. changed ≡ (noted_in journal.old).sums.changed) }
+    ensures differing { IfOk result (λ count. count ≡ (noted_in journal.old).sums.differing) }
     ensures front { OnErr result ((sent : List ℕ) → O.held writer.old ≡ Some sent → IsFront (O.held writer.new) (sent ++ ((noted_in journal.old).unsent ++ sums_text (noted_in journal.old).sums))) }
     ensures not_read { result ≢ Err PrintFault.Read }
     ensures gave_up { result ≡ Err PrintFault.Write → GaveUp (O.failures writer.old) (O.failures writer.new) (O.stalls writer.old) (O.stalls writer.new) }
 {
-    let changed = journal.changed();
+    let differing = journal.differing();
     match journal.add_sums() {
         Ok(()) => match send(journal, writer) {
-            Ok(()) => Ok(changed),
+            Ok(()) => Ok(differing),
             Err(fault) => Err(fault),
         },
         Err(_) => Err(PrintFault::NoMemory),
     }
 }
 
-/// Writes the differences of a record, unless a summary is wanted, and then what was counted, and answers how many
-/// decisions differ.
+/// Writes the differences of a record, unless a summary is wanted, and then what was counted, and answers how often
+/// anything differs.
 pub fn print_all<I: Input, O: Output>(
     alloc: Global,
     summary: bool,
@@ -155,7 +155,9 @@ pub fn print_all<I: Input, O: Output>(
     reader: &mut I,
     writer: &mut O,
 ) -> Result<u64, PrintFault>
-    ensures ok { IfOk result (λ changed. (text sent : List ℕ) → I.left reader.old ≡ Some text → O.held writer.old ≡ Some sent → Printed summary twin.old text sent (O.held writer.new) changed) }
+    ensures ok { IfOk result (λ differing. (text sent : List ℕ) →
+        I.left reader.old ≡ Some text → O.held writer.old ≡ Some sent →
+        Printed summary twin.old text sent (O.held writer.new) differing) }
     ensures front { OnErr result ((text sent : List ℕ) → I.left reader.old ≡ Some text → O.held writer.old ≡ Some sent →
         IsFront (O.held writer.new) (sent ++ written_of (report_of_record summary twin.old text))) }
     ensures calls { (n : ℕ) × (n ≤ MOST_READS) × (I.calls reader.new ≡ raised_by n (I.calls reader.old)) }

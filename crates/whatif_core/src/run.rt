@@ -65,7 +65,7 @@ fn open_twin(alloc: Global, config: &str, trial: Core) -> Result<Twin, PrintFaul
     }
 }
 
-/// Writes what is to be written of a record that is right, and answers how many decisions differ.
+/// Writes what is to be written of a record that is right, and answers how often anything differs.
 fn print_record<I: Input, O: Output>(
     alloc: Global,
     summary: bool,
@@ -74,8 +74,10 @@ fn print_record<I: Input, O: Output>(
     reader: &mut I,
     writer: &mut O,
 ) -> Result<u64, PrintFault>
-    ensures wrote { IfOk result (λ changed. (other text sent : List ℕ) → I.left reader.old ≡ Some text → O.held writer.old ≡ Some sent → IsRight config.now other text trial →
-        IsCompared summary config.now other text sent (O.held writer.new) changed) }
+    ensures wrote { IfOk result (λ differing. (other text sent : List ℕ) →
+        I.left reader.old ≡ Some text → O.held writer.old ≡ Some sent →
+        IsRight config.now other text trial →
+        IsCompared summary config.now other text sent (O.held writer.new) differing) }
     ensures front { OnErr result ((other text sent : List ℕ) → I.left reader.old ≡ Some text → O.held writer.old ≡ Some sent → IsRight config.now other text trial →
         IsFront (O.held writer.new) (sent ++ whatif_output summary config.now other text)) }
     ensures calls { (n : ℕ) × (n ≤ MOST_READS) × (I.calls reader.new ≡ raised_by n (I.calls reader.old)) }
@@ -108,8 +110,11 @@ fn compare<I: Input, J: Input, O: Output>(
         O.held writer.new ≡ Some (sent ++ fault_text fault)) }
     ensures inside { IfOk result (λ found. (fault : faults.CheckFault) → found ≡ Comparison.Wrong fault → ¬ IsOutside fault.kind) }
     ensures played { IfOk result (λ found. (fault : StepFault) → found ≢ Comparison.Refused fault) }
-    ensures compared { IfOk result (λ found. (changed : ℕ) (other text sent : List ℕ) → found ≡ Comparison.Compared changed → I.left reader.old ≡ Some text → J.left second.old ≡ Some text → O.held writer.old ≡ Some sent →
-        IsTrial config.now other trial → IsCompared summary config.now other text sent (O.held writer.new) changed) }
+    ensures compared { IfOk result (λ found. (differing : ℕ) (other text sent : List ℕ) →
+        found ≡ Comparison.Compared differing → I.left reader.old ≡ Some text →
+        J.left second.old ≡ Some text → O.held writer.old ≡ Some sent →
+        IsTrial config.now other trial →
+        IsCompared summary config.now other text sent (O.held writer.new) differing) }
     ensures wrote { OnOk result ((other text sent : List ℕ) → I.left reader.old ≡ Some text → J.left second.old ≡ Some text → O.held writer.old ≡ Some sent → IsTrial config.now other trial →
         O.held writer.new ≡ Some (sent ++ whatif_output summary config.now other text)) }
     ensures front { OnErr result ((other text sent : List ℕ) → I.left reader.old ≡ Some text → J.left second.old ≡ Some text → O.held writer.old ≡ Some sent → IsTrial config.now other trial →
@@ -123,7 +128,7 @@ fn compare<I: Input, J: Input, O: Output>(
 {
     match check_record(alloc, config, reader) {
         Ok(_checked) => match print_record(alloc, summary, config, trial, second, writer) {
-            Ok(changed) => Ok(Comparison::Compared(changed)),
+            Ok(differing) => Ok(Comparison::Compared(differing)),
             Err(fault) => Err(fault),
         },
         Err(fault) => {
@@ -138,10 +143,10 @@ fn compare<I: Input, J: Input, O: Output>(
 
 /// Plays the record of a configuration against another one. The record is checked by its first reader, to its end. If it
 /// is right, the second reader of the same record is read: a line is written for each decision of the other configuration
-/// that differs, unless a summary is wanted, and then the counts. Else the line of the fault is written, which is also
-/// answered. The other configuration replaces the first one at time 0 ms, before any event; if it cannot, neither reader
-/// is read and nothing is written. What the second reader gives is checked too: a fault there is `Read`. At most
-/// `device_core::MOST_READS` reads are made of each.
+/// that differs, and for each connection that is lost or saved, unless a summary is wanted, and then the counts. Else the
+/// line of the fault is written, which is also answered. The other configuration replaces the first one at time 0 ms,
+/// before any event; if it cannot, neither reader is read and nothing is written. What the second reader gives is checked
+/// too: a fault there is `Read`. At most `device_core::MOST_READS` reads are made of each.
 pub fn run_whatif<I: Input, J: Input, O: Output>(
     alloc: Global,
     summary: bool,
@@ -159,9 +164,12 @@ pub fn run_whatif<I: Input, J: Input, O: Output>(
     ensures inside { IfOk result (λ found. (fault : faults.CheckFault) → found ≡ Comparison.Wrong fault → ¬ IsOutside fault.kind) }
     ensures refused { IfOk result (λ found. (fault : StepFault) → found ≡ Comparison.Refused fault → O.held writer.new ≡ O.held writer.old) }
 
-    // If the second reader gives the same text, a right record is reported by its history.
-    ensures compared { IfOk result (λ found. (changed : ℕ) (text sent : List ℕ) → found ≡ Comparison.Compared changed → I.left reader.old ≡ Some text → J.left second.old ≡ Some text → O.held writer.old ≡ Some sent →
-        IsCompared summary config.now other.now text sent (O.held writer.new) changed) }
+    // If the second reader gives the same text, a right record is reported by its history, and it is answered how often
+    // anything differs there.
+    ensures compared { IfOk result (λ found. (differing : ℕ) (text sent : List ℕ) →
+        found ≡ Comparison.Compared differing → I.left reader.old ≡ Some text →
+        J.left second.old ≡ Some text → O.held writer.old ≡ Some sent →
+        IsCompared summary config.now other.now text sent (O.held writer.new) differing) }
 
     // The same by the definition of what is written, and after a fault the front of it.
     ensures wrote { OnOk result ((text sent : List ℕ) → I.left reader.old ≡ Some text → J.left second.old ≡ Some text → O.held writer.old ≡ Some sent →

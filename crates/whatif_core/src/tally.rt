@@ -1,12 +1,13 @@
-//! What is counted of the decisions of a record.
+//! What is counted of what both say of a record.
 ghost use Rattle.std.specs.Prelude.{◌≡◌, ◌++◌, position, Some, OnOk, option_map};
 ghost use Rattle.std.specs.List.{flat_map};
 ghost use Rattle.text_core.specs.Decimal.{decimal};
 ghost use Rattle.whatif_core.specs.Deciding.{pair_text};
-ghost use Rattle.whatif_core.specs.Sums.{changed_text, has_text, more, no_sums, one_more, others_text, pair_line, pairs_on, pairs_with, sums_text, sums_with};
+ghost use Rattle.whatif_core.specs.Sums.{changed_text, failures_text, has_text, more, no_sums, one_more, others_text};
+ghost use Rattle.whatif_core.specs.Sums.{pair_line, pairs_on, pairs_with, sums_text, sums_with};
 
 use crate::decision::ComparedDecision;
-use crate::text::write_pair;
+use crate::text::{write_pair, write_text};
 use crate::turn::Turn;
 use list_core::Seq;
 use std::alloc::{AllocError, Global};
@@ -21,7 +22,7 @@ pub struct PairCount {
     pub count: u64,
 }
 
-/// What is counted of the decisions of a record.
+/// What is counted of what both say of a record.
 #[derive(Drop)]
 pub struct DecisionTally {
     alloc: Global,
@@ -31,6 +32,10 @@ pub struct DecisionTally {
     accepted: u64,
     other_server: u64,
     let_in: u64,
+    lost: u64,
+    saved: u64,
+    /// How often anything differs.
+    differing: u64,
 }
 
 impl Model for DecisionTally {
@@ -38,7 +43,16 @@ impl Model for DecisionTally {
 
     ghost Value = { Sums };
 
-    ghost view = { λ t. record { pairs = t.pairs.items; changed = t.changed; accepted = t.accepted; other_server = t.other_server; let_in = t.let_in } };
+    ghost view = { λ t. record {
+      pairs = t.pairs.items;
+      changed = t.changed;
+      accepted = t.accepted;
+      other_server = t.other_server;
+      let_in = t.let_in;
+      lost = t.lost;
+      saved = t.saved;
+      differing = t.differing;
+    } };
 }
 
 /// One more. A count does not pass 2^64 - 1.
@@ -98,12 +112,6 @@ fn count_difference(
     count_pair(pairs, text)
 }
 
-fn write_text(out: &mut Vec<u8>, text: &[u8]) -> Result<(), AllocError>
-    ensures { OnOk result (out.new.items ≡ out.old.items ++ text.now) }
-{
-    out.extend_from_slice(text)
-}
-
 /// Appends a count after a text.
 fn write_count(out: &mut Vec<u8>, text: &[u8], count: u64) -> Result<(), AllocError>
     ensures { OnOk result (out.new.items ≡ out.old.items ++ (text.now ++ decimal count)) }
@@ -123,7 +131,14 @@ fn write_others(out: &mut Vec<u8>, other_server: u64, let_in: u64) -> Result<(),
     ensures { OnOk result (out.new.items ≡ out.old.items ++ others_text other_server let_in) }
 {
     write_count(out, b"\nother server ", other_server)?;
-    write_count(out, b"\nlet in ", let_in)?;
+    write_count(out, b"\nlet in ", let_in)
+}
+
+fn write_failures(out: &mut Vec<u8>, lost: u64, saved: u64) -> Result<(), AllocError>
+    ensures { OnOk result (out.new.items ≡ out.old.items ++ failures_text lost saved) }
+{
+    write_count(out, b"\nlost ", lost)?;
+    write_count(out, b"\nsaved ", saved)?;
     write_text(out, b"\n")
 }
 
@@ -150,17 +165,20 @@ impl DecisionTally {
             accepted: 0,
             other_server: 0,
             let_in: 0,
+            lost: 0,
+            saved: 0,
+            differing: 0,
         }
     }
 
-    /// How many decisions differ.
-    pub fn changed(&self) -> u64
-        ensures { result ≡ self.now.changed }
+    /// How often anything differs.
+    pub fn differing(&self) -> u64
+        ensures { result ≡ self.now.differing }
     {
-        self.changed
+        self.differing
     }
 
-    /// Counts what both decided.
+    /// Counts what both say of an entry.
     pub fn count(&mut self, turn: &Turn) -> Result<(), AllocError>
         ensures { OnOk result (self.new ≡ sums_with self.old turn.now) }
     {
@@ -169,6 +187,9 @@ impl DecisionTally {
         self.accepted = more(self.accepted, turn.peer.is_some());
         self.other_server = more(self.other_server, turn.has_other_server());
         self.let_in = more(self.let_in, turn.let_in);
+        self.lost = more(self.lost, turn.is_lost());
+        self.saved = more(self.saved, turn.is_saved());
+        self.differing = more(self.differing, turn.is_differing());
         Ok(())
     }
 
@@ -178,6 +199,7 @@ impl DecisionTally {
     {
         write_pairs(out, self.pairs.as_slice())?;
         write_changed(out, self.changed, self.accepted)?;
-        write_others(out, self.other_server, self.let_in)
+        write_others(out, self.other_server, self.let_in)?;
+        write_failures(out, self.lost, self.saved)
     }
 }

@@ -1,7 +1,7 @@
-//! The texts of decisions.
+//! The texts of decisions, and of connections that are lost or saved.
 ghost use Rattle.std.specs.Prelude.{◌≡◌, ◌++◌, OnOk};
 ghost use Rattle.whatif_core.specs.Deciding.{brief_text, decision_text, pair_text};
-ghost use Rattle.whatif_core.specs.Reporting.{decisions_text, difference_line, real_text, where_text};
+ghost use Rattle.whatif_core.specs.Reporting.{decisions_text, difference_line, parting_text, real_text, where_text};
 
 use crate::decision::ComparedDecision;
 use addr_core::Endpoint;
@@ -9,6 +9,12 @@ use conn_model::event::ConnId;
 use event_text::{write_cause, write_endpoint, write_id};
 use std::alloc::AllocError;
 use text_core::decimal::append_decimal;
+
+pub fn write_text(out: &mut Vec<u8>, text: &[u8]) -> Result<(), AllocError>
+    ensures { OnOk result (out.new.items ≡ out.old.items ++ text.now) }
+{
+    out.extend_from_slice(text)
+}
 
 /// Appends a decision.
 fn write_decision(out: &mut Vec<u8>, decision: &ComparedDecision) -> Result<(), AllocError>
@@ -123,4 +129,26 @@ pub fn write_difference(
 {
     write_where(out, moment, id, real)?;
     write_decisions(out, was, would)
+}
+
+/// Appends the line of a connection that is lost or saved, with the moment in ms; and nothing if it is neither.
+/// If memory runs out, the front of the line may be there.
+pub fn write_parting(
+    out: &mut Vec<u8>,
+    moment: u64,
+    id: &ConnId,
+    lost: bool,
+    saved: bool,
+) -> Result<(), AllocError>
+    ensures { OnOk result (out.new.items ≡ out.old.items ++ parting_text moment id.now lost saved) }
+{
+    if lost {
+        write_where(out, moment, id, None)?;
+        write_text(out, b": was moved, would be closed failed\n")
+    } else if saved {
+        write_where(out, moment, id, None)?;
+        write_text(out, b": was closed failed, would be moved\n")
+    } else {
+        Ok(())
+    }
 }

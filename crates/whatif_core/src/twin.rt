@@ -13,11 +13,12 @@ ghost use Rattle.audit_core.specs.Standing.{at_end, on_line};
 ghost use Rattle.audit_core.specs.declared.fault.CheckFault.{CheckFault as Fault};
 ghost use Rattle.audit_core.specs.declared.fault.TheConstants.{MOST_RECORD_LINES};
 ghost use Rattle.conn_model.specs.declared.event.OwnedEvent.{OwnedEvent};
-ghost use Rattle.whatif_core.specs.Deciding.{closed, decided, decision_of, decision_with, has_let_in, is_let_in, stepped};
-ghost use Rattle.whatif_core.specs.Deciding.{decided_for, decision_on, is_failure, numbers_for, stepped_for};
+ghost use Rattle.whatif_core.specs.Deciding.{after_failure, after_failure_for, after_failure_on, closed, decided};
+ghost use Rattle.whatif_core.specs.Deciding.{decided_for, decision_of, decision_on, decision_with, has_let_in};
+ghost use Rattle.whatif_core.specs.Deciding.{is_failure, is_let_in, numbers_for, stepped, stepped_for};
 ghost use Rattle.whatif_core.specs.Lines.{both_on, handed_after, turn_after, turn_at};
 
-use crate::decision::{ComparedDecision, decision_in, named};
+use crate::decision::{AfterFailure, ComparedDecision, decision_in, failure_outcome, named};
 use crate::turn::Turn;
 use audit_core::{Auditor, CheckFault, again, answer};
 use conn_core::{Core, ServerNames, ServerNumbers};
@@ -47,6 +48,15 @@ impl Model for Twin {
     ghost view = { λ t. record { checked = t.auditor; trial = t.trial } };
 
     ghost invariant = { λ t. length t.piece.items ≡ PIECE_LIMIT };
+}
+
+/// What the trial says of an event.
+#[derive(Drop)]
+struct TrialAnswer {
+    /// What it decides.
+    would: Option<ComparedDecision>,
+    /// What comes of the connection in the trial, if its server is out of reach.
+    would_come: Option<AfterFailure>,
 }
 
 /// The names of the server that a reply of the trial offers.
@@ -95,6 +105,16 @@ fn is_failure(event: &Event<'_>) -> bool
     }
 }
 
+/// What comes of a connection by the reply to an event, if that says that its server is out of reach.
+fn after_failure(event: &Event<'_>, said: &Said) -> Option<AfterFailure>
+    ensures { result ≡ after_failure_on (owned_event event.now) said.now }
+{
+    if is_failure(event) {
+        return Some(failure_outcome(said));
+    }
+    None
+}
+
 /// What the reply to an event decides in the trial. A connection that is moved to another server of its backend was
 /// decided of before.
 fn trial_decision(
@@ -134,25 +154,34 @@ fn numbers_for(auditor: &Auditor, trial: &Core, number: u16, place: u16) -> Opti
     trial.checked_numbers(&found)
 }
 
-/// What the trial decides of an event.
+/// What the trial says of an event.
 fn hand_in(
     alloc: Global,
     trial: &mut Core,
     moment: u64,
     event: &Event<'_>,
-) -> Result<Option<ComparedDecision>, AllocError>
+) -> Result<TrialAnswer, AllocError>
     requires piece { HasPieceInLimit (owned_event event.now) }
-    ensures decided { IfOk result (λ would. would ≡ decided trial.old moment (owned_event event.now)) }
+    ensures decided { IfOk result (λ says.
+        says.would ≡ decided trial.old moment (owned_event event.now)) }
+    ensures failed { IfOk result (λ says.
+        says.would_come ≡ after_failure trial.old moment (owned_event event.now)) }
     ensures stepped { OnOk result (trial.new ≡ stepped trial.old moment (owned_event event.now)) }
 {
     match answer(trial, moment, event) {
-        Ok(Ok(reply)) => trial_decision(alloc, trial, event, &reply.said),
-        Ok(Err(_)) => Ok(None),
+        Ok(Ok(reply)) => Ok(TrialAnswer {
+            would: trial_decision(alloc, trial, event, &reply.said)?,
+            would_come: after_failure(event, &reply.said),
+        }),
+        Ok(Err(_)) => Ok(TrialAnswer {
+            would: None,
+            would_come: None,
+        }),
         Err(_) => Err(AllocError),
     }
 }
 
-/// What the trial decides of an event of the record. A report is taken as one of the checked server that is known there by
+/// What the trial says of an event of the record. A report is taken as one of the checked server that is known there by
 /// the same names and address, if there is one.
 fn hand_on(
     alloc: Global,
@@ -160,9 +189,14 @@ fn hand_on(
     trial: &mut Core,
     moment: u64,
     event: &Event<'_>,
-) -> Result<Option<ComparedDecision>, AllocError>
+) -> Result<TrialAnswer, AllocError>
     requires piece { HasPieceInLimit (owned_event event.now) }
-    ensures decided { IfOk result (λ would. would ≡ decided_for auditor.now.plain.versions trial.old moment (owned_event event.now)) }
+    ensures decided { IfOk result (λ says.
+        says.would
+        ≡ decided_for auditor.now.plain.versions trial.old moment (owned_event event.now)) }
+    ensures failed { IfOk result (λ says.
+        says.would_come
+        ≡ after_failure_for auditor.now.plain.versions trial.old moment (owned_event event.now)) }
     ensures stepped { OnOk result (trial.new ≡ stepped_for auditor.now.plain.versions trial.old moment (owned_event event.now)) }
 {
     match *event {
@@ -171,7 +205,10 @@ fn hand_on(
                 let taken = Event::Mark(at.backend, at.server, health);
                 hand_in(alloc, trial, moment, &taken)
             }
-            None => Ok(None),
+            None => Ok(TrialAnswer {
+                would: None,
+                would_come: None,
+            }),
         },
         Event::Accept(..)
         | Event::Piece(..)
@@ -211,7 +248,7 @@ fn close_ended(trial: &mut Core, moment: u64, said: &Said) -> Result<bool, Alloc
     }
 }
 
-/// What both decide of an event that the balancer of the record answered just now, if it is no fault.
+/// What both say of an event that the balancer of the record answered just now, if it is no fault.
 fn play(
     alloc: Global,
     auditor: &Auditor,
@@ -227,7 +264,7 @@ fn play(
         None => Ok(None),
         Some((peer, reply)) => {
             let was = recorded_decision(alloc, auditor, event, &reply.said)?;
-            let would = hand_on(alloc, auditor, trial, moment, event)?;
+            let TrialAnswer { would, would_come } = hand_on(alloc, auditor, trial, moment, event)?;
             let let_in = close_ended(trial, moment, &reply.said)?;
             Ok(Some(Turn {
                 moment,
@@ -236,6 +273,8 @@ fn play(
                 was,
                 would,
                 let_in,
+                came: after_failure(event, &reply.said),
+                would_come,
             }))
         }
     }
@@ -312,7 +351,7 @@ impl Twin {
     }
 
     /// Checks a line of the record once more. If an entry begins whose event it hands in, that is handed to the
-    /// trial too, and both decisions are answered. After a fault the run is over.
+    /// trial too, and what both say of it is answered. After a fault the run is over.
     pub fn take_line(&mut self, line: &[u8]) -> Result<Option<Turn>, PrintFault>
         requires { length line.now ≤ MOST_LINE_BYTES }
         ensures ok { OnOk result (both_on self.old line.now ≡ Ok self.new) }

@@ -20,7 +20,7 @@ returns-clause-front g c =
 
 pub returns-clause-ok : goal.returns-clause-ok
 returns-clause-ok g c =
-    ok_by_both c.print_sums.result c.print_sums.ensures.ok c.print_sums.ensures.changed
-    (λ prints changed counts text sent left held.
-    sums_wrote c.args.summary sent c.args.twin.now text _ _ (noted_in c.new-journal.result) (noted_in c.print_lines.new.journal) c.print_lines.new.twin changed c.new-journal.ensures
+    ok_by_both c.print_sums.result c.print_sums.ensures.ok c.print_sums.ensures.differing
+    (λ prints differing counts text sent left held.
+    sums_wrote c.args.summary sent c.args.twin.now text _ _ (noted_in c.new-journal.result) (noted_in c.print_lines.new.journal) c.print_lines.new.twin differing c.new-journal.ensures
     (c.in_ok-print_lines.ensures.wrote text sent left held) prints counts)

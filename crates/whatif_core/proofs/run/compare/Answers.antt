@@ -9,15 +9,15 @@ returns-in-Ok-print_record-clause-finds g c = λ other text left opened.
     (c.args.trial, right_in c.args.config.now other text c.args.trial c.in-Ok._checked opened (c.in-Ok.ensures.verdict text left))
 
 pub returns-in-Ok-print_record-clause-compared : goal.returns-in-Ok-print_record-clause-compared
-returns-in-Ok-print_record-clause-compared g c = λ changed other text sent found left second held opened.
-    let same : c.in-Ok-print_record.changed ≡ changed = cc in
+returns-in-Ok-print_record-clause-compared g c = λ differing other text sent found left second held opened.
+    let same : c.in-Ok-print_record.differing ≡ differing = cc in
     let right = right_in c.args.config.now other text c.args.trial c.in-Ok._checked opened (c.in-Ok.ensures.verdict text left) in
     subst (IsCompared c.args.summary c.args.config.now other text sent _) same (c.in-Ok-print_record.ensures.wrote other text sent second held right)
 
 pub returns-in-Ok-print_record-clause-wrote : goal.returns-in-Ok-print_record-clause-wrote
 returns-in-Ok-print_record-clause-wrote g c = λ other text sent left second held opened.
     let right = right_in c.args.config.now other text c.args.trial c.in-Ok._checked opened (c.in-Ok.ensures.verdict text left) in
-    output_compared c.args.summary c.args.config.now other text sent _ c.in-Ok-print_record.changed (c.in-Ok-print_record.ensures.wrote other text sent second held right)
+    output_compared c.args.summary c.args.config.now other text sent _ c.in-Ok-print_record.differing (c.in-Ok-print_record.ensures.wrote other text sent second held right)
 
 pub returns-in-Err-print_record-clause-front : goal.returns-in-Err-print_record-clause-front
 returns-in-Err-print_record-clause-front g c = λ other text sent left second held opened.

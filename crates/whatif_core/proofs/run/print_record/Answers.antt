@@ -7,8 +7,8 @@ pub returns-in-Ok-clause-wrote : goal.returns-in-Ok-clause-wrote
 returns-in-Ok-clause-wrote g c =
     let opened = c.in-Ok.ensures.ok in
     IfOk-weaker c.print_all-printed.result _ _
-    (λ changed prints other text sent left held right.
-    compared c.args.summary c.args.config.now other text sent c.args.trial c.in-Ok.twin _ changed right opened.0 opened.1 (prints text sent left held))
+    (λ differing prints other text sent left held right.
+    compared c.args.summary c.args.config.now other text sent c.args.trial c.in-Ok.twin _ differing right opened.0 opened.1 (prints text sent left held))
     c.print_all-printed.ensures.ok
 
 pub returns-in-Ok-clause-front : goal.returns-in-Ok-clause-front

@@ -10,7 +10,7 @@ returns-in-Ok-clause-refused g c = IfOk-weaker c.compare.result _ _ (λ found is
 pub returns-in-Ok-clause-compared : goal.returns-in-Ok-clause-compared
 returns-in-Ok-clause-compared g c =
     IfOk-weaker c.compare.result _ _
-    (λ found is changed text sent same left second held. is changed c.args.other.now text sent same left second held c.in-Ok.ensures.ok)
+    (λ found is differing text sent same left second held. is differing c.args.other.now text sent same left second held c.in-Ok.ensures.ok)
     c.compare.ensures.compared
 
 pub returns-in-Ok-clause-wrote : goal.returns-in-Ok-clause-wrote
