@@ -252,6 +252,31 @@ def named(name):
     return serve
 
 
+@contextlib.contextmanager
+def full_backlog():
+    """A listener whose queue is full: the kernel answers no more."""
+    with contextlib.ExitStack() as links:
+        silent = links.enter_context(socket.socket())
+        silent.bind((HOST, 0))
+        silent.listen(0)
+        for _ in range(4):
+            one = links.enter_context(socket.socket())
+            one.setblocking(False)
+            one.connect_ex(silent.getsockname())
+        time.sleep(0.2)
+        yield silent
+
+
+def accept_all(listener):
+    """Accepts whoever waits at a listener, or comes later: each gets back what it sends."""
+    def serve(link):
+        with link:
+            echo(link)
+    with contextlib.suppress(OSError):
+        while True:
+            threading.Thread(target=serve, args=(listener.accept()[0],), daemon=True).start()
+
+
 # Records
 
 ACCEPT = re.compile(r'accept (\d+) (\S+) (\S+)')
@@ -634,7 +659,8 @@ def place_of(error):
     if isinstance(error, Wrong):
         return ''
     after = error.__traceback__.tb_next
-    return f' ({type(error).__name__}, line {after.tb_lineno if after else 0})'
+    place = f'{pathlib.Path(after.tb_frame.f_code.co_filename).name}, line {after.tb_lineno}' if after else 'line 0'
+    return f' ({type(error).__name__}, {place})'
 
 
 def run_case(program, name, attempt, descriptors):
