@@ -14,6 +14,9 @@
 //!     load stall PORT S       one connection that sends 64 bytes and waits for them to come back, again and again for S
 //!                             seconds, from `echo`; it prints how many there were and, in seconds, the longest wait,
 //!                             and those that a half and 99 of 100 of them did not exceed
+//!     load turns PORT PORT S  clients that come one after another, by turns at both ports, each as one of `rate`, for S
+//!                             seconds; it prints of each port how many there were and, in seconds, the longest visit,
+//!                             and those that a half and 99 of 100 of them did not exceed
 //!     load drip PORT N S      N clients that begin a PROXY header, send a byte of it a second and never end it; one
 //!                             that is ended comes again, for S seconds. It prints how many were ended, the shortest
 //!                             and the longest time in seconds that one of these was there, and how many went wrong
@@ -353,9 +356,34 @@ fn stall(port: u16, seconds: f64) {
         link.write_all(&MESSAGE).and_then(|()| link.read_exact(&mut answer)).expect("an answer");
         waits.push(sent.elapsed().as_secs_f64());
     }
+    print_waits(waits);
+}
+
+/// How many waits there were, the longest, and those that a half and 99 of 100 of them did not exceed.
+fn print_waits(mut waits: Vec<f64>) {
     waits.sort_by(f64::total_cmp);
     let wait = |part: usize| waits[(waits.len() - 1) * part / 100];
     println!("{} {:.6} {:.6} {:.6}", waits.len(), wait(100), wait(50), wait(99));
+}
+
+/// One client from its connect to the end.
+fn visit(port: u16) {
+    let (mut link, mut answer) = (open(port), Vec::new());
+    link.write_all(&MESSAGE).and_then(|()| link.read_to_end(&mut answer)).expect("an answer");
+    assert_eq!(answer, MESSAGE, "what comes back");
+}
+
+fn turns(ports: [u16; 2], seconds: f64) {
+    let mut waits = [Vec::new(), Vec::new()];
+    let until = Instant::now() + Duration::from_secs_f64(seconds);
+    while Instant::now() < until {
+        for (port, waits) in ports.iter().zip(&mut waits) {
+            let begun = Instant::now();
+            visit(*port);
+            waits.push(begun.elapsed().as_secs_f64());
+        }
+    }
+    waits.into_iter().for_each(print_waits);
 }
 
 /// Clients that begin a header and never end it.
@@ -475,8 +503,9 @@ fn main() {
         Some("idle") => idle(port(), count()),
         Some("come") => come(port(), count()),
         Some("stall") => stall(port(), number(2)),
+        Some("turns") => turns([port(), count() as u16], number(3)),
         Some("drip") => drip(port(), count(), number(3)),
         Some("echo") => echo_at(port()),
-        _ => panic!("servers, rate, bulk, ping, hold, idle, come, stall, drip or echo"),
+        _ => panic!("servers, rate, bulk, ping, hold, idle, come, stall, turns, drip or echo"),
     }
 }
