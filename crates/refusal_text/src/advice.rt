@@ -22,12 +22,8 @@ fn of_words(kind: &ConfKind) -> &'static str {
         ConfKind::NoSection => {
             "no section is open here; open one above, by global, defaults, frontend or backend"
         }
-        ConfKind::UnknownKeyword => {
-            "no keyword; write one that the section has, or put # in front of the line"
-        }
-        ConfKind::Unsupported => {
-            "not taken here; a name has letters, digits, -, _, . and : only"
-        }
+        ConfKind::UnknownKeyword => "no keyword",
+        ConfKind::Unsupported => "not taken here",
         ConfKind::MissingWord => { "a name or a value is missing here" }
         ConfKind::ExtraWord => { "left over; the line ends before this word" }
         ConfKind::BadNumber => {
@@ -45,7 +41,8 @@ fn of_words(kind: &ConfKind) -> &'static str {
     }
 }
 
-fn of_characters(kind: &LineKind) -> &'static str {
+/// What is wrong with the characters of a line.
+pub fn of_characters(kind: &LineKind) -> &'static str {
     match kind {
         LineKind::TooLong => {
             "too long: a line has at most 2048 bytes, its comment included, and the whole file 1048576"
@@ -62,7 +59,8 @@ fn of_characters(kind: &LineKind) -> &'static str {
     }
 }
 
-fn of_condition(fault: &AclFault) -> &'static str {
+/// What is wrong with a condition.
+pub fn of_condition(fault: &AclFault) -> &'static str {
     match fault {
         AclFault::UnknownCriterion => {
             "no criterion that is known here; src, fe_conn, fe_conn(frontend), be_conn(backend), src_conn_cur, src_conn_cnt, src_conn_cur(table), src_conn_cnt(table), sc0_conn_cur and sc0_conn_cnt are, and those of sc1 and sc2"

@@ -1,17 +1,18 @@
 //! What is said on standard error of a configuration that is refused.
 use crate::advice::sentence;
-use crate::quote::{Quote, find_quote, text_of, words_of};
-use acl_core::AclFault;
+use crate::names::{acl_names, backend_names, refused_acl};
+use crate::quote::{Quote, find_quote};
+use crate::reason::{Names, concern_of, reason};
+use crate::words::Concern;
 use conf_tree::ConfKind;
 use config_core::OpenFault;
-use plan_core::PlanKind;
 use std::alloc::{AllocError, Global};
 
 /// How many bytes of a line are quoted at most.
 const MOST_QUOTED: usize = 240;
 
 /// The line that a fault names. 0 is no line.
-fn line_of(fault: &OpenFault) -> u32 {
+pub fn line_of(fault: &OpenFault) -> u32 {
     match fault {
         OpenFault::Config(fault) => fault.line,
         OpenFault::Plan(fault) => fault.line,
@@ -29,42 +30,6 @@ fn name_of(alloc: Global, fault: &OpenFault) -> Result<String, AllocError> {
         },
         OpenFault::Plan(fault) => format!(in alloc; "{}", fault.kind),
         OpenFault::NoMemory => format!(in alloc; "NoMemory"),
-    }
-}
-
-/// A section by its kind and its name, as "frontend `shop`".
-fn section_name(alloc: Global, section: Option<&str>) -> Result<String, AllocError> {
-    let line = section.unwrap_or("");
-    let words = words_of(alloc, line)?;
-    match words.as_slice() {
-        [kind, name, ..] => {
-            format!(in alloc; "{} `{}`", text_of(line, kind), text_of(line, name))
-        }
-        [kind] => format!(in alloc; "{}", text_of(line, kind)),
-        [] => format!(in alloc; "this file"),
-    }
-}
-
-/// What is wrong with a quoted line.
-fn reason(alloc: Global, fault: &OpenFault, quoted: &Quote<'_>) -> Result<String, AllocError> {
-    let word = match &quoted.word {
-        Some(span) => text_of(quoted.line, span),
-        None => "",
-    };
-    match fault {
-        OpenFault::Config(fault) => match fault.kind {
-            ConfKind::Acl(AclFault::UnknownName) => {
-                let section = section_name(alloc, quoted.section)?;
-                format!(in alloc; "no acl named `{word}` is declared above this line in {section}")
-            }
-            _ => format!(in alloc; "{}", sentence(&OpenFault::Config(*fault))),
-        },
-        OpenFault::Plan(fault) => match fault.kind {
-            PlanKind::NoBackend => format!(in alloc; "no backend is named `{word}`"),
-            PlanKind::NoFrontend => format!(in alloc; "no frontend is named `{word}`"),
-            _ => format!(in alloc; "{}", sentence(&OpenFault::Plan(*fault))),
-        },
-        OpenFault::NoMemory => format!(in alloc; "{}", sentence(fault)),
     }
 }
 
@@ -118,28 +83,97 @@ fn write_quote(
     out.push_str(reason)
 }
 
-/// Why a configuration is refused: the file, the line and the fault's name; then the line as it is, with a mark under
-/// what is wrong.
-pub fn refusal(
+/// What is wrong with a quoted line, where the names around it are looked up in the texts.
+fn reason_in(
     alloc: Global,
-    file: &str,
-    text: &str,
+    texts: &Texts<'_>,
     fault: &OpenFault,
+    quoted: &Quote<'_>,
 ) -> Result<String, AllocError> {
     let number = line_of(fault);
+    let backends = backend_names(alloc, texts.whole)?;
+    let acls = acl_names(alloc, texts.read, number)?;
+    let names = Names {
+        backends: backends.as_str(),
+        acls: acls.as_str(),
+        refused: refused_acl(texts, number, quoted),
+    };
+    reason(alloc, fault, quoted, &names)
+}
+
+/// Why a line is refused that is quoted.
+fn quoted_refusal(
+    alloc: Global,
+    file: &str,
+    texts: &Texts<'_>,
+    fault: &OpenFault,
+    quoted: &Quote<'_>,
+) -> Result<String, AllocError> {
+    let number = line_of(fault);
+    let why = reason_in(alloc, texts, fault, quoted)?;
     let name = name_of(alloc, fault)?;
-    match find_quote(alloc, text, number, fault)? {
-        Some(quoted) => {
-            let mut out = format!(in alloc; "{file}:{number}: {name}")?;
-            let why = reason(alloc, fault, &quoted)?;
-            if quoted.line.len() > MOST_QUOTED {
-                out.push_str("\n  ")?;
-                out.push_str(why.as_str())?;
-            } else {
-                write_quote(alloc, &mut out, number, &quoted, why.as_str())?;
-            }
-            Ok(out)
+    let mut out = format!(in alloc; "{file}:{number}: {name}")?;
+    if quoted.line.len() > MOST_QUOTED {
+        out.push_str("\n  ")?;
+        out.push_str(why.as_str())?;
+    } else {
+        write_quote(alloc, &mut out, number, quoted, why.as_str())?;
+    }
+    Ok(out)
+}
+
+/// The texts that a fault is explained by.
+#[derive(Clone, Copy)]
+pub struct Texts<'a> {
+    /// The text as it is.
+    pub whole: &'a str,
+    /// The text that was read, in which refused lines are empty.
+    pub read: &'a str,
+}
+
+/// Why a configuration is refused: the file, the line and the fault's name; then the line as it is, with a mark under
+/// what is wrong.
+pub fn explained(
+    alloc: Global,
+    file: &str,
+    texts: &Texts<'_>,
+    fault: &OpenFault,
+) -> Result<String, AllocError> {
+    match find_quote(alloc, texts.read, line_of(fault), fault)? {
+        Some(quoted) => quoted_refusal(alloc, file, texts, fault, &quoted),
+        None => {
+            let name = name_of(alloc, fault)?;
+            format!(in alloc; "{file}: {name}\n  {}", sentence(fault))
         }
-        None => format!(in alloc; "{file}: {name}\n  {}", sentence(fault)),
+    }
+}
+
+/// Why a line is refused, in a sentence, and what the line is about.
+#[derive(Drop)]
+pub struct LineVerdict {
+    /// 0 is no line.
+    pub line: u32,
+    pub said: String,
+    pub concern: Concern,
+}
+
+/// Why a text is refused, without the line itself.
+pub fn verdict_on(alloc: Global, text: &str, fault: &OpenFault) -> Result<LineVerdict, AllocError> {
+    let line = line_of(fault);
+    let texts = Texts {
+        whole: text,
+        read: text,
+    };
+    match find_quote(alloc, text, line, fault)? {
+        Some(quoted) => Ok(LineVerdict {
+            line,
+            said: reason_in(alloc, &texts, fault, &quoted)?,
+            concern: concern_of(alloc, fault, &quoted)?,
+        }),
+        None => Ok(LineVerdict {
+            line,
+            said: String::from_str(alloc, sentence(fault))?,
+            concern: Concern::Clients,
+        }),
     }
 }

@@ -31,7 +31,7 @@ fn line_at(text: &str, number: u32) -> Option<&str> {
 }
 
 /// A line without its comment.
-fn code_of(line: &str) -> &str {
+pub fn code_of(line: &str) -> &str {
     match line.find('#') {
         Some(at) => line.get(..at).unwrap_or(line),
         None => line,
@@ -65,11 +65,13 @@ pub fn words_of(alloc: Global, line: &str) -> Result<Vec<Span>, AllocError> {
     Ok(words)
 }
 
-fn first_word(line: &str) -> &str {
+/// The first word of a line, or no text.
+pub fn first_word(line: &str) -> &str {
     code_of(line).split_ascii_whitespace().next().unwrap_or("")
 }
 
-fn opens_section(line: &str) -> bool {
+/// Whether a line opens a section that is taken.
+pub fn opens_section(line: &str) -> bool {
     matches!(
         first_word(line),
         "global" | "defaults" | "frontend" | "backend"
