@@ -1,6 +1,6 @@
 //! What the commands over files share: statuses, messages, and files.
 use conn_core::OpenFault;
-use refusal_text::refusal;
+use refusal_text::{further_refusals, refusal};
 use std::fs;
 use std::rt::Files;
 
@@ -16,7 +16,8 @@ pub const USAGE: u8 = 2;
 /// Something cannot be read or written, or memory ran out.
 pub const DEVICE: u8 = 3;
 
-/// Says why a configuration is refused. If memory runs out, the line and the fault's name are said alone.
+/// Says why a configuration is refused: its first fault, and further faulty lines. If memory runs out, the line and the
+/// first fault's name are said alone, or the further lines are left out.
 pub fn explain_refusal(
     rt: &(impl AllocGlobal + Eprint),
     file: &str,
@@ -27,6 +28,11 @@ pub fn explain_refusal(
         Ok(message) => eprintln!(rt; "{message}"),
         Err(_) => eprintln!(rt; "{file}: {fault}"),
     };
+    if let Ok(further) = further_refusals(rt.alloc(), file, text, fault) {
+        if !further.is_empty() {
+            let _written = eprintln!(rt; "{further}");
+        }
+    }
 }
 
 /// Says what cannot be read.
