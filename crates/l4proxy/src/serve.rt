@@ -71,9 +71,9 @@ pub fn fail<F: fmt::Display>(rt: &impl Eprint, fault: &F) -> u8 {
 }
 
 /// Warns of what the configuration of a book lacks.
-fn warn_of_book(rt: &impl Eprint, file: &str, book: &Book) {
+fn warn_of_book(rt: &(impl AllocGlobal + Eprint), file: &str, text: &str, book: &Book) {
     if let Some(version) = book.base().versions.as_slice().last() {
-        warn_of_plan(rt, file, &version.plan);
+        warn_of_plan(rt, file, text, &version.plan);
     }
 }
 
@@ -92,7 +92,7 @@ fn read_book<R: Files + AllocGlobal + Eprint>(
     };
     match open_book(rt.alloc(), text.as_str()) {
         Ok((book, segments)) => {
-            warn_of_book(rt, file, &book);
+            warn_of_book(rt, file, text.as_str(), &book);
             Ok((book, segments))
         }
         Err(fault) => {

@@ -1,0 +1,7 @@
+//! What a configuration that is accepted lacks, and what it has without effect.
+#![tactic(auto)]
+
+pub use warnings::{Warning, warnings_of};
+
+mod uses;
+mod warnings;
