@@ -28,9 +28,16 @@ fn local<'a>(alloc: Global) -> Arg<'a> {
 }
 
 fn check<'a>(alloc: Global) -> Result<Command<'a>, AllocError> {
+    let haproxy = Arg::new(alloc, "haproxy")
+        .long("haproxy")
+        .action(ArgAction::SetTrue)
+        .help(
+            "Reads a configuration of HAProxy, and prints one for l4proxy, with what it leaves out as comments",
+        );
     Command::new(alloc, "check")
         .about("Says whether a configuration is right, or what is wrong on which line")
-        .arg(file(alloc))
+        .arg(file(alloc))?
+        .arg(haproxy)
 }
 
 fn replay<'a>(alloc: Global) -> Result<Command<'a>, AllocError> {

@@ -1,7 +1,9 @@
-//! `l4proxy check`: whether a configuration is right.
-use crate::files::{DONE, REFUSED, explain_refusal, unreadable};
+//! `l4proxy check`: whether a configuration is right, and what one of HAProxy's is for `l4proxy`.
+use crate::files::{DEVICE, DONE, REFUSED, explain_refusal, unreadable};
 use crate::warnings::warn_of_text;
-use device_core::ToWrite;
+use clap::ArgMatches;
+use device_core::{Failed, ToWrite, write_all};
+use haproxy_text::{CarriedConfig, carry_over};
 use replay_core::{PrintFault, run_check};
 use std::rt::Files;
 use std::{fs, io};
@@ -15,7 +17,7 @@ fn printed_place<'a>(fault: &PrintFault, file: &'a str) -> &'a str {
 }
 
 /// Says whether a configuration is right, and then warns of what it lacks. No warning changes the status.
-pub fn check_file<R: Files + AllocGlobal + Print + Eprint>(rt: &R, file: &str) -> u8 {
+fn check_file<R: Files + AllocGlobal + Print + Eprint>(rt: &R, file: &str) -> u8 {
     let Ok(text) = fs::read_to_string(rt, file) else {
         return unreadable(rt, file);
     };
@@ -34,5 +36,57 @@ pub fn check_file<R: Files + AllocGlobal + Print + Eprint>(rt: &R, file: &str) -
             let _written = eprintln!(rt; "l4proxy: {what}: {fault}");
             fault.status()
         }
+    }
+}
+
+/// Says on standard error what of HAProxy's configuration is not carried over, if it concerns clients.
+fn say_carried(rt: &impl Eprint, file: &str, carried: &CarriedConfig) -> u8 {
+    if carried.of_clients > 0 {
+        let _written = eprintln!(rt;
+            "l4proxy: {file}: {} lines that limit, refuse, keep or serve clients are left out",
+            carried.of_clients
+        );
+    }
+    if !carried.is_accepted {
+        let _written = eprintln!(rt;
+            "l4proxy: {file}: what is written is no configuration: check says why"
+        );
+    }
+    if carried.of_clients > 0 || !carried.is_accepted {
+        REFUSED
+    } else {
+        DONE
+    }
+}
+
+/// Prints the configuration for `l4proxy` that says what a configuration of HAProxy's says.
+fn carry_file<R: Files + AllocGlobal + Print + Eprint>(rt: &R, file: &str) -> u8 {
+    let Ok(text) = fs::read_to_string(rt, file) else {
+        return unreadable(rt, file);
+    };
+    let Ok(carried) = carry_over(rt.alloc(), text.as_str()) else {
+        let _written = eprintln!(rt; "l4proxy: {file}: {}", PrintFault::NoMemory);
+        return DEVICE;
+    };
+    let mut writer = ToWrite::of(io::writer(rt));
+    match write_all(&mut writer, carried.text.as_bytes()) {
+        Ok(()) => say_carried(rt, file, &carried),
+        Err(Failed) => {
+            let _written = eprintln!(rt; "l4proxy: standard output: {}", PrintFault::Write);
+            DEVICE
+        }
+    }
+}
+
+/// Does what the words of the command ask for.
+pub fn run<R: Files + AllocGlobal + Print + Eprint>(
+    rt: &R,
+    file: &str,
+    given: &ArgMatches<'_>,
+) -> u8 {
+    if given.get_flag("haproxy") {
+        carry_file(rt, file)
+    } else {
+        check_file(rt, file)
     }
 }

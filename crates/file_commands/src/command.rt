@@ -1,9 +1,8 @@
 //! Which command is done.
-use crate::check::check_file;
 use crate::files::USAGE;
 use crate::progress::Terminals;
 use crate::replay::replay_files;
-use crate::{audit, explain, pipe, whatif};
+use crate::{audit, check, explain, pipe, whatif};
 use clap::ArgMatches;
 use std::rt::Files;
 use std::{io, rt};
@@ -16,7 +15,7 @@ pub fn run_command<R: Files + AllocGlobal + io::Input + Print + Eprint + rt::Clo
     terminals: Terminals,
 ) -> u8 {
     match (name, given.get_str("FILE"), given.get_str("SCRIPT")) {
-        ("check", Some(file), _) => check_file(rt, file),
+        ("check", Some(file), _) => check::run(rt, file, given),
         ("replay", Some(file), Some(script)) => replay_files(rt, file, script),
         ("pipe", Some(_), _) => pipe::run(rt, given),
         ("audit", Some(_), _) => audit::run(rt, given, terminals),

@@ -3,8 +3,8 @@ use config_core::read_plan;
 use config_warnings::{Warning, warnings_of};
 use plan_types::Plan;
 
-/// Warns on standard error of what a plan lacks or has without effect, in written order, with a line for each. If memory
-/// runs out, nothing is said.
+/// Warns on standard error of what a plan lacks or has without effect, in written order, with a line for each. If
+/// memory runs out, nothing is said.
 pub fn warn_of_plan(rt: &(impl AllocGlobal + Eprint), file: &str, text: &str, plan: &Plan) {
     if let Ok(warnings) = warnings_of(rt.alloc(), text, plan) {
         for warning in &warnings {

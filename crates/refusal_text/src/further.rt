@@ -94,8 +94,8 @@ fn is_of_tail(fault: &OpenFault) -> bool {
     }
 }
 
-/// What is left out once a fault is found: its line, or the whole section if the line begins one, except that words which
-/// are left over there go alone.
+/// What is left out once a fault is found: its line, or the whole section if the line begins one, except that words
+/// which are left over there go alone.
 fn gap_of(alloc: Global, text: &str, gaps: &[Gap], fault: &OpenFault) -> Result<Gap, AllocError> {
     let line = line_of(fault);
     let is_section = is_head(alloc, first_word(line_at(text, line)))?;
@@ -193,7 +193,7 @@ fn follows(
     })
 }
 
-/// The faulty lines after the first one, in the order in which they are found, and at the last what is left out.
+/// The faulty lines after the first one, in the order in which they are found, at most one more than are explained.
 fn search(
     alloc: Global,
     file: &str,
@@ -248,7 +248,8 @@ pub fn refusal(
 }
 
 /// Why further lines of a refused configuration would be refused, in the order of the lines, and how many they are with
-/// the first one; no text if there are none. Each is judged as if the refused ones were empty. At most 20 are explained.
+/// the first one; no text if there are none. Each is judged as if the refused ones were empty. At most 20 are
+/// explained.
 pub fn further_refusals(
     alloc: Global,
     file: &str,

@@ -355,6 +355,13 @@ fn of_line(
         ConfKind::BadAddress => of_address(word),
         ConfKind::BadNumber => of_number(alloc, quoted)?,
         ConfKind::Text(LineKind::Quoting) => Some(of_characters(&LineKind::Quoting)),
+        ConfKind::ExtraWord if first_word(quoted.line) == "bind" => match advice_on(
+            WordPlace::Bind,
+            word,
+        ) {
+            Some(advice) => Some(advice.sentence),
+            None => None,
+        },
         ConfKind::ExtraWord if word == "from" => Some(
             "a section takes from the last defaults above it alone: remove this, and put the section below its defaults",
         ),
