@@ -32,6 +32,9 @@ const CRITERIA: &str = "src fe_conn fe_conn(frontend) be_conn(backend) src_conn_
     src_conn_cur(table) src_conn_cnt(table) sc0_conn_cur sc0_conn_cnt sc1_conn_cur sc1_conn_cnt \
     sc2_conn_cur sc2_conn_cnt";
 
+/// A longer word is not compared with others, since that would take long.
+const LONGEST_WORD: usize = 64;
+
 /// What begins a section.
 pub const SECTION_WORDS: &str = "global defaults frontend backend";
 
@@ -102,6 +105,9 @@ pub fn nearest<'a>(
 ) -> Result<Option<&'a str>, AllocError> {
     let mut found = None;
     let bare = bare_word(word);
+    if bare.len() > LONGEST_WORD {
+        return Ok(None);
+    }
     let mut least = bare.len().saturating_add(1) / 3 + 1;
     for other in words.split_ascii_whitespace() {
         let distance = osa_distance(alloc, bare, bare_word(other))?;
