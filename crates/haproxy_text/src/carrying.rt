@@ -48,7 +48,8 @@ fn carried_lines(alloc: Global, text: &str) -> Result<Vec<Item>, AllocError> {
 /// The configuration for `l4proxy` that says the same as one of HAProxy's. What is not taken is left out as a comment,
 /// and says why; what HAProxy does without a line, and `l4proxy` does not, is added.
 pub fn carry_over(alloc: Global, text: &str) -> Result<CarriedConfig, AllocError>
-    ensures { IfOk result (λ carried. carried.is_accepted ≡ true → IsOk (meaning (string_bytes carried.text))) }
+    ensures { IfOk result (λ carried.
+        carried.is_accepted ≡ true → IsOk (meaning (string_bytes carried.text))) }
 {
     let items = carried_lines(alloc, text)?;
     let counts = counts_of(items.as_slice());
