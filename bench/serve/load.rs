@@ -403,7 +403,7 @@ impl Drips {
     fn come(&mut self, port: u16) {
         let free: Vec<usize> = (0..self.places.len()).filter(|&key| self.places[key].is_none()).take(100).collect();
         for key in free {
-            let (link, now) = (begin(port, HERE).expect("a connection"), Instant::now());
+            let (now, link) = (Instant::now(), begin(port, HERE).expect("a connection"));
             self.poll.watch(ADD, link.as_raw_fd(), READABLE, key as u64);
             self.due.push_back((now, key, now, false));
             self.places[key] = Some((link, now));
