@@ -15,8 +15,9 @@
 //!                             seconds, from `echo`; it prints how many there were and, in seconds, the longest wait,
 //!                             and those that a half and 99 of 100 of them did not exceed
 //!     load turns PORT PORT S  clients that come one after another, by turns at both ports, each as one of `rate`, for S
-//!                             seconds; it prints of each port how many there were and, in seconds, the longest visit,
-//!                             and those that a half and 99 of 100 of them did not exceed
+//!                             seconds; it prints of each port how many there were, in seconds the longest visit and
+//!                             those that a half and 99 of 100 of them did not exceed, and how many took a millisecond
+//!                             longer than a half of them
 //!     load drip PORT N S      N clients that begin a PROXY header, send a byte of it a second and never end it; one
 //!                             that is ended comes again, for S seconds. It prints how many were ended, the shortest
 //!                             and the longest time in seconds that one of these was there, and how many went wrong
@@ -356,14 +357,14 @@ fn stall(port: u16, seconds: f64) {
         link.write_all(&MESSAGE).and_then(|()| link.read_exact(&mut answer)).expect("an answer");
         waits.push(sent.elapsed().as_secs_f64());
     }
-    print_waits(waits);
+    println!("{}", summed(&mut waits));
 }
 
-/// How many waits there were, the longest, and those that a half and 99 of 100 of them did not exceed.
-fn print_waits(mut waits: Vec<f64>) {
+/// How many waits there were, the longest, and those that a half and 99 of 100 of them did not exceed. Sorts them.
+fn summed(waits: &mut [f64]) -> String {
     waits.sort_by(f64::total_cmp);
     let wait = |part: usize| waits[(waits.len() - 1) * part / 100];
-    println!("{} {:.6} {:.6} {:.6}", waits.len(), wait(100), wait(50), wait(99));
+    format!("{} {:.6} {:.6} {:.6}", waits.len(), wait(100), wait(50), wait(99))
 }
 
 /// One client from its connect to the end.
@@ -383,7 +384,11 @@ fn turns(ports: [u16; 2], seconds: f64) {
             waits.push(begun.elapsed().as_secs_f64());
         }
     }
-    waits.into_iter().for_each(print_waits);
+    for waits in &mut waits {
+        let sum = summed(waits);
+        let limit = waits[waits.len() / 2] + 0.001;
+        println!("{sum} {}", waits.iter().filter(|&&wait| wait > limit).count());
+    }
 }
 
 /// Clients that begin a header and never end it.
