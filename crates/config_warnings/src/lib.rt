@@ -3,5 +3,6 @@
 
 pub use warnings::{Warning, warnings_of};
 
+mod tables;
 mod uses;
 mod warnings;

@@ -1,6 +1,6 @@
 //! What the rules of a configuration use.
 use acl_core::{Cond, Operand, Term, When};
-use plan_types::{Action, Frontend, Plan, Rule};
+use plan_types::Frontend;
 use std::alloc::{AllocError, Global};
 
 /// The numbers of the names that the conditions of a frontend ask for.
@@ -49,22 +49,6 @@ impl UsedAcls {
     pub fn has(&self, number: usize) -> bool {
         self.numbers.as_slice().contains(&number)
     }
-}
-
-/// Whether a rule of these tracks in the table of that number.
-fn track_in(rules: &[Rule], number: usize) -> bool {
-    rules.iter().any(|rule| match rule.action {
-        Action::Track(_counter, table) => usize::from(table) == number,
-        Action::Accept | Action::Reject | Action::ExpectProxy => false,
-    })
-}
-
-/// Whether a rule of a plan tracks in the table of that number.
-pub fn is_tracked(plan: &Plan, number: usize) -> bool {
-    plan.frontends.as_slice().iter().any(|frontend| {
-        track_in(frontend.connection_rules.as_slice(), number)
-            || track_in(frontend.session_rules.as_slice(), number)
-    })
 }
 
 /// Whether a term has that truth for every connection.

@@ -1,5 +1,6 @@
 //! What a configuration that is right lacks, and what it has without effect.
-use crate::uses::{UsedAcls, always_applies, is_tracked};
+use crate::tables::{is_read, is_tracked};
+use crate::uses::{UsedAcls, always_applies};
 use plan_types::{Action, Backend, Frontend, Plan, Rule, Section, Table};
 use std::alloc::{AllocError, Global};
 
@@ -232,15 +233,24 @@ fn head_of(plan: &Plan, table: &Table) -> u32 {
     }
 }
 
-/// The tables in which no rule tracks.
+/// Why a table has no effect, if it has none.
+fn idleness_of(plan: &Plan, table: &Table, number: usize) -> Option<&'static str> {
+    if !is_tracked(plan, number) {
+        Some("no rule tracks in the table of")
+    } else if !is_read(plan, table, number) {
+        Some("no test looks at the table of")
+    } else {
+        None
+    }
+}
+
+/// The tables in which no rule tracks, and those at which no test looks.
 fn add_tables(warnings: &mut Warnings, text: &str, plan: &Plan) -> Result<(), AllocError> {
     for (number, table) in plan.tables.as_slice().iter().enumerate() {
-        if !is_tracked(plan, number) {
+        if let Some(why) = idleness_of(plan, table, number) {
             let line = line_in_section(text, head_of(plan, table), "stick-table", "");
             let name = written(table.name.as_slice());
-            let said = format!(in warnings.alloc;
-                "no rule tracks in the table of {name}, so it stays empty and limits nobody"
-            )?;
+            let said = format!(in warnings.alloc; "{why} {name}, so it limits nobody")?;
             warnings.add(line, said)?;
         }
     }
