@@ -14,7 +14,7 @@ use std::net::Net;
 use std::{fmt, io};
 
 /// How many checks are begun at most before a connection is accepted again.
-const MOST_BEGUN: usize = 8;
+const MOST_BEGUN: usize = 2;
 
 /// How long a wait for the next check is at least, in ms. Those that become due meanwhile are begun together.
 const LEAST_WAIT: u64 = 5;

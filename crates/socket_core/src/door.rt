@@ -27,7 +27,7 @@ use std::{io, str};
 const WAIT: u64 = 100;
 
 /// How often the checks of servers are looked after while connections keep coming, in ms.
-const TEND: u64 = 5;
+const TEND: u64 = 1;
 
 /// How long the door waits where nothing is accepted after the system refused to give a connection, in ms.
 const PAUSE: u64 = 10;
