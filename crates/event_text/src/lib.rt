@@ -16,3 +16,4 @@ mod fronts;
 mod reload;
 mod replies;
 mod script;
+mod short;

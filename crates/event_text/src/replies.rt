@@ -1,16 +1,19 @@
 //! Replies and counts as lines.
-ghost use Rattle.std.specs.Prelude.{◌≡◌, ◌+◌, ◌≤◌, ◌<◌, ◌^◌, ◌++◌, ◌∷◌, [], length, codes, IfSome, IsTrue, OnOk};
+ghost use Rattle.std.specs.Prelude.{◌≡◌, ◌≤◌, ◌++◌, ◌∷◌, [], length, codes, OnOk};
 ghost use Rattle.std.specs.List.{flat_map};
 ghost use Rattle.text_core.specs.Decimal.{decimal};
-ghost use Rattle.addr_core.specs.declared.addr.Addr.TheVariants.{V4};
 ghost use Rattle.addr_core.specs.Text.{endpoint_text, text_of};
 ghost use Rattle.config_core.specs.Names.{open_text};
+ghost use Rattle.event_text.specs.declared.short.TheConstants.{MOST_WORD_BYTES};
 ghost use Rattle.event_text.specs.Script.{bytes_text, health_text, id_text, why_text};
 ghost use Rattle.event_text.specs.Replies.{cause_text, count_line, fault_line, fault_name, header_fault_text, reply_line, reply_text, said_text, track_text};
 
 use crate::digits::write_header;
+use crate::short::{
+    MOST_WORD_BYTES, is_short, short_place, write_short_accept, write_short_addr,
+    write_short_ended, write_short_named, write_short_offer, write_short_place, write_short_track,
+};
 use addr_core::{Addr, Endpoint, Pair};
-use arrayvec::ArrayVec;
 use config_core::OpenFault;
 use conn_model::ask::{Ask, Counts};
 use conn_model::event::{ConnId, Health, Why};
@@ -18,7 +21,7 @@ use conn_model::reply::{Cause, Reply, Said, StepFault};
 use plan_types::Track;
 use pp_any::HeaderFault;
 use std::alloc::{AllocError, Global};
-use text_core::decimal::{append_decimal, push_short};
+use text_core::decimal::append_decimal;
 
 pub fn write_text(out: &mut Vec<u8>, text: &[u8]) -> Result<(), AllocError>
     ensures { OnOk result (out.new.items ≡ out.old.items ++ text.now) }
@@ -33,106 +36,16 @@ pub fn write_byte(out: &mut Vec<u8>, byte: u8) -> Result<(), AllocError>
     Ok(())
 }
 
-/// Room for the front of a line, with five bytes for each of its numbers.
-const BLOCK_BYTES: usize = 64;
-
-/// The same of an offer, up to the bytes that are sent.
-const OFFER_BYTES: usize = 160;
-
-/// The same of an accept, whose listener and endpoints these are.
-const ACCEPT_BYTES: usize = 80;
-
-/// How many bytes a word in a block has at most.
-const MOST_WORD_BYTES: usize = 16;
-
-/// Numbers below this have five digits at most.
-const FEW: u64 = 0x1_0000;
-
-/// Appends a word. There must be room.
-fn push_word<const CAP: usize>(text: &mut ArrayVec<u8, CAP>, word: &[u8])
-    requires { length text.old.items + length word.now ≤ CAP }
-    ensures { text.new.items ≡ text.old.items ++ word.now }
-{
-    for byte in word {
-        text.push(*byte);
-    }
-}
-
-/// Appends an IPv4 address in dotted decimal. There must be room for five bytes for each of its numbers.
-fn push_dotted<const CAP: usize>(text: &mut ArrayVec<u8, CAP>, number: u32)
-    requires { length text.old.items + 23 ≤ CAP }
-    ensures text { text.new.items ≡ text.old.items ++ text_of (V4 number) }
-    ensures fits { length text.new.items ≤ length text.old.items + 23 }
-{
-    push_short(text, (number / 0x100_0000) as u16);
-    text.push(b'.');
-    push_short(text, (number / 0x1_0000 % 0x100) as u16);
-    text.push(b'.');
-    push_short(text, (number / 0x100 % 0x100) as u16);
-    text.push(b'.');
-    push_short(text, (number % 0x100) as u16);
-}
-
-/// Appends a word, an IPv4 address after it, and a port. There must be room.
-fn push_place<const CAP: usize>(text: &mut ArrayVec<u8, CAP>, name: &[u8], number: u32, port: u16)
-    requires { length text.old.items + length name.now + 29 ≤ CAP }
-    ensures text { text.new.items
-        ≡ text.old.items ++ (name.now ++ text_of (V4 number) ++ codes ":" ++ decimal port) }
-    ensures fits { length text.new.items ≤ length text.old.items + length name.now + 29 }
-{
-    push_word(text, name);
-    push_dotted(text, number);
-    text.push(b':');
-    push_short(text, port);
-}
-
-fn write_dotted(out: &mut Vec<u8>, number: u32) -> Result<(), AllocError>
-    ensures { OnOk result (out.new.items ≡ out.old.items ++ text_of (V4 number)) }
-{
-    let mut text: ArrayVec<u8, BLOCK_BYTES> = ArrayVec::new();
-    push_dotted(&mut text, number);
-    out.extend_from_slice(text.as_slice())
-}
-
-/// A word, an IPv4 address after it, and a port.
-fn write_dotted_place(
-    out: &mut Vec<u8>,
-    name: &[u8],
-    number: u32,
-    port: u16,
-) -> Result<(), AllocError>
-    requires { length name.now ≤ MOST_WORD_BYTES }
-    ensures { OnOk result (out.new.items ≡ out.old.items ++ (name.now ++ text_of (V4 number) ++ codes ":" ++ decimal port)) }
-{
-    let mut text: ArrayVec<u8, BLOCK_BYTES> = ArrayVec::new();
-    push_place(&mut text, name, number, port);
-    out.extend_from_slice(text.as_slice())
-}
-
-/// Appends the name of a connection, whose serial has five digits at most. There must be room for them.
-fn push_id<const CAP: usize>(text: &mut ArrayVec<u8, CAP>, frontend: u16, serial: u16)
-    requires { length text.old.items + 11 ≤ CAP }
-    ensures text { text.new.items ≡ text.old.items ++ (decimal frontend ++ codes "." ++ decimal serial) }
-    ensures fits { length text.new.items ≤ length text.old.items + 11 }
-{
-    push_short(text, frontend);
-    text.push(b'.');
-    push_short(text, serial);
-}
-
 /// A word and the name of a connection after it.
 pub fn write_named(out: &mut Vec<u8>, name: &[u8], id: &ConnId) -> Result<(), AllocError>
     requires { length name.now ≤ MOST_WORD_BYTES }
     ensures { OnOk result (out.new.items ≡ out.old.items ++ (name.now ++ id_text id.now)) }
 {
-    if id.serial >= FEW {
-        write_text(out, name)?;
-        return write_id(out, id);
+    if is_short(id.serial) {
+        return write_short_named(out, name, id);
     }
-    let mut text: ArrayVec<u8, BLOCK_BYTES> = ArrayVec::new();
-    push_word(&mut text, name);
-    push_id(&mut text, id.frontend, id.serial as u16);
-    out.extend_from_slice(text.as_slice())
+    write_text(out, name)?;
+    write_id(out, id)
 }
 
 /// A word, the name of a connection after it, and why it ended.
@@ -141,28 +54,12 @@ pub fn write_ended(out: &mut Vec<u8>, name: &[u8], id: &ConnId, why: &Why) -> Re
     ensures { OnOk result (out.new.items
         ≡ out.old.items ++ (name.now ++ id_text id.now ++ codes " " ++ why_text why.now)) }
 {
-    let Ok(serial) = u16::try_from(id.serial) else {
-        write_named(out, name, id)?;
-        write_byte(out, b' ')?;
-        return write_why(out, why);
-    };
-    let mut text: ArrayVec<u8, BLOCK_BYTES> = ArrayVec::new();
-    push_word(&mut text, name);
-    push_id(&mut text, id.frontend, serial);
-    text.push(b' ');
-    push_word(&mut text, why_word(why));
-    out.extend_from_slice(text.as_slice())
-}
-
-/// The address and the port of an endpoint of IPv4.
-fn v4_place(endpoint: &Endpoint) -> Option<(u32, u16)>
-    ensures { IfSome result
-        (λ place. (endpoint.now.addr ≡ V4 place.0) × (endpoint.now.port ≡ place.1)) }
-{
-    match endpoint.addr {
-        Addr::V4(number) => Some((number, endpoint.port)),
-        Addr::V6(_) => None,
+    if is_short(id.serial) {
+        return write_short_ended(out, name, id, why_word(why));
     }
+    write_named(out, name, id)?;
+    write_byte(out, b' ')?;
+    write_why(out, why)
 }
 
 /// The listener of an accept, the client and the local end of its connection.
@@ -172,13 +69,8 @@ pub fn write_accept(out: &mut Vec<u8>, listener: u16, real: &Pair) -> Result<(),
         ++ codes " " ++ endpoint_text real.now.destination)) }
 {
     let (peer, local) = (real.source(), real.destination());
-    if let (Some(from), Some(to)) = (v4_place(&peer), v4_place(&local)) {
-        let mut text: ArrayVec<u8, ACCEPT_BYTES> = ArrayVec::new();
-        push_word(&mut text, b" accept ");
-        push_short(&mut text, listener);
-        push_place(&mut text, b" ", from.0, from.1);
-        push_place(&mut text, b" ", to.0, to.1);
-        return out.extend_from_slice(text.as_slice());
+    if let (Some(from), Some(to)) = (short_place(&peer), short_place(&local)) {
+        return write_short_accept(out, listener, from, to);
     }
     write_field(out, b" accept ", u64::from(listener))?;
     write_place(out, b" ", &peer)?;
@@ -189,7 +81,7 @@ fn write_addr(out: &mut Vec<u8>, addr: &Addr) -> Result<(), AllocError>
     ensures { OnOk result (out.new.items ≡ out.old.items ++ text_of addr.now) }
 {
     match *addr {
-        Addr::V4(number) => write_dotted(out, number),
+        Addr::V4(number) => write_short_addr(out, number),
         Addr::V6(_) => write_text(out, addr_core::write_addr(addr).as_str().as_bytes()),
     }
 }
@@ -261,7 +153,7 @@ pub fn write_place(out: &mut Vec<u8>, name: &[u8], endpoint: &Endpoint) -> Resul
     ensures { OnOk result (out.new.items ≡ out.old.items ++ (name.now ++ endpoint_text endpoint.now)) }
 {
     match endpoint.addr {
-        Addr::V4(number) => write_dotted_place(out, name, number, endpoint.port),
+        Addr::V4(number) => write_short_place(out, name, number, endpoint.port),
         Addr::V6(_) => {
             write_text(out, name)?;
             write_bracketed(out, &endpoint.addr)?;
@@ -299,68 +191,12 @@ pub fn write_cause(out: &mut Vec<u8>, cause: &Cause) -> Result<(), AllocError>
     }
 }
 
-/// Appends the front of the line of an offer, whose numbers have five digits at most. There must be room.
-fn push_given<const CAP: usize>(text: &mut ArrayVec<u8, CAP>, id: &ConnId, used: u16, line: u16)
-    requires serial { id.now.serial < 2 ^ 16 }
-    requires room { length text.old.items + 40 ≤ CAP }
-    ensures text { text.new.items ≡ text.old.items
-        ++ (codes "offer " ++ id_text id.now
-        ++ codes " used " ++ decimal used ++ codes " line " ++ decimal line) }
-    ensures fits { length text.new.items ≤ length text.old.items + 40 }
-{
-    push_word(text, b"offer ");
-    push_id(text, id.frontend, id.serial as u16);
-    push_word(text, b" used ");
-    push_short(text, used);
-    push_word(text, b" line ");
-    push_short(text, line);
-}
-
-/// The line of an offer up to the bytes that are sent, whose numbers have five digits at most and whose endpoints are of
-/// IPv4.
-fn write_short_offer(
-    out: &mut Vec<u8>,
-    id: &ConnId,
-    used: u16,
-    line: u16,
-    to: (u32, u16),
-    source: (u32, u16),
-    destination: (u32, u16),
-) -> Result<(), AllocError>
-    requires { id.now.serial < 2 ^ 16 }
-    ensures { OnOk result (out.new.items ≡ out.old.items
-        ++ (codes "offer " ++ id_text id.now
-        ++ codes " used " ++ decimal used ++ codes " line " ++ decimal line
-        ++ codes " to " ++ (text_of (V4 to.0) ++ codes ":" ++ decimal to.1)
-        ++ codes " src " ++ (text_of (V4 source.0) ++ codes ":" ++ decimal source.1)
-        ++ codes " dst " ++ (text_of (V4 destination.0) ++ codes ":" ++ decimal destination.1)
-        ++ codes " send ")) }
-{
-    let mut text: ArrayVec<u8, OFFER_BYTES> = ArrayVec::new();
-    push_given(&mut text, id, used, line);
-    push_place(&mut text, b" to ", to.0, to.1);
-    push_place(&mut text, b" src ", source.0, source.1);
-    push_place(&mut text, b" dst ", destination.0, destination.1);
-    push_word(&mut text, b" send ");
-    out.extend_from_slice(text.as_slice())
-}
-
-/// Whether these numbers of an offer have five digits at most.
-fn are_short(id: &ConnId, used: u64, line: u32) -> bool
-    ensures { IsTrue result → (id.now.serial < 2 ^ 16) × (used < 2 ^ 16) × (line < 2 ^ 16) }
-{
-    id.serial < FEW && used < FEW && line < 0x1_0000
-}
-
 /// The front of the line of an offer.
 fn write_given(out: &mut Vec<u8>, id: &ConnId, used: u64, line: u32) -> Result<(), AllocError>
-    ensures { OnOk result (out.new.items ≡ out.old.items ++ (codes "offer " ++ id_text id.now ++ codes " used " ++ decimal used ++ codes " line " ++ decimal line)) }
+    ensures { OnOk result (out.new.items ≡ out.old.items
+        ++ (codes "offer " ++ id_text id.now
+        ++ codes " used " ++ decimal used ++ codes " line " ++ decimal line)) }
 {
-    if are_short(id, used, line) {
-        let mut text: ArrayVec<u8, BLOCK_BYTES> = ArrayVec::new();
-        push_given(&mut text, id, used as u16, line as u16);
-        return out.extend_from_slice(text.as_slice());
-    }
     write_named(out, b"offer ", id)?;
     write_field(out, b" used ", used)?;
     write_field(out, b" line ", u64::from(line))
@@ -390,12 +226,12 @@ fn write_offer(
         ++ codes " to " ++ endpoint_text to.now ++ codes " src " ++ endpoint_text judged.now.source
         ++ codes " dst " ++ endpoint_text judged.now.destination ++ codes " send ")) }
 {
-    if are_short(id, used, line) {
+    if is_short(id.serial) && is_short(used) && is_short(u64::from(line)) {
         let ends = (judged.source(), judged.destination());
         if let (Some(to), Some(source), Some(destination)) = (
-            v4_place(to),
-            v4_place(&ends.0),
-            v4_place(&ends.1),
+            short_place(to),
+            short_place(&ends.0),
+            short_place(&ends.1),
         ) {
             return write_short_offer(out, id, used as u16, line as u16, to, source, destination);
         }
@@ -442,35 +278,12 @@ fn write_said(out: &mut Vec<u8>, said: &Said) -> Result<(), AllocError>
     }
 }
 
-/// What a counter tracks under an IPv4 address, in a version whose number has five digits at most.
-fn write_short_track(
-    out: &mut Vec<u8>,
-    track: &Track,
-    version: u16,
-    number: u32,
-) -> Result<(), AllocError>
-    requires version { track.now.table.version ≡ version }
-    requires key { track.now.key ≡ V4 number }
-    ensures { OnOk result (out.new.items ≡ out.old.items ++ track_text track.now) }
-{
-    let mut text: ArrayVec<u8, BLOCK_BYTES> = ArrayVec::new();
-    push_word(&mut text, b" sc");
-    push_short(&mut text, u16::from(track.counter));
-    text.push(b'=');
-    push_short(&mut text, version);
-    text.push(b'.');
-    push_short(&mut text, track.table.position);
-    text.push(b'/');
-    push_dotted(&mut text, number);
-    out.extend_from_slice(text.as_slice())
-}
-
 fn write_track(out: &mut Vec<u8>, track: &Track) -> Result<(), AllocError>
     ensures { OnOk result (out.new.items ≡ out.old.items ++ track_text track.now) }
 {
     let version = track.table.version;
     if let Addr::V4(number) = track.key {
-        if version < FEW {
+        if is_short(version) {
             return write_short_track(out, track, version as u16, number);
         }
     }
