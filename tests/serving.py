@@ -281,7 +281,7 @@ def accept_all(listener):
 
 ACCEPT = re.compile(r'accept (\d+) (\S+) (\S+)')
 END = re.compile(r'(closed|refuse) \S+ (?:used \d+ )?(.*?)(?: sc.*)?')
-LISTED = re.compile(r'conn \S+ real \S+ (?:src \S+ line \d+ )?((?:closed|refuse) .*)\n')
+LISTED = re.compile(r'conn (\d+)\.\S+ real \S+ (?:src \S+ line \d+ )?((?:closed|refuse) .*)\n')
 OFFER = re.compile(r'offer \S+ used (\d+) line (\d+) to (\S+) src (\S+) dst (\S+) send (\S+)(.*)')
 
 
@@ -484,9 +484,9 @@ class Proxy:
         self.listener.join(5)
         return status
 
-    def summed(self):
-        """How many connections ended in each way, as `audit` lists them, once the proxy was told to end: the record is
-        right, and nothing is open."""
+    def summed(self, frontend=None):
+        """How many connections, or those of the frontend of that number, ended in each way, as `audit` lists them, once the
+        proxy was told to end: the record is right, and nothing is open."""
         self.quit(patience=60)
         listed, ends, last = self.room / 'listed', collections.Counter(), ''
         with open(listed, 'wb') as out:
@@ -494,8 +494,8 @@ class Proxy:
         with open(listed) as lines:
             for line in lines:
                 last = line
-                if found := LISTED.fullmatch(line):
-                    ends[found[1]] += 1
+                if (found := LISTED.fullmatch(line)) and frontend in (None, int(found[1])):
+                    ends[found[2]] += 1
         self.case.check('audit of the record', (status, last[:8], last[-8:]), (0, 'checked ', ' open 0\n'), last)
         return ends
 
