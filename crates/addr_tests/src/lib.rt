@@ -4,6 +4,7 @@
 
 #[cfg(test)]
 mod addr;
+pub mod callers;
 #[cfg(test)]
 mod endpoints;
 #[cfg(test)]

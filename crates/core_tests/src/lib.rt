@@ -1,6 +1,7 @@
 //! Tests of `conn_core`, of what no run of the program shows.
 #![tactic(auto)]
 
+pub mod callers;
 #[cfg(test)]
 mod printed;
 #[cfg(test)]

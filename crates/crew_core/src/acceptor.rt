@@ -3,7 +3,9 @@ ghost use Rattle.std.specs.Prelude.{◌≡◌, false, Err, IfErr, IfOk, Ok};
 
 use crate::calls::WorkerContext;
 use crate::worker::NewConn;
+use addr_core::Pair;
 use book_core::Receipt;
+use conn_model::event::Health;
 use conn_model::reply::{Reply, StepFault};
 use desk_core::{Opening, Pass};
 use link_core::{Clock, Door, DoorEvent, Gate, Link};
@@ -60,68 +62,129 @@ impl<'a, M: Ledger, K: Link, D: Door<Link = K>> Acceptor<'a, M, K, D> {
     ) -> Came
         ensures unbegun { result.began ≡ false → result.accepted ≡ 0 }
     {
-        let Acceptor { door, lanes, pass } = self;
-        let mut lanes = lanes;
-        let mut accepted = 0u64;
-        let mut held = None;
-        let mut reloads = Reloads::NONE;
-        if !have_begun(context, lanes.len() as u64) {
+        if !have_begun(context, self.lanes.len() as u64) {
             return Came {
                 began: false,
                 accepted: 0,
                 held: 0,
             };
         }
+        let mut reception = Reception {
+            acceptor: self,
+            accepted: 0,
+            held: None,
+            reloads: Reloads::NONE,
+        };
         for _turn in 0..context.turns {
-            if let Some(backlog) = context.alert.backlog() {
-                door.warn(&backlog);
-            }
-            if let Some(arrival) = held {
-                held = hand_over(&mut lanes, accepted, arrival);
-                if held.is_some() {
-                    context.clock.rest();
-                }
-                continue;
-            }
-            match door.next() {
-                DoorEvent::Conn(listener, real, link) => {
-                    accepted = accepted.saturating_add(1);
-                    let arrival = NewConn {
-                        listener,
-                        real,
-                        link,
-                    };
-                    held = hand_over(&mut lanes, accepted, arrival);
-                }
-                DoorEvent::Reload(text) => {
-                    let moment = context.clock.now();
-                    let answer = context.desk.reload(rt, pass, moment, text.as_str());
-                    reloads.note(answer.is_ok());
-                    if let Ok(receipt) = &answer {
-                        context.note(rt, receipt.number);
-                    }
-                    door.report(&reply_to(answer));
-                }
-                DoorEvent::Mark(backend, server, health) => {
-                    let moment = context.clock.now();
-                    let answer = context.desk.mark(rt, pass, moment, backend, server, health);
-                    if let Ok(receipt) = &answer {
-                        context.note(rt, receipt.number);
-                    }
-                    door.report(&reply_to(answer));
-                }
-                DoorEvent::Status(asks) => {
-                    door.report_status(context.status(rt, asks.as_slice(), reloads));
-                }
-                DoorEvent::Idle => context.clock.rest(),
-                DoorEvent::Closed => break,
+            if !reception.turn(rt, context) {
+                break;
             }
         }
         Came {
             began: true,
-            accepted,
-            held: u64::from(held.is_some()),
+            accepted: reception.accepted,
+            held: u64::from(reception.held.is_some()),
         }
+    }
+}
+
+/// What an acceptor has taken so far.
+#[derive(Drop)]
+struct Reception<'a, M: Ledger, K: Link, D: Door<Link = K>> {
+    acceptor: Acceptor<'a, M, K, D>,
+    /// How many connections came.
+    accepted: u64,
+    /// The last one, while no lane has room for it.
+    held: Option<NewConn<K>>,
+    reloads: Reloads,
+}
+
+impl<'a, M: Ledger, K: Link, D: Door<Link = K>> Reception<'a, M, K, D> {
+    /// One turn; whether there is to be another one.
+    fn turn<O: Ledger, B: Opening, G: Gate, C: Clock, R: Wait>(
+        &mut self,
+        rt: &R,
+        context: &WorkerContext<'_, M, O, B, G, C>,
+    ) -> bool {
+        if let Some(backlog) = context.alert.backlog() {
+            self.acceptor.door.warn(&backlog);
+        }
+        if let Some(arrival) = self.held.take() {
+            self.hand_over(arrival);
+            if self.held.is_some() {
+                context.clock.rest();
+            }
+            return true;
+        }
+        match self.acceptor.door.next() {
+            DoorEvent::Conn(listener, real, link) => self.take(listener, real, link),
+            DoorEvent::Reload(text) => self.reload(rt, context, text.as_str()),
+            DoorEvent::Mark(backend, server, health) => {
+                self.mark(rt, context, backend, server, health);
+            }
+            DoorEvent::Status(asks) => {
+                let status = context.status(rt, asks.as_slice(), self.reloads);
+                self.acceptor.door.report_status(status);
+            }
+            DoorEvent::Idle => context.clock.rest(),
+            DoorEvent::Closed => return false,
+        }
+        true
+    }
+
+    /// A connection came.
+    fn take(&mut self, listener: u16, real: Pair, link: K) {
+        self.accepted = self.accepted.saturating_add(1);
+        self.hand_over(NewConn {
+            listener,
+            real,
+            link,
+        });
+    }
+
+    /// Hands the connection that came last to its worker. Where too many wait for that worker it is held.
+    fn hand_over(&mut self, arrival: NewConn<K>) {
+        self.held = hand_over(&mut self.acceptor.lanes, self.accepted, arrival);
+    }
+
+    fn reload<O: Ledger, B: Opening, G: Gate, C: Clock, R: Wait>(
+        &mut self,
+        rt: &R,
+        context: &WorkerContext<'_, M, O, B, G, C>,
+        text: &str,
+    ) {
+        let moment = context.clock.now();
+        let answer = context.desk.reload(rt, self.acceptor.pass, moment, text);
+        self.reloads.note(answer.is_ok());
+        self.report(rt, context, answer);
+    }
+
+    /// A server is down or up.
+    fn mark<O: Ledger, B: Opening, G: Gate, C: Clock, R: Wait>(
+        &mut self,
+        rt: &R,
+        context: &WorkerContext<'_, M, O, B, G, C>,
+        backend: u16,
+        server: u16,
+        health: Health,
+    ) {
+        let moment = context.clock.now();
+        let pass = &mut *self.acceptor.pass;
+        let answer = context.desk.mark(rt, pass, moment, backend, server, health);
+        self.report(rt, context, answer);
+    }
+
+    /// Says to the door what became of the reload or of the mark that it handed out.
+    fn report<O: Ledger, B: Opening, G: Gate, C: Clock, R: Wait>(
+        &mut self,
+        rt: &R,
+        context: &WorkerContext<'_, M, O, B, G, C>,
+        answer: Result<Receipt, StepFault>,
+    ) {
+        if let Ok(receipt) = &answer {
+            context.note(rt, receipt.number);
+        }
+        self.acceptor.door.report(&reply_to(answer));
     }
 }
 

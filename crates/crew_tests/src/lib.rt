@@ -2,6 +2,7 @@
 //! records that they should, and that what is left settles.
 #![tactic(auto)]
 
+pub mod callers;
 #[cfg(test)]
 mod door;
 #[cfg(test)]

@@ -4,6 +4,7 @@
 
 #[cfg(test)]
 mod books;
+pub mod callers;
 #[cfg(test)]
 mod calls;
 #[cfg(test)]

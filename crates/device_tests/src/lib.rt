@@ -3,6 +3,7 @@
 
 #[cfg(test)]
 mod burst;
+pub mod callers;
 #[cfg(test)]
 mod device;
 #[cfg(test)]

@@ -4,6 +4,7 @@
 
 #[cfg(test)]
 mod audits;
+pub mod callers;
 #[cfg(test)]
 mod check;
 #[cfg(test)]

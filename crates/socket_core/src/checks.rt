@@ -19,6 +19,10 @@ const MOST_BEGUN: usize = 2;
 /// How long a wait for the next check is at least, in ms. Those that become due meanwhile are begun together.
 const LEAST_WAIT: u64 = 5;
 
+/// How many servers, one after the other, are a block. When the next check of a block is due is known, so that the servers
+/// of one that is not are not looked at.
+const BLOCK: usize = 32;
+
 /// Why a check failed.
 #[derive(Clone, Copy, Debug, PartialEq, Eq)]
 pub enum CheckFailure {
@@ -168,6 +172,34 @@ impl WatchedServer {
     }
 }
 
+/// When the next check of these servers begins.
+fn next_due(servers: &[WatchedServer]) -> u64 {
+    let mut next = u64::MAX;
+    for watched in servers {
+        next = next.min(watched.due);
+    }
+    next
+}
+
+/// The servers of a block.
+fn block_of(all: &[WatchedServer], block: usize) -> &[WatchedServer] {
+    let from = block.saturating_mul(BLOCK).min(all.len());
+    let until = from.saturating_add(BLOCK).min(all.len());
+    all.get(from..until).unwrap_or(&[])
+}
+
+/// Notes when the next check is due of each block of which one was; the first of all that are due next.
+fn note_dues(dues: &mut [u64], all: &[WatchedServer], now: u64) -> u64 {
+    let mut next = u64::MAX;
+    for (block, due) in dues.iter_mut().enumerate() {
+        if *due <= now {
+            *due = next_due(block_of(all, block));
+        }
+        next = next.min(*due);
+    }
+    next
+}
+
 /// A server whose health changed, and how many of its backend are up.
 #[derive(Drop)]
 pub struct HealthChange<'a> {
@@ -192,6 +224,8 @@ struct HandedOut {
 pub struct Checks {
     alloc: Global,
     all: Vec<WatchedServer>,
+    /// When the next check of each block of them begins.
+    dues: Vec<u64>,
     unchecked: Vec<u64>,
     /// The servers that were last reported down, those that no configuration has any more among them.
     down: Vec<ServerIdentity>,
@@ -209,6 +243,7 @@ impl Checks {
         Checks {
             alloc,
             all: Vec::new(alloc),
+            dues: Vec::new(alloc),
             unchecked: Vec::new(alloc),
             down: Vec::new(alloc),
             due: u64::MAX,
@@ -251,13 +286,18 @@ impl Checks {
         }
     }
 
-    /// Those that are checked from now on. The first checks are spread over the time between two.
+    /// Those that are checked from now on, and that each block of them is to be looked at. The first checks are spread over
+    /// the time between two.
     fn watch_all(
         &mut self,
         checked: Vec<CheckTarget>,
         now: u64,
-    ) -> Result<Vec<WatchedServer>, AllocError> {
+    ) -> Result<(Vec<WatchedServer>, Vec<u64>), AllocError> {
         let count = (checked.len() as u64).max(1);
+        let mut dues = Vec::new(self.alloc);
+        for _block in 0..checked.len().div_ceil(BLOCK) {
+            dues.push(now)?;
+        }
         let mut all = Vec::with_capacity(self.alloc, checked.len())?;
         let mut likely = 0usize;
         for (place, server) in checked.into_iter().enumerate() {
@@ -272,26 +312,28 @@ impl Checks {
             }
             all.push(watched)?;
         }
-        Ok(all)
+        Ok((all, dues))
     }
 
     /// A configuration is in force: these are checked from now on. Without memory none is.
     pub fn put_in_force(&mut self, plan: CheckPlan, now: u64) -> Result<(), AllocError> {
         let CheckPlan { checked, unchecked } = plan;
-        let all = self.watch_all(checked, now);
+        let watched = self.watch_all(checked, now);
         self.unchecked = unchecked;
         self.due = now;
         self.turn = 0;
         self.handed_out = None;
         self.has_reports = false;
-        match all {
-            Ok(all) => {
+        match watched {
+            Ok((all, dues)) => {
                 self.all = all;
+                self.dues = dues;
                 Ok(())
             }
             Err(error) => {
                 // The numbers of those before are of another configuration.
                 self.all = Vec::new(self.alloc);
+                self.dues = Vec::new(self.alloc);
                 Err(error)
             }
         }
@@ -328,24 +370,49 @@ impl Checks {
         if now < self.due {
             return;
         }
-        let count = self.all.len();
-        let turn = self.turn;
-        let mut begun = 0usize;
-        let mut next = u64::MAX;
-        for step in 0..count {
-            let place = turn.wrapping_add(step) % count;
+        let (turn, count) = (self.turn, self.all.len());
+        let begun = self.begin_among(rt, registry, first, now, (turn, count), 0);
+        self.begin_among(rt, registry, first, now, (0, turn), begun);
+        self.due = note_dues(self.dues.as_mut_slice(), self.all.as_slice(), now);
+    }
+
+    /// The same of those from a place up to another one, where so many have begun already; how many have then.
+    fn begin_among(
+        &mut self,
+        rt: &impl Net,
+        registry: &Registry,
+        first: usize,
+        now: u64,
+        places: (usize, usize),
+        begun: usize,
+    ) -> usize {
+        let mut begun = begun;
+        for place in places.0..places.1 {
+            if begun >= MOST_BEGUN {
+                break;
+            }
+            if !self.is_block_due(place, now) {
+                continue;
+            }
             let Some(watched) = self.all.get_mut(place) else {
                 break;
             };
-            if watched.due <= now && begun < MOST_BEGUN {
+            if watched.due <= now {
                 begun += 1;
                 self.turn = place.wrapping_add(1);
                 watched.begin(rt, registry, Token(first.wrapping_add(place)), now);
                 self.has_reports = self.has_reports || watched.report.is_some();
             }
-            next = next.min(watched.due);
         }
-        self.due = next;
+        begun
+    }
+
+    /// Whether a check of the block of that place is due.
+    fn is_block_due(&self, place: usize, now: u64) -> bool {
+        match self.dues.get(place / BLOCK) {
+            Some(due) => *due <= now,
+            None => false,
+        }
     }
 
     /// The system reported the check of a place.

@@ -14,8 +14,9 @@ use std::net::{Net, SocketAddr};
 use std::sync::Arc;
 use std::time::Duration;
 
-/// How many events a wait takes from the system at most.
-const MOST_EVENTS: usize = 64;
+/// How many events a wait takes from the system at most. Those that are left come with the next one, so a client that
+/// waits is not held up by the answers of many checks.
+const MOST_EVENTS: usize = 8;
 
 /// What a listener gave.
 pub enum AcceptResult {
