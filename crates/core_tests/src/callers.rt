@@ -48,8 +48,8 @@ pub fn add_item(list: &mut KeyedList<u16>, key: u64, item: u16) -> Result<(), Al
     list.push(key, item)
 }
 
-/// Tracks an address, and ends that at once, so that it counts as one visit; how many there were. None where each entry
-/// of a full table has a connection. Without memory nothing is tracked.
+/// Tracks an address, and ends that at once, so that it counts as one visit; how many there were. None where the
+/// address is no key of the table, or each entry of a full one has a connection. Without memory nothing is tracked.
 pub fn count_visit(
     table: &mut StickTable,
     addr: &Addr,

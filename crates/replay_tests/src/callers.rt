@@ -13,7 +13,7 @@ use pipe_core::{PipeEnd, PipeFault, run_pipe};
 use replay_core::{PrintFault, ReplayFault, Replayed, run_check, run_replay};
 use std::alloc::Global;
 
-/// Writes the line of a configuration; whether it is one. The writer may fail, and memory may be lacking: then nothing was
+/// Writes the line of a configuration; whether it is one. The writer may fail. If memory is lacking, nothing was
 /// written.
 pub fn check<O: Output>(alloc: Global, text: &str, writer: &mut O) -> Result<bool, PrintFault>
     ensures ok { OnOk result ((sent : List ℕ) → O.held writer.old ≡ Some sent →
