@@ -81,7 +81,8 @@ def case_descriptors_are_freed(case):
         for client in clients:
             client.put(b'hello')
         return clients
-    places = (100 - 1 - 2 * 2 - 2 - 12) // 2
+    # Of 100 the listener has one, two workers, the door and the checker two each, and 12 are for all else.
+    places = (100 - 1 - 4 * 2 - 12) // 2
     with case.start(config, descriptors=100) as proxy:
         alone = proxy.descriptors()
         held = come(places)

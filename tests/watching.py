@@ -24,9 +24,9 @@ WHYS = 'done', 'fault', 'stopped', 'failed', 'client-timeout', 'server-timeout'
 TYPES = {
     **dict.fromkeys((
         'l4proxy_frontend_connections', 'l4proxy_frontend_connections_limit', 'l4proxy_backend_connections',
-        'l4proxy_server_connections', 'l4proxy_server_connections_limit', 'l4proxy_server_up', 'l4proxy_table_size',
-        'l4proxy_config_version', 'l4proxy_records_waiting', 'l4proxy_segments_waiting', 'l4proxy_build_info',
-        'process_start_time_seconds'), 'gauge'),
+        'l4proxy_server_connections', 'l4proxy_server_connections_limit', 'l4proxy_server_up', 'l4proxy_table_entries',
+        'l4proxy_table_size', 'l4proxy_config_version', 'l4proxy_config_versions_kept', 'l4proxy_records_waiting',
+        'l4proxy_segments_waiting', 'l4proxy_build_info', 'process_start_time_seconds'), 'gauge'),
     **dict.fromkeys((
         'l4proxy_frontend_accepted_total', 'l4proxy_offered_total', 'l4proxy_moved_total', 'l4proxy_connected_total',
         'l4proxy_refused_total', 'l4proxy_closed_total', 'l4proxy_server_reports_total', 'l4proxy_failed_dials_total',
@@ -210,7 +210,9 @@ server c {one.at}
         case.check('limits of servers', samples.of('l4proxy_server_connections_limit'), {('backend=app', 'server=a'): 7})
         case.check('servers without checks', samples.of('l4proxy_server_up'), {})
         case.check('the table', samples.of('l4proxy_table_size'), {('section=frontend', 'table=web'): 5})
+        case.check('its entries before', samples.of('l4proxy_table_entries'), {('section=frontend', 'table=web'): 0})
         case.check('the version', samples['l4proxy_config_version',], 1)
+        case.check('versions that are kept', samples['l4proxy_config_versions_kept',], 1)
         case.check('the program', samples.of('l4proxy_build_info'), {('version=0.1.0',): 1})
         case.holds('its start', begun - 2 < samples['process_start_time_seconds',] < time.time() + 2)
         clients = [Client(front, source) for source in ('127.0.0.1', '127.0.0.1', '127.0.0.2')] + [Client(second)]
@@ -220,6 +222,7 @@ server c {one.at}
         samples = read(port)
         case.check('what is open during it', open_now(samples), {
             'frontend': {'web': 3, 'mail': 1}, 'backend': {'app': 3, 'post': 1}, 'server': {'app/a': 2, 'app/b': 1, 'post/c': 1}})
+        case.check('entries of two sources', samples.total('l4proxy_table_entries'), 2)
         samples = settled(port, 4)
         counts = {name: samples[f'l4proxy_{name}_total',] for name in ('offered', 'connected', 'records', 'records_written')}
         case.check('what is counted during it', counts, {'offered': 4, 'connected': 4, 'records': 8, 'records_written': 8})
@@ -228,6 +231,7 @@ server c {one.at}
             case.check('its end', client.rest(), b'')
         samples = settled(port)
         case.check('what is open after it', samples.total('l4proxy_server_connections'), 0)
+        case.check('entries that nobody tracks', samples.total('l4proxy_table_entries'), 2)
         case.check('bytes', samples.of('l4proxy_sent_bytes_total'), {('to=client',): 20, ('to=server',): 20})
         waits = 'records_waiting', 'segments_waiting', 'segments_refused_total'
         case.check('nothing waits', [samples[f'l4proxy_{name}',] for name in waits], [0, 0, 0])
@@ -373,8 +377,37 @@ def case_metrics_reload(case):
         samples = until(lambda: (now := read(port))['l4proxy_reloads_total', 'result=refused'] and now, 'the reload that is refused')
         case.check('reloads', samples.of('l4proxy_reloads_total'), {('result=accepted',): 1, ('result=refused',): 1})
         case.check('the version', samples['l4proxy_config_version',], 2)
+        case.check('versions, one of which judges a connection', samples['l4proxy_config_versions_kept',], 2)
         client.close()
+        until(lambda: read(port)['l4proxy_config_versions_kept',] == 1, 'the version before is forgotten')
         compared(case, 'over a reload', settled(port), proxy.ended(), ('f',))
+
+
+def case_metrics_entries(case):
+    """The entries of each table that are in memory: no more than there may be, also of one that expired and whose place nobody
+    took. Tables are named by the newest text, also where it leaves one out."""
+    server = Server(echo)
+    config, front = plain(case, server, 'stick-table type ip size 3 expire 100ms store conn_cnt\ntcp-request connection track-sc0 src\n'
+                          'tcp-request connection track-sc1 src table wide\n')
+    config += f'backend wide\nstick-table type ip size 100\nserver s {server.at}\n'
+    web, wide = ('section=frontend', 'table=f'), ('section=backend', 'table=wide')
+    proxy, port = watched(case, config)
+    with proxy:
+        for number in range(1, 6):
+            with Client(front, f'127.0.0.{number}') as client:
+                client.put(b'hello')
+                case.check('an answer', client.exactly(5), b'hello')
+                client.finish()
+                client.rest()
+        samples = settled(port)
+        case.check('five sources', samples.of('l4proxy_table_entries'), {web: 3, wide: 5})
+        case.check('sizes', samples.of('l4proxy_table_size'), {web: 3, wide: 100})
+        time.sleep(0.3)
+        case.check('those that expired', read(port)['l4proxy_table_entries', *sorted(web)], 3)
+        proxy.reload(re.sub(r'stick-table type ip size 3.*\n|tcp-request .*track-sc0.*\n', '', config))
+        samples = until(lambda: (now := read(port))['l4proxy_config_version',] == 2 and now, 'the reload')
+        case.check('the table that is left', samples.of('l4proxy_table_entries'), {wide: 5})
+        proxy.ended()
 
 
 def case_metrics_output(case):

@@ -1,6 +1,6 @@
 //! A core with its records.
 ghost use Rattle.std.specs.Prelude.{◌≡◌, ◌↔◌, ◌<◌, ◌≤◌, ◌+◌, ◌^◌, [], ◌∷◌, ◌++◌, length, IfOk, IfErr, OnErr, OnOk, Err, Ok};
-ghost use Rattle.conn_model.specs.Counts.{counts_in, open_connections};
+ghost use Rattle.conn_model.specs.Counts.{counts_in, newest_table, open_connections, AreInMemory};
 ghost use Rattle.conn_model.specs.HandedIn.{HasPieceInLimit};
 ghost use Rattle.conn_model.specs.History.{answer, counts, entry, owned_event};
 ghost use Rattle.conn_model.specs.Settings.{settings_in};
@@ -188,6 +188,21 @@ impl Book {
         ensures plain { result ≡ counts_in self.now.state ask.now }
     {
         self.core.counts(ask)
+    }
+
+    /// How many entries of the stick table of that number in the newest version are in memory, if there is such a table.
+    pub fn entries(&self, number: u16) -> Option<u64>
+        ensures { AreInMemory
+            (newest_table self.now.state.versions self.now.state.tables number) result }
+    {
+        self.core.entries(number)
+    }
+
+    /// How many versions are kept: the newest, and each that judges an open connection.
+    pub fn versions(&self) -> u64
+        ensures { result ≡ length self.now.state.versions }
+    {
+        self.core.versions()
     }
 
     /// How an open connection is served, by the version that judges it.

@@ -1,4 +1,7 @@
 //! The decisions of a balancer: what each event is answered, and what is kept for it.
+//!
+//! The functions that one step calls in a row are `#[inline(always)]`, since what they hand on is large and would be
+//! copied at each call: docs/PERF.md, "a step of the core", says what that gave.
 #![tactic(auto)]
 
 pub use checked::{CheckedServer, ServerNumbers};

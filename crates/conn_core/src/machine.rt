@@ -1,5 +1,5 @@
 //! The decision core.
-ghost use Rattle.std.specs.Prelude.{◌≡◌, ◌≢◌, ◌⊎◌, ◌+◌, ◌-◌, ◌^◌, ◌<◌, ◌≤◌, ℕ, true, List, [], ◌∷◌, option_and_then, option_map, Option, Some, IfSome, IfNone, IfOk, IfErr, IsErr, OnOk, OnErr, nat_le, Ok, Err, None};
+ghost use Rattle.std.specs.Prelude.{◌≡◌, ◌≢◌, ◌⊎◌, ◌+◌, ◌-◌, ◌^◌, ◌<◌, ◌≤◌, ℕ, true, List, [], ◌∷◌, length, option_and_then, option_map, Option, Some, IfSome, IfNone, IfOk, IfErr, IsErr, OnOk, OnErr, nat_le, Ok, Err, None};
 ghost use Rattle.std.specs.Option.{option_copied};
 ghost use Rattle.plan_types.specs.Sound.{IsSoundPlan};
 ghost use Rattle.pp_any.specs.declared.rest.Rest.{Rest};
@@ -12,7 +12,7 @@ ghost use Rattle.conn_model.specs.HandedIn.{HasPieceInLimit};
 ghost use Rattle.conn_model.specs.Answer.{answer_in, at_moment, reload_answer, reply_of, row_at, server_answer, waiting_row, checked_server, failure_answer};
 ghost use Rattle.conn_rows.specs.Needed.{versions_needed, AreTracksHeld};
 ghost use Rattle.conn_rows.specs.Summaries.{names_in, names_of, summary_of};
-ghost use Rattle.conn_model.specs.Counts.{counts_in, newest_backend, server_of};
+ghost use Rattle.conn_model.specs.Counts.{counts_in, newest_backend, newest_table, server_of, AreInMemory};
 ghost use Rattle.conn_model.specs.History.{after, answer, counts, owned_event, opening, entry, is_last, NeedsNoMemory, IsFault, IsLegal, IsWell, Entry};
 ghost use Rattle.conn_model.specs.declared.event.OwnedEvent.TheVariants as owned;
 ghost use Rattle.conn_model.specs.declared.plain.FrontendRows.{FrontendRows};
@@ -159,9 +159,7 @@ impl Core {
                 Some(Counts { cur, cnt: 0 })
             }
             Ask::Server(number, place) => {
-                let backend = self.backend(number)?;
-                let server = item(backend.servers.as_slice(), place)?;
-                let cur = self.rows.served_by(backend, server);
+                let cur = self.rows.served_at(number, place)?;
                 Some(Counts { cur, cnt: 0 })
             }
             Ask::Entry(number, addr) => {
@@ -170,6 +168,20 @@ impl Core {
                 self.rows.counts(*id, &addr, self.rows.clock())
             }
         }
+    }
+
+    /// How many entries of the stick table of that number in the newest version are in memory, if there is such a table.
+    pub fn entries(&self, number: u16) -> Option<u64>
+        ensures { AreInMemory (newest_table self.now.versions self.now.tables number) result }
+    {
+        self.rows.entries(number)
+    }
+
+    /// How many versions are kept: the newest, and each that judges an open connection.
+    pub fn versions(&self) -> u64
+        ensures { result ≡ length self.now.versions }
+    {
+        self.rows.versions()
     }
 
     /// The names of the server that an open connection was offered, as the version that judged it has them.
@@ -332,6 +344,7 @@ impl Core {
         ensures err { OnErr result (self.new ≡ self.old) }
     {
         let now = self.clock().max(moment);
+        // Nothing is decided yet: `admit` writes both fields, unless it answers with a fault.
         let mut decision = TrackedOutcome {
             outcome: Outcome::Wait,
             tracks: NO_TRACKS,

@@ -97,6 +97,7 @@ fn decision(rows: &Rows, id: ConnId, version: u64, judged: Pair) -> Option<Track
     let Some(facts) = facts_of(rows, id, version, judged, rows.clock()) else {
         return None;
     };
+    // Nothing is decided yet, and this step has tracked nothing so far: `decide` writes both fields.
     let mut decision = TrackedOutcome {
         outcome: Outcome::Wait,
         tracks: NO_TRACKS,

@@ -1,5 +1,5 @@
 -- Counts of the open connections.
-use Rattle.std.specs.Prelude.{ℕ, Bool, false, List, [], ◌∷◌, length, map, filter, slice_get, Option, Some, None, ◌+◌, ◌==◌, if◌then◌else◌}
+use Rattle.std.specs.Prelude.{◌≡◌, ◌≤◌, ℕ, Bool, false, List, [], ◌∷◌, length, map, filter, slice_get, Option, Some, None, ◌+◌, ◌==◌, if◌then◌else◌}
 use Rattle.std.specs.Str.{bytes_eq}
 use Rattle.std.specs.Option.{option_and_then, option_map, option_map_or}
 use Rattle.proxy_types.specs.declared.server.ServerIdentity.{ServerIdentity}
@@ -96,3 +96,15 @@ counts_in p (asks.Backend number) = option_map (λ backend. count_of (offered_to
 counts_in p (asks.Server number n) =
     option_and_then (λ backend. option_map (count_of_server p.frontends backend) (slice_get backend.servers n)) (newest_backend p.versions number)
 counts_in p (asks.Entry number addr) = option_map (entry_counts (open_tracks p.frontends) addr) (newest_table p.versions p.tables number)
+
+-- So many entries of the table are in memory: those that there are, and such as expired and whose place no other took yet.
+pub record HasInMemory (table : TableState) (count : ℕ) : Type 0 where
+  pub least : length table.entries ≤ count
+  pub most : count ≤ table.table.size
+  -- where none expires, just those that there are
+  pub exact : table.table.expire ≡ 0 → count ≡ length table.entries
+
+-- if there is such a table
+abbrev pub AreInMemory : Option TableState → Option ℕ → Type 0
+AreInMemory None count = count ≡ None
+AreInMemory (Some table) count = (n : ℕ) × (count ≡ Some n) × HasInMemory table n

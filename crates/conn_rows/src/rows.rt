@@ -17,12 +17,12 @@ ghost use Rattle.conn_model.specs.History.{marked_by, opening, tables_with, trac
 ghost use Rattle.conn_model.specs.Servers.{cursor_at, identity_in, is_down, pick_in};
 ghost use Rattle.conn_model.specs.declared.plain.Row.{Row};
 ghost use Rattle.conn_versions.specs.Barred.{is_barred};
-ghost use Rattle.conn_versions.specs.Versions.{AreSound, HasServer, VersionsValue};
+ghost use Rattle.conn_versions.specs.Versions.{connections_in, AreSound, HasServer, VersionsValue};
 ghost use Rattle.conn_rows.specs.Stored.{plain_frontend, stored_in};
 ghost use Rattle.conn_model.specs.Changes.{rest_at, row_fed, row_tracking, row_up, with_arrival, with_conn, with_item, with_refusal, without_conn};
 ghost use Rattle.conn_rows.specs.Changes.{row_moved, row_offered, status_of, used_by, IsMovable};
 ghost use Rattle.conn_model.specs.Settings.{settings_in};
-ghost use Rattle.conn_model.specs.Counts.{offered_to, open_named, served_by, server_of};
+ghost use Rattle.conn_model.specs.Counts.{newest_backend, newest_table, offered_to, open_named, served_by, server_of, AreInMemory};
 ghost use Rattle.conn_model.specs.Tables.{entry_counts, is_listed_by, open_tracks, table_at, trackers, with_track, without_tracks};
 ghost use Rattle.conn_rows.specs.Needed.{versions_needed, AreTracksHeld, AreVersionsKept, IsNextNumber};
 ghost use Rattle.rule_engine.specs.Meaning.{present};
@@ -258,6 +258,17 @@ impl Rows {
         self.kept.connections(backend, server)
     }
 
+    /// The same of the server of that number in the backend of that number, where the newest version has one. It is found
+    /// without a look at others.
+    pub fn served_at(&self, backend: u16, server: u16) -> Option<u64>
+        ensures { result
+            ≡ connections_in (served_by self.now.frontends)
+            (newest_backend self.now.versions backend) server }
+    {
+        let _versions = self.kept.as_slice();
+        self.kept.connections_at(backend, server)
+    }
+
     /// Lets time pass.
     pub fn pass(&mut self, moment: u64)
         requires { self.old.clock ≤ moment }
@@ -274,6 +285,34 @@ impl Rows {
         ensures alive { (rows_passed self.now.clock self.now).tables ≡ self.now.tables }
     {
         self.tables.clock()
+    }
+
+    /// The incarnation of the table of that number in the newest version.
+    fn table_id(&self, number: u16) -> Option<TableId>
+        ensures { result
+            ≡ option_and_then (λ version. slice_get version.tables number)
+            (newest self.now.versions) }
+    {
+        let version = self.newest()?;
+        match item(version.tables.as_slice(), number) {
+            Some(id) => Some(*id),
+            None => None,
+        }
+    }
+
+    /// How many entries of the table of that number in the newest version are in memory.
+    pub fn entries(&self, number: u16) -> Option<u64>
+        ensures { AreInMemory (newest_table self.now.versions self.now.tables number) result }
+    {
+        let id = self.table_id(number)?;
+        self.tables.entries(id)
+    }
+
+    /// How many versions are kept.
+    pub fn versions(&self) -> u64
+        ensures { result ≡ length self.now.versions }
+    {
+        self.kept.as_slice().len() as u64
     }
 
     /// How many open connections track an address in the table of that incarnation, and how often it was tracked, as it

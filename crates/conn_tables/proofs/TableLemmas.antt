@@ -5,16 +5,17 @@ use Rattle.std.specs.List.{list_any, AllByRecursion, enumerate_from, position, p
 use Rattle.std.specs.Option.{option_map_or}
 use Rattle.std.proofs.lemmas.Bool.{false≢true}
 use Rattle.std.proofs.lemmas.Bool.Decides.{nat_tests}
+use Rattle.std.proofs.lemmas.List.{length-map}
 use Rattle.std.proofs.lemmas.List.Folds.{find-set, find_past}
 use Rattle.std.proofs.lemmas.Option.{get_or_from_slice_get, slice_get_read}
 use Rattle.addr_core.specs.declared.addr.Addr.{Addr}
 use Rattle.addr_core.specs.Same.{same_addr}
 use Rattle.stick_core.specs.declared.entries.StickEntry.{StickEntry}
 use Rattle.stick_core.specs.declared.entries.PlainEntry.{PlainEntry}
-use Rattle.stick_core.specs.Entries.{cur_of, is_gone}
-use Rattle.stick_core.specs.PlainEntries.{AreTrackers, plain, touched, tracked_key, trackings_of, with_tracking, alive}
+use Rattle.stick_core.specs.Entries.{cur_of, is_gone, living}
+use Rattle.stick_core.specs.PlainEntries.{AreTrackers, plain, plain_entry, touched, tracked_key, trackings_of, with_tracking, alive}
 use Rattle.list_core.proofs.Items.{one_item}
-use Rattle.stick_core.proofs.LivingLemmas.{alive-later, cur_of-living, living-all}
+use Rattle.stick_core.proofs.LivingLemmas.{alive-later, cur_of-living, length-living, living-all, living-for_ever}
 use Rattle.stick_core.specs.Listing.{passed, IsShown, IsSound, Listing}
 use Rattle.list_core.proofs.PlaceLemmas.{find-passes}
 use Rattle.addr_core.proofs.SameLemmas.{same_addr-refl}
@@ -22,6 +23,7 @@ use Rattle.plan_types.specs.declared.plan.Table.{Table}
 use Rattle.plan_types.specs.declared.track.TableId.{TableId}
 use Rattle.plan_types.specs.declared.track.Track.{Track}
 use Rattle.conn_model.specs.declared.plain.TableState.{TableState}
+use Rattle.conn_model.specs.Counts.{HasInMemory}
 use Rattle.conn_model.specs.Tables.{new_table, same_id, table_alive, table_at, tables_alive, trackers, without_track, without_tracks, with_track}
 use Rattle.conn_tables.specs.declared.tables.StoredTable.{StoredTable}
 use Rattle.conn_tables.specs.Tables.{AreCounted, AreGrown, AreTables, IsGrown, IsStored, TablesDiffer, cur_in, is_table, key_at, plain_table, table_key}
@@ -287,6 +289,23 @@ trackers_of id tables stored tracks found counted key =
 
 pub stored_of : (moment : ℕ) (spare : ℕ) (id : TableId) (tables : List StoredTable) (stored : StoredTable) → find (is_table id) tables ≡ Some stored → AllByRecursion (IsStored moment spare) tables → IsStored moment spare stored
 stored_of moment spare id tables stored found each = (all-found (IsStored moment spare) (is_table id) tables stored each found).0
+
+-- What is in memory.
+
+-- so many are there at a moment, where so many are in memory
+pub has_in_memory : (moment spare count : ℕ) (stored : StoredTable) → IsStored moment spare stored → length stored.entries.entries ≤ count → count ≤ stored.entries.size →
+    (stored.entries.expire ≡ 0 → count ≡ length stored.entries.entries) → HasInMemory (plain_table moment stored) count
+has_in_memory moment spare count stored is least most exact = record {
+  least =
+      let same = length-map (living stored.entries.expire moment stored.entries.entries) plain_entry in
+      let few = length-living stored.entries.expire moment stored.entries.entries in
+      omega (arith, same, few, least);
+  most = let size = is.size in omega (arith, most, size);
+  exact = λ never.
+      let ever : stored.entries.expire ≡ 0 = is.expire ∙ never in
+      exact ever ∙ ap length (sym (living-for_ever stored.entries.expire moment stored.entries.entries ever))
+      ∙ sym (length-map (living stored.entries.expire moment stored.entries.entries) plain_entry);
+}
 
 -- Memory.
 

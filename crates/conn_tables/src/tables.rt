@@ -10,6 +10,7 @@ ghost use Rattle.stick_core.specs.PlainEntries.{AreTrackers, plain, trackings_of
 ghost use Rattle.plan_types.specs.declared.track.TableId.{TableId};
 ghost use Rattle.plan_types.specs.declared.track.Track.{Track};
 ghost use Rattle.plan_types.specs.declared.plan.Table as plans;
+ghost use Rattle.conn_model.specs.Counts.{AreInMemory};
 ghost use Rattle.conn_model.specs.Tables.{entry_counts, is_listed_by, new_table, new_tables, table_at, trackers, with_track, without_tracks, tables_alive};
 ghost use Rattle.conn_tables.specs.Tables.{AreCounted, AreGrown, AreNextIds, IsGrown, IsStored, TablesDiffer, begun_table, cur_in, is_begun, is_id_listed, is_listed_in, is_table, key_at, plain_table, table_key};
 ghost use Rattle.conn_tables.specs.Tracks.{counter_on, plain_tracks, track_on, tracks_on};
@@ -248,6 +249,15 @@ impl Tables {
     {
         let stored = find_table(self.tables.as_slice(), id)?;
         Some(stored.counts(addr, moment))
+    }
+
+    /// How many entries of the table of that incarnation are in memory.
+    pub fn entries(&self, id: TableId) -> Option<u64>
+        ensures { AreInMemory
+            (table_at (map (plain_table self.now.clock) self.now.tables) id) result }
+    {
+        let stored = find_table(self.tables.as_slice(), id)?;
+        Some(stored.entries.in_memory())
     }
 
     /// The table of that incarnation, as its line has it.

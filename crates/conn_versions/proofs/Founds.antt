@@ -1,15 +1,16 @@
 -- What is found of a version, and of a server of it.
-use Rattle.std.proofs.Common.{◌≡◌, ℕ, ◌<◌, List, length, get_or, Some, refl, sym, ap, ◌∙◌, arith}
+use Rattle.std.proofs.Common.{◌≡◌, ℕ, ◌+◌, ◌-◌, ◌<◌, List, length, get_or, Some, refl, sym, ap, ◌∙◌, arith}
 use Rattle.std.specs.Prelude.{find, position, slice_get}
 use Rattle.std.proofs.lemmas.Option.{slice_get_read, slice_get_within}
 use Rattle.slot_core.specs.declared.slots.Count.{Count}
 use Rattle.slot_core.specs.declared.slots.SlotIx.{SlotIx}
-use Rattle.slot_core.specs.Counts.{identity_at}
+use Rattle.slot_core.specs.Counts.{identity_at, IdentitiesDiffer}
 use Rattle.plan_types.specs.declared.plan.Backend.{Backend}
 use Rattle.plan_types.specs.Lines.{has_line}
 use Rattle.plan_types.specs.Sound.{IsSoundBackend, IsSoundPlan}
 use Rattle.conn_model.specs.declared.plain.Version.{Version}
 use Rattle.conn_model.specs.Answer.{version_at}
+use Rattle.conn_model.specs.Words.{newest}
 use Rattle.conn_model.specs.Servers.{cursor_at, identity_in}
 use Rattle.conn_model.proofs.Lists.{all-at, found_there, position_within}
 use Rattle.conn_versions.specs.declared.picks.BackendPicks.{BackendPicks}
@@ -19,6 +20,7 @@ use Rattle.conn_versions.specs.Slots.{AreSlots, IsServed}
 use Rattle.conn_versions.specs.Picks.{IsTied}
 use Rattle.conn_versions.specs.Kept.{AreKept, IsKept}
 use Rattle.list_core.proofs.Items.{one_item}
+use Rattle.list_core.proofs.NewestLemmas.{slice_get-last}
 use Rattle.list_core.proofs.PlaceLemmas.{find-passes}
 use Rattle.std.proofs.lemmas.Bool.{eqb-true}
 
@@ -67,24 +69,54 @@ pub record FoundBackend (counts : List Count) (kept : Version) (number : ℕ) (b
 pub within_own : (counts : List Count) (kept : Version) (own : List BackendPicks) (number : ℕ) → IsKept counts kept own → number < length kept.plan.backends → number < length own
 within_own counts kept own number is less = let many = is.tied.many in omega (arith, less, many)
 
-pub found_backend : (counts : List Count) (versions : List Version) (all : List VersionPicks) (version place number : ℕ) (kept : Version) (own : VersionPicks) (backend : Backend) (picks : BackendPicks) →
-    AreKept counts versions all → FoundVersion counts versions all version place kept own → number < length kept.plan.backends → backend ≡ get_or kept.plan.backends number backend →
-    picks ≡ get_or own.backends.items number picks → FoundBackend counts kept number backend picks
-found_backend counts versions all version place number kept own backend picks inv found less read picks_read = record {
+pub backend_there : (counts : List Count) (kept : Version) (own : VersionPicks) (number : ℕ) (backend : Backend) (picks : BackendPicks) → IdentitiesDiffer counts → IsKept counts kept own.backends.items →
+    IsSoundPlan kept.plan → number < length kept.plan.backends → backend ≡ get_or kept.plan.backends number backend → picks ≡ get_or own.backends.items number picks → FoundBackend counts kept number backend picks
+backend_there counts kept own number backend picks apart is sound less read picks_read = record {
   at = at;
   served = record {
-    few = (all-at IsSoundBackend kept.plan.backends number backend found.sound.each_backend at).servers;
-    apart = inv.apart;
-    slots = found.is.counted number backend picks at picks_at;
+    few = (all-at IsSoundBackend kept.plan.backends number backend sound.each_backend at).servers;
+    apart = apart;
+    slots = is.counted number backend picks at picks_at;
   };
-  tied = found.is.tied.each number backend picks at picks_at;
+  tied = is.tied.each number backend picks at picks_at;
 }
   where
     at : slice_get kept.plan.backends number ≡ Some backend
     at = slice_get_read kept.plan.backends (length kept.plan.backends) number backend refl less read
 
     picks_at : slice_get own.backends.items number ≡ Some picks
-    picks_at = slice_get_read own.backends.items (length own.backends.items) number picks refl (within_own counts kept own.backends.items number found.is less) picks_read
+    picks_at = slice_get_read own.backends.items (length own.backends.items) number picks refl (within_own counts kept own.backends.items number is less) picks_read
+
+pub found_backend : (counts : List Count) (versions : List Version) (all : List VersionPicks) (version place number : ℕ) (kept : Version) (own : VersionPicks) (backend : Backend) (picks : BackendPicks) →
+    AreKept counts versions all → FoundVersion counts versions all version place kept own → number < length kept.plan.backends → backend ≡ get_or kept.plan.backends number backend →
+    picks ≡ get_or own.backends.items number picks → FoundBackend counts kept number backend picks
+found_backend counts versions all version place number kept own backend picks inv found = backend_there counts kept own number backend picks inv.apart found.is found.sound
+
+-- the newest version, with what its picks go by
+pub record NewestVersion (counts : List Count) (versions : List Version) (kept : Version) (own : VersionPicks) : Type 0 where
+  pub newest_is : newest versions ≡ Some kept
+  pub is : IsKept counts kept own.backends.items
+  pub sound : IsSoundPlan kept.plan
+
+pub newest_there : (counts : List Count) (versions : List Version) (all : List VersionPicks) (place : ℕ) (kept : Version) (own : VersionPicks) → AreKept counts versions all → place + 1 ≡ length versions →
+    kept ≡ get_or versions place kept → own ≡ get_or all place own → NewestVersion counts versions kept own
+newest_there counts versions all place kept own inv last read own_read = record {
+  newest_is = sym (slice_get-last versions) ∙ ap (slice_get versions) before ∙ at;
+  is = inv.each place kept own at own_at;
+  sound = all-at (λ v. IsSoundPlan v.plan) versions place kept inv.sound at;
+}
+  where
+    less : place < length versions
+    less = omega (arith, last)
+
+    before : length versions - 1 ≡ place
+    before = omega (arith, last)
+
+    at : slice_get versions place ≡ Some kept
+    at = slice_get_read versions (length versions) place kept refl less read
+
+    own_at : slice_get all place ≡ Some own
+    own_at = let many = inv.many in slice_get_read all (length all) place own refl (omega (arith, less, many)) own_read
 
 -- the server of a line
 pub record FoundServer (counts : List Count) (versions : List Version) (version line server : ℕ) (there : HasServer versions version line server) (kept : Version) (own : VersionPicks) (number : ℕ) (picks : BackendPicks) : Type 0 where

@@ -1,10 +1,10 @@
 -- What picks see of servers.
-use Rattle.std.proofs.Common.{◌≡◌, ℕ, zero, suc, ◌+◌, ◌<◌, Bool, true, false, List, [], ◌∷◌, ◌++◌, length, map, filter, Option, Some, None, refl, sym, ap, ◌∙◌, arith}
+use Rattle.std.proofs.Common.{◌≡◌, ℕ, zero, suc, ◌+◌, ◌<◌, ◌≤◌, ◌⊎◌, Bool, true, false, List, [], ◌∷◌, ◌++◌, length, get_or, map, filter, Option, Some, None, refl, sym, ap, ◌∙◌, arith, inl, inr}
 use Rattle.std.specs.Prelude.{slice_get, option_map, ◌==◌, not, ◌&&◌}
 use Rattle.std.specs.Option.{option_map_or}
 use Rattle.std.specs.List.{range_with_len}
 use Rattle.std.proofs.lemmas.List.Elements.{filter-append}
-use Rattle.std.proofs.lemmas.Option.{slice_get-map}
+use Rattle.std.proofs.lemmas.Option.{slice_get-map, slice_get_cases, slice_get_past}
 use Rattle.proxy_types.specs.declared.balance.Place.{Place}
 use Rattle.slot_core.specs.declared.slots.Count.{Count}
 use Rattle.slot_core.specs.declared.slots.SlotIx.{SlotIx}
@@ -14,10 +14,10 @@ use Rattle.balance_core.specs.Rounds.{can_take, next_of, next_turn, turn_of, tur
 use Rattle.plan_types.specs.declared.plan.Backend.{Backend}
 use Rattle.plan_types.specs.declared.plan.Server.{Server}
 use Rattle.conn_model.specs.Servers.{has_room, identity_in, load_of, loads_of, weight_of, weight_by}
-use Rattle.conn_versions.specs.Versions.{open_to}
+use Rattle.conn_versions.specs.Versions.{connections_in, open_to}
 use Rattle.conn_versions.specs.Slots.{IsServed}
 use Rattle.conn_versions.specs.Picks.{load_of_one, loads_from, loads_of_one}
-use Rattle.conn_versions.proofs.Identities.{open_there}
+use Rattle.conn_versions.proofs.Identities.{identity_within, open_there}
 
 -- a server with the connections that are counted at its place
 pub load_there : (counts : List Count) (barred : Backend → Server → Bool) (backend : Backend) (places : List SlotIx) (n : ℕ) (server : Server) (ix : SlotIx) → IsServed counts backend places → slice_get backend.servers n ≡ Some server →
@@ -35,6 +35,29 @@ load_there counts barred backend places n server ix served there found =
 
 pub load_past : (counts : List Count) (barred : Backend → Server → Bool) (backend : Backend) (n : ℕ) → slice_get backend.servers n ≡ None → slice_get (loads_of (open_to counts) barred backend) n ≡ None
 load_past counts barred backend n none = slice_get-map (load_of (open_to counts) barred backend) backend.servers n ∙ ap (option_map (load_of (open_to counts) barred backend)) none
+
+-- its connections
+pub record PlacedServer (counts : List Count) (backend : Backend) (n : ℕ) (ix : SlotIx) : Type 0 where
+  pub within : ix.place < length counts
+  pub counted : Some (open_at ix.place counts) ≡ connections_in (open_to counts) (Some backend) n
+
+pub placed_server : (counts : List Count) (backend : Backend) (places : List SlotIx) (n : ℕ) (ix : SlotIx) → IsServed counts backend places → n < length backend.servers → slice_get places n ≡ Some ix →
+    PlacedServer counts backend n ix
+placed_server counts backend places n ix served less at = by (slice_get_cases backend.servers n).1
+  where
+    by : ((server : Server) × (n < length backend.servers) × (slice_get backend.servers n ≡ Some server) × (get_or backend.servers n server ≡ server)) ⊎ ((length backend.servers ≤ n) × (slice_get backend.servers n ≡ None)) →
+        PlacedServer counts backend n ix
+    by (inl found) =
+        let its = served.slots.each n found.0 ix found.2 at in
+        record {
+          within = identity_within counts ix.place (identity_in backend found.0) its;
+          counted = ap (λ m. Some m) (open_there (identity_in backend found.0) counts ix.place served.apart its)
+              ∙ sym (ap (option_map (λ server. open_to counts (identity_in backend server))) found.2);
+        }
+    by (inr past) = let more = past.0 in absurd (omega (arith, less, more))
+
+pub server_past : (counts : List Count) (backend : Backend) (n : ℕ) → length backend.servers ≤ n → connections_in (open_to counts) (Some backend) n ≡ None
+server_past counts backend n past = ap (option_map (λ server. open_to counts (identity_in backend server))) (slice_get_past backend.servers n past)
 
 -- Servers of which one has room.
 

@@ -1,5 +1,5 @@
 -- The versions that are kept, and the open connections of their servers.
-use Rattle.std.specs.Prelude.{ℕ, Bool, List, find, slice_get, ◌≡◌, ◌==◌, Some}
+use Rattle.std.specs.Prelude.{ℕ, Bool, List, Option, find, option_and_then, option_map, slice_get, ◌≡◌, ◌==◌, Some}
 use Rattle.std.specs.List.{AllByRecursion}
 use Rattle.proxy_types.specs.declared.server.ServerIdentity.{ServerIdentity}
 use Rattle.slot_core.specs.declared.slots.Count.{Count}
@@ -10,6 +10,7 @@ use Rattle.plan_types.specs.Lines.{has_line}
 use Rattle.plan_types.specs.Sound.{IsSoundPlan}
 use Rattle.conn_model.specs.declared.plain.Version.{Version}
 use Rattle.conn_model.specs.Answer.{version_at}
+use Rattle.conn_model.specs.Servers.{identity_in}
 
 pub record VersionsValue : Type 0 where
   -- by number, the newest last
@@ -26,6 +27,11 @@ AreSound versions = AllByRecursion (λ version. IsSoundPlan version.plan) versio
 -- how many connections to a server are open
 abbrev pub open_to : List Count → ServerIdentity → ℕ
 open_to counts identity = open_of identity counts
+
+-- how many connections to the server of that number in a backend are open, by the server, if there is one
+abbrev pub connections_in : (ServerIdentity → ℕ) → Option Backend → ℕ → Option ℕ
+connections_in served backend number =
+    option_and_then (λ found. option_map (λ server. served (identity_in found server)) (slice_get found.servers number)) backend
 
 abbrev pub has_number : ℕ → Version → Bool
 has_number number version = version.number == number

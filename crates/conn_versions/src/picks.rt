@@ -5,7 +5,7 @@ ghost use Rattle.balance_core.specs.Cycles.{turn_at, IsRound};
 ghost use Rattle.balance_core.specs.Rounds.{next_turn, used_turn, weights_of};
 ghost use Rattle.conn_model.specs.Servers.{cursor_after, identity_in, pick_in, weight_of};
 ghost use Rattle.slot_core.specs.Counts.{named_at, IdentitiesDiffer};
-ghost use Rattle.conn_versions.specs.Versions.{open_to};
+ghost use Rattle.conn_versions.specs.Versions.{connections_in, open_to};
 ghost use Rattle.conn_versions.specs.Slots.{AreNamed, AreNoted, AreSlots, IsServed, KeepsPlaces};
 ghost use Rattle.conn_versions.specs.Barred.{is_barred};
 ghost use Rattle.conn_versions.specs.Picks.{IsTied};
@@ -174,6 +174,24 @@ pub fn slot_of(own: &BackendPicks, number: u16) -> SlotIx
     ensures { slice_get own.now.slots number ≡ Some result }
 {
     own.slots.as_slice()[usize::from(number)]
+}
+
+/// How many connections to the server of that number in a backend are open, if there is one.
+pub fn connections_at(
+    backend: &Backend,
+    own: &BackendPicks,
+    slots: &Slots,
+    server: u16,
+) -> Option<u64>
+    requires { IsServed slots.now backend.now own.now.slots }
+    ensures { result ≡ connections_in (open_to slots.now) (Some backend.now) server }
+{
+    let number = usize::from(server);
+    if number < backend.servers.len() {
+        Some(slots.count(slot_of(own, server)))
+    } else {
+        None
+    }
 }
 
 /// The server that was last offered.

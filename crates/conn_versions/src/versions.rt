@@ -9,6 +9,7 @@ ghost use Rattle.plan_types.specs.Sound.{IsSoundBackend, IsSoundPlan};
 ghost use Rattle.plan_types.specs.declared.plan.Backend as backends;
 ghost use Rattle.conn_model.specs.declared.plain.Version as versions;
 ghost use Rattle.conn_model.specs.Answer.{version_at};
+ghost use Rattle.conn_model.specs.Counts.{newest_backend};
 ghost use Rattle.conn_model.specs.Words.{newest, Rise};
 ghost use Rattle.conn_model.specs.History.{new_version, next_version, with_offer, with_version};
 ghost use Rattle.conn_model.specs.Tables.{written_tables};
@@ -18,12 +19,14 @@ ghost use Rattle.conn_versions.specs.Barred.{is_barred};
 ghost use Rattle.conn_versions.specs.Kept.{AreAllNoted, AreCounted, AreTied};
 ghost use Rattle.conn_versions.specs.Slots.{KeepsPlaces};
 ghost use Rattle.conn_versions.specs.declared.versions.VersionPicks.{VersionPicks};
-ghost use Rattle.conn_versions.specs.Versions.{has_number, open_to, AreSound, HasServer};
+ghost use Rattle.conn_versions.specs.Versions.{connections_in, has_number, open_to, AreSound, HasServer};
 
 use crate::barred::Barred;
 use crate::loads::item;
 use crate::opening::{cursors, table_ids};
-use crate::picks::{BackendPicks, cycle_of, note_places, pick, picks_of, slot_of, use_server};
+use crate::picks::{
+    BackendPicks, connections_at, cycle_of, note_places, pick, picks_of, slot_of, use_server,
+};
 use addr_core::Addr;
 use conn_model::plain::Version;
 use list_core::{Seq, newest};
@@ -250,6 +253,28 @@ impl Versions {
         self.slots.count_of(backend.name.as_slice(), server.name.as_slice(), &server.to)
     }
 
+    /// The same of the server of that number in the backend of that number, where the newest version has one. It is found
+    /// without a look at others.
+    pub fn connections_at(&self, backend: u16, server: u16) -> Option<u64>
+        ensures { result
+            ≡ connections_in (open_to self.now.counts)
+            (newest_backend self.now.versions backend) server }
+    {
+        let place = newest_place(self.versions.as_slice())?;
+        let number = usize::from(backend);
+        let kept = &self.versions[place];
+        let own = &self.picks[place];
+        if number >= kept.plan.backends.len() {
+            return None;
+        }
+        connections_at(
+            &kept.plan.backends.as_slice()[number],
+            &own.backends[number],
+            &self.slots,
+            server,
+        )
+    }
+
     /// How many connections were offered a server of a backend of that name.
     pub fn offered(&self, name: &[u8]) -> u64
         ensures { result ≡ open_in name.now self.now.counts }
@@ -424,6 +449,14 @@ fn place_of(versions: &[Version], number: u64) -> Option<usize>
             .binary_search_by_key(&number, |version| version.number)
             .ok(),
     }
+}
+
+/// The place of the newest version.
+fn newest_place(versions: &[Version]) -> Option<usize>
+    ensures some { IfSome result (λ place. place + 1 ≡ length versions.now) }
+    ensures none { IfNone result (versions.now ≡ []) }
+{
+    versions.len().checked_sub(1)
 }
 
 /// Whether a backend has a server of that line.

@@ -122,8 +122,8 @@ impl<'a, M: Ledger, K: Link, D: Door<Link = K>> Reception<'a, M, K, D> {
             DoorEvent::Mark(backend, server, health) => {
                 self.mark(rt, context, backend, server, health);
             }
-            DoorEvent::Status(asks) => {
-                let status = context.status(rt, asks.as_slice(), self.reloads);
+            DoorEvent::Status(question) => {
+                let status = context.status(rt, &question, self.reloads);
                 self.acceptor.door.report_status(status);
             }
             DoorEvent::Idle => context.clock.rest(),

@@ -4,7 +4,7 @@ use conn_model::ask::Ask;
 use desk_core::Opening;
 use link_core::{Clock, Gate};
 use record_core::Segment;
-use status_core::{CrewStatus, Records, Reloads, Sent, Tally, Traffic};
+use status_core::{CrewStatus, Question, Records, Reloads, Sent, Tally, Traffic};
 use std::alloc::{AllocError, Global};
 use std::sync::atomic::{AtomicU64, Ordering};
 use std::sync::ledger::Ledger;
@@ -123,14 +123,30 @@ impl Meters {
 }
 
 impl<'a, M: Ledger, O: Ledger, B: Opening, G: Gate, C: Clock> WorkerContext<'a, M, O, B, G, C> {
-    /// The state of the crew, with how many connections are open to each of these. The desk's lock is taken for each of them,
-    /// so that no worker waits for more than one.
+    /// The state of the crew, with what is asked for. The desk's lock is taken for each part of it, so that no worker waits
+    /// for more than one.
     pub(crate) fn status<R: Wait>(
         &self,
         rt: &R,
-        asks: &[Ask],
+        question: &Question,
         reloads: Reloads,
     ) -> Result<CrewStatus, AllocError> {
+        let connections = self.connections(rt, question.asks.as_slice())?;
+        let entries = self.entries(rt, question.tables)?;
+        let tally = self.meters.tally.lock(rt).copy(self.alloc)?;
+        Ok(CrewStatus {
+            connections,
+            entries,
+            versions: self.desk.versions(rt),
+            tally,
+            traffic: self.meters.traffic(),
+            records: self.meters.records(self.alert.refused()),
+            reloads,
+        })
+    }
+
+    /// How many connections are open to each of these.
+    fn connections<R: Wait>(&self, rt: &R, asks: &[Ask]) -> Result<Vec<u64>, AllocError> {
         let mut connections = Vec::with_capacity(self.alloc, asks.len())?;
         for ask in asks {
             let count = match self.desk.ask(rt, ask) {
@@ -139,13 +155,15 @@ impl<'a, M: Ledger, O: Ledger, B: Opening, G: Gate, C: Clock> WorkerContext<'a, 
             };
             connections.push(count)?;
         }
-        let tally = self.meters.tally.lock(rt).copy(self.alloc)?;
-        Ok(CrewStatus {
-            connections,
-            tally,
-            traffic: self.meters.traffic(),
-            records: self.meters.records(self.alert.refused()),
-            reloads,
-        })
+        Ok(connections)
+    }
+
+    /// How many entries of each of the first stick tables are in memory.
+    fn entries<R: Wait>(&self, rt: &R, tables: u16) -> Result<Vec<u64>, AllocError> {
+        let mut entries = Vec::with_capacity(self.alloc, usize::from(tables))?;
+        for number in 0..tables {
+            entries.push(self.desk.entries(rt, number).unwrap_or(0))?;
+        }
+        Ok(entries)
     }
 }

@@ -5,7 +5,7 @@ use Rattle.book_core.specs.Book.{after_cut, book_answer, segment_of, BookState, 
 use Rattle.book_core.specs.declared.book.CutFault.{CutFault}
 use Rattle.book_core.specs.declared.book.CutFault.TheVariants.{Nothing, Full}
 use Rattle.book_core.specs.declared.book.Receipt.{Receipt}
-use Rattle.conn_model.specs.Counts.{counts_in}
+use Rattle.conn_model.specs.Counts.{counts_in, newest_table, AreInMemory}
 use Rattle.conn_model.specs.declared.ask.Ask.{Ask}
 use Rattle.conn_model.specs.declared.ask.Counts.{Counts}
 use Rattle.conn_model.specs.declared.event.ConnId.{ConnId}
@@ -51,6 +51,18 @@ pub record IsCounted (named : Option BookState) (ask : Ask) (counts : Option Cou
   pub book : BookState
   pub legal : IsDeskBook named book
   pub is : counts ≡ counts_in book.state ask
+
+-- So many entries of the table of that number are in memory, in a book of the desk.
+pub record HasEntries (named : Option BookState) (number : ℕ) (count : Option ℕ) : Type 0 where
+  pub book : BookState
+  pub legal : IsDeskBook named book
+  pub is : AreInMemory (newest_table book.state.versions book.state.tables number) count
+
+-- So many versions are kept in a book of the desk.
+pub record HasVersions (named : Option BookState) (count : ℕ) : Type 0 where
+  pub book : BookState
+  pub legal : IsDeskBook named book
+  pub is : count ≡ length book.state.versions
 
 -- the book cannot be cut, as the fault says: it has no record in memory, or its ring no room
 abbrev pub IsCutFault : BookState → CutFault → Type 0

@@ -9,7 +9,7 @@ ghost use Rattle.conn_model.specs.Counts.{open_connections};
 ghost use Rattle.rtrb.specs.Ring.{known_free, known_items, received, sent, ConsumerLooked, IsPair, ProducerLooked, SameProducer};
 ghost use Rattle.desk_core.specs.declared.desk.TheConstants.{CALL_PARTS};
 ghost use Rattle.desk_core.specs.Books.{IsOf, MomentsRise};
-ghost use Rattle.desk_core.specs.Calls.{open_id, IsAnswered, IsCounted, IsCut, IsMarked, IsNotCut, IsRefused, IsReloaded};
+ghost use Rattle.desk_core.specs.Calls.{open_id, HasEntries, HasVersions, IsAnswered, IsCounted, IsCut, IsMarked, IsNotCut, IsRefused, IsReloaded};
 
 use crate::counted::CountedBook;
 use crate::desk_state::DeskState;
@@ -144,6 +144,20 @@ impl<M: Ledger, O: Ledger, B: Opening> SharedDesk<M, O, B> {
         ensures { IsCounted B.opening ask.now result }
     {
         self.desk_state.lock(rt).counts(ask)
+    }
+
+    /// How many entries of the stick table of that number in the newest version are in memory, if there is such a table.
+    pub fn entries<R: Wait>(&self, rt: &R, number: u16) -> Option<u64>
+        ensures { HasEntries B.opening number result }
+    {
+        self.desk_state.lock(rt).entries(number)
+    }
+
+    /// How many versions are kept: the newest, and each that judges an open connection.
+    pub fn versions<R: Wait>(&self, rt: &R) -> u64
+        ensures { HasVersions B.opening result }
+    {
+        self.desk_state.lock(rt).versions()
     }
 }
 

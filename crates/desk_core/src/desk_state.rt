@@ -6,7 +6,7 @@ ghost use Rattle.conn_model.specs.History.{owned_event};
 ghost use Rattle.conn_model.specs.declared.event.OwnedEvent.TheVariants as owned;
 ghost use Rattle.conn_model.specs.declared.reply.Said.TheVariants.{Closed};
 ghost use Rattle.conn_model.specs.Counts.{open_connections};
-ghost use Rattle.desk_core.specs.Calls.{open_id, IsAnswered, IsCounted, IsCut, IsMarked, IsNotCut, IsRefused, IsReloaded};
+ghost use Rattle.desk_core.specs.Calls.{open_id, HasEntries, HasVersions, IsAnswered, IsCounted, IsCut, IsMarked, IsNotCut, IsRefused, IsReloaded};
 
 use crate::counted::CountedBook;
 use crate::lease::{Drive, DriveResult, Lease};
@@ -209,5 +209,19 @@ impl<M: Ledger, O: Ledger, B: Opening> DeskState<M, O, B> {
     {
         self.counted.attest();
         self.counted.book.counts(ask)
+    }
+
+    pub(crate) fn entries(&self, number: u16) -> Option<u64>
+        ensures { HasEntries B.opening number result }
+    {
+        self.counted.attest();
+        self.counted.book.entries(number)
+    }
+
+    pub(crate) fn versions(&self) -> u64
+        ensures { HasVersions B.opening result }
+    {
+        self.counted.attest();
+        self.counted.book.versions()
     }
 }

@@ -1,7 +1,7 @@
 -- What lines begin with.
-use Rattle.std.proofs.Common.{◌≡◌, ℕ, suc, ◌+◌, ◌-◌, ◌*◌, ◌^◌, ◌<◌, ◌≤◌, Bool, true, false, List, [], ◌∷◌, ◌++◌, Option, Some, None, length, take, drop, get_or, refl, ◌∙◌, sym, ap, arith}
-use Rattle.std.specs.Prelude.{◌↔◌, codes, option_map, IsTrue}
-use Rattle.std.specs.List.{list_all}
+use Rattle.std.proofs.Common.{◌≡◌, ℕ, suc, ◌+◌, ◌-◌, ◌*◌, ◌^◌, ◌<◌, ◌≤◌, Bool, true, false, List, [], ◌∷◌, ◌++◌, Option, Some, None, length, take, drop, get_or, refl, ◌∙◌, sym, ap, arith, append_assoc}
+use Rattle.std.specs.Prelude.{◌↔◌, ◌≢◌, codes, option_map, IsTrue}
+use Rattle.std.specs.List.{join_with_byte, list_all}
 use Rattle.std.specs.Str.{bytes_eq}
 use Rattle.std.proofs.lemmas.Bool.Decides.{same_from_decides}
 use Rattle.std.proofs.lemmas.Slice.Eq.{bytes_eq-Decides}
@@ -12,7 +12,7 @@ use Rattle.std.proofs.lemmas.List.{take-append-drop, take_all, take_rest, length
 use Rattle.text_core.specs.Decimal.{decimal, decimal_of, has_leading_zero, value_of}
 use Rattle.text_core.proofs.DecimalLemmas.{decimal-value_of, decimal_of_written}
 use Rattle.text_core.proofs.CutLemmas.{split_first}
-use Rattle.std.proofs.lemmas.List.Splits.{slice_split_at, slice_split_none}
+use Rattle.std.proofs.lemmas.List.Splits.{join_with_byte-slice_split, slice_split_at, slice_split_none}
 use Rattle.addr_core.specs.PairValue.{PairValue}
 use Rattle.addr_core.specs.Family.{same_family}
 use Rattle.addr_core.specs.Text.{endpoint_text, IsEndpoint}
@@ -180,6 +180,24 @@ connected_verb text rest is = sym (ap (λ t. event_after (words_of t)) is)
 
 pub close_verb : (text rest : List ℕ) → text ≡ codes "close " ++ rest → close_of (words_of rest) ≡ event_after (words_of text)
 close_verb text rest is = sym (ap (λ t. event_after (words_of t)) is)
+
+-- a text that does not begin with a verb and a space has another first word
+pub other_verb : (text verb rest word : List ℕ) → words_of text ≡ verb ∷ words_of rest → take (length (word ++ 0x20 ∷ [])) text ≢ word ++ 0x20 ∷ [] → bytes_eq verb word ≡ false
+other_verb text verb rest word cut begins = by (bytes_eq verb word) refl
+  where
+    take_front : (xs ys : List ℕ) → take (length xs) (xs ++ ys) ≡ xs
+    take_front [] ys = refl
+    take_front (x ∷ xs) ys = ap (λ zs. x ∷ zs) (take_front xs ys)
+
+    by : (b : Bool) → bytes_eq verb word ≡ b → bytes_eq verb word ≡ false
+    by false is = is
+    by true is =
+        let same : verb ≡ word = (bytes_eq-Decides verb word).0 is in
+        let parts = split_first (is_mark 0x20) rest in
+        let more : List ℕ = join_with_byte 0x20 (parts.0 ∷ parts.1) in
+        let whole : text ≡ word ++ 0x20 ∷ more =
+        sym (join_with_byte-slice_split 0x20 text) ∙ ap (λ words. join_with_byte 0x20 words) (cut ∙ ap (λ v. v ∷ words_of rest) same ∙ ap (λ words. word ∷ words) parts.2) in
+        absurd (begins (ap (λ t. take (length (word ++ 0x20 ∷ [])) t) (whole ∙ sym (append_assoc word (0x20 ∷ []) more)) ∙ take_front (word ++ 0x20 ∷ []) more))
 
 no_event : (verb : List ℕ) (words : List (List ℕ)) → event_by_verb (114 ∷ verb) words ≡ None
 no_event verb [] = refl

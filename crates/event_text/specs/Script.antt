@@ -1,5 +1,5 @@
 -- Scripts: the lines that hand in events, and those that ask for counts.
-use Rattle.std.specs.Prelude.{ℕ, Bool, ◌<◌, ◌/◌, ◌-◌, ◌==◌, ◌&&◌, ◌||◌, nat_le, nat_lt, List, [], ◌∷◌, ◌++◌, length, map, take, codes, Option, Some, None, option_map, if◌then◌else◌}
+use Rattle.std.specs.Prelude.{◌≡◌, ℕ, Bool, false, ◌<◌, ◌/◌, ◌-◌, ◌==◌, ◌&&◌, ◌||◌, nat_le, nat_lt, List, [], ◌∷◌, ◌++◌, length, map, take, codes, Option, Some, None, option_map, if◌then◌else◌}
 use Rattle.std.specs.List.{flat_map, join_with_byte, list_any, slice_split}
 use Rattle.std.specs.Result.{result_ok}
 use Rattle.std.specs.Str.{bytes_eq, is_utf8}
@@ -206,6 +206,13 @@ event_by_verb verb words =
     else if bytes_eq verb (codes "close") then close_of words
     else if bytes_eq verb (codes "server") then mark_of words
     else bare_event_of verb words
+
+-- it is none of the verbs that each connection has
+pub record IsRareVerb (verb : List ℕ) : Type 0 where
+  pub accept : bytes_eq verb (codes "accept") ≡ false
+  pub piece : bytes_eq verb (codes "piece") ≡ false
+  pub connected : bytes_eq verb (codes "connected") ≡ false
+  pub close : bytes_eq verb (codes "close") ≡ false
 
 -- What the first line of an event says: all of the event with its moment, or a reload at a moment, whose text is on so
 -- many lines after it.

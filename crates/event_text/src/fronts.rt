@@ -1,6 +1,6 @@
 //! What lines mostly begin with, read in one pass: words, numbers, names of connections, and endpoints of IPv4. What is
 //! not found here is read elsewhere.
-ghost use Rattle.std.specs.Prelude.{◌≡◌, ◌↔◌, ◌<◌, ◌^◌, ◌≤◌, ◌++◌, ◌∷◌, codes, length, take, true, IfSome, IsTrue};
+ghost use Rattle.std.specs.Prelude.{◌≡◌, ◌≢◌, ◌↔◌, ◌<◌, ◌^◌, ◌≤◌, ◌++◌, ◌∷◌, codes, length, take, true, IfSome, IfNone, IsTrue};
 ghost use Rattle.addr_core.specs.Family.{same_family};
 ghost use Rattle.std.specs.Str.{bytes_eq};
 ghost use Rattle.text_core.specs.Decimal.{decimal};
@@ -43,7 +43,8 @@ pub fn is_word(word: &[u8], text: &[u8]) -> bool
 /// The text after a front, if it begins so.
 #[inline(always)]
 pub fn after<'a>(text: &'a [u8], front: &[u8]) -> Option<&'a [u8]>
-    ensures { IfSome result (λ rest. text.now ≡ front.now ++ rest.now) }
+    ensures some { IfSome result (λ rest. text.now ≡ front.now ++ rest.now) }
+    ensures none { IfNone result (take (length front.now) text.now ≢ front.now) }
 {
     if !begins(text, front) {
         return None;

@@ -1,12 +1,12 @@
 //! Scripts: the lines that hand in events, and those that ask for counts.
-ghost use Rattle.std.specs.Prelude.{◌≡◌, ◌==◌, ◌∷◌, ◌<◌, ◌≤◌, ◌^◌, ℕ, List, [], length, codes, take, IfSome, IfNone, option_map};
+ghost use Rattle.std.specs.Prelude.{◌≡◌, ◌==◌, ◌∷◌, ◌<◌, ◌≤◌, ◌^◌, ℕ, false, List, [], length, codes, take, IfSome, IfNone, option_map};
 ghost use Rattle.std.specs.Str.{bytes_eq};
 ghost use Rattle.conn_model.specs.declared.event.OwnedEvent.{OwnedEvent};
 ghost use Rattle.conn_model.specs.declared.event.TheConstants.{PIECE_LIMIT};
 ghost use Rattle.conn_model.specs.History.{owned_event};
 ghost use Rattle.event_text.specs.Fronts.{ends_in, event_after, head_after, id_alone, id_first, number_first};
 ghost use Rattle.conn_model.specs.HandedIn.{HasPieceInLimit, IsHandedIn};
-ghost use Rattle.event_text.specs.Script.{accept_of, ask_of, backend_asked, bare_event_of, bytes_of, close_of, ends_of, entry_asked, event_line, event_by_verb, event_on, event_read, frontend_asked, head_by_verb, head_of, head_read, head_written, id_of, piece_of, reload_of, server_asked, wanted, wanted_of, why_of, words_of, HasLines, EventHead, IsCounted, Wanted, health_of, mark_of};
+ghost use Rattle.event_text.specs.Script.{accept_of, ask_of, backend_asked, bare_event_of, bytes_of, close_of, ends_of, entry_asked, event_line, event_by_verb, event_on, event_read, frontend_asked, head_by_verb, head_of, head_read, head_written, id_of, piece_of, reload_of, server_asked, wanted, wanted_of, why_of, words_of, HasLines, EventHead, IsCounted, IsRareVerb, Wanted, health_of, mark_of};
 
 use crate::digits::read_hex;
 use crate::fronts::{after, id, id_before, is_word, number_before, pair};
@@ -234,13 +234,11 @@ fn read_mark(rest: &[u8]) -> Option<EventRequest>
     Some(EventRequest::Mark(backend as u16, server as u16, health))
 }
 
-/// The event of a verb that takes the name of a connection and no more.
+/// The event of another verb than `connected` that takes the name of a connection and no more.
 fn event_on(verb: &[u8], id: ConnId) -> Option<EventRequest>
+    requires { bytes_eq verb.now (codes "connected") ≡ false }
     ensures { (buffer : List ℕ) → option_map (event_read buffer) result ≡ event_on verb.now id }
 {
-    if is(verb, b"connected") {
-        return Some(EventRequest::Connected(id));
-    }
     if is(verb, b"failed") {
         return Some(EventRequest::ConnectFailed(id));
     }
@@ -251,6 +249,7 @@ fn event_on(verb: &[u8], id: ConnId) -> Option<EventRequest>
 }
 
 fn read_bare_event(verb: &[u8], rest: &[u8]) -> Option<EventRequest>
+    requires { bytes_eq verb.now (codes "connected") ≡ false }
     ensures { (buffer : List ℕ) → option_map (event_read buffer) result ≡ bare_event_of verb.now (words_of rest.now) }
 {
     let id = only_id(rest)?;
@@ -284,20 +283,12 @@ fn read_piece(rest: &[u8], buffer: &mut [u8]) -> Option<EventRequest>
     Some(EventRequest::Piece(id, length))
 }
 
-fn read_event_words(verb: &[u8], rest: &[u8], buffer: &mut [u8]) -> Option<EventRequest>
-    requires { length buffer.old ≡ PIECE_LIMIT }
-    ensures event { option_map (event_read buffer.new) result ≡ event_by_verb verb.now (words_of rest.now) }
-    ensures room { length buffer.new ≡ length buffer.old }
+/// The event of a verb that few connections have.
+fn read_rare_event(verb: &[u8], rest: &[u8]) -> Option<EventRequest>
+    requires { IsRareVerb verb.now }
+    ensures { (buffer : List ℕ) → option_map (event_read buffer) result
+        ≡ event_by_verb verb.now (words_of rest.now) }
 {
-    if is(verb, b"accept") {
-        return read_accept(rest);
-    }
-    if is(verb, b"piece") {
-        return read_piece(rest, buffer);
-    }
-    if is(verb, b"close") {
-        return read_close(rest);
-    }
     if is(verb, b"server") {
         return read_mark(rest);
     }
@@ -345,7 +336,7 @@ fn event_after(text: &[u8], buffer: &mut [u8]) -> Option<EventRequest>
         return read_close(rest);
     }
     let (verb, rest) = cut_word(text)?;
-    read_event_words(verb, rest, buffer)
+    read_rare_event(verb, rest)
 }
 
 /// What a line says after its moment. No verb but that of a reload begins with its first byte.

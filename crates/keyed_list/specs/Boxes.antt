@@ -1,5 +1,6 @@
 -- Places with keys, in which items lie in boxes until they are taken out.
 use Rattle.std.specs.Prelude.{ℕ, List, [], ◌∷◌, map, Option, Some, None}
+use Rattle.std.specs.Global.{Box}
 use Rattle.std.specs.Option.{option_map}
 
 -- entries of a tree, as places of which none is empty
@@ -20,3 +21,7 @@ module _ {T : Type 0} where
   abbrev pub entries_in : List (ℕ × Option T) → List (ℕ × T)
   entries_in [] = []
   entries_in (p ∷ ps) = with_first p.0 p.1 (entries_in ps)
+
+  -- those of boxes
+  abbrev pub entries_of : List (ℕ × Option (Box T)) → List (ℕ × T)
+  entries_of places = entries_in (opened_by (λ own. own.value) places)

@@ -2,7 +2,7 @@
 ghost use Rattle.std.specs.Prelude.{ℕ};
 ghost use Rattle.std.specs.Iterator.{YieldsFirstBy, item_count};
 ghost use Rattle.std.specs.Slice.Iter.{iter_rest};
-ghost use Rattle.keyed_list.specs.Boxes.{entries_in, opened_by};
+ghost use Rattle.keyed_list.specs.Boxes.{entries_of};
 
 use std::collections::btree_map;
 use std::marker::Model;
@@ -18,11 +18,11 @@ pub struct Iter<'a, T> {
 impl<'a, T> Model for Iter<'a, T> {
     ghost use Rattle.std.specs.Prelude.{ℕ, List, ◌++◌};
     ghost use Rattle.std.specs.Slice.Iter.{iter_rest};
-    ghost use Rattle.keyed_list.specs.Boxes.{entries_in, opened_by, settled};
+    ghost use Rattle.keyed_list.specs.Boxes.{entries_of, settled};
 
     ghost Value = { List (ℕ × T) };
 
-    ghost view = { λ it. entries_in (opened_by (λ own. own.value) (settled it.tree ++ iter_rest it.places)) };
+    ghost view = { λ it. entries_of (settled it.tree ++ iter_rest it.places) };
 }
 
 impl<'a, T> Iterator for Iter<'a, T> {
@@ -42,7 +42,7 @@ impl<'a, T> Iterator for Iter<'a, T> {
 
 /// The next item of places, with its key.
 fn next_item<'a, T>(places: &mut slice::Iter<'a, (u64, Option<Box<T>>)>) -> Option<(u64, &'a T)>
-    ensures { YieldsFirstBy (λ item. (item.0, item.1.now)) (λ rest. entries_in (opened_by (λ own. own.value) (iter_rest rest))) places.old result places.new }
+    ensures { YieldsFirstBy (λ item. (item.0, item.1.now)) (λ rest. entries_of (iter_rest rest)) places.old result places.new }
 {
     while let Some((key, own)) = places.next() {
         if let Some(own) = own {

@@ -39,14 +39,14 @@ pub struct KeyedList<T> {
 impl<T> Model for KeyedList<T> {
     ghost use Rattle.std.specs.Prelude.{ℕ, List, ◌++◌};
     ghost use Rattle.std.specs.Coded.{coded_list, coded×, coded_ℕ};
-    ghost use Rattle.keyed_list.specs.Boxes.{entries_in, opened_by, settled};
+    ghost use Rattle.keyed_list.specs.Boxes.{entries_of, settled};
     ghost use Rattle.keyed_list.specs.Kept.{AreKeptPlaces};
 
     ghost Value = { List (ℕ × T) };
 
     ghost coded = { coded_list (coded× coded_ℕ T.code) };
 
-    ghost view = { λ l. entries_in (opened_by (λ own. own.value) (settled l.tree.entries ++ l.places.items)) };
+    ghost view = { λ l. entries_of (settled l.tree.entries ++ l.places.items) };
 
     ghost invariant = { λ l. AreKeptPlaces (λ own. own.value) (settled l.tree.entries) l.places.items l.count };
 }

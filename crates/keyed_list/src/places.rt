@@ -4,7 +4,7 @@ ghost use Rattle.std.specs.List.{AllByRecursion};
 ghost use Rattle.std.specs.Vec.Iter.{into_iter_items};
 ghost use Rattle.std.specs.declared.boxed.Box.{Box};
 ghost use Rattle.std.specs.declared.alloc.Global.{Global};
-ghost use Rattle.keyed_list.specs.Boxes.{entries_in, opened_by, settled};
+ghost use Rattle.keyed_list.specs.Boxes.{entries_of, settled};
 ghost use Rattle.keyed_list.specs.Entries.{Rise};
 
 use std::alloc::Global;
@@ -36,7 +36,7 @@ pub fn place_of<T>(places: &[(u64, Option<Box<T>>)], key: u64) -> Option<usize>
 
 /// Takes the last item out, with its place and the empty ones after it.
 pub fn take_last<T>(places: &mut Vec<(u64, Option<Box<T>>)>) -> Option<(u64, Box<T>)>
-    ensures entries { entries_in (opened_by (λ own. own.value) places.old.items) ≡ entries_in (opened_by (λ own. own.value) places.new.items) ++ option_to_list (option_map (λ e. (e.0, e.1.value)) result) }
+    ensures entries { entries_of places.old.items ≡ entries_of places.new.items ++ option_to_list (option_map (λ e. (e.0, e.1.value)) result) }
     ensures rise { (far : List (ℕ × Option (Box T Global))) → Rise (λ p. p.0) (far ++ places.old.items) → Rise (λ p. p.0) (far ++ (places.new.items ++ option_to_list (option_map (λ e. (e.0, Some e.1)) result))) }
     ensures room { IfSome result (λ _. vec_len places.new < vec_capacity places.new) }
     ensures none { IfNone result (vec_len places.new ≡ 0) }
@@ -52,9 +52,9 @@ pub fn take_last<T>(places: &mut Vec<(u64, Option<Box<T>>)>) -> Option<(u64, Box
 /// Forgets the empty places after the last item. It takes no memory.
 pub fn trim<T>(places: &mut Vec<(u64, Option<Box<T>>)>)
     requires { Rise (λ p. p.0) places.old.items }
-    ensures entries { entries_in (opened_by (λ own. own.value) places.new.items) ≡ entries_in (opened_by (λ own. own.value) places.old.items) }
+    ensures entries { entries_of places.new.items ≡ entries_of places.old.items }
     ensures rise { (far : List (ℕ × Option (Box T Global))) → Rise (λ p. p.0) (far ++ places.old.items) → Rise (λ p. p.0) (far ++ places.new.items) }
-    ensures below { (key : ℕ) → AllByRecursion (λ e. e.0 < key) (entries_in (opened_by (λ own. own.value) places.new.items)) → AllByRecursion (λ p. p.0 < key) places.new.items }
+    ensures below { (key : ℕ) → AllByRecursion (λ e. e.0 < key) (entries_of places.new.items) → AllByRecursion (λ p. p.0 < key) places.new.items }
 {
     if let Some((key, own)) = take_last(places) {
         places.push_reserved((key, Some(own)));
@@ -65,8 +65,8 @@ pub fn trim<T>(places: &mut Vec<(u64, Option<Box<T>>)>)
 /// larger than they need, so that both time and memory follow the number of items. If memory is refused, all stays as it
 /// is.
 pub fn close_up<T>(alloc: Global, places: &mut Vec<(u64, Option<Box<T>>)>, count: usize)
-    requires { count ≡ length (entries_in (opened_by (λ own. own.value) places.old.items)) }
-    ensures entries { entries_in (opened_by (λ own. own.value) places.new.items) ≡ entries_in (opened_by (λ own. own.value) places.old.items) }
+    requires { count ≡ length (entries_of places.old.items) }
+    ensures entries { entries_of places.new.items ≡ entries_of places.old.items }
     ensures rise { (far : List (ℕ × Option (Box T Global))) → Rise (λ p. p.0) (far ++ places.old.items) → Rise (λ p. p.0) (far ++ places.new.items) }
 {
     let most = count.saturating_mul(2).saturating_add(FEW);
@@ -89,10 +89,10 @@ pub fn settle<T>(
     count: usize,
 ) -> usize
     requires rise { Rise (λ p. p.0) (settled tree.old.entries ++ places.old.items) }
-    requires count { count ≡ length (entries_in (opened_by (λ own. own.value) places.old.items)) }
-    ensures entries { entries_in (opened_by (λ own. own.value) (settled tree.new.entries ++ places.new.items)) ≡ entries_in (opened_by (λ own. own.value) (settled tree.old.entries ++ places.old.items)) }
+    requires count { count ≡ length (entries_of places.old.items) }
+    ensures entries { entries_of (settled tree.new.entries ++ places.new.items) ≡ entries_of (settled tree.old.entries ++ places.old.items) }
     ensures rise { Rise (λ p. p.0) (settled tree.new.entries ++ places.new.items) }
-    ensures count { result ≡ length (entries_in (opened_by (λ own. own.value) places.new.items)) }
+    ensures count { result ≡ length (entries_of places.new.items) }
 {
     let most = count.saturating_mul(2).saturating_add(FEW);
     let Ok(mut kept) = Vec::with_capacity(alloc, most) else {
@@ -114,11 +114,11 @@ fn settle_first<T>(
 ) -> usize
     requires rise { Rise (λ p. p.0) (settled tree.old.entries ++ into_iter_items rest.old) }
     requires empty { vec_len to.old ≡ 0 }
-    requires room { length (entries_in (opened_by (λ own. own.value) (into_iter_items rest.old))) ≤ vec_capacity to.old }
-    ensures entries { entries_in (opened_by (λ own. own.value) (settled tree.new.entries ++ (to.new.items ++ into_iter_items rest.new))) ≡ entries_in (opened_by (λ own. own.value) (settled tree.old.entries ++ into_iter_items rest.old)) }
+    requires room { length (entries_of (into_iter_items rest.old)) ≤ vec_capacity to.old }
+    ensures entries { entries_of (settled tree.new.entries ++ (to.new.items ++ into_iter_items rest.new)) ≡ entries_of (settled tree.old.entries ++ into_iter_items rest.old) }
     ensures rise { Rise (λ p. p.0) (settled tree.new.entries ++ (to.new.items ++ into_iter_items rest.new)) }
-    ensures count { result + length (entries_in (opened_by (λ own. own.value) (to.new.items ++ into_iter_items rest.new))) ≡ length (entries_in (opened_by (λ own. own.value) (into_iter_items rest.old))) }
-    ensures room { vec_len to.new + length (entries_in (opened_by (λ own. own.value) (into_iter_items rest.new))) ≤ vec_capacity to.new }
+    ensures count { result + length (entries_of (to.new.items ++ into_iter_items rest.new)) ≡ length (entries_of (into_iter_items rest.old)) }
+    ensures room { vec_len to.new + length (entries_of (into_iter_items rest.new)) ≤ vec_capacity to.new }
 {
     let mut moved = 0;
     for _place in 0..BATCH {
@@ -147,8 +147,8 @@ fn move_items<T>(
     mut rest: vec::IntoIter<(u64, Option<Box<T>>)>,
     to: &mut Vec<(u64, Option<Box<T>>)>,
 )
-    requires { vec_len to.old + length (entries_in (opened_by (λ own. own.value) (into_iter_items rest))) ≤ vec_capacity to.old }
-    ensures entries { entries_in (opened_by (λ own. own.value) to.new.items) ≡ entries_in (opened_by (λ own. own.value) (to.old.items ++ into_iter_items rest)) }
+    requires { vec_len to.old + length (entries_of (into_iter_items rest)) ≤ vec_capacity to.old }
+    ensures entries { entries_of to.new.items ≡ entries_of (to.old.items ++ into_iter_items rest) }
     ensures rise { (far : List (ℕ × Option (Box T Global))) → Rise (λ p. p.0) (far ++ (to.old.items ++ into_iter_items rest)) → Rise (λ p. p.0) (far ++ to.new.items) }
 {
     while let Some((key, own)) = rest.next() {

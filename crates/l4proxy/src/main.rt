@@ -110,6 +110,7 @@ fn main(rt: HostRuntime) -> ExitCode {
         mut door,
         commands,
         dials,
+        checker,
         watch,
     } = setup;
     let Watch {
@@ -123,13 +124,19 @@ fn main(rt: HostRuntime) -> ExitCode {
         first,
     };
     // What goes to a thread is made here, where the runtime is known. The reader of standard input is not waited for:
-    // it may be in a read when the crew ends for another cause. Nor is the thread that answers requests for the state.
+    // it may be in a read when the crew ends for another cause. Nor are the checker, which ends once the door is gone, and
+    // the thread that answers requests for the state.
     let ServeWords { file, workers, .. } = words;
     let reader = match rt.clone() {
         Ok(handle) => thread::spawn(&rt, move || {
             input::read_words(&handle, file.as_str(), commands, questions)
         })
         .is_ok(),
+        Err(_) => false,
+    };
+    let mut checker = checker;
+    let is_checking = match rt.clone() {
+        Ok(handle) => thread::spawn(&rt, move || checker.run(&handle)).is_ok(),
         Err(_) => false,
     };
     let is_answering = match listener {
@@ -142,7 +149,7 @@ fn main(rt: HostRuntime) -> ExitCode {
         },
         None => true,
     };
-    if !reader || !is_answering {
+    if !reader || !is_checking || !is_answering {
         book.end();
         return ExitCode::from(serve::fail(&rt, &CrewFault::Spawn));
     }

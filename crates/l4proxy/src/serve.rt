@@ -17,8 +17,8 @@ use log::Log;
 use record_core::Segment;
 use rtrb::Consumer;
 use socket_core::{
-    CommandSender, DialFault, DoorPlan, Listeners, SocketDial, SocketDoor, SocketLink, StatusAsker,
-    SystemClock, listen, make_dials,
+    Checker, CommandSender, DialFault, DoorPlan, Listeners, SocketDial, SocketDoor, SocketLink,
+    StatusAsker, SystemClock, listen, make_dials,
 };
 use status_core::{CrewStatus, Outline};
 use std::alloc::{AllocError, Global};
@@ -42,6 +42,7 @@ pub struct ServeSetup<'a, R: Net + Log + rt::Clock> {
     pub door: SocketDoor<'a, R, SystemClock<'a, R>>,
     pub commands: CommandSender,
     pub dials: Vec<SocketDial<'a, R>>,
+    pub checker: Checker,
     pub watch: Watch,
 }
 
@@ -61,6 +62,7 @@ struct ServeSockets<'a, R: Net + Log + rt::Clock> {
     door: SocketDoor<'a, R, SystemClock<'a, R>>,
     commands: CommandSender,
     dials: Vec<SocketDial<'a, R>>,
+    checker: Checker,
     watch: Watch,
 }
 
@@ -148,7 +150,7 @@ fn open_files<R: Files + AllocGlobal>(rt: &R) -> Option<u64> {
 }
 
 /// How many connections may be open at one time: each takes two descriptors, beside those of the listeners, of the
-/// workers' and the door's polls with their wakers, one for the check of each server, those of `--stats`, and some for all
+/// workers', the door's and the checker's polls with their wakers, one for the check of each server, those of `--stats`, and some for all
 /// else.
 fn most_connections<R: Files + AllocGlobal>(
     rt: &R,
@@ -156,7 +158,7 @@ fn most_connections<R: Files + AllocGlobal>(
     checks: usize,
     words: &ServeWords,
 ) -> u64 {
-    let polls = u64::from(words.workers).saturating_add(1).saturating_mul(2);
+    let polls = u64::from(words.workers).saturating_add(2).saturating_mul(2);
     let stats = if words.stats.is_some() {
         STATS_FILES
     } else {
@@ -226,7 +228,9 @@ fn open_sockets<'a, R: Files + Net + Log + rt::Clock + AllocGlobal + Eprint>(
     let listeners = bind(rt, book)?;
     let (plan, first) = open_plan(rt, book)?;
     let most = most_connections(rt, listeners.len(), plan.checks.len(), words);
-    let (mut door, commands) = match SocketDoor::new(rt, alloc, clock, listeners, plan, most) {
+    let (mut door, commands, checker) = match SocketDoor::new(
+        rt, alloc, clock, listeners, plan, most,
+    ) {
         Ok(opened) => opened,
         Err(fault) => return Err(fail(rt, &fault)),
     };
@@ -238,6 +242,7 @@ fn open_sockets<'a, R: Files + Net + Log + rt::Clock + AllocGlobal + Eprint>(
             door,
             commands,
             dials,
+            checker,
             watch,
         }),
         Err(fault) => Err(fail(rt, &fault)),
@@ -263,6 +268,7 @@ pub fn open<'a, R: Files + Net + Log + rt::Clock + AllocGlobal + Eprint>(
                 door,
                 commands,
                 dials,
+                checker,
                 watch,
             } = sockets;
             Ok(ServeSetup {
@@ -271,6 +277,7 @@ pub fn open<'a, R: Files + Net + Log + rt::Clock + AllocGlobal + Eprint>(
                 door,
                 commands,
                 dials,
+                checker,
                 watch,
             })
         }

@@ -3,11 +3,10 @@
 ghost use Rattle.std.specs.Prelude.{◌≡◌};
 
 use addr_core::{Endpoint, Pair};
-use conn_model::ask::Ask;
 use conn_model::event::Health;
 use conn_model::reply::{Reply, StepFault};
 use device_core::{Input, Output};
-use status_core::CrewStatus;
+use status_core::{CrewStatus, Question};
 use std::alloc::AllocError;
 
 /// A connection of bytes that does not wait: where nothing can be read or written at this moment, a call is blocked.
@@ -32,8 +31,8 @@ pub enum DoorEvent<K> {
     Reload(String),
     /// A server is down or up from now on: the numbers of its backend in the newest configuration and of it in its backend.
     Mark(u16, u16, Health),
-    /// Somebody asks for the state of the crew, with how many connections are open to each of these.
-    Status(Vec<Ask>),
+    /// Somebody asks for the state of the crew.
+    Status(Question),
     /// Nothing came. The door may have waited before it said so.
     Idle,
     /// Nothing will come any more.

@@ -1,6 +1,7 @@
 //! The door: connections of the listeners, the commands of an operator, and questions for the state.
 use crate::alarm::Alarm;
-use crate::checks::{Checks, HealthChange};
+use crate::checker::Checker;
+use crate::checks::{Checks, HealthChange, make_checks};
 use crate::commands::{Command, CommandSender, MOST_COMMANDS};
 use crate::door_plan::DoorPlan;
 use crate::fd_budget::{FdBudget, FdPermit};
@@ -9,14 +10,13 @@ use crate::listeners::{ListenFault, Listeners};
 use crate::pace::Pace;
 use crate::ports::{AcceptResult, Ports};
 use crate::status_line::{StatusAnswer, StatusAsker, StatusEnd, status_line};
-use conn_model::ask::Ask;
 use conn_model::event::Health;
 use conn_model::reply::{Reply, Said, StepFault};
 use link_core::{Backlog, Clock, Door, DoorEvent};
 use log::{Log, info, warn};
 use mio::Waker;
 use rtrb::{Consumer, RingBuffer};
-use status_core::{CrewStatus, Outline, ProxyStatus};
+use status_core::{CrewStatus, Outline, ProxyStatus, Question};
 use std::alloc::{AllocError, Global};
 use std::net::Net;
 use std::sync::Arc;
@@ -25,9 +25,6 @@ use std::{io, str};
 /// How long the door waits for a next_event, and how long it accepts nothing after the system refused to give a connection,
 /// in ms.
 const WAIT: u64 = 100;
-
-/// How often the checks of servers are looked after while connections keep coming, in ms.
-const TEND: u64 = 1;
 
 /// How long the door waits where nothing is accepted after the system refused to give a connection, in ms.
 const PAUSE: u64 = 10;
@@ -63,8 +60,6 @@ pub struct SocketDoor<'a, R: Log, C: Clock> {
     /// How many lost segments of the record were reported.
     segments: u64,
     checks: Checks,
-    /// When the checks were last looked after.
-    tended: u64,
     /// What is known of the configuration that was handed out last.
     next_plan: Option<DoorPlan>,
     /// The sections of the configuration in force, and the number of its version.
@@ -77,8 +72,8 @@ pub struct SocketDoor<'a, R: Log, C: Clock> {
 }
 
 impl<'a, R: Log + Net, C: Clock> SocketDoor<'a, R, C> {
-    /// A door over these listeners for the first configuration, of which it knows that, and the sender by which commands
-    /// come to it. No more than `most` connections are open at one time.
+    /// A door over these listeners for the first configuration, of which it knows that, the sender by which commands come to
+    /// it, and what checks servers for it in another thread. No more than `most` connections are open at one time.
     pub fn new(
         rt: &'a R,
         alloc: Global,
@@ -86,13 +81,17 @@ impl<'a, R: Log + Net, C: Clock> SocketDoor<'a, R, C> {
         listeners: Listeners,
         plan: DoorPlan,
         most: u64,
-    ) -> Result<(SocketDoor<'a, R, C>, CommandSender), ListenFault> {
+    ) -> Result<(SocketDoor<'a, R, C>, CommandSender, Checker), ListenFault> {
         let ports = Ports::new(rt, alloc, listeners)?;
         let waker = ports.waker(alloc)?;
         let (to_door, commands) = RingBuffer::new(alloc, MOST_COMMANDS)?;
         let sender = CommandSender::new(to_door, Arc::try_clone(&waker)?);
         let budget = FdBudget::new(most, Arc::try_clone(&waker)?);
-        let DoorPlan { checks, outline } = plan;
+        let DoorPlan {
+            checks: checked,
+            outline,
+        } = plan;
+        let (checks, checker) = make_checks(rt, alloc, Arc::try_clone(&waker)?)?;
         let mut door = SocketDoor {
             rt,
             alloc,
@@ -114,16 +113,15 @@ impl<'a, R: Log + Net, C: Clock> SocketDoor<'a, R, C> {
             unwritten: Pace::new(),
             unmarked: Pace::new(),
             segments: 0,
-            checks: Checks::new(alloc),
-            tended: 0,
+            checks,
             next_plan: None,
             outline,
             version: 1,
             askers: Vec::new(alloc),
             asked: None,
         };
-        door.checks.put_in_force(checks, clock.now())?;
-        Ok((door, sender))
+        door.checks.put_in_force(checked)?;
+        Ok((door, sender, checker))
     }
 }
 
@@ -245,30 +243,6 @@ impl<'a, R: Log + Net, C: Clock> SocketDoor<'a, R, C> {
         }
     }
 
-    /// Begins the checks that are due, and takes what came of others, now and then while connections keep coming.
-    fn tend_checks(&mut self) {
-        if self.checks.is_empty() {
-            return;
-        }
-        let now = self.clock.now();
-        if now.saturating_sub(self.tended) >= TEND {
-            self.tended = now;
-            self.ports.begin_checks(self.rt, &mut self.checks, now);
-            self.ports.wait(0, &mut self.checks);
-        }
-    }
-
-    /// Begins the checks that are due; how long none is, in ms.
-    fn begin_checks(&mut self) -> u64 {
-        if self.checks.is_empty() {
-            return WAIT;
-        }
-        let now = self.clock.now();
-        self.tended = now;
-        self.ports.begin_checks(self.rt, &mut self.checks, now);
-        self.checks.wait(now)
-    }
-
     /// How long nothing may come, in ms.
     fn limit(&mut self) -> u64 {
         if self.is_paused() {
@@ -283,12 +257,11 @@ impl<'a, R: Log + Net, C: Clock> SocketDoor<'a, R, C> {
     /// What is checked and told from now on, once a configuration is in force as the version of that number.
     fn put_plan_in_force(&mut self, version: u64) {
         self.version = version;
-        let now = self.clock.now();
         let Some(DoorPlan { checks, outline }) = self.next_plan.take() else {
             return;
         };
         self.outline = outline;
-        if self.checks.put_in_force(checks, now).is_err() {
+        if self.checks.put_in_force(checks).is_err() {
             warn!(self.rt; "no memory to check the servers of the new configuration");
         }
     }
@@ -337,10 +310,10 @@ impl<'a, R: Log, C: Clock> SocketDoor<'a, R, C> {
     }
 
     /// Of what it is asked how much is open, if somebody asks for the state. Without memory for that it is answered at once.
-    fn next_question(&mut self) -> Option<Vec<Ask>> {
+    fn next_question(&mut self) -> Option<Question> {
         self.asked = Some(self.take_question()?);
-        match self.outline.asks(self.alloc) {
-            Ok(asks) => Some(asks),
+        match self.outline.question(self.alloc) {
+            Ok(question) => Some(question),
             Err(_) => {
                 self.answer(None);
                 None
@@ -397,12 +370,11 @@ impl<'a, R: Log + Net, C: Clock> Door for SocketDoor<'a, R, C> {
             self.wake_all();
             return DoorEvent::Closed;
         }
-        self.tend_checks();
         if let Some(next_event) = self.next_event() {
             return next_event;
         }
-        let limit = self.begin_checks().min(self.limit());
-        self.ports.wait(limit, &mut self.checks);
+        let limit = self.limit();
+        self.ports.wait(limit);
         self.next_event().unwrap_or(DoorEvent::Idle)
     }
 

@@ -31,7 +31,7 @@ impl DoorPlan {
 
     /// That of a configuration that is not known.
     pub fn none(alloc: Global) -> Result<DoorPlan, AllocError> {
-        DoorPlan::with(CheckPlan::none(alloc), alloc, Outline::none(alloc))
+        DoorPlan::with(CheckPlan::none(alloc)?, alloc, Outline::none(alloc))
     }
 
     fn with(checks: CheckPlan, alloc: Global, outline: Outline) -> Result<DoorPlan, AllocError> {

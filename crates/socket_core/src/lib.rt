@@ -6,6 +6,7 @@
 
 pub use alarm::Alarm;
 pub use check_plan::CheckPlan;
+pub use checker::Checker;
 pub use clock::SystemClock;
 pub use commands::{Command, CommandSender};
 pub use dial::SocketDial;
@@ -21,6 +22,7 @@ pub use status_line::StatusAsker;
 mod addresses;
 mod alarm;
 mod check_plan;
+mod checker;
 mod checks;
 mod clock;
 mod commands;
@@ -33,6 +35,7 @@ mod link;
 mod listeners;
 mod pace;
 mod ports;
+mod probe;
 mod stats;
 mod status_line;
 mod trend;

@@ -1,7 +1,6 @@
 //! The listeners of a door: whose turn it is, and how long none is asked.
 use crate::WAKE;
 use crate::addresses::{endpoint_of, pair_of};
-use crate::checks::Checks;
 use crate::link::SocketLink;
 use crate::listeners::{BoundListener, ListenFault, Listeners};
 use addr_core::Pair;
@@ -14,9 +13,8 @@ use std::net::{Net, SocketAddr};
 use std::sync::Arc;
 use std::time::Duration;
 
-/// How many events a wait takes from the system at most. Those that are left come with the next one, so a client that
-/// waits is not held up by the answers of many checks.
-const MOST_EVENTS: usize = 8;
+/// How many events a wait takes from the system at most. Those that are left come with the next one.
+const MOST_EVENTS: usize = 64;
 
 /// What a listener gave.
 pub enum AcceptResult {
@@ -68,24 +66,16 @@ impl Ports {
         self.listeners.iter().any(|listener| listener.may_accept)
     }
 
-    /// Waits until something changes, for that many ms at the most. What the system reports of checks is taken.
-    pub fn wait(&mut self, limit: u64, checks: &mut Checks) {
+    /// Waits until something changes, for that many ms at the most.
+    pub fn wait(&mut self, limit: u64) {
         let limit = Duration::from_millis(limit);
         let _waited = self.poll.poll(&mut self.events, Some(limit));
-        let first = self.listeners.len();
         for event in &self.events {
-            let token = event.token();
-            match self.listeners.get_mut(token.0) {
-                Some(listener) => listener.may_accept = true,
-                None if token == WAKE => {}
-                None => checks.take_result(token.0.wrapping_sub(first)),
+            // The waker has a token that no listener has.
+            if let Some(listener) = self.listeners.get_mut(event.token().0) {
+                listener.may_accept = true;
             }
         }
-    }
-
-    /// Begins the checks that are due.
-    pub fn begin_checks(&self, rt: &impl Net, checks: &mut Checks, now: u64) {
-        checks.begin_due(rt, self.poll.registry(), self.listeners.len(), now);
     }
 
     /// Has the next listener in turn that may have one give a connection.

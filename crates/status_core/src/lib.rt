@@ -4,7 +4,9 @@
 pub use counts::{Closes, HeaderFaults, Reports, Sent};
 pub use decisions::Decisions;
 pub use metrics::{Process, write_metrics, write_status};
-pub use outline::{BackendOutline, FrontendOutline, Outline, ServerOutline, TableOutline};
+pub use outline::{
+    BackendOutline, FrontendOutline, Outline, Question, ServerOutline, TableOutline,
+};
 pub use status::{CrewStatus, ProxyStatus, Records, Reloads, ServerHealth, Traffic};
 pub use tally::Tally;
 

@@ -35,13 +35,19 @@ fn write_process(page: &mut Page<'_>, process: &Process<'_>) -> Result<(), Alloc
     page.seconds_sample(process.started)
 }
 
-fn write_version(page: &mut Page<'_>, version: u64) -> Result<(), AllocError> {
+fn write_versions(page: &mut Page<'_>, version: u64, kept: u64) -> Result<(), AllocError> {
     page.begin(
         b"l4proxy_config_version",
         Kind::Gauge,
         b"The number of the version of the configuration that is in force.",
     )?;
-    page.sample(&[], version)
+    page.sample(&[], version)?;
+    page.begin(
+        b"l4proxy_config_versions_kept",
+        Kind::Gauge,
+        b"Versions of the configuration that are kept: the one in force, and those that judge an open connection.",
+    )?;
+    page.sample(&[], kept)
 }
 
 fn write_page(
@@ -53,11 +59,11 @@ fn write_page(
     let crew = &status.crew;
     let mut counts = OpenCounts::of(crew.connections.as_slice());
     write_process(page, process)?;
-    write_version(page, status.version)?;
+    write_versions(page, status.version, crew.versions)?;
     write_frontends(page, outline.frontends.as_slice(), &mut counts)?;
     write_backends(page, outline.backends.as_slice(), &mut counts)?;
     write_health(page, outline, status.health.as_slice())?;
-    write_tables(page, outline.tables.as_slice())?;
+    write_tables(page, outline.tables.as_slice(), crew.entries.as_slice())?;
     write_counters(page, outline, crew)
 }
 

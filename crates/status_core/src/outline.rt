@@ -34,6 +34,15 @@ pub struct TableOutline {
     pub size: u64,
 }
 
+/// What is asked for of a crew.
+#[derive(Debug, Drop)]
+pub struct Question {
+    /// Of what it is asked how many connections are open.
+    pub asks: Vec<Ask>,
+    /// Of how many stick tables it is asked how many entries are in memory, from the first on.
+    pub tables: u16,
+}
+
 /// The sections of a configuration: frontends by the numbers that they have for good, and the others in written order.
 #[derive(Debug, Drop)]
 pub struct Outline {
@@ -118,9 +127,9 @@ impl Outline {
         }
     }
 
-    /// What is asked for of it: how many connections are open of each frontend, then to each backend, and then to each
-    /// server of the first backend, of the second one, and so on.
-    pub fn asks(&self, alloc: Global) -> Result<Vec<Ask>, AllocError> {
+    /// What is asked for of it: the entries of each table, and how many connections are open of each frontend, then to each
+    /// backend, and then to each server of the first backend, of the second one, and so on.
+    pub fn question(&self, alloc: Global) -> Result<Question, AllocError> {
         let mut asks = Vec::new(alloc);
         for number in 0..count(self.frontends.len()) {
             asks.push(Ask::Frontend(number))?;
@@ -131,7 +140,10 @@ impl Outline {
         for number in 0..count(self.backends.len()) {
             self.ask_servers(&mut asks, number)?;
         }
-        Ok(asks)
+        Ok(Question {
+            asks,
+            tables: count(self.tables.len()),
+        })
     }
 
     /// Asks for the servers of the backend of that number.

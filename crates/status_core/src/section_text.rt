@@ -29,7 +29,7 @@ fn table_label(table: &TableOutline) -> Label<'_> {
     Label::of(b"table", table.name.as_slice())
 }
 
-/// What is open to each that was asked for, in the order of `Outline::asks`, from the first on.
+/// What is open to each that was asked for, in the order of `Outline::question`, from the first on.
 #[derive(Drop)]
 pub(crate) struct OpenCounts<'a> {
     counts: &'a [u64],
@@ -150,8 +150,20 @@ pub(crate) fn write_health(
     Ok(())
 }
 
-/// Writes how large the tables may be.
-pub(crate) fn write_tables(page: &mut Page<'_>, tables: &[TableOutline]) -> Result<(), AllocError> {
+/// Writes how many entries of the tables are in memory, and how many there may be.
+pub(crate) fn write_tables(
+    page: &mut Page<'_>,
+    tables: &[TableOutline],
+    entries: &[u64],
+) -> Result<(), AllocError> {
+    page.begin(
+        b"l4proxy_table_entries",
+        Kind::Gauge,
+        b"Entries of the stick table that are in memory. One that expired is, until another one takes its place.",
+    )?;
+    for (table, count) in tables.iter().zip(entries.iter()) {
+        page.sample(&[section_label(table), table_label(table)], *count)?;
+    }
     page.begin(
         b"l4proxy_table_size",
         Kind::Gauge,

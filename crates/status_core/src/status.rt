@@ -65,6 +65,10 @@ pub struct Traffic {
 pub struct CrewStatus {
     /// How many connections are open to each that was asked for, in that order.
     pub connections: Vec<u64>,
+    /// How many entries of each stick table that was asked for are in memory.
+    pub entries: Vec<u64>,
+    /// How many versions of the configuration are kept.
+    pub versions: u64,
     /// What the records have that went to standard output so far.
     pub tally: Tally,
     pub traffic: Traffic,

@@ -127,6 +127,14 @@ living-all expire moment (e ∷ es) none = by (is_gone expire moment e) refl non
     by true is none more = absurd (let wrong : true ≡ false = rw is at none in cc)
     by false is none more = rw is (ap (λ l. e ∷ l) (more (rw is at none)))
 
+-- so where none is ever gone
+pub living-for_ever : (expire moment : ℕ) (es : List StickEntry) → expire ≡ 0 → living expire moment es ≡ es
+living-for_ever expire moment es never = rw never (living-all 0 moment es (none es))
+  where
+    none : (es : List StickEntry) → list_any (is_gone 0 moment) es ≡ false
+    none [] = refl
+    none (e ∷ es) = rw (not-either (is_free e) (is_over 0 moment e.last_touch) refl) (none es)
+
 pub length-living : (expire moment : ℕ) (es : List StickEntry) → length (living expire moment es) ≤ length es
 length-living expire moment [] = omega arith
 length-living expire moment (e ∷ es) = by (is_gone expire moment e) refl (length-living expire moment es)

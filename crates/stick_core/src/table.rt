@@ -221,6 +221,17 @@ impl StickTable {
         has_place_for(&self.touched, self.size, key)
     }
 
+    /// How many entries are in memory: those that contracts see, and such as are gone and whose place no call took yet.
+    pub fn in_memory(&self) -> u64
+        ensures least { length self.now.entries ≤ result }
+        ensures most { result ≤ self.now.size }
+
+        // Where none expires, just those that contracts see.
+        ensures exact { self.now.expire ≡ 0 → result ≡ length self.now.entries }
+    {
+        self.touched.len() as u64
+    }
+
     /// The keys in the order of their last touch, each with its moment and with how often it was tracked, as they are at a
     /// moment.
     pub fn entries(&self, alloc: Global, moment: u64) -> Result<Seq<PlainEntry>, AllocError>
