@@ -1,5 +1,6 @@
 pub mod ConnLemmas
 pub mod IdleLemmas
+pub mod EndLemmas
 pub mod RecordLemmas
 pub mod OutletLemmas
 pub mod SinkLemmas

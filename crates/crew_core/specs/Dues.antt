@@ -1,7 +1,7 @@
 -- What is due of a connection.
-use Rattle.std.specs.Prelude.{ℕ, true, Option, Some, None, option_map, if◌then◌else◌}
+use Rattle.std.specs.Prelude.{ℕ, min, true, Option, Some, None, option_map, if◌then◌else◌}
 use Rattle.conn_model.specs.declared.settings.Settings.{Settings}
-use Rattle.crew_core.specs.Idle.{is_overdue, overdue, retry_pause}
+use Rattle.crew_core.specs.Idle.{first_end, is_overdue, overdue, retry_pause}
 use Rattle.crew_core.specs.declared.conn.Due.{Due}
 use Rattle.crew_core.specs.declared.conn.Due.TheVariants as dues
 use Rattle.crew_core.specs.declared.conn.Stage.{Stage}
@@ -34,3 +34,11 @@ due_in stages.Header settings times waited_for now = None
 due_in (stages.Server to) settings times waited_for now = if is_overdue now (dialled_side times settings.connect) then Some (dues.DialTimeout to) else None
 due_in (stages.Retry to) settings times waited_for now = if is_overdue now (dialled_side times (retry_pause settings.connect)) then Some (dues.Retry to) else None
 due_in stages.Bytes settings times waited_for now = option_map dues.End (overdue now (client_side settings times waited_for) (server_side settings times waited_for))
+
+-- When a connection of which nothing is due is to be looked at again: once there is a link to the server, when the first of the
+-- sides may be overdue, and before that at any time.
+abbrev pub next_look_in : Stage → Settings → Times → WaitedFor → ℕ → ℕ
+next_look_in stages.Header settings times waited_for now = 0
+next_look_in (stages.Server to) settings times waited_for now = 0
+next_look_in (stages.Retry to) settings times waited_for now = 0
+next_look_in stages.Bytes settings times waited_for now = min (first_end now (client_side settings times waited_for)) (first_end now (server_side settings times waited_for))

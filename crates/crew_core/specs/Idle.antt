@@ -1,6 +1,6 @@
 -- Which sides of a connection are waited for, when one of them has been silent for too long, and the pause before a server is
 -- dialled again.
-use Rattle.std.specs.Prelude.{ℕ, ◌+◌, ◌==◌, ◌&&◌, ◌||◌, not, nat_le, min, Bool, true, false, List, [], ◌∷◌, Option, Some, None, if◌then◌else◌}
+use Rattle.std.specs.Prelude.{◌≡◌, ◌⊎◌, ℕ, ◌+◌, ◌≤◌, ◌==◌, ◌&&◌, ◌||◌, not, nat_le, min, Bool, true, false, IsTrue, List, [], ◌∷◌, Option, Some, None, if◌then◌else◌}
 use Rattle.conn_model.specs.declared.event.Why.{Why}
 use Rattle.conn_model.specs.declared.event.Why.TheVariants.{ClientTimeout, ServerTimeout}
 use Rattle.relay_core.specs.Flow.{Held, asks_reader}
@@ -45,6 +45,15 @@ overdue now client server =
     if is_overdue now client && (not (is_overdue now server) || nat_le (due_of client) (due_of server)) then Some ClientTimeout
     else if is_overdue now server then Some ServerTimeout
     else None
+
+-- What a side may be later: its time went on, where it was waited for, or began at that moment or after it.
+pub record GoesOn (now : ℕ) (side later : Side) : Type 0 where
+  pub limit : later.limit ≡ side.limit
+  pub since : (IsTrue side.is_waited_for × (later.since ≡ side.since)) ⊎ (now ≤ later.since)
+
+-- The first moment at which a side may be overdue. One that is not waited for may be from now on.
+abbrev pub first_end : ℕ → Side → ℕ
+first_end now side = if side.limit == 0 then 0xFFFF_FFFF_FFFF_FFFF else min 0xFFFF_FFFF_FFFF_FFFF ((if side.is_waited_for then min side.since now else now) + side.limit)
 
 -- as long as the server had to accept the connection, and a second at most
 abbrev pub retry_pause : ℕ → ℕ

@@ -2,11 +2,12 @@
 ghost use Rattle.std.specs.Prelude.{◌≡◌, ◌++◌, ◌↔◌, Some, None, IsTrue, IfOk, OnOk, OnErr, IsSomeAnd, drop};
 ghost use Rattle.relay_core.specs.Relay.{IsBegun, Ways};
 ghost use Rattle.crew_core.specs.Conns.{AreOver, HasFlows, IsRelayed, PassesOn};
-ghost use Rattle.crew_core.specs.Dues.{client_side, dial_begun, dialled_side, due_in, server_side};
+ghost use Rattle.crew_core.specs.Dues.{client_side, dial_begun, dialled_side, due_in, next_look_in, server_side};
 ghost use Rattle.crew_core.specs.Idle.{time_begun, waited_for};
 
 use crate::idle::{
-    Side, Times, WaitedFor, is_overdue, overdue, retry_pause, time_begun, waited_for_by,
+    Side, Times, WaitedFor, first_end_of_both, is_overdue, overdue, retry_pause, time_begun,
+    waited_for_by,
 };
 use addr_core::Endpoint;
 use conn_model::event::Why;
@@ -216,6 +217,18 @@ impl<K: Link> Conn<K> {
                 is_overdue(now, self.dialled_side(pause)).then_some(Due::Retry(to))
             }
             Stage::Bytes => overdue(now, self.client_side(), self.server_side()).map(Due::End),
+        }
+    }
+
+    /// The first moment at which something may be due, by what is known now. Where bytes are passed on nothing is due
+    /// before it, whatever is noted of the sides meanwhile; before that its stage changes, so it is looked at again.
+    pub(crate) fn next_look(&self, now: u64) -> u64
+        ensures { result ≡ next_look_in self.now.stage self.now.settings self.now.times
+            (waited_for self.now.relay) now }
+    {
+        match self.stage {
+            Stage::Header | Stage::Server(_) | Stage::Retry(_) => 0,
+            Stage::Bytes => first_end_of_both(now, self.client_side(), self.server_side()),
         }
     }
 

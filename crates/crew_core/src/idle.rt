@@ -1,9 +1,9 @@
 //! Which sides of a connection are waited for, when one of them has been silent for too long (HAProxy manual, `timeout
 //! client`, `timeout server`), and the pause before a server is dialled again (`retries`).
-ghost use Rattle.std.specs.Prelude.{◌≡◌};
+ghost use Rattle.std.specs.Prelude.{◌≡◌, ℕ, ◌<◌, min, None};
 ghost use Rattle.relay_core.specs.Relay.{flow_of};
 ghost use Rattle.crew_core.specs.Conns.{SomeoneIsWaitedFor};
-ghost use Rattle.crew_core.specs.Idle.{due_of, is_overdue, is_waited_for, overdue, retry_pause, time_begun, waited_for_by};
+ghost use Rattle.crew_core.specs.Idle.{GoesOn, due_of, first_end, is_overdue, is_waited_for, overdue, retry_pause, time_begun, waited_for_by};
 
 use conn_model::event::Why;
 use relay_core::{Relay, Way};
@@ -83,6 +83,31 @@ pub(crate) fn overdue(now: u64, client: Side, server: Side) -> Option<Why>
     } else {
         None
     }
+}
+
+/// The first moment at which a side may be overdue, whatever is noted of it from now on.
+fn first_end(now: u64, side: Side) -> u64
+    ensures { result ≡ first_end now side }
+{
+    if side.limit == 0 {
+        return u64::MAX;
+    }
+    let since = if side.is_waited_for {
+        side.since.min(now)
+    } else {
+        now
+    };
+    since.saturating_add(side.limit)
+}
+
+/// The first moment at which one of both sides may be overdue, whatever is noted of them from now on.
+pub(crate) fn first_end_of_both(now: u64, client: Side, server: Side) -> u64
+    ensures first { result ≡ min (first_end now client) (first_end now server) }
+    ensures quiet { (moment : ℕ) (later_client later_server : Side) → moment < result →
+        GoesOn now client later_client → GoesOn now server later_server →
+        overdue moment later_client later_server ≡ None }
+{
+    first_end(now, client).min(first_end(now, server))
 }
 
 /// The longest pause before a server is dialled again, in ms.

@@ -323,12 +323,25 @@ impl<M: Ledger, O: Ledger, K: Link, L: Dial<Link = K>> Worker<M, O, K, L> {
                 return;
             }
             let key = self.state.table.next_place(places);
-            match self.due(key, now) {
-                None => {}
-                Some(Due::DialTimeout(to)) => self.end_dial(rt, context, key, &to, now),
-                Some(Due::Retry(to)) => self.dial_again(rt, context, key, &to),
-                Some(Due::End(_)) => self.end_silent(rt, context, key, now),
+            if self.state.table.is_to_look(key, now) {
+                self.look(rt, context, key, now);
             }
+        }
+    }
+
+    /// Does what is due of a connection.
+    fn look<B: Opening, G: Gate, C: Clock, R: Wait>(
+        &mut self,
+        rt: &R,
+        context: &WorkerContext<'_, M, O, B, G, C>,
+        key: usize,
+        now: u64,
+    ) {
+        match self.due(key, now) {
+            None => self.state.table.look_later(key, now),
+            Some(Due::DialTimeout(to)) => self.end_dial(rt, context, key, &to, now),
+            Some(Due::Retry(to)) => self.dial_again(rt, context, key, &to),
+            Some(Due::End(_)) => self.end_silent(rt, context, key, now),
         }
     }
 

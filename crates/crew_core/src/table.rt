@@ -11,7 +11,7 @@ use std::alloc::{AllocError, Global};
 use std::collections::VecDeque;
 
 /// How many places are looked at for each ms, to find connections of which something is due. So all of 10,000 are looked
-/// at within 100 ms, and all of 100,000 within a second, which takes some thousandths of a processor.
+/// at within 100 ms, and all of 100,000 within a second.
 const LOOKS: u64 = 100;
 
 /// A connection by its key.
@@ -52,6 +52,9 @@ pub(crate) struct Table<K: Link> {
     /// How many of the queue have ended.
     ended: usize,
     serial: u64,
+    /// From which moment on something may be due of the connection of each key, in ms. These lie close together, so that a
+    /// look at a connection that is silent takes eight bytes and not its place.
+    next_looks: Vec<u64>,
     /// The place that is looked at next.
     hand: usize,
     /// When places were last looked at, in ms.
@@ -66,6 +69,7 @@ impl<K: Link> Table<K> {
             waits: VecDeque::new(alloc),
             ended: 0,
             serial: 0,
+            next_looks: Vec::new(alloc),
             hand: 0,
             looked: 0,
         }
@@ -76,6 +80,7 @@ impl<K: Link> Table<K> {
         self.places.reserve(1)?;
         self.queue.make_room(listener)?;
         self.waits.reserve(1)?;
+        self.next_looks.reserve(1)?;
         Ok(self.places.vacant_key())
     }
 
@@ -91,6 +96,7 @@ impl<K: Link> Table<K> {
         match self.places.insert(place) {
             Ok(key) => {
                 self.queue.open(listener);
+                self.look_soon(key);
                 Ok(key)
             }
             Err(_full) => Err(AllocError),
@@ -224,6 +230,35 @@ impl<K: Link> Table<K> {
         place
     }
 
+    /// The connection of a key is new: it is looked at.
+    fn look_soon(&mut self, key: usize) {
+        match self.next_looks.get_mut(key) {
+            Some(next_look) => *next_look = 0,
+            None => {
+                let _ = self.next_looks.push(0);
+            }
+        }
+    }
+
+    /// Whether something may be due of the connection of a key.
+    pub(crate) fn is_to_look(&self, key: usize, now: u64) -> bool {
+        match self.next_looks.get(key) {
+            Some(next_look) => *next_look <= now,
+            None => true,
+        }
+    }
+
+    /// Nothing is due of the connection of a key.
+    pub(crate) fn look_later(&mut self, key: usize, now: u64) {
+        let next = match self.conn(key) {
+            Some(conn) => conn.next_look(now),
+            None => u64::MAX,
+        };
+        if let Some(next_look) = self.next_looks.get_mut(key) {
+            *next_look = next;
+        }
+    }
+
     /// How long the worker may wait, in ms: not at all where something is to be served, and otherwise until the first wait for a
     /// header is over.
     pub(crate) fn limit(&self, now: u64, most: u64) -> u64 {
@@ -242,5 +277,6 @@ impl<K: Link> Table<K> {
         self.places.clear();
         self.queue.clear();
         self.waits.clear();
+        self.next_looks.clear();
     }
 }

@@ -71,7 +71,7 @@ fn play_files<R: Files + AllocGlobal + Print + Eprint + rt::Clock>(
     let reports = terminals.errors && (summary || !terminals.output);
     let mut again = FromRead::of(Watched::new(rt, second, record, "compared", reports));
     let mut writer = ToWrite::of(io::writer(rt));
-    match run_whatif(
+    let found = run_whatif(
         rt.alloc(),
         summary,
         old.as_str(),
@@ -79,14 +79,26 @@ fn play_files<R: Files + AllocGlobal + Print + Eprint + rt::Clock>(
         &mut reader,
         &mut again,
         &mut writer,
-    ) {
+    );
+    say_found(rt, named, old.as_str(), new.as_str(), found)
+}
+
+/// Says why a comparison was not made, and answers with which status it ends.
+fn say_found(
+    rt: &(impl Files + AllocGlobal + Eprint),
+    named: &Named<'_>,
+    old: &str,
+    new: &str,
+    found: Result<Comparison, PrintFault>,
+) -> u8 {
+    match found {
         Ok(Comparison::Compared(differing)) => { if differing == 0 { DONE } else { REFUSED } }
         Ok(Comparison::Wrong(fault)) => {
-            say_wrong(rt, named.old, old.as_str(), named.record, &fault);
+            say_wrong(rt, named.old, old, named.record, &fault);
             REFUSED
         }
         Ok(Comparison::Refused(fault)) => {
-            say_refused(rt, named, new.as_str(), &fault);
+            say_refused(rt, named, new, &fault);
             REFUSED
         }
         Err(fault) => {
