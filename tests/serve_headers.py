@@ -14,6 +14,8 @@ from serving import (
     shared_object, SIGNATURE, Skipped, UNKNOWN, until, waiting, WIDE, WIDE_BLOCK, WIDE_LINE, Wrong,
 )
 
+TRIES = 4  # for a client that is held up by what else the machine does
+
 
 def in_pieces(port, pieces, pause):
     with Client(port) as client:
@@ -23,6 +25,17 @@ def in_pieces(port, pieces, pause):
                 time.sleep(pause)
         client.finish()
         return client.rest(), client.name
+
+
+def in_time(port, pieces):
+    """What a client gets that sends its pieces 3 ms apart, its name, and how often it came. One that this machine held up for so
+    long that its header may be late says nothing of the proxy, and comes again."""
+    for came in range(1, TRIES + 1):
+        begun = time.monotonic()
+        answer, name = in_pieces(port, pieces, 0.003)
+        if time.monotonic() - begun < HEADER_WAIT / 2:
+            break
+    return answer, name, came
 
 
 def cut_headers(case, headers, by_rule):
@@ -35,14 +48,14 @@ def cut_headers(case, headers, by_rule):
         tries += [(header, pair, [part for part in (whole[:at], whole[at:]) if part]) for at in range(1, len(whole))]
     with case.start(config) as proxy:
         with concurrent.futures.ThreadPoolExecutor(24) as pool:
-            got = list(pool.map(lambda one: in_pieces(port, one[2], 0.003), tries))
+            got = list(pool.map(lambda one: in_time(port, one[2]), tries))
         record = proxy.ended()
-        for (header, pair, pieces), (answer, name) in zip(tries, got):
+        for (header, pair, pieces), (answer, name, _) in zip(tries, got):
             sizes = [len(piece) for piece in pieces][:4]
             case.check(f'payload after {header[:20]!r} in pieces of {sizes}', answer, b'hello, server\n')
             conn = case.served(record, name, line_of(config, 'server s'))
             case.check('the pair that was judged', conn.offer[3:5] if conn.offer else None, pair or (name, f'127.0.0.1:{port}'), conn.replies)
-        case.check('connections in the record', len(record.conns), len(tries))
+        case.check('connections in the record', len(record.conns), sum(came for _, _, came in got))
 
 
 def case_header_lines(case):
@@ -338,47 +351,69 @@ def case_clock_set_back(case):
         case.check('the moments rise', moments, sorted(moments))
 
 
+def open_unfinished(port):
+    """1,000 clients that begin a header, with the moments before the first and after the last; or nothing where this machine
+    held them up for so long that the first may be over before the last is there."""
+    begun = time.monotonic()
+    clients = [Client(port) for _ in range(1000)]
+    for client in clients[:-10]:
+        client.put(b'PROXY TCP4 ')
+    opened = time.monotonic()
+    if opened - begun < 2:
+        return clients, begun, opened
+    for client in clients:
+        client.close()
+    return None
+
+
+def ends_of(clients, opened):
+    """What each client gets, by its name, and when that was. The first sends a byte now and then."""
+    ends = {}
+    waits = {client.fileno(): client for client in clients}
+    poll = select.epoll()
+    for number in waits:
+        poll.register(number, select.EPOLLIN | select.EPOLLRDHUP)
+    while waits and time.monotonic() - opened < HEADER_WAIT + 5:
+        for number, _ in poll.poll(0.25, 1000):
+            client = waits.pop(number)
+            poll.unregister(number)
+            ends[client.name] = (client.rest(), time.monotonic())
+        if clients[0].fileno() in waits:
+            clients[0].put(b'1')
+    return ends
+
+
+def check_unfinished(case, config, port, proxy, clients, begun, opened):
+    time.sleep(0.3)
+    over, over_name = exchange(port, LINE + b'hello')
+    case.check('one beyond the limit', over, b'')
+    used = proxy.seconds()
+    ends = ends_of(clients, opened)
+    case.check('clients that were ended', len(ends), 1000)
+    case.check('bytes that they got', {text for text, _ in ends.values()}, {b''})
+    first, last = (pick(moment for _, moment in ends.values()) for pick in (min, max)) if ends else (0, 0)
+    case.holds('not before 3 seconds', first - begun >= HEADER_WAIT - 0.01, f'{first - begun:.2f} s after the first came')
+    case.holds('soon after 3 seconds', last - opened < HEADER_WAIT + 2, f'{last - opened:.2f} s after the last came')
+    case.holds('waiting costs little', proxy.seconds() - used < 1.5, proxy.seconds() - used)
+    again, again_name = exchange(port, LINE + b'hello')
+    case.check('one more, then', again, b'hello')
+    for client in clients:
+        client.close()
+    record = proxy.ended()
+    case.check('how they ended', record.ends(),
+               {'refuse expired': 1000, f'refuse line {line_of(config, "maxconn 1000")}': 1, 'closed done': 1})
+    case.refused(record, over_name, f'line {line_of(config, "maxconn 1000")}')
+    case.served(record, again_name, line_of(config, 'server s'))
+
+
 def case_unfinished_headers(case):
     """1,000 clients that never finish their header are refused after 3 seconds, and their places are free again."""
     if resource.getrlimit(resource.RLIMIT_NOFILE)[0] < 2100:
         raise Skipped('a process may not have 2,100 descriptors here')
     config, port = waiting(case, Server(echo), 'maxconn 1000\n')
-    with case.start(config) as proxy:
-        begun = time.monotonic()
-        clients = [Client(port) for _ in range(1000)]
-        for client in clients[:-10]:
-            client.put(b'PROXY TCP4 ')
-        opened = time.monotonic()
-        if opened - begun > 2:
-            raise Wrong(f'1,000 connections took {opened - begun:.1f} seconds')
-        time.sleep(0.3)
-        over, over_name = exchange(port, LINE + b'hello')
-        case.check('one beyond the limit', over, b'')
-        ends = {}
-        waits = {client.fileno(): client for client in clients}
-        poll = select.epoll()
-        for number in waits:
-            poll.register(number, select.EPOLLIN | select.EPOLLRDHUP)
-        used = proxy.seconds()
-        while waits and time.monotonic() - opened < HEADER_WAIT + 5:
-            for number, _ in poll.poll(0.25, 1000):
-                client = waits.pop(number)
-                poll.unregister(number)
-                ends[client.name] = (client.rest(), time.monotonic())
-            if clients[0].fileno() in waits:
-                clients[0].put(b'1')  # a byte now and then does not help
-        case.check('clients that were ended', len(ends), 1000)
-        case.check('bytes that they got', {text for text, _ in ends.values()}, {b''})
-        first, last = (pick(moment for _, moment in ends.values()) for pick in (min, max)) if ends else (0, 0)
-        case.holds('not before 3 seconds', first - begun >= HEADER_WAIT - 0.01, f'{first - begun:.2f} s after the first came')
-        case.holds('soon after 3 seconds', last - opened < HEADER_WAIT + 2, f'{last - opened:.2f} s after the last came')
-        case.holds('waiting costs little', proxy.seconds() - used < 1.5, proxy.seconds() - used)
-        again, again_name = exchange(port, LINE + b'hello')
-        case.check('one more, then', again, b'hello')
-        for client in clients:
-            client.close()
-        record = proxy.ended()
-        case.check('how they ended', record.ends(),
-                   {'refuse expired': 1000, f'refuse line {line_of(config, "maxconn 1000")}': 1, 'closed done': 1})
-        case.refused(record, over_name, f'line {line_of(config, "maxconn 1000")}')
-        case.served(record, again_name, line_of(config, 'server s'))
+    for _ in range(TRIES):
+        with case.start(config) as proxy:
+            if opened := open_unfinished(port):
+                check_unfinished(case, config, port, proxy, *opened)
+                return
+    raise Wrong(f'1,000 connections took 2 seconds or more, {TRIES} times')
