@@ -25,7 +25,7 @@ use Rattle.config_core.specs.Meaning.{meaning, meant, opened}
 use Rattle.config_core.specs.declared.fault.OpenFault.{OpenFault}
 use Rattle.conn_model.specs.declared.event.ConnId.{ConnId}
 use Rattle.conn_model.specs.declared.event.OwnedEvent.{OwnedEvent}
-use Rattle.conn_model.specs.declared.event.OwnedEvent.TheVariants.{Accept, Piece, Connected, ConnectFailed, Close, Expire, Reload, Mark}
+use Rattle.conn_model.specs.declared.event.OwnedEvent.TheVariants.{Reload}
 use Rattle.conn_model.specs.declared.plain.Plain.{Plain}
 use Rattle.conn_model.specs.History.{after, number_said, opening, plan_in, plan_with, Entry, IsLegal, IsWell}
 use Rattle.conn_model.proofs.Goes.{whole_in_parts}
@@ -53,27 +53,12 @@ within test xs = by (position test xs) refl
     by (Some n) is = position_within test xs n is
 
 some_choice : (backends : List Backend) (line : ℕ) (s : Statement) → IfSome (line_choice backends line s) (λ choice. choice.backend < length backends)
-some_choice backends line statements.Nothing = tt
-some_choice backends line statements.Global = tt
-some_choice backends line statements.Defaults = tt
-some_choice backends line (statements.Frontend name) = tt
-some_choice backends line (statements.Backend name) = tt
-some_choice backends line (statements.MaxConn limit) = tt
-some_choice backends line (statements.Timeout kind ms) = tt
-some_choice backends line (statements.Retries count) = tt
-some_choice backends line (statements.Redispatch every) = tt
-some_choice backends line (statements.DefaultBackend name) = tt
-some_choice backends line (statements.Balance method) = tt
-some_choice backends line (statements.Bind endpoint flag) = tt
-some_choice backends line (statements.Acl name test) = tt
-some_choice backends line (statements.Rule list action when) = tt
 some_choice backends line (statements.UseBackend name when) = by (backend_number backends name) (within (λ (backend : Backend). bytes_eq backend.name name) backends)
   where
     by : (o : Option ℕ) → IfSome o (λ n. n < length backends) → IfSome (option_map (choice_with line when) o) (λ choice. choice.backend < length backends)
     by None less = tt
     by (Some n) less = less
-some_choice backends line (statements.StickTable table) = tt
-some_choice backends line (statements.Server server) = tt
+some_choice backends line statement = tt
 
 choices_within : (backends : List Backend) (items : List ConfigLine) → AllByRecursion (λ choice. choice.backend < length backends) (all_of (line_choice backends) items)
 choices_within backends [] = tt
@@ -111,18 +96,12 @@ text_names text plan is = by (items_of text) refl is
 
 -- the plan that an event brings is the one that its text means
 brought_names : (event : OwnedEvent) (plan : Plan) → plan_with event ≡ Some plan → NamesOwn plan
-brought_names (Accept listener real) plan is = absurd (let wrong : None ≡ Some plan = is in cc)
-brought_names (Piece id bytes) plan is = absurd (let wrong : None ≡ Some plan = is in cc)
-brought_names (Connected id) plan is = absurd (let wrong : None ≡ Some plan = is in cc)
-brought_names (ConnectFailed id) plan is = absurd (let wrong : None ≡ Some plan = is in cc)
-brought_names (Close id why) plan is = absurd (let wrong : None ≡ Some plan = is in cc)
-brought_names (Expire id) plan is = absurd (let wrong : None ≡ Some plan = is in cc)
-brought_names (Mark number n health) plan is = absurd (let wrong : None ≡ Some plan = is in cc)
 brought_names (Reload text) plan is = by (meaning text) refl is
   where
     by : (r : Result Plan OpenFault) → meaning text ≡ r → plan_in r ≡ Some plan → NamesOwn plan
     by (Err fault) meant_is now = absurd (let wrong : None ≡ Some plan = now in cc)
     by (Ok other) meant_is now = let same : other ≡ plan = cc in text_names text plan (meant_is ∙ ap Ok same)
+brought_names event plan is = absurd (let wrong : None ≡ Some plan = is in cc)
 
 abbrev numbered : ℕ → Plan → ℕ × Plan
 numbered n plan = (n, plan)

@@ -91,13 +91,7 @@ ends said number serial = is_last said && speaks_to number serial said
 -- the event opens that connection
 abbrev pub arrived : ℕ → ℕ → OwnedEvent → Said → Bool
 arrived number serial (Accept listener real) said = leaves_open said && speaks_to number serial said
-arrived number serial (Piece id bytes) said = false
-arrived number serial (Connected id) said = false
-arrived number serial (ConnectFailed id) said = false
-arrived number serial (Close id why) said = false
-arrived number serial (Expire id) said = false
-arrived number serial (Reload text) said = false
-arrived number serial (Mark backend n health) said = false
+arrived number serial event said = false
 
 has_new : (serial number clock version : ℕ) (real : PairValue) (said : Said) (id : Option ConnId)
     → has serial (arrival_of number clock version real said id) ≡ (leaves_open said && option_map_or (is_conn number serial) id false)
@@ -111,13 +105,7 @@ has_new serial number clock version real said (Some id) = by (leaves_open said) 
 
 pub has_arrived : (serial number clock version : ℕ) (event : OwnedEvent) (said : Said) → has serial (arrival number clock version event said) ≡ arrived number serial event said
 has_arrived serial number clock version (Accept listener real) said = has_new serial number clock version real said (id_of said)
-has_arrived serial number clock version (Piece id bytes) said = refl
-has_arrived serial number clock version (Connected id) said = refl
-has_arrived serial number clock version (ConnectFailed id) said = refl
-has_arrived serial number clock version (Close id why) said = refl
-has_arrived serial number clock version (Expire id) said = refl
-has_arrived serial number clock version (Reload text) said = refl
-has_arrived serial number clock version (Mark backend n health) said = refl
+has_arrived serial number clock version event said = refl
 
 -- the open connections after an entry
 has_after : (p : Plain) (e : Entry) (number serial : ℕ) (own : FrontendRows)
@@ -188,43 +176,21 @@ nothing_ended number serial = false
 
 abbrev pub is_accept : OwnedEvent → Bool
 is_accept (Accept listener real) = true
-is_accept (Piece id bytes) = false
-is_accept (Connected id) = false
-is_accept (ConnectFailed id) = false
-is_accept (Close id why) = false
-is_accept (Expire id) = false
-is_accept (Reload text) = false
-is_accept (Mark number n health) = false
+is_accept event = false
 
 -- the second balancer answers as the first does to whom it speaks, where that is an accept
 abbrev pub Agree : OwnedEvent → Said → Said → Type 0
 Agree (Accept listener real) theirs said = (id_of theirs ≡ id_of said) × (is_judgement said ≡ true) × (is_judgement theirs ≡ true)
-Agree (Piece id bytes) theirs said = Unit {0}
-Agree (Connected id) theirs said = Unit {0}
-Agree (ConnectFailed id) theirs said = Unit {0}
-Agree (Close id why) theirs said = Unit {0}
-Agree (Expire id) theirs said = Unit {0}
-Agree (Reload text) theirs said = Unit {0}
-Agree (Mark number n health) theirs said = Unit {0}
+Agree event theirs said = Unit {0}
 
 same_accept : (number : ℕ) (event : OwnedEvent) (theirs said : Said) → Agree event theirs said → is_accept_at number event theirs ≡ is_accept_at number event said
 same_accept number (Accept listener real) theirs said agree = ap (λ (id : Option ConnId). option_map_or (λ id. id.frontend == number) id false) agree.0
-same_accept number (Piece id bytes) theirs said agree = refl
-same_accept number (Connected id) theirs said agree = refl
-same_accept number (ConnectFailed id) theirs said agree = refl
-same_accept number (Close id why) theirs said agree = refl
-same_accept number (Expire id) theirs said agree = refl
-same_accept number (Reload text) theirs said agree = refl
-same_accept number (Mark backend n health) theirs said agree = refl
+same_accept number event theirs said agree = refl
 
 left_open : (said : Said) → is_judgement said ≡ true → is_last said ≡ false → leaves_open said ≡ true
 left_open (saids.Wait id used) judged open_still = refl
 left_open (saids.Offer id used line server to judged2 send) judged open_still = refl
-left_open (saids.Refuse id used cause) judged open_still = absurd (cc)
-left_open (saids.Up id) judged open_still = absurd (cc)
-left_open (saids.Closed id why) judged open_still = absurd (cc)
-left_open (saids.Reloaded version) judged open_still = absurd (cc)
-left_open (saids.Marked line health) judged open_still = absurd (cc)
+left_open said judged open_still = absurd (cc)
 
 -- if the second opens a connection, so does the first, or its reply ends it
 same_arrived : (number serial : ℕ) (event : OwnedEvent) (theirs said : Said) → Agree event theirs said → arrived number serial event theirs ≡ true
@@ -238,12 +204,7 @@ same_arrived number serial (Accept listener real) theirs said agree is =
     by true last speaks = inr (rw (last, speaks) refl)
     by false lasts speaks = let stays = left_open said agree.1 lasts in inl (rw (stays, speaks) refl)
 same_arrived number serial (Piece id bytes) theirs said agree is = absurd (cc)
-same_arrived number serial (Connected id) theirs said agree is = absurd (cc)
-same_arrived number serial (ConnectFailed id) theirs said agree is = absurd (cc)
-same_arrived number serial (Close id why) theirs said agree is = absurd (cc)
-same_arrived number serial (Expire id) theirs said agree is = absurd (cc)
-same_arrived number serial (Reload text) theirs said agree is = absurd (cc)
-same_arrived number serial (Mark backend n health) theirs said agree is = absurd (cc)
+same_arrived number serial event theirs said agree is = absurd (cc)
 
 -- a row that is there, or came, is open after the entry, or the entry ends it
 kept_or_ended : (p : Plain) (e : Entry) (number serial : ℕ) (own : FrontendRows) → (has serial own.rows || arrived number serial e.event e.reply.said) ≡ true
@@ -300,13 +261,7 @@ both_answered n p e theirs agree below number next there =
 
 no_accept : (number : ℕ) (event : OwnedEvent) (said : Said) → is_accept event ≡ false → is_accept_at number event said ≡ false
 no_accept number (Accept listener real) said is = absurd (cc)
-no_accept number (Piece id bytes) said is = refl
-no_accept number (Connected id) said is = refl
-no_accept number (ConnectFailed id) said is = refl
-no_accept number (Close id why) said is = refl
-no_accept number (Expire id) said is = refl
-no_accept number (Reload text) said is = refl
-no_accept number (Mark backend n health) said is = refl
+no_accept number event said is = refl
 
 not_counted : (a b c : ℕ) → a ≡ b → c ≡ 0 → a ≡ b + (0 + c)
 not_counted a b c first none = omega (arith, first, none)
@@ -456,26 +411,18 @@ past_on plan n moment event has_past = by (answer_in n moment event) refl
         }
 
 past_closed : (plan : Plan) (n : Plain) (moment : ℕ) (said : Said) → HasPast plan n → HasPast plan (closed moment said n)
-past_closed plan n moment (saids.Wait id used) has_past = has_past
-past_closed plan n moment (saids.Offer id used line server to judged send) has_past = has_past
 past_closed plan n moment (saids.Refuse id used cause) has_past = past_on plan n moment (Close id Done) has_past
-past_closed plan n moment (saids.Up id) has_past = has_past
 past_closed plan n moment (saids.Closed id why) has_past = past_on plan n moment (Close id Done) has_past
-past_closed plan n moment (saids.Reloaded version) has_past = has_past
-past_closed plan n moment (saids.Marked line health) has_past = has_past
+past_closed plan n moment said has_past = has_past
 
 listeners_after : (n : Plain) (moment : ℕ) (event : OwnedEvent) (answered : Result Reply StepFault) → (plain_after n moment event answered).listeners ≡ n.listeners
 listeners_after n moment event (Err fault) = refl
 listeners_after n moment event (Ok reply) = refl
 
 listeners_closed : (n : Plain) (moment : ℕ) (said : Said) → (closed moment said n).listeners ≡ n.listeners
-listeners_closed n moment (saids.Wait id used) = refl
-listeners_closed n moment (saids.Offer id used line server to judged send) = refl
 listeners_closed n moment (saids.Refuse id used cause) = listeners_after n moment (Close id Done) (answer_in n moment (Close id Done))
-listeners_closed n moment (saids.Up id) = refl
 listeners_closed n moment (saids.Closed id why) = listeners_after n moment (Close id Done) (answer_in n moment (Close id Done))
-listeners_closed n moment (saids.Reloaded version) = refl
-listeners_closed n moment (saids.Marked line health) = refl
+listeners_closed n moment said = refl
 
 -- how the trial answers an event that the balancer of the record answered so
 abbrev pub Outcome : Plain → ℕ → OwnedEvent → Said → Type 0

@@ -114,11 +114,8 @@ once_up (Up assignment) = refl
 waited : (plan : Option Plan) (event : OwnedEvent) (said : Said) (phase : Phase) → is_waiting (phase_by plan event said phase) ≡ true → (is_waiting phase ≡ true) × (is_offer said ≡ false)
 waited plan event (saids.Wait id used) phase is = (sym (on_piece _ phase) ∙ is, refl)
 waited plan event (saids.Offer id used line server to judged send) phase is = absurd (cc)
-waited plan event (saids.Refuse id used cause) phase is = (is, refl)
 waited plan event (saids.Up id) phase is = (sym (once_up phase) ∙ is, refl)
-waited plan event (saids.Closed id why) phase is = (is, refl)
-waited plan event (saids.Reloaded version) phase is = (is, refl)
-waited plan event (saids.Marked line health) phase is = (is, refl)
+waited plan event said phase is = (is, refl)
 
 waited_if : (plan : Option Plan) (event : OwnedEvent) (said : Said) (phase : Phase) (b : Bool) → is_waiting (if b then phase_by plan event said phase else phase) ≡ true → (is_waiting phase ≡ true) × ((is_offer said && b) ≡ false)
 waited_if plan event said phase true is = let both = waited plan event said phase is in (both.0, ap (λ o. o && true) both.1)
@@ -218,12 +215,7 @@ not_come : (n p : Plain) → IsBelow n p nothing_ended → (id : ConnId) (own : 
 not_come n p below id own there given moment (Accept listener real) theirs is came =
     not_new n p below id own there given theirs.said (answered n moment (Accept listener real) theirs is) (spoken id (id_of theirs.said) (and_true (leaves_open theirs.said) (speaks_to id.frontend id.serial theirs.said) came).1)
 not_come n p below id own there given moment (Piece other bytes) theirs is came = absurd (cc)
-not_come n p below id own there given moment (Connected other) theirs is came = absurd (cc)
-not_come n p below id own there given moment (ConnectFailed other) theirs is came = absurd (cc)
-not_come n p below id own there given moment (Close other why) theirs is came = absurd (cc)
-not_come n p below id own there given moment (Expire other) theirs is came = absurd (cc)
-not_come n p below id own there given moment (Reload text) theirs is came = absurd (cc)
-not_come n p below id own there given moment (Mark number k health) theirs is came = absurd (cc)
+not_come n p below id own there given moment event theirs is came = absurd (cc)
 
 -- each state is below itself
 pub below_itself : (p : Plain) → IsBelow p p nothing_ended
@@ -250,13 +242,9 @@ held_stepped holds brought n moment event id old is = by (answer_in n moment eve
     ]
 
 held_closed : (holds : Plain → ConnId → Bool) → IsBrought holds → (n : Plain) (moment : ℕ) (said : Said) (id : ConnId) → holds (closed moment said n) id ≡ true → holds n id ≡ true
-held_closed holds brought n moment (saids.Wait other used) id is = is
-held_closed holds brought n moment (saids.Offer other used line server to judged send) id is = is
 held_closed holds brought n moment (saids.Refuse other used cause) id is = held_stepped holds brought n moment (Close other Done) id (λ theirs answers came. absurd (cc)) is
-held_closed holds brought n moment (saids.Up other) id is = is
 held_closed holds brought n moment (saids.Closed other why) id is = held_stepped holds brought n moment (Close other Done) id (λ theirs answers came. absurd (cc)) is
-held_closed holds brought n moment (saids.Reloaded version) id is = is
-held_closed holds brought n moment (saids.Marked line health) id is = is
+held_closed holds brought n moment said id is = is
 
 -- a report lets no connection in
 held_reported : (holds : Plain → ConnId → Bool) → IsBrought holds → (n : Plain) (moment : ℕ) (health : Health) (at : Option ServerNumbers) (id : ConnId) →
@@ -315,12 +303,7 @@ past_on holds brought plan p n moment event reply id tied is past =
 
 pub decides : (q : Plain) (said : Said) → is_some (decision_of q said) ≡ is_judgement said
 decides q (saids.Wait id used) = refl
-decides q (saids.Offer id used line server to judged send) = refl
-decides q (saids.Refuse id used cause) = refl
-decides q (saids.Up id) = refl
-decides q (saids.Closed id why) = refl
-decides q (saids.Reloaded version) = refl
-decides q (saids.Marked line health) = refl
+decides q said = refl
 
 -- a report decides nothing of a connection, so it makes no difference as which server the trial takes it
 report_undecided : (q : Plain) (moment number k : ℕ) (health : Health) → decided q moment (Mark number k health) ≡ None
@@ -338,26 +321,14 @@ taken_undecided n moment health None = refl
 taken_undecided n moment health (Some at) = report_undecided n moment at.backend at.server health
 
 pub same_decided : (recorded : List Version) (n : Plain) (moment : ℕ) (event : OwnedEvent) → decided_for recorded n moment event ≡ decided n moment event
-same_decided recorded n moment (Accept listener real) = refl
-same_decided recorded n moment (Piece id bytes) = refl
-same_decided recorded n moment (Connected id) = refl
-same_decided recorded n moment (ConnectFailed id) = refl
-same_decided recorded n moment (Close id why) = refl
-same_decided recorded n moment (Expire id) = refl
-same_decided recorded n moment (Reload text) = refl
 same_decided recorded n moment (Mark number k health) = taken_undecided n moment health (numbers_for recorded n.versions number k) ∙ sym (report_undecided n moment number k health)
+same_decided recorded n moment event = refl
 
 -- an event that decides is handed in as it is
 same_stepped : (recorded : List Version) (n : Plain) (moment : ℕ) (event : OwnedEvent) → is_some (decided n moment event) ≡ true → stepped_for recorded n moment event ≡ stepped n moment event
-same_stepped recorded n moment (Accept listener real) is = refl
-same_stepped recorded n moment (Piece id bytes) is = refl
-same_stepped recorded n moment (Connected id) is = refl
-same_stepped recorded n moment (ConnectFailed id) is = refl
-same_stepped recorded n moment (Close id why) is = refl
-same_stepped recorded n moment (Expire id) is = refl
-same_stepped recorded n moment (Reload text) is = refl
 same_stepped recorded n moment (Mark number k health) is =
     contrary (is_some (decided n moment (Mark number k health))) (stepped_for recorded n moment (Mark number k health) ≡ stepped n moment (Mark number k health)) is (ap is_some (report_undecided n moment number k health))
+same_stepped recorded n moment event is = refl
 
 pub record IsJudgedSo (q : Plain) (moment : ℕ) (event : OwnedEvent) : Type 0 where
   pub reply : Reply
@@ -386,12 +357,7 @@ both_decide (Some was) (Some would) is = (refl, refl)
 
 pub wait_decision : (q : Plain) (said : Said) → is_wait said ≡ true → decision_of q said ≡ Some decisions.Wait
 wait_decision q (saids.Wait id used) is = refl
-wait_decision q (saids.Offer id used line server to judged send) is = absurd (cc)
-wait_decision q (saids.Refuse id used cause) is = absurd (cc)
-wait_decision q (saids.Up id) is = absurd (cc)
-wait_decision q (saids.Closed id why) is = absurd (cc)
-wait_decision q (saids.Reloaded version) is = absurd (cc)
-wait_decision q (saids.Marked line health) is = absurd (cc)
+wait_decision q said is = absurd (cc)
 
 pub decided_wait : (q : Plain) (moment : ℕ) (event : OwnedEvent) (reply : Reply) → answer_in q moment event ≡ Ok reply → is_failure event ≡ false → is_wait reply.said ≡ true → decided q moment event ≡ Some decisions.Wait
 decided_wait q moment event reply is no_failure waits =
@@ -401,12 +367,7 @@ decided_wait q moment event reply is no_failure waits =
 
 pub then_waits : (said : Said) → is_judgement said ≡ true → is_last said ≡ false → is_offer said ≡ false → is_wait said ≡ true
 then_waits (saids.Wait id used) judged lasts unoffered = refl
-then_waits (saids.Offer id used line server to judged2 send) judged lasts unoffered = absurd (cc)
-then_waits (saids.Refuse id used cause) judged lasts unoffered = absurd (cc)
-then_waits (saids.Up id) judged lasts unoffered = absurd (cc)
-then_waits (saids.Closed id why) judged lasts unoffered = absurd (cc)
-then_waits (saids.Reloaded version) judged lasts unoffered = absurd (cc)
-then_waits (saids.Marked line health) judged lasts unoffered = absurd (cc)
+then_waits said judged lasts unoffered = absurd (cc)
 
 pub and_left : (a b : Bool) → (a && b) ≡ false → b ≡ true → a ≡ false
 and_left true b is one = absurd (let wrong : true ≡ false = sym one ∙ is in cc)

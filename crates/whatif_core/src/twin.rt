@@ -65,12 +65,7 @@ fn trial_names<'a>(trial: &'a Core, said: &Said) -> Option<ServerNames<'a>>
 {
     match said {
         Said::Offer { id, .. } => trial.server(*id),
-        Said::Wait { .. }
-        | Said::Refuse { .. }
-        | Said::Up { .. }
-        | Said::Closed { .. }
-        | Said::Reloaded { .. }
-        | Said::Marked { .. } => None,
+        _ => None,
     }
 }
 
@@ -80,12 +75,7 @@ fn recorded_names<'a>(auditor: &'a Auditor, said: &Said) -> Option<ServerNames<'
 {
     match said {
         Said::Offer { id, .. } => auditor.server(*id),
-        Said::Wait { .. }
-        | Said::Refuse { .. }
-        | Said::Up { .. }
-        | Said::Closed { .. }
-        | Said::Reloaded { .. }
-        | Said::Marked { .. } => None,
+        _ => None,
     }
 }
 
@@ -95,13 +85,7 @@ fn is_failure(event: &Event<'_>) -> bool
 {
     match event {
         Event::ConnectFailed(_) => true,
-        Event::Accept(..)
-        | Event::Piece(..)
-        | Event::Connected(_)
-        | Event::Close(..)
-        | Event::Expire(_)
-        | Event::Reload(_)
-        | Event::Mark(..) => false,
+        _ => false,
     }
 }
 
@@ -210,13 +194,7 @@ fn hand_on(
                 would_come: None,
             }),
         },
-        Event::Accept(..)
-        | Event::Piece(..)
-        | Event::Connected(_)
-        | Event::ConnectFailed(_)
-        | Event::Close(..)
-        | Event::Expire(_)
-        | Event::Reload(_) => hand_in(alloc, trial, moment, event),
+        _ => hand_in(alloc, trial, moment, event),
     }
 }
 
@@ -240,11 +218,7 @@ fn close_ended(trial: &mut Core, moment: u64, said: &Said) -> Result<bool, Alloc
             close(trial, moment, *id)?;
             Ok(false)
         }
-        Said::Wait { .. }
-        | Said::Offer { .. }
-        | Said::Up { .. }
-        | Said::Reloaded { .. }
-        | Said::Marked { .. } => Ok(false),
+        _ => Ok(false),
     }
 }
 
