@@ -1,5 +1,5 @@
 -- What is open in the trial is open in the balancer of the record.
-use Rattle.std.proofs.Common.{◌≡◌, ◌⊎◌, inl, inr, ℕ, zero, suc, ◌+◌, ◌-◌, ◌<◌, ◌^◌, Bool, true, false, List, [], ◌∷◌, ◌++◌, length, Option, Some, None, Result, Ok, Err, refl, ap, sym, subst, ◌∙◌, max, arith}
+use Rattle.std.proofs.Common.{◌≡◌, ◌⊎◌, inl, inr, ℕ, ◌+◌, ◌-◌, ◌<◌, ◌^◌, Bool, true, false, List, [], ◌∷◌, ◌++◌, length, Option, Some, None, Result, Ok, Err, refl, ap, sym, subst, ◌∙◌, max, arith}
 use Rattle.std.specs.Prelude.{◌==◌, ◌&&◌, ◌||◌, not, nat_lt, map, option_map, filter, find, slice_get, is_some, IsSome, if◌then◌else◌}
 use Rattle.std.specs.List.{list_any}
 use Rattle.std.specs.Option.{option_map_or}
@@ -23,7 +23,7 @@ use Rattle.conn_model.specs.declared.reply.StepFault.{StepFault}
 use Rattle.conn_model.specs.declared.reply.StepFault.TheVariants.{NoSuch}
 use Rattle.conn_model.specs.Answer.{admission, answer_in, candidate_at, new_row, reply_of, row_at, row_in, at_moment}
 use Rattle.conn_model.specs.History.{Entry, IsLegal, after, answer, arrival, arrival_of, arrivals, entry, frontend_after, has_ended, id_of, is_accept_at, is_last, leaves_open, opening, row_after, speaks_to}
-use Rattle.conn_model.specs.Words.{is_conn, map_from, or_fault}
+use Rattle.conn_model.specs.Words.{is_conn, or_fault}
 use Rattle.conn_model.proofs.Goes.{whole_in_parts}
 use Rattle.conn_model.proofs.Lists.{and_true, get-from_zero, or_left, or_right, or_true}
 use Rattle.conn_model.proofs.Replies.{accepted, admission-id, answered, Accepted, IsReload}
@@ -36,6 +36,7 @@ use Rattle.replay_core.specs.Turns.{plain_after}
 use Rattle.whatif_core.specs.Deciding.{closed, numbers_for, played, stepped, taken}
 use Rattle.whatif_core.specs.Reporting.{opened_by, history_report, report_of_turn, trial_opening, turn_of, Report}
 use Rattle.whatif_core.specs.declared.turn.Turn.{Turn}
+pub use Rattle.conn_laws.proofs.Rows.{before, contrary, one_item, Before}
 
 -- ---- rows
 
@@ -132,32 +133,6 @@ open_after p e number serial own is =
 still_open : (p : Plain) (e : Entry) (number serial : ℕ) (own : FrontendRows) → (has serial own.rows || arrived number serial e.event e.reply.said) ≡ true → ends e.reply.said number serial ≡ false
     → has serial (frontend_after p (e ∷ []) number own).rows ≡ true
 still_open p e number serial own is lasts = has_after p e number serial own ∙ ap (λ b. b && not (ends e.reply.said number serial)) is ∙ ap not lasts
-
--- ---- frontends by their numbers
-
-from_there : (change : ℕ → FrontendRows → FrontendRows) (k : ℕ) (owns : List FrontendRows) (i : ℕ) (y : FrontendRows) → slice_get (map_from change k owns) i ≡ Some y → (x : FrontendRows) × (slice_get owns i ≡ Some x)
-from_there change k [] i y is = absurd (let wrong : None ≡ Some y = is in cc)
-from_there change k (own ∷ owns) zero y is = (own, refl)
-from_there change k (own ∷ owns) (suc i) y is = from_there change (k + 1) owns i y is
-
-pub one_item : {X : Type 0} (o : Option X) (x y : X) → o ≡ Some x → o ≡ Some y → x ≡ y
-one_item o x y left right = let same : Some x ≡ Some y = sym left ∙ right in cc
-
--- a frontend after an entry was there before
-pub record Before (p : Plain) (e : Entry) (number : ℕ) (next : FrontendRows) : Type 0 where
-  pub own : FrontendRows
-  pub there : slice_get p.frontends number ≡ Some own
-  pub is : next ≡ frontend_after p (e ∷ []) number own
-
-pub before : (p : Plain) (e : Entry) (number : ℕ) (next : FrontendRows) → slice_get (after p (e ∷ [])).frontends number ≡ Some next → Before p e number next
-before p e number next there =
-    let own = from_there (frontend_after p (e ∷ [])) 0 p.frontends number next there in
-    record {
-      own = own.0;
-      there = own.1;
-      is = one_item (slice_get (map_from (frontend_after p (e ∷ [])) 0 p.frontends) number) next (frontend_after p (e ∷ []) number own.0) there
-          (get-from_zero (frontend_after p (e ∷ [])) p.frontends number own.0 own.1);
-    }
 
 -- ---- two states
 
@@ -319,9 +294,6 @@ not_shut n said lasts number next there = record {
   serial = refl;
   rows = λ s is. (is, ap (λ b. b && speaks_to number s said) lasts);
 }
-
-pub contrary : (b : Bool) (A : Type 0) → b ≡ true → b ≡ false → A
-contrary b A is not_is = absurd (let wrong : true ≡ false = sym is ∙ not_is in cc)
 
 plus_none : (a : ℕ) → a + (0 + 0) ≡ a
 plus_none a = omega arith

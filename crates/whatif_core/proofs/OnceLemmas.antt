@@ -1,6 +1,6 @@
 -- A connection has one difference at the most.
 use Rattle.std.proofs.Common.{◌≡◌, ◌⊎◌, inl, inr, ℕ, ◌+◌, ◌≤◌, Bool, true, false, List, [], ◌∷◌, ◌++◌, Option, Some, None, Result, Ok, Err, refl, ap, sym, subst, ◌∙◌, max, arith}
-use Rattle.std.specs.Prelude.{◌==◌, ◌&&◌, ◌||◌, not, map, filter, find, slice_get, is_some, option_map, option_and_then, if◌then◌else◌}
+use Rattle.std.specs.Prelude.{◌==◌, ◌&&◌, ◌||◌, not, filter, slice_get, is_some, option_map, option_and_then, if◌then◌else◌}
 use Rattle.std.specs.Option.{option_map_or}
 use Rattle.std.proofs.lemmas.Bool.{eq-eqb, eqb-true}
 use Rattle.list_core.specs.Each.{◌>>=◌}
@@ -39,11 +39,9 @@ use Rattle.whatif_core.specs.declared.decision.ComparedDecision.TheVariants as d
 use Rattle.whatif_core.specs.Deciding.{closed, decided, decided_by, decided_for, decision_of, difference, handed, is_failure, numbers_for, played, stepped, stepped_for, taken}
 use Rattle.whatif_core.specs.Reporting.{differs_at, differs_of, history_report, trial_opening, turn_of, turn_with, HasDiffered, Report}
 use Rattle.whatif_core.proofs.LawLemmas.{accept_outcome, all_tied, and_no, arrived, before, contrary, ends, found_has, has, has_arrived, nothing_ended, one_item, turn_trial, IsBelow, Outcome, Tied}
+pub use Rattle.conn_laws.proofs.Rows.{found, found_appended, found_filtered, found_mapped, found_serial}
 
 -- ---- rows by their serials
-
-abbrev pub found : ℕ → List Row → Option Row
-found serial rows = find (λ row. row.serial == serial) rows
 
 abbrev pub is_waiting : Phase → Bool
 is_waiting phase = is_some (rest_in phase)
@@ -53,47 +51,6 @@ waits_in row = option_map_or (λ (r : Row). is_waiting r.phase) row false
 
 abbrev pub waits_at : Plain → ConnId → Bool
 waits_at q id = waits_in (row_at q.frontends id)
-
-pub found_mapped : (serial : ℕ) (change : Row → Row) → ((row : Row) → (change row).serial ≡ row.serial) → (rows : List Row) → found serial (map change rows) ≡ option_map change (found serial rows)
-found_mapped serial change keeps [] = refl
-found_mapped serial change keeps (row ∷ rows) = by (row.serial == serial) refl (found_mapped serial change keeps rows)
-  where
-    by : (b : Bool) → (row.serial == serial) ≡ b → found serial (map change rows) ≡ option_map change (found serial rows) → found serial (map change (row ∷ rows)) ≡ option_map change (found serial (row ∷ rows))
-    by true is rest = let here : ((change row).serial == serial) ≡ true = ap (λ n. n == serial) (keeps row) ∙ is in rw (here, is) refl
-    by false is rest = let there : ((change row).serial == serial) ≡ false = ap (λ n. n == serial) (keeps row) ∙ is in rw (there, is) rest
-
-pub found_serial : (serial : ℕ) (rows : List Row) (row : Row) → found serial rows ≡ Some row → row.serial ≡ serial
-found_serial serial [] row is = absurd (let wrong : None ≡ Some row = is in cc)
-found_serial serial (other ∷ rows) row is = by (other.serial == serial) refl is (found_serial serial rows row)
-  where
-    by : (b : Bool) → (other.serial == serial) ≡ b → found serial (other ∷ rows) ≡ Some row → (found serial rows ≡ Some row → row.serial ≡ serial) → row.serial ≡ serial
-    by true here there later = let same : Some other ≡ Some row = rw here at there in let one : other ≡ row = cc in ap (λ (r : Row). r.serial) (sym one) ∙ eqb-true other.serial serial here
-    by false here there later = later (rw here at there)
-
-pub found_filtered : (serial : ℕ) (test : ℕ → Bool) (rows : List Row) (row : Row) → found serial (filter (λ r. test r.serial) rows) ≡ Some row → (test serial ≡ true) × (found serial rows ≡ Some row)
-found_filtered serial test [] row is = absurd (let wrong : None ≡ Some row = is in cc)
-found_filtered serial test (other ∷ rows) row is = by (test other.serial) refl (other.serial == serial) refl is (found_filtered serial test rows row)
-  where
-    by : (a : Bool) → test other.serial ≡ a → (b : Bool) → (other.serial == serial) ≡ b → found serial (filter (λ r. test r.serial) (other ∷ rows)) ≡ Some row →
-        (found serial (filter (λ r. test r.serial) rows) ≡ Some row → (test serial ≡ true) × (found serial rows ≡ Some row)) → (test serial ≡ true) × (found serial (other ∷ rows) ≡ Some row)
-    by true keeps true here there later = (ap test (sym (eqb-true other.serial serial here)) ∙ keeps, let same : Some other ≡ Some row = rw (keeps, here) at there in rw here same)
-    by true keeps false here there later = let rest = later (rw (keeps, here) at there) in (rest.0, rw here rest.1)
-    by false drops true here there later =
-        let rest = later (rw drops at there) in
-        let not_kept : test serial ≡ false = ap test (sym (eqb-true other.serial serial here)) ∙ drops in
-        contrary (test serial) ((test serial ≡ true) × (found serial (other ∷ rows) ≡ Some row)) rest.0 not_kept
-    by false drops false here there later = let rest = later (rw drops at there) in (rest.0, rw here rest.1)
-
-pub found_appended : (serial : ℕ) (xs ys : List Row) (row : Row) → found serial (xs ++ ys) ≡ Some row → (found serial xs ≡ Some row) ⊎ (found serial ys ≡ Some row)
-found_appended serial [] ys row is = inr is
-found_appended serial (other ∷ xs) ys row is = by (other.serial == serial) refl is (found_appended serial xs ys row)
-  where
-    by : (b : Bool) → (other.serial == serial) ≡ b → found serial (other ∷ xs ++ ys) ≡ Some row → (found serial (xs ++ ys) ≡ Some row → (found serial xs ≡ Some row) ⊎ (found serial ys ≡ Some row)) → (found serial (other ∷ xs) ≡ Some row) ⊎ (found serial ys ≡ Some row)
-    by true here there later = inl (let same : Some other ≡ Some row = rw here at there in rw here same)
-    by false here there later = elim (later (rw here at there)) [
-      | inl before_it ↦ inl (rw here before_it)
-      | inr after_it ↦ inr after_it
-    ]
 
 -- ---- who waits after an entry
 
