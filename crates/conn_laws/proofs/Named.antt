@@ -1,7 +1,6 @@
 -- The lines of each plan that a text means name backends that it has.
 use Rattle.std.specs.Prelude.{ℕ, Bool, List, [], ◌∷◌, length, position, Option, Some, None, option_map, Result, Ok, Err, IfSome, refl, ◌<◌, ◌≡◌, ◌==◌}
 use Rattle.std.specs.List.{cons_option, AllByRecursion}
-use Rattle.std.specs.Option.{option_and_then}
 use Rattle.std.specs.Str.{bytes_eq}
 use Rattle.std.proofs.Common.{ap, ◌∙◌, subst}
 use Rattle.conf_line.specs.declared.fault.ConfFault.{ConfFault}
@@ -34,6 +33,7 @@ use Rattle.conn_model.proofs.TableSteps.{newest-all}
 use Rattle.conn_model.proofs.VersionSteps.{plans_stay}
 use Rattle.conn_model.proofs.Well.{opening_well, well_after}
 use Rattle.conn_laws.specs.Deciding.{Arrival, Waiter}
+use Rattle.conn_model.proofs.Reloads.{with_plan}
 
 -- the lines of a frontend name none but so many backends
 pub record NamesBackends (backends : ℕ) (frontend : Frontend) : Type 0 where
@@ -102,19 +102,6 @@ brought_names (Reload text) plan is = by (meaning text) refl is
     by (Err fault) meant_is now = absurd (let wrong : None ≡ Some plan = now in cc)
     by (Ok other) meant_is now = let same : other ≡ plan = cc in text_names text plan (meant_is ∙ ap Ok same)
 brought_names event plan is = absurd (let wrong : None ≡ Some plan = is in cc)
-
-abbrev numbered : ℕ → Plan → ℕ × Plan
-numbered n plan = (n, plan)
-
-with_plan : (event : OwnedEvent) (number : Option ℕ) (n : ℕ) (plan : Plan) → option_and_then (λ m. option_map (numbered m) (plan_with event)) number ≡ Some (numbered n plan) → plan_with event ≡ Some plan
-with_plan event None n plan is = absurd (let wrong : None ≡ Some (numbered n plan) = is in cc)
-with_plan event (Some m) n plan is = by (plan_with event) refl is
-  where
-    by : (o : Option Plan) → plan_with event ≡ o → option_map (numbered m) o ≡ Some (numbered n plan) → plan_with event ≡ Some plan
-    by None e it = absurd (let wrong : None ≡ Some (numbered n plan) = it in cc)
-    by (Some p) e it =
-        let same : numbered m p ≡ numbered n plan = let both : Some (numbered m p) ≡ Some (numbered n plan) = it in cc in
-        e ∙ ap (λ pair. Some pair.1) same
 
 names_stay : (plan : Plan) (last : ℕ) (h : List Entry) → NamesOwn plan → IsLegal (opening plan last) h → AllByRecursion (λ version. NamesOwn version.plan) (after (opening plan last) h).versions
 names_stay plan last [] names legal = (names, tt)

@@ -63,10 +63,10 @@ brought_binds q first (Reload text) said says all plan is =
     subst (SameBinds first) same (same_both first says.version.plan says.plan before after')
 brought_binds q first event said says all plan is = absurd (let wrong : None ≡ Some plan = is in cc)
 
-abbrev numbered : ℕ → Plan → ℕ × Plan
+abbrev pub numbered : ℕ → Plan → ℕ × Plan
 numbered n plan = (n, plan)
 
-with_plan : (event : OwnedEvent) (number : Option ℕ) (n : ℕ) (plan : Plan) → option_and_then (λ m. option_map (numbered m) (plan_with event)) number ≡ Some (numbered n plan) → plan_with event ≡ Some plan
+pub with_plan : (event : OwnedEvent) (number : Option ℕ) (n : ℕ) (plan : Plan) → option_and_then (λ m. option_map (numbered m) (plan_with event)) number ≡ Some (numbered n plan) → plan_with event ≡ Some plan
 with_plan event None n plan is = absurd (let wrong : None ≡ Some (numbered n plan) = is in cc)
 with_plan event (Some m) n plan is = by (plan_with event) refl is
   where
