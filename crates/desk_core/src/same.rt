@@ -29,9 +29,7 @@ fn same_event(one: &OwnedEvent, other: &OwnedEvent) -> bool
             *id == *other_id && bytes.as_slice() == other_bytes.as_slice()
         }
         (OwnedEvent::Connected(id), OwnedEvent::Connected(other_id)) => *id == *other_id,
-        (OwnedEvent::ConnectFailed(id), OwnedEvent::ConnectFailed(other_id)) => {
-            *id == *other_id
-        }
+        (OwnedEvent::ConnectFailed(id), OwnedEvent::ConnectFailed(other_id)) => { *id == *other_id }
         (OwnedEvent::Close(id, why), OwnedEvent::Close(other_id, other_why)) => {
             *id == *other_id && *why == *other_why
         }
@@ -42,11 +40,7 @@ fn same_event(one: &OwnedEvent, other: &OwnedEvent) -> bool
         (
             OwnedEvent::Mark(backend, server, health),
             OwnedEvent::Mark(other_backend, other_server, other_health),
-        ) => {
-            *backend == *other_backend
-                && *server == *other_server
-                && *health == *other_health
-        }
+        ) => { *backend == *other_backend && *server == *other_server && *health == *other_health }
         _ => false,
     }
 }

@@ -182,7 +182,7 @@ impl StickTable {
     pub fn trackers(&self, tracked: &TrackToken) -> u64
         ensures { result ≡ cur_of tracked.now self.now.entries }
     {
-        cur_in(self.touched.entry(&tracked.key))
+        cur_in(self.touched.entry(&tracked.key.addr()))
     }
 
     /// Whether the address could be tracked.
