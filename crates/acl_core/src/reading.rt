@@ -245,7 +245,12 @@ fn patterns(
 {
     match criterion {
         Criterion::Source => values(alloc, Form::Networks, words),
-        _ => numbers(alloc, words),
+        Criterion::TrackedConnections(_)
+        | Criterion::TrackedTotal(_)
+        | Criterion::SourceConnections(_)
+        | Criterion::SourceTotal(_)
+        | Criterion::FrontendConnections(_)
+        | Criterion::BackendConnections(_) => numbers(alloc, words),
     }
 }
 

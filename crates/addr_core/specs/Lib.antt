@@ -6,4 +6,3 @@ pub mod Prefix
 pub mod Six
 pub mod Text
 pub mod Same
-pub mod Packed

@@ -13,7 +13,7 @@ use Rattle.audit_core.specs.Check.{IsFaultOf, Stops}
 use Rattle.audit_core.specs.declared.fault.Checked.{Checked}
 use Rattle.audit_core.specs.declared.fault.CheckFault.{CheckFault}
 use Rattle.audit_core.specs.declared.fault.CheckKind.{CheckKind}
-use Rattle.audit_core.specs.declared.fault.CheckKind.TheVariants.{NoMemory, Read, Config}
+use Rattle.audit_core.specs.declared.fault.CheckKind.TheVariants.{Format, WrongReply, NoMemory, Read, TooLong, Config}
 use Rattle.audit_core.proofs.VerdictLemmas.{verdict_start}
 use Rattle.audit_core.proofs.RecordLemmas.{Whole, right_record}
 
@@ -44,10 +44,12 @@ right_checked config text checked plan means is = by (history_on (opening plan 0
 -- the fault of a text that is wrong
 pub wrong_verdict : (config text : List ℕ) (kind : CheckKind) (line : ℕ) (plan : Plan) → meaning config ≡ Ok plan → IsWell (opening plan 0) → Stops (start (opening plan 0)) text kind line
     → IsFaultOf config text kind line
+wrong_verdict config text Format line plan means well stops = (plan, means, verdict_start plan text well ∙ ap standing_counts stops)
+wrong_verdict config text WrongReply line plan means well stops = (plan, means, verdict_start plan text well ∙ ap standing_counts stops)
+wrong_verdict config text TooLong line plan means well stops = (plan, means, verdict_start plan text well ∙ ap standing_counts stops)
 wrong_verdict config text NoMemory line plan means well stops = stops
 wrong_verdict config text Read line plan means well stops = stops
 wrong_verdict config text (Config fault) line plan means well stops = absurd stops
-wrong_verdict config text kind line plan means well stops = (plan, means, verdict_start plan text well ∙ ap standing_counts stops)
 
 -- the same of a check at the opening of a configuration
 pub right_from : (config text : List ℕ) (checked : Checked) (s : Standing) → IsStarted config s → standing_counts (verdict_in s (parts is_line_feed text)) ≡ Ok checked

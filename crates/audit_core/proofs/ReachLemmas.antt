@@ -17,7 +17,7 @@ use Rattle.audit_core.specs.declared.due.Due.{Due}
 use Rattle.audit_core.specs.declared.due.Due.TheVariants as dues
 use Rattle.audit_core.specs.declared.fault.CheckFault.{CheckFault}
 use Rattle.audit_core.specs.declared.fault.CheckKind.{CheckKind}
-use Rattle.audit_core.specs.declared.fault.CheckKind.TheVariants.{NoMemory, Read, TooLong, Config}
+use Rattle.audit_core.specs.declared.fault.CheckKind.TheVariants.{Format, WrongReply, NoMemory, Read, TooLong, Config}
 
 -- nothing read yet
 pub reaches_start : (s : Standing) (text : List ℕ) (left : Option (List ℕ)) (kept : List ℕ) → kept ≡ [] → left ≡ Some text → Reaches s text left s kept
@@ -74,10 +74,12 @@ whole : (s : Standing) (text : List ℕ) (left : Option (List ℕ)) (t : Standin
 whole s text left t kept reaches = ap (λ xs. verdict_in s (parts is_line_feed xs)) reaches.is_read ∙ sym (reaches.same reaches.rest)
 
 stops_by : (s : Standing) (text : List ℕ) (kind : CheckKind) (line : ℕ) → IsLineFault kind → verdict_in s (parts is_line_feed text) ≡ Err (fault_at line kind) → Stops s text kind line
+stops_by s text Format line is wrong = wrong
+stops_by s text WrongReply line is wrong = wrong
+stops_by s text TooLong line is wrong = wrong
 stops_by s text NoMemory line is wrong = absurd is
 stops_by s text Read line is wrong = absurd is
 stops_by s text (Config fault) line is wrong = absurd is
-stops_by s text kind line is wrong = wrong
 
 -- a fault that ends a check: want of memory, or what is wrong
 abbrev pub IsWrong : Result Standing CheckFault → CheckFault → Type 0

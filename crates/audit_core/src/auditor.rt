@@ -121,7 +121,12 @@ fn peer_of(event: &EventRequest) -> Option<Endpoint>
 {
     match event {
         EventRequest::Accept(_, real) => Some(real.source()),
-        _ => None,
+        EventRequest::Piece(..)
+        | EventRequest::Connected(_)
+        | EventRequest::ConnectFailed(_)
+        | EventRequest::Close(..)
+        | EventRequest::Expire(_)
+        | EventRequest::Mark(..) => None,
     }
 }
 

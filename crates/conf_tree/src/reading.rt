@@ -79,7 +79,19 @@ fn place_of<'a>(
             name: name.again(),
             first: number,
         },
-        _ => place,
+        Statement::Nothing
+        | Statement::MaxConn(_)
+        | Statement::Timeout(..)
+        | Statement::Retries(_)
+        | Statement::Redispatch(_)
+        | Statement::DefaultBackend(_)
+        | Statement::Balance(_)
+        | Statement::Bind(_, _)
+        | Statement::Acl(_, _)
+        | Statement::Rule(_, _, _)
+        | Statement::UseBackend(_, _)
+        | Statement::StickTable(_)
+        | Statement::Server(_) => place,
     }
 }
 
@@ -225,7 +237,16 @@ fn is_full(kept: &Kept, place: &SectionPlace, statement: &Statement) -> bool
             are_rules(section_lines(place, items))
         }
         Statement::Server(_) => are_servers(section_lines(place, items)),
-        _ => false,
+        Statement::Nothing
+        | Statement::Global
+        | Statement::Defaults
+        | Statement::MaxConn(_)
+        | Statement::Timeout(..)
+        | Statement::Retries(_)
+        | Statement::Redispatch(_)
+        | Statement::DefaultBackend(_)
+        | Statement::Balance(_)
+        | Statement::StickTable(_) => false,
     }
 }
 

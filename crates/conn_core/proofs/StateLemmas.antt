@@ -10,7 +10,7 @@ use Rattle.config_core.specs.Meaning.{meaning}
 use Rattle.config_core.specs.declared.fault.OpenFault.{OpenFault}
 use Rattle.conn_model.specs.declared.event.ConnId.{ConnId}
 use Rattle.conn_model.specs.declared.event.OwnedEvent.{OwnedEvent}
-use Rattle.conn_model.specs.declared.event.OwnedEvent.TheVariants.{Accept, Connected, Reload, Mark}
+use Rattle.conn_model.specs.declared.event.OwnedEvent.TheVariants.{Accept, Piece, Connected, ConnectFailed, Close, Expire, Reload, Mark}
 use Rattle.conn_model.specs.declared.reply.Reply.{Reply}
 use Rattle.conn_model.specs.declared.reply.Said.{Said}
 use Rattle.conn_model.specs.declared.reply.Said.TheVariants.{Reloaded, Up, Marked}
@@ -122,8 +122,12 @@ frontend_of frontends id row is = by (slice_get frontends id.frontend) refl
 open_no_plan : (event : OwnedEvent) → IsOfOpen event → plan_with event ≡ None
 open_no_plan (Accept listener real) old = absurd old
 open_no_plan (Mark number n health) old = absurd old
+open_no_plan (Piece id bytes) old = refl
+open_no_plan (Connected id) old = refl
+open_no_plan (ConnectFailed id) old = refl
+open_no_plan (Close id why) old = refl
+open_no_plan (Expire id) old = refl
 open_no_plan (Reload text) old = absurd old
-open_no_plan event old = refl
 
 -- the state once something is said to a connection that is open
 pub after_spoken : (p : Plain) → IsCoreState p → (moment : ℕ) (event : OwnedEvent) (id : ConnId) (reply : Reply) (row : Row) → row_at p.frontends id ≡ Some row →

@@ -15,11 +15,11 @@ use Rattle.plan_types.specs.declared.track.Track.{Track}
 use Rattle.config_core.specs.Meaning.{meaning}
 use Rattle.conn_model.specs.declared.event.ConnId.{ConnId}
 use Rattle.conn_model.specs.declared.event.OwnedEvent.{OwnedEvent}
-use Rattle.conn_model.specs.declared.event.OwnedEvent.TheVariants.{Accept, Reload, Mark}
+use Rattle.conn_model.specs.declared.event.OwnedEvent.TheVariants.{Accept, Piece, Connected, ConnectFailed, Close, Expire, Reload, Mark}
 use Rattle.conn_model.specs.declared.reply.Reply.{Reply}
 use Rattle.conn_model.specs.declared.reply.Said.{Said}
 use Rattle.conn_model.specs.declared.reply.Said.TheVariants as saids
-use Rattle.conn_model.specs.declared.reply.Said.TheVariants.{Wait, Offer, Refuse, Reloaded, Marked}
+use Rattle.conn_model.specs.declared.reply.Said.TheVariants.{Wait, Offer, Refuse, Closed, Reloaded, Marked}
 use Rattle.conn_model.specs.declared.plain.Phase.TheVariants.{Offered}
 use Rattle.conn_model.specs.declared.plain.Row.{Row}
 use Rattle.conn_model.specs.declared.plain.FrontendRows.{FrontendRows}
@@ -37,7 +37,7 @@ pub use Rattle.conn_model.proofs.Versions.{is_offer, last_no_offer, versions_kep
 use Rattle.conn_model.proofs.Versions.{newest-at}
 pub use Rattle.conn_model.proofs.VersionSteps.{judging-old}
 use Rattle.conn_model.proofs.VersionSteps.{judging-new, versions_quiet, versions_said, versions_step}
-use Rattle.conn_model.proofs.TableSteps.{tables_quiet, tables_said, tables_step-by}
+use Rattle.conn_model.proofs.TableSteps.{tables_quiet, tables_said, tables_step-by, table_kept}
 use Rattle.proxy_types.specs.declared.server.ServerIdentity.{ServerIdentity}
 use Rattle.conn_model.specs.declared.event.Health.{Health}
 use Rattle.conn_model.proofs.Trackings.{tables_kept}
@@ -180,7 +180,11 @@ rows_left p clock real tracks (Offer id used line server to judged send) =
       tracks = by_counter tracks;
     } ∷ []
 rows_left p clock real tracks (Wait id used) = record (new_row id.serial (newest_number p) real clock) { tracks = by_counter tracks } ∷ []
-rows_left p clock real tracks said = []
+rows_left p clock real tracks (Refuse id used cause) = []
+rows_left p clock real tracks (saids.Up id) = []
+rows_left p clock real tracks (Closed id why) = []
+rows_left p clock real tracks (Reloaded version) = []
+rows_left p clock real tracks (Marked line health) = []
 
 same_number : (n : ℕ) → (n == n) ≡ true
 same_number n = eq-eqb n n refl
@@ -199,7 +203,10 @@ new_rows_left p moment listener real (Wait id' used) tracks id whom =
     let front : id'.frontend ≡ id.frontend = ap (λ i. i.frontend) same in
     rw (front, same_number id.frontend, same_number id'.serial, same_number id.frontend) refl
 new_rows_left p moment listener real (Refuse id' used cause) tracks id whom = refl
-new_rows_left p moment listener real said tracks id whom = refl
+new_rows_left p moment listener real (saids.Up id') tracks id whom = refl
+new_rows_left p moment listener real (Closed id' why) tracks id whom = refl
+new_rows_left p moment listener real (Reloaded version) tracks id whom = refl
+new_rows_left p moment listener real (Marked line health) tracks id whom = refl
 
 accept-here : (p : Plain) (moment listener : ℕ) (real : PairValue) (reply : Reply) (id : ConnId) (own : FrontendRows) → IsFrontendWell p.versions own → id_of reply.said ≡ Some id → id.serial ≡ own.serial + 1 →
     frontend_after p (entry moment (Accept listener real) reply ∷ []) id.frontend own
@@ -263,13 +270,23 @@ after-accept p well moment listener real reply id own there whom next =
 -- the event is no accept
 abbrev pub IsOfOpen : OwnedEvent → Type 0
 IsOfOpen (Accept listener real) = ⊥
+IsOfOpen (Piece id bytes) = Unit {0}
+IsOfOpen (Connected id) = Unit {0}
+IsOfOpen (ConnectFailed id) = Unit {0}
+IsOfOpen (Close id why) = Unit {0}
+IsOfOpen (Expire id) = Unit {0}
 IsOfOpen (Reload text) = ⊥
 IsOfOpen (Mark backend n health) = ⊥
-IsOfOpen event = Unit {0}
 
 no_arrival : (number clock version : ℕ) (event : OwnedEvent) (said : Said) → IsOfOpen event → (arrival number clock version event said ≡ []) × (is_accept_at number event said ≡ false)
 no_arrival number clock version (Accept listener real) said old = absurd old
-no_arrival number clock version event said old = (refl, refl)
+no_arrival number clock version (Piece id bytes) said old = (refl, refl)
+no_arrival number clock version (Connected id) said old = (refl, refl)
+no_arrival number clock version (ConnectFailed id) said old = (refl, refl)
+no_arrival number clock version (Close id why) said old = (refl, refl)
+no_arrival number clock version (Expire id) said old = (refl, refl)
+no_arrival number clock version (Reload text) said old = (refl, refl)
+no_arrival number clock version (Mark backend n health) said old = (refl, refl)
 
 -- the frontend of which the rows become these
 old-here : (p : Plain) (e : Entry) (number : ℕ) (own : FrontendRows) (rows : List Row) → IsOfOpen e.event →
@@ -291,13 +308,25 @@ old-elsewhere p e id number own well old whom differs =
 
 -- the event comes with no plan
 no_plan : (event : OwnedEvent) → IsOfOpen event → plan_with event ≡ None
+no_plan (Accept listener real) old = refl
+no_plan (Piece id bytes) old = refl
+no_plan (Connected id) old = refl
+no_plan (ConnectFailed id) old = refl
+no_plan (Close id why) old = refl
+no_plan (Expire id) old = refl
 no_plan (Reload text) old = absurd old
-no_plan event old = refl
+no_plan (Mark backend n health) old = refl
 
 -- and reports of no server
 no_mark : (versions : List Version) (event : OwnedEvent) → IsOfOpen event → mark_of versions event ≡ None
+no_mark versions (Accept listener real) old = refl
+no_mark versions (Piece id bytes) old = refl
+no_mark versions (Connected id) old = refl
+no_mark versions (ConnectFailed id) old = refl
+no_mark versions (Close id why) old = refl
+no_mark versions (Expire id) old = refl
+no_mark versions (Reload text) old = refl
 no_mark versions (Mark backend n health) old = absurd old
-no_mark versions event old = refl
 
 down-old : (p : Plain) (e : Entry) → IsOfOpen e.event → down_after p (e ∷ []) ≡ p.down
 down-old p e old = ap (λ o. marked_by o p.down) (no_mark p.versions e.event old)

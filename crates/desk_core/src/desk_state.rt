@@ -25,7 +25,11 @@ fn open_connection(said: &Said) -> Option<ConnId>
 {
     match *said {
         Said::Wait { id, .. } | Said::Offer { id, .. } => Some(id),
-        _ => None,
+        Said::Refuse { .. }
+        | Said::Up { .. }
+        | Said::Closed { .. }
+        | Said::Reloaded { .. }
+        | Said::Marked { .. } => None,
     }
 }
 

@@ -3,7 +3,7 @@ ghost use Rattle.std.specs.Prelude.{◌<◌, ◌≤◌};
 
 use crate::pair::{ALL, Devices, NONE, Plan, make_devices};
 use device_core::Calls;
-use relay_core::{Burst, BurstStop, Drained, Flow, FlowFault, Relay, Way};
+use relay_core::{Burst, BurstStop, Drained, Flow, FlowFault, Relay};
 use std::alloc::{AllocError, Global};
 
 /// A burst as it is compared: how many bytes were read, why no more were or which side failed, and how many were written,
@@ -199,21 +199,21 @@ fn plain_ends(alloc: Global) -> Result<Devices, AllocError> {
 
 fn burst_back(relay: &mut Relay, ends: &mut Devices) -> Word {
     let mut piece = [0u8; 16];
-    word_of(relay.burst(Way::Back, &mut ends.input, &mut ends.output, &mut piece, 16))
+    word_of(relay.burst_back(&mut ends.input, &mut ends.output, &mut piece, 16))
 }
 
 fn burst_forth(relay: &mut Relay, ends: &mut Devices) -> Word {
     let mut piece = [0u8; 16];
-    word_of(relay.burst(Way::Forth, &mut ends.input, &mut ends.output, &mut piece, 4))
+    word_of(relay.burst_forth(&mut ends.input, &mut ends.output, &mut piece, 4))
 }
 
 /// Two bursts back, which end that way, and one forth after the relay has begun again; and whether it held what it should.
 fn begin_again(relay: &mut Relay, back: &mut Devices, forth: &mut Devices) -> ([Word; 3], bool) {
     let first = burst_back(relay, back);
     let second = burst_back(relay, back);
-    let has_ended = relay.is_done(Way::Back) && !relay.is_idle();
+    let has_ended = relay.back_done() && !relay.is_idle();
     relay.reset(b"", b"");
-    let is_new = !relay.is_done(Way::Back) && relay.is_idle();
+    let is_new = !relay.back_done() && relay.is_idle();
     let third = burst_forth(relay, forth);
     let is_all = forth.output.as_slice() == b"abcdefghij".as_slice();
     ([first, second, third], has_ended && is_new && is_all)

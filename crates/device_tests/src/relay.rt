@@ -1,7 +1,7 @@
 //! A flow and a relay between devices.
 use crate::pair::{ALL, Devices, NONE, Plan, make_devices};
 use device_core::Calls;
-use relay_core::{Drained, Filled, Flow, FlowFault, Relay, Way, run_carries};
+use relay_core::{Drained, Filled, Flow, FlowFault, Relay, run_carries};
 use std::alloc::{AllocError, Global};
 
 /// How bytes are carried: what the flow holds at most, how many are read and written at once at most, and whether by bursts.
@@ -168,21 +168,32 @@ fn slow_devices(alloc: Global, text: &[u8], room: usize) -> Result<Devices, Allo
     make_devices(alloc, text, room, &plan)
 }
 
-/// Twelve passes of a direction, of which none fails, and which end it.
-fn pass_all(relay: &mut Relay, way: Way, ends: &mut Devices) -> bool {
+/// Twelve passes forth, of which none fails.
+fn pass_forth(relay: &mut Relay, ends: &mut Devices) -> bool {
     let mut piece = [0u8; 8];
     let mut is_right = true;
     for _ in 0..12 {
-        let passed = relay.pass(way, &mut ends.input, &mut ends.output, &mut piece);
+        let passed = relay.forth(&mut ends.input, &mut ends.output, &mut piece);
         is_right = is_right && passed.is_ok();
     }
-    is_right && relay.is_done(way)
+    is_right && relay.forth_done()
+}
+
+/// Twelve passes back, of which none fails.
+fn pass_back(relay: &mut Relay, ends: &mut Devices) -> bool {
+    let mut piece = [0u8; 8];
+    let mut is_right = true;
+    for _ in 0..12 {
+        let passed = relay.back(&mut ends.input, &mut ends.output, &mut piece);
+        is_right = is_right && passed.is_ok();
+    }
+    is_right && relay.back_done()
 }
 
 /// Whether both ways of a relay are passed whole, the bytes that it begins with first.
 fn pass_both(relay: &mut Relay, forth: &mut Devices, back: &mut Devices) -> bool {
-    let goes_forth = pass_all(relay, Way::Forth, forth) && !relay.is_done(Way::Back);
-    let goes_back = pass_all(relay, Way::Back, back);
+    let goes_forth = pass_forth(relay, forth) && !relay.back_done();
+    let goes_back = pass_back(relay, back);
     let request = b"PROXY TCP4 192.0.2.1 192.0.2.2 1 2\r\nGET / HTTP/1.0\r\n\r\n".as_slice();
     let is_request = forth.output.as_slice() == request;
     let is_answer = back.output.as_slice() == b"HTTP/1.0 200 OK".as_slice();

@@ -174,7 +174,12 @@ fn waiting_in(reply: &Reply) -> Option<ConnId>
 {
     match &reply.said {
         Said::Wait { id, .. } => Some(*id),
-        _ => None,
+        Said::Offer { .. }
+        | Said::Refuse { .. }
+        | Said::Up { .. }
+        | Said::Closed { .. }
+        | Said::Reloaded { .. }
+        | Said::Marked { .. } => None,
     }
 }
 

@@ -16,7 +16,7 @@ use Rattle.replay_core.specs.Turns.{outcome_in, script_outcome_in, turn}
 use Rattle.replay_core.specs.Progress.{ReplayProgress, Continues, IsFrontOf, IsLineFault, total, total_of, total_of_lines}
 use Rattle.replay_core.specs.Reading.{Reaches, AnswersAll, IsCut, StopsAtLine, Stops}
 use Rattle.replay_core.specs.declared.fault.ReplayFault.{ReplayFault}
-use Rattle.replay_core.specs.declared.fault.ReplayFault.TheVariants.{Format, TooLong, Read, Write, NoMemory}
+use Rattle.replay_core.specs.declared.fault.ReplayFault.TheVariants.{Config, Format, TooLong, Read, Write, NoMemory}
 use Rattle.replay_core.proofs.ContinueLemmas.{front_continues, front_sent, continues_line, continues_more, continues_sent, continues_start}
 
 -- nothing read yet
@@ -102,9 +102,12 @@ stops_write sent s script left held t u kept new fault is reaches front =
 
 stops_by : (sent : List ℕ) (s : ReplayProgress) (script : List ℕ) (left held : Option (List ℕ)) (u : ReplayProgress) (fault : ReplayFault) → IsLineFault fault
     → StopsAtLine sent s script left held u (Some fault) → Stops sent s script left held u fault
+stops_by sent s script left held u (Config f) kind stopped = absurd kind
 stops_by sent s script left held u (Format line) kind stopped = stopped
 stops_by sent s script left held u (TooLong line) kind stopped = stopped
-stops_by sent s script left held u fault kind stopped = absurd kind
+stops_by sent s script left held u Read kind stopped = absurd kind
+stops_by sent s script left held u Write kind stopped = absurd kind
+stops_by sent s script left held u NoMemory kind stopped = absurd kind
 
 -- a line that ends it
 pub stops_line : (sent : List ℕ) (s : ReplayProgress) (script : List ℕ) (left held : Option (List ℕ)) (t u : ReplayProgress) (old new : LineState) (less : Option (List ℕ)) (fault : ReplayFault)

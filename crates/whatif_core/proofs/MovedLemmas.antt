@@ -1,5 +1,5 @@
 -- A connection that awaits its server in the record awaits it in the trial, unless it has had a difference, or was lost or saved.
-use Rattle.std.proofs.Common.{◌≡◌, ◌⊎◌, inl, inr, ℕ, ◌+◌, ◌≤◌, Bool, true, false, List, [], ◌∷◌, ◌++◌, Option, Some, None, Ok, refl, ap, sym, subst, ◌∙◌, max}
+use Rattle.std.proofs.Common.{◌≡◌, ◌⊎◌, inl, inr, ℕ, ◌+◌, ◌≤◌, Bool, true, false, List, [], ◌∷◌, ◌++◌, Option, Some, None, Result, Ok, Err, refl, ap, sym, subst, ◌∙◌, max}
 use Rattle.std.specs.Prelude.{◌==◌, ◌&&◌, ◌||◌, not, filter, slice_get, is_some, option_map, if◌then◌else◌}
 use Rattle.std.specs.Option.{option_map_or}
 use Rattle.addr_core.specs.PairValue.{PairValue}
@@ -19,9 +19,9 @@ use Rattle.conn_model.specs.declared.reply.Reply.{Reply}
 use Rattle.conn_model.specs.declared.reply.Said.{Said}
 use Rattle.conn_model.specs.declared.reply.Said.TheVariants as saids
 use Rattle.conn_model.specs.declared.reply.StepFault.TheVariants.{NoSuch}
-use Rattle.conn_model.specs.Answer.{answer_in, at_moment, awaits_server, failure_said, offer_in, other_server, new_row, reply_of, row_at, row_in, NumberedServer}
+use Rattle.conn_model.specs.Answer.{answer_in, at_moment, awaits_server, failure_said, offer_in, other_server, new_row, reply_of, rest_in, row_at, row_in, NumberedServer}
 use Rattle.conn_model.specs.History.{Entry, IsLegal, IsWell, after, arrival, arrival_of, arrivals, entry, frontend_after, has_ended, id_of, is_last, is_reload, leaves_open, opening, phase_by, phase_on, phase_up, plan_of, row_after, speaks_to}
-use Rattle.conn_model.specs.Words.{or_fault}
+use Rattle.conn_model.specs.Words.{is_conn, or_fault}
 use Rattle.conn_model.proofs.Goes.{whole_in_parts}
 use Rattle.conn_model.proofs.Lists.{all-at, all-each, all-map, and_true, get-from_zero}
 use Rattle.conn_model.proofs.Offers.{failure_answers}
@@ -47,8 +47,13 @@ awaits_at q id = awaits_in (row_at q.frontends id)
 
 -- the reply says that a server took its connection
 abbrev is_up : Said → Bool
+is_up (saids.Wait id used) = false
+is_up (saids.Offer id used line server to judged send) = false
+is_up (saids.Refuse id used cause) = false
 is_up (saids.Up id) = true
-is_up said = false
+is_up (saids.Closed id why) = false
+is_up (saids.Reloaded version) = false
+is_up (saids.Marked line health) = false
 
 -- that connection
 abbrev takes : Said → ℕ → ℕ → Bool
@@ -69,8 +74,11 @@ awaited : (plan : Option Plan) (event : OwnedEvent) (said : Said) (phase : Phase
     (is_offer said ≡ true) ⊎ ((awaits_server phase ≡ true) × (is_up said ≡ false))
 awaited plan event (saids.Wait id used) phase is = inr (sym (on_piece_awaits _ phase) ∙ is, refl)
 awaited plan event (saids.Offer id used line server to judged send) phase is = inl refl
+awaited plan event (saids.Refuse id used cause) phase is = inr (is, refl)
 awaited plan event (saids.Up id) phase is = absurd (let wrong : false ≡ true = sym (once_up_awaits phase) ∙ is in cc)
-awaited plan event said phase is = inr (is, refl)
+awaited plan event (saids.Closed id why) phase is = inr (is, refl)
+awaited plan event (saids.Reloaded version) phase is = inr (is, refl)
+awaited plan event (saids.Marked line health) phase is = inr (is, refl)
 
 awaited_if : (plan : Option Plan) (event : OwnedEvent) (said : Said) (phase : Phase) (b : Bool) → awaits_server (if b then phase_by plan event said phase else phase) ≡ true →
     ((is_offer said && b) ≡ true) ⊎ ((awaits_server phase ≡ true) × ((is_up said && b) ≡ false))
@@ -99,7 +107,12 @@ none_awaits serial number clock version (Accept listener real) said row is = of 
         by true there = here (id.serial == serial) refl there
         by false there = absurd (let wrong : None ≡ Some row = there in cc)
 none_awaits serial number clock version (Piece id bytes) said row is = absurd (let wrong : None ≡ Some row = is in cc)
-none_awaits serial number clock version event said row is = absurd (let wrong : None ≡ Some row = is in cc)
+none_awaits serial number clock version (Connected id) said row is = absurd (let wrong : None ≡ Some row = is in cc)
+none_awaits serial number clock version (ConnectFailed id) said row is = absurd (let wrong : None ≡ Some row = is in cc)
+none_awaits serial number clock version (Close id why) said row is = absurd (let wrong : None ≡ Some row = is in cc)
+none_awaits serial number clock version (Expire id) said row is = absurd (let wrong : None ≡ Some row = is in cc)
+none_awaits serial number clock version (Reload text) said row is = absurd (let wrong : None ≡ Some row = is in cc)
+none_awaits serial number clock version (Mark backend n health) said row is = absurd (let wrong : None ≡ Some row = is in cc)
 
 -- of a connection that awaits its server after an entry: the reply does not end it, and it offers it one; or it awaited it
 -- before, and the reply does not say that this took it
@@ -170,16 +183,26 @@ awaits_if plan event said phase true quiet is = absurd (let wrong : true ≡ fal
 awaits_if plan event said phase false quiet is = is
 
 awaits_offer : (plan : Option Plan) (event : OwnedEvent) (said : Said) (phase : Phase) → is_offer said ≡ true → awaits_server (phase_by plan event said phase) ≡ true
+awaits_offer plan event (saids.Wait id used) phase offered = absurd (cc)
 awaits_offer plan event (saids.Offer id used line server to judged send) phase offered = refl
-awaits_offer plan event said phase offered = absurd (cc)
+awaits_offer plan event (saids.Refuse id used cause) phase offered = absurd (cc)
+awaits_offer plan event (saids.Up id) phase offered = absurd (cc)
+awaits_offer plan event (saids.Closed id why) phase offered = absurd (cc)
+awaits_offer plan event (saids.Reloaded version) phase offered = absurd (cc)
+awaits_offer plan event (saids.Marked line health) phase offered = absurd (cc)
 
 offered_if : (plan : Option Plan) (event : OwnedEvent) (said : Said) (phase : Phase) (b : Bool) → b ≡ true → is_offer said ≡ true → awaits_server (if b then phase_by plan event said phase else phase) ≡ true
 offered_if plan event said phase true told offered = awaits_offer plan event said phase offered
 offered_if plan event said phase false told offered = absurd (let wrong : false ≡ true = told in cc)
 
 offer_open : (said : Said) → is_offer said ≡ true → (leaves_open said ≡ true) × (is_last said ≡ false)
+offer_open (saids.Wait id used) is = absurd (cc)
 offer_open (saids.Offer id used line server to judged send) is = (refl, refl)
-offer_open said is = absurd (cc)
+offer_open (saids.Refuse id used cause) is = absurd (cc)
+offer_open (saids.Up id) is = absurd (cc)
+offer_open (saids.Closed id why) is = absurd (cc)
+offer_open (saids.Reloaded version) is = absurd (cc)
+offer_open (saids.Marked line health) is = absurd (cc)
 
 -- a row, old or new, that awaits its server once the reply came
 row_awaits : (q : Plain) (e : Entry) (number serial : ℕ) (own : FrontendRows) (row : Row) → found serial (own.rows ++ arrivals q number (e ∷ [])) ≡ Some row → ends e.reply.said number serial ≡ false →
@@ -261,6 +284,7 @@ awaits_new q well moment listener real reply id new whom offered =
 -- ---- decisions
 
 unlike_offer : (q r : Plain) (ours theirs : Said) → is_offer ours ≡ true → is_judgement theirs ≡ true → is_offer theirs ≡ false → is_some (difference (decision_of q ours) (decision_of r theirs)) ≡ true
+unlike_offer q r (saids.Wait id used) theirs offered judged other = absurd (cc)
 unlike_offer q r (saids.Offer own used line server to judged2 send) theirs offered judged other = by theirs _ judged other
   where
     by : (said : Said) (names : Option (List ℕ × List ℕ)) → is_judgement said ≡ true → is_offer said ≡ false → is_some (difference (Some (offer_of names line)) (decision_of r said)) ≡ true
@@ -273,7 +297,11 @@ unlike_offer q r (saids.Offer own used line server to judged2 send) theirs offer
     by (saids.Closed id why) names judged other = absurd (cc)
     by (saids.Reloaded version) names judged other = absurd (cc)
     by (saids.Marked line health) names judged other = absurd (cc)
-unlike_offer q r said theirs offered judged other = absurd (cc)
+unlike_offer q r (saids.Refuse id used cause) theirs offered judged other = absurd (cc)
+unlike_offer q r (saids.Up id) theirs offered judged other = absurd (cc)
+unlike_offer q r (saids.Closed id why) theirs offered judged other = absurd (cc)
+unlike_offer q r (saids.Reloaded version) theirs offered judged other = absurd (cc)
+unlike_offer q r (saids.Marked line health) theirs offered judged other = absurd (cc)
 
 decided_as : (q : Plain) (moment : ℕ) (event : OwnedEvent) (reply : Reply) → answer_in q moment event ≡ Ok reply → is_failure event ≡ false → decided q moment event ≡ decision_of (stepped q moment event) reply.said
 decided_as q moment event reply is no_failure = ap (decided_by (stepped q moment event) event) is ∙ ap (λ b. if b then None else decision_of (stepped q moment event) reply.said) no_failure
@@ -295,8 +323,13 @@ both_offer p n moment event reply theirs id other no_failure is offered whom ans
 -- ---- the trial
 
 pub closed_offer : (moment : ℕ) (said : Said) (q : Plain) → is_offer said ≡ true → closed moment said q ≡ q
+closed_offer moment (saids.Wait id used) q is = absurd (cc)
 closed_offer moment (saids.Offer id used line server to judged send) q is = refl
-closed_offer moment said q is = absurd (cc)
+closed_offer moment (saids.Refuse id used cause) q is = absurd (cc)
+closed_offer moment (saids.Up id) q is = absurd (cc)
+closed_offer moment (saids.Closed id why) q is = absurd (cc)
+closed_offer moment (saids.Reloaded version) q is = absurd (cc)
+closed_offer moment (saids.Marked line health) q is = absurd (cc)
 
 -- both offer it a server
 lets_await : (n : Plain) (moment : ℕ) (event : OwnedEvent) (reply theirs : Reply) (id : ConnId) → answer_in n moment event ≡ Ok theirs → awaits_at (after n (entry moment event theirs ∷ [])) id ≡ true → is_offer reply.said ≡ true →

@@ -1,6 +1,6 @@
 -- A connection that waits in the record waits in the trial, unless it has had a difference.
 use Rattle.std.proofs.Common.{◌≡◌, ◌⊎◌, inl, inr, ℕ, ◌+◌, ◌≤◌, Bool, true, false, List, [], ◌∷◌, ◌++◌, Option, Some, None, Result, Ok, Err, refl, ap, sym, subst, ◌∙◌, max, arith}
-use Rattle.std.specs.Prelude.{◌==◌, ◌&&◌, ◌||◌, not, filter, slice_get, is_some, option_map, if◌then◌else◌}
+use Rattle.std.specs.Prelude.{◌==◌, ◌&&◌, ◌||◌, not, filter, slice_get, is_some, nat_le, option_map, if◌then◌else◌}
 use Rattle.std.specs.Option.{option_map_or}
 use Rattle.std.proofs.lemmas.Bool.{eq-eqb, eqb-true}
 use Rattle.addr_core.specs.PairValue.{PairValue}
@@ -12,6 +12,7 @@ use Rattle.conn_model.specs.declared.event.Health.{Health}
 use Rattle.conn_model.specs.declared.plain.Assignment.{Assignment}
 use Rattle.conn_model.specs.declared.event.OwnedEvent.{OwnedEvent}
 use Rattle.conn_model.specs.declared.event.OwnedEvent.TheVariants.{Accept, Piece, Connected, ConnectFailed, Close, Expire, Reload, Mark}
+use Rattle.conn_model.specs.declared.event.TheConstants.{HEADER_WAIT}
 use Rattle.conn_model.specs.declared.event.Why.TheVariants.{Done}
 use Rattle.conn_model.specs.declared.plain.FrontendRows.{FrontendRows}
 use Rattle.conn_model.specs.declared.plain.Phase.{Phase}
@@ -23,13 +24,13 @@ use Rattle.conn_model.specs.declared.reply.Reply.{Reply}
 use Rattle.conn_model.specs.declared.reply.Said.{Said}
 use Rattle.conn_model.specs.declared.reply.Said.TheVariants as saids
 use Rattle.conn_model.specs.declared.reply.StepFault.{StepFault}
-use Rattle.conn_model.specs.declared.reply.StepFault.TheVariants.{NoSuch}
-use Rattle.conn_model.specs.Answer.{answer_in, at_moment, awaits_server, offer_in, new_row, reply_of, row_at, row_in}
+use Rattle.conn_model.specs.declared.reply.StepFault.TheVariants.{NoSuch, NotDue}
+use Rattle.conn_model.specs.Answer.{answer_in, at_moment, awaits_server, offer_in, new_row, reply_of, rest_in, row_at, row_in}
 use Rattle.conn_model.specs.History.{Entry, IsFrontendWell, IsLegal, IsWell, after, arrival_of, arrivals, entry, frontend_after, has_ended, id_of, is_last, is_reload, leaves_open, opening, phase_by, plan_of, row_after, speaks_to}
 use Rattle.conn_model.specs.Words.{is_conn, or_fault}
 use Rattle.conn_model.proofs.Goes.{whole_in_parts}
 use Rattle.conn_model.proofs.Lists.{all-at, all-each, all-found, all-map, and_true, get-from_zero}
-use Rattle.conn_model.proofs.Replies.{answered, bind-ok, expired, has_failed, server_answered, IsNew}
+use Rattle.conn_model.proofs.Replies.{answered, bind-ok, expired, has_failed, received, server_answered, IsNew}
 use Rattle.conn_model.proofs.Well.{after-nil, opening_well, well_after}
 use Rattle.conn_laws.specs.Deciding.{is_judgement, is_offer, is_wait, IsJudged, Waiter}
 use Rattle.conn_laws.proofs.Judged.{piece_judged}
@@ -37,9 +38,9 @@ use Rattle.conn_laws.proofs.Present.{waits_there}
 use Rattle.replay_core.specs.Turns.{plain_after}
 use Rattle.whatif_core.specs.declared.decision.ComparedDecision.TheVariants as decisions
 use Rattle.whatif_core.specs.Deciding.{closed, decided, decided_by, decision_of, difference, handed, is_failure, numbers_for, offer_of, played, stepped, taken}
-use Rattle.whatif_core.specs.Reporting.{differs_of, history_report, trial_opening, turn_of, turn_with, HasDiffered}
+use Rattle.whatif_core.specs.Reporting.{differs_of, history_report, trial_opening, turn_of, turn_with, HasDiffered, IsSeen}
 use Rattle.whatif_core.proofs.LawLemmas.{accept_outcome, all_tied, and_no, arrived, contrary, ends, turn_trial, Outcome, Tied}
-use Rattle.whatif_core.proofs.OnceLemmas.{same_decided, and_left, below_itself, decided_wait, found, found_mapped, found_serial, is_waiting, not_new, offers, old_given, on_piece, once_up, same_conn, same_reply, same_whom, spoken, then_waits, waits_after, waits_at, waits_in, Waited}
+use Rattle.whatif_core.proofs.OnceLemmas.{same_decided, and_left, below_itself, decided_wait, decides, found, found_mapped, found_serial, is_waiting, not_new, offers, old_given, on_piece, once_up, same_conn, same_reply, same_whom, spoken, then_waits, waits_after, waits_at, waits_here, waits_in, Waited}
 
 -- ---- a connection that waits on
 
@@ -74,8 +75,11 @@ found_kept serial test (other ∷ rows) row keeps is = by (test other.serial) re
 waits_by : (plan : Option Plan) (event : OwnedEvent) (said : Said) (phase : Phase) → is_offer said ≡ false → is_waiting phase ≡ true → is_waiting (phase_by plan event said phase) ≡ true
 waits_by plan event (saids.Wait id used) phase other is = on_piece _ phase ∙ is
 waits_by plan event (saids.Offer id used line server to judged send) phase other is = absurd (cc)
+waits_by plan event (saids.Refuse id used cause) phase other is = is
 waits_by plan event (saids.Up id) phase other is = once_up phase ∙ is
-waits_by plan event said phase other is = is
+waits_by plan event (saids.Closed id why) phase other is = is
+waits_by plan event (saids.Reloaded version) phase other is = is
+waits_by plan event (saids.Marked line health) phase other is = is
 
 waits_if : (plan : Option Plan) (event : OwnedEvent) (said : Said) (phase : Phase) (b : Bool) → (is_offer said && b) ≡ false → is_waiting phase ≡ true → is_waiting (if b then phase_by plan event said phase else phase) ≡ true
 waits_if plan event said phase true other is = waits_by plan event said phase (and_left (is_offer said) true other refl) is
@@ -121,7 +125,12 @@ waits_kept q well e id is lasts unoffered =
 
 waits_open : (said : Said) → is_wait said ≡ true → (leaves_open said ≡ true) × (is_last said ≡ false) × (is_offer said ≡ false)
 waits_open (saids.Wait id used) is = (refl, refl, refl)
-waits_open said is = absurd (cc)
+waits_open (saids.Offer id used line server to judged send) is = absurd (cc)
+waits_open (saids.Refuse id used cause) is = absurd (cc)
+waits_open (saids.Up id) is = absurd (cc)
+waits_open (saids.Closed id why) is = absurd (cc)
+waits_open (saids.Reloaded version) is = absurd (cc)
+waits_open (saids.Marked line health) is = absurd (cc)
 
 pub came_in : (id : ConnId) (clock version : ℕ) (real : PairValue) (said : Said) → id_of said ≡ Some id → leaves_open said ≡ true → found id.serial (arrival_of id.frontend clock version real said (id_of said)) ≡ Some (new_row id.serial version real clock)
 came_in id clock version real said whom stays = rw (whom, stays, eq-eqb id.frontend id.frontend refl, eq-eqb id.serial id.serial refl) refl
@@ -156,13 +165,17 @@ waits_new q well moment listener real reply id new whom waits =
 -- ---- decisions
 
 unlike_wait : (q : Plain) (said : Said) → is_judgement said ≡ true → is_wait said ≡ false → is_some (difference (Some decisions.Wait) (decision_of q said)) ≡ true
+unlike_wait q (saids.Wait id used) judged other = absurd (cc)
 unlike_wait q (saids.Offer id used line server to judged2 send) judged other = by _
   where
     by : (names : Option (List ℕ × List ℕ)) → is_some (difference (Some decisions.Wait) (Some (offer_of names line))) ≡ true
     by None = refl
     by (Some names) = refl
 unlike_wait q (saids.Refuse id used cause) judged other = refl
-unlike_wait q said judged other = absurd (cc)
+unlike_wait q (saids.Up id) judged other = absurd (cc)
+unlike_wait q (saids.Closed id why) judged other = absurd (cc)
+unlike_wait q (saids.Reloaded version) judged other = absurd (cc)
+unlike_wait q (saids.Marked line health) judged other = absurd (cc)
 
 pub differs_made : (p n : Plain) (moment : ℕ) (event : OwnedEvent) (reply : Reply) (id : ConnId) → is_reload event ≡ false → is_some (difference (decided p moment event) (decided n moment event)) ≡ true → id_of reply.said ≡ Some id →
     differs_of (turn_of p n (entry moment event reply)) ≡ Some id
@@ -216,9 +229,13 @@ closed_other holds kept n well moment other id apart is = by (answer_in n moment
     by (Ok reply) answers = kept n well (entry moment (Close other Done) reply) id is (ap (λ o. option_map_or (is_conn id.frontend id.serial) o false) (answered n moment (Close other Done) reply answers).speaks ∙ apart)
 
 closed_on : (holds : Plain → ConnId → Bool) → IsKept holds → (n : Plain) → IsWell n → (moment : ℕ) (said : Said) (id : ConnId) → ends said id.frontend id.serial ≡ false → holds n id ≡ true → holds (closed moment said n) id ≡ true
+closed_on holds kept n well moment (saids.Wait other used) id lasts is = is
+closed_on holds kept n well moment (saids.Offer other used line server to judged send) id lasts is = is
 closed_on holds kept n well moment (saids.Refuse other used cause) id lasts is = closed_other holds kept n well moment other id lasts is
+closed_on holds kept n well moment (saids.Up other) id lasts is = is
 closed_on holds kept n well moment (saids.Closed other why) id lasts is = closed_other holds kept n well moment other id lasts is
-closed_on holds kept n well moment said id lasts is = is
+closed_on holds kept n well moment (saids.Reloaded version) id lasts is = is
+closed_on holds kept n well moment (saids.Marked line health) id lasts is = is
 
 -- the trial after an event that was handed in, whose answer leaves it so
 handed_on : (holds : Plain → ConnId → Bool) → IsKept holds → (n : Plain) → IsWell n → (moment : ℕ) (event : OwnedEvent) (said : Said) (id : ConnId) → ((fault : StepFault) → answer_in n moment event ≡ Err fault → holds n id ≡ true) →
@@ -418,9 +435,19 @@ at_entry plan h n moment (Accept listener real) reply id legal is tied came befo
   where
     opens : (said : Said) → leaves_open said ≡ true → is_offer said ≡ false → is_wait said ≡ true
     opens (saids.Wait id used) stays other = refl
-    opens said stays other = absurd (cc)
+    opens (saids.Offer id used line server to judged send) stays other = absurd (cc)
+    opens (saids.Refuse id used cause) stays other = absurd (cc)
+    opens (saids.Up id) stays other = absurd (cc)
+    opens (saids.Closed id why) stays other = absurd (cc)
+    opens (saids.Reloaded version) stays other = absurd (cc)
+    opens (saids.Marked line health) stays other = absurd (cc)
 at_entry plan h n moment (Piece own bytes) reply id legal is tied came before came_too w = absurd (cc)
-at_entry plan h n moment event reply id legal is tied came before came_too w = absurd (cc)
+at_entry plan h n moment (Connected own) reply id legal is tied came before came_too w = absurd (cc)
+at_entry plan h n moment (ConnectFailed own) reply id legal is tied came before came_too w = absurd (cc)
+at_entry plan h n moment (Close own why) reply id legal is tied came before came_too w = absurd (cc)
+at_entry plan h n moment (Expire own) reply id legal is tied came before came_too w = absurd (cc)
+at_entry plan h n moment (Reload text) reply id legal is tied came before came_too w = absurd (cc)
+at_entry plan h n moment (Mark number k health) reply id legal is tied came before came_too w = absurd (cc)
 
 nobody_waits : (plan : Plan) (id : ConnId) → waits_at (after (opening plan 0) []) id ≡ false
 nobody_waits plan id = ap (λ q. waits_at q id) (after-nil (opening plan 0) (opening_well plan 0)) ∙ by (slice_get (opening plan 0).frontends id.frontend) refl
@@ -472,7 +499,13 @@ waits_in_both plan text trial (e ∷ h) id opens legal waits =
 
     no_arrival : (event : OwnedEvent) (said : Said) → is_reload event ≡ true → arrived id.frontend id.serial event said ≡ true → ⊥
     no_arrival (Accept listener real) said is came = absurd (cc)
-    no_arrival event said is came = absurd (cc)
+    no_arrival (Piece own bytes) said is came = absurd (cc)
+    no_arrival (Connected own) said is came = absurd (cc)
+    no_arrival (ConnectFailed own) said is came = absurd (cc)
+    no_arrival (Close own why) said is came = absurd (cc)
+    no_arrival (Expire own) said is came = absurd (cc)
+    no_arrival (Reload text) said is came = absurd (cc)
+    no_arrival (Mark number k health) said is came = absurd (cc)
 
     by : Waited (waits_at p id) (arrived id.frontend id.serial e.event e.reply.said) e.reply.said id.frontend id.serial → (waits_at p id ≡ true → IsKnown plan trial h id) → IsKnown plan trial (e ∷ h) id
     by w earlier = on (is_reload e.event) refl

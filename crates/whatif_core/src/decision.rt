@@ -157,7 +157,12 @@ pub fn failure_outcome(said: &Said) -> AfterFailure
 {
     match said {
         Said::Offer { .. } => AfterFailure::Moved,
-        _ => AfterFailure::Ended,
+        Said::Wait { .. }
+        | Said::Refuse { .. }
+        | Said::Up { .. }
+        | Said::Closed { .. }
+        | Said::Reloaded { .. }
+        | Said::Marked { .. } => AfterFailure::Ended,
     }
 }
 

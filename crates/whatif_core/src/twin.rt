@@ -65,7 +65,12 @@ fn trial_names<'a>(trial: &'a Core, said: &Said) -> Option<ServerNames<'a>>
 {
     match said {
         Said::Offer { id, .. } => trial.server(*id),
-        _ => None,
+        Said::Wait { .. }
+        | Said::Refuse { .. }
+        | Said::Up { .. }
+        | Said::Closed { .. }
+        | Said::Reloaded { .. }
+        | Said::Marked { .. } => None,
     }
 }
 
@@ -75,7 +80,12 @@ fn recorded_names<'a>(auditor: &'a Auditor, said: &Said) -> Option<ServerNames<'
 {
     match said {
         Said::Offer { id, .. } => auditor.server(*id),
-        _ => None,
+        Said::Wait { .. }
+        | Said::Refuse { .. }
+        | Said::Up { .. }
+        | Said::Closed { .. }
+        | Said::Reloaded { .. }
+        | Said::Marked { .. } => None,
     }
 }
 
@@ -85,7 +95,13 @@ fn is_failure(event: &Event<'_>) -> bool
 {
     match event {
         Event::ConnectFailed(_) => true,
-        _ => false,
+        Event::Accept(..)
+        | Event::Piece(..)
+        | Event::Connected(_)
+        | Event::Close(..)
+        | Event::Expire(_)
+        | Event::Reload(_)
+        | Event::Mark(..) => false,
     }
 }
 
@@ -194,7 +210,13 @@ fn hand_on(
                 would_come: None,
             }),
         },
-        _ => hand_in(alloc, trial, moment, event),
+        Event::Accept(..)
+        | Event::Piece(..)
+        | Event::Connected(_)
+        | Event::ConnectFailed(_)
+        | Event::Close(..)
+        | Event::Expire(_)
+        | Event::Reload(_) => hand_in(alloc, trial, moment, event),
     }
 }
 
@@ -218,7 +240,11 @@ fn close_ended(trial: &mut Core, moment: u64, said: &Said) -> Result<bool, Alloc
             close(trial, moment, *id)?;
             Ok(false)
         }
-        _ => Ok(false),
+        Said::Wait { .. }
+        | Said::Offer { .. }
+        | Said::Up { .. }
+        | Said::Reloaded { .. }
+        | Said::Marked { .. } => Ok(false),
     }
 }
 
