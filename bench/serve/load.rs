@@ -4,8 +4,13 @@
 //!                             `echo PORT`, and serves until its standard input ends
 //!     load rate PORT N S      N clients for S seconds: each connects, sends 64 bytes, and takes all up to the end, again
 //!                             and again, from `once`
+//!     load visits PORT N S    the same; it prints too how many seconds a half of the clients and 99 of 100 of them were
+//!                             there at most, each from its connect to the end
 //!     load bulk PORT N S      N connections that send as much as they can for S seconds, to `discard`
 //!     load ping PORT N S      N connections that send 64 bytes and wait for them to come back, again and again, from `echo`
+//!     load paced PORT N R S   R messages of 64 bytes a second for S seconds, at even distances, by turns over N connections
+//!                             to `echo`; it prints too how many seconds after it was due a half of them and 99 of 100
+//!                             were back at most
 //!     load hold PORT N        N connections, each of which got 5 bytes back from `echo`; it prints `held`, and holds them
 //!                             until its standard input ends
 //!     load idle PORT N        N connections that send nothing; it prints `held`, and holds them until its standard input
@@ -23,20 +28,22 @@
 //!                             and the longest time in seconds that one of these was there, and how many went wrong
 //!     load echo PORT          a server `echo` on that port of the loopback, until its standard input ends
 //!
-//! `rate`, `bulk`, `ping` and `come` print what was done (connections, bytes, messages), in how many seconds, and how many
-//! connections went wrong.
+//! `rate`, `visits`, `bulk`, `ping`, `paced` and `come` print what was done (connections, bytes, messages), in how many seconds,
+//! and how many connections went wrong.
 
 use std::collections::VecDeque;
+use std::fs::File;
 use std::io::{ErrorKind, Read, Write};
 use std::net::{Shutdown, TcpListener, TcpStream};
 use std::os::fd::{AsRawFd, FromRawFd, RawFd};
-use std::sync::atomic::{AtomicBool, AtomicU64, Ordering::Relaxed};
+use std::sync::atomic::{AtomicBool, Ordering::Relaxed};
 use std::thread;
 use std::time::{Duration, Instant};
 
 const MESSAGE: [u8; 64] = [b'x'; 64];
 const PART: usize = 131_072;
 const LISTENER: u64 = u64::MAX;
+const TIMER: u64 = u64::MAX;
 const HERE: [u8; 4] = [127, 0, 0, 1];
 
 // epoll, as Linux has it on x86-64
@@ -56,6 +63,7 @@ const INTERNET: i32 = 2;
 const STREAM: i32 = 1;
 const NONBLOCKING: i32 = 0o4000;
 const IN_PROGRESS: i32 = 115;
+const MONOTONIC: i32 = 1;
 
 extern "C" {
     fn epoll_create1(flags: i32) -> i32;
@@ -64,6 +72,26 @@ extern "C" {
     fn socket(domain: i32, kind: i32, protocol: i32) -> i32;
     fn bind(fd: i32, address: *const u8, length: u32) -> i32;
     fn connect(fd: i32, address: *const u8, length: u32) -> i32;
+    fn timerfd_create(clock: i32, flags: i32) -> i32;
+    fn timerfd_settime(fd: i32, flags: i32, times: *const Times, before: *mut Times) -> i32;
+}
+
+/// When a timer goes off again and again, and first.
+#[repr(C)]
+struct Times {
+    interval: [i64; 2],
+    first: [i64; 2],
+}
+
+/// A timer that goes off again and again; what is read of it is how often it did.
+fn timer(interval: Duration) -> File {
+    let every = [interval.as_secs() as i64, i64::from(interval.subsec_nanos())];
+    let times = Times { interval: every, first: every };
+    unsafe {
+        let fd = timerfd_create(MONOTONIC, NONBLOCKING);
+        assert!(fd >= 0 && timerfd_settime(fd, 0, &times, std::ptr::null_mut()) == 0, "no timer");
+        File::from_raw_fd(fd)
+    }
 }
 
 struct Poll {
@@ -196,6 +224,7 @@ fn begin(port: u16, source: [u8; 4]) -> Option<TcpStream> {
 /// One client, between its connect and the end.
 struct Visit {
     link: TcpStream,
+    came: Instant,
     has_sent: bool,
     taken: usize,
 }
@@ -219,31 +248,32 @@ fn go_on(visit: &mut Visit, poll: &Poll, key: u64, part: &mut [u8]) -> Option<bo
     }
 }
 
-fn come_and_go(port: u16, clients: usize, until: Instant, done: &AtomicU64, wrong: &AtomicU64) {
+/// The seconds of each visit that went well, and how many went wrong.
+fn come_and_go(port: u16, clients: usize, until: Instant) -> (Vec<f64>, u64) {
     let mut poll = Poll::new();
     let mut visits: Vec<Option<Visit>> = (0..clients).map(|_| None).collect();
-    let mut part = [0; 4096];
+    let (mut part, mut waits, mut wrong) = ([0; 4096], Vec::new(), 0);
     while Instant::now() < until {
         for (key, place) in visits.iter_mut().enumerate().filter(|(_, place)| place.is_none()) {
+            let came = Instant::now();
             match begin(port, HERE) {
                 Some(link) => {
                     poll.watch(ADD, link.as_raw_fd(), READABLE | WRITABLE, key as u64);
-                    *place = Some(Visit { link, has_sent: false, taken: 0 });
+                    *place = Some(Visit { link, came, has_sent: false, taken: 0 });
                 }
-                None => {
-                    wrong.fetch_add(1, Relaxed);
-                }
+                None => wrong += 1,
             }
         }
         for key in poll.wait(10) {
             let place = &mut visits[key as usize];
             let Some(visit) = place else { continue };
             if let Some(is_good) = go_on(visit, &poll, key, &mut part) {
-                if is_good { done } else { wrong }.fetch_add(1, Relaxed);
+                if is_good { waits.push(visit.came.elapsed().as_secs_f64()) } else { wrong += 1 }
                 *place = None;
             }
         }
     }
+    (waits, wrong)
 }
 
 /// The number of a source in 127.0.0.0/8.
@@ -262,7 +292,7 @@ fn come(port: u16, count: usize) {
             if begun < count {
                 let link = begin(port, source(begun)).expect("a connection");
                 poll.watch(ADD, link.as_raw_fd(), READABLE | WRITABLE, key as u64);
-                *place = Some(Visit { link, has_sent: false, taken: 0 });
+                *place = Some(Visit { link, came: Instant::now(), has_sent: false, taken: 0 });
                 begun += 1;
             }
         }
@@ -278,17 +308,26 @@ fn come(port: u16, count: usize) {
     report(done, start, wrong);
 }
 
-fn rate(port: u16, clients: usize, seconds: f64) {
-    let (done, wrong) = (AtomicU64::new(0), AtomicU64::new(0));
+/// The seconds of each visit of all clients, how many went wrong, and when the first came.
+fn visits(port: u16, clients: usize, seconds: f64) -> (Vec<f64>, u64, Instant) {
     let begun = Instant::now();
     let until = begun + Duration::from_secs_f64(seconds);
-    thread::scope(|scope| {
-        for part in 0..2 {
-            let (done, wrong) = (&done, &wrong);
-            scope.spawn(move || come_and_go(port, (clients + part) / 2, until, done, wrong));
-        }
+    let parts: Vec<(Vec<f64>, u64)> = thread::scope(|scope| {
+        let threads = [0, 1].map(|part| scope.spawn(move || come_and_go(port, (clients + part) / 2, until)));
+        threads.into_iter().map(|thread| thread.join().expect("a thread that ends")).collect()
     });
-    report(done.into_inner(), begun, wrong.into_inner());
+    let wrong = parts.iter().map(|(_, wrong)| wrong).sum();
+    (parts.into_iter().flat_map(|(waits, _)| waits).collect(), wrong, begun)
+}
+
+fn rate(port: u16, clients: usize, seconds: f64) {
+    let (waits, wrong, begun) = visits(port, clients, seconds);
+    report(waits.len() as u64, begun, wrong);
+}
+
+fn timed_rate(port: u16, clients: usize, seconds: f64) {
+    let (mut waits, wrong, begun) = visits(port, clients, seconds);
+    report_waits(&mut waits, begun, wrong);
 }
 
 /// Sends until it is told to stop; how many bytes, and whether all of them arrived.
@@ -347,6 +386,62 @@ fn ping(port: u16, links: usize, seconds: f64) {
         }
     }
     report(done, begun, wrong);
+}
+
+/// A link of `paced`, and when each of its messages that are not back yet was due.
+struct Paced {
+    link: TcpStream,
+    taken: usize,
+    due: VecDeque<Instant>,
+}
+
+impl Paced {
+    /// Takes what is back; whether the link is well.
+    fn take(&mut self, part: &mut [u8], waits: &mut Vec<f64>) -> bool {
+        match self.link.read(part) {
+            Ok(count @ 1..) => {
+                self.taken += count;
+                while self.taken >= MESSAGE.len() {
+                    self.taken -= MESSAGE.len();
+                    waits.extend(self.due.pop_front().map(|due| due.elapsed().as_secs_f64()));
+                }
+                true
+            }
+            Err(error) => error.kind() == ErrorKind::WouldBlock,
+            Ok(_) => false,
+        }
+    }
+}
+
+fn paced(port: u16, links: usize, rate: f64, seconds: f64) {
+    let (mut poll, interval) = (Poll::new(), Duration::from_secs_f64(1.0 / rate));
+    let mut links: Vec<Paced> = (0..links).map(|_| Paced { link: open(port), taken: 0, due: VecDeque::new() }).collect();
+    for (key, paced) in links.iter().enumerate() {
+        paced.link.set_nonblocking(true).expect("a link that does not wait");
+        poll.watch(ADD, paced.link.as_raw_fd(), READABLE, key as u64);
+    }
+    let (mut part, mut waits, mut sent, mut wrong) = ([0; 4096], Vec::new(), 0, 0u64);
+    let begun = Instant::now();
+    let (mut clock, until) = (timer(interval), begun + Duration::from_secs_f64(seconds));
+    poll.watch(ADD, clock.as_raw_fd(), READABLE, TIMER);
+    while Instant::now() < until && wrong == 0 {
+        for key in poll.wait(100) {
+            if key != TIMER {
+                wrong += u64::from(!links[key as usize].take(&mut part, &mut waits));
+                continue;
+            }
+            let mut times = [0; 8];
+            let _ = clock.read(&mut times);
+            for _ in 0..u64::from_ne_bytes(times) {
+                sent += 1;
+                let at = sent % links.len();
+                let paced = &mut links[at];
+                paced.due.push_back(begun + interval * sent as u32);
+                wrong += u64::from(paced.link.write_all(&MESSAGE).is_err());
+            }
+        }
+    }
+    report_waits(&mut waits, begun, wrong);
 }
 
 fn stall(port: u16, seconds: f64) {
@@ -491,6 +586,14 @@ fn report(done: u64, begun: Instant, wrong: u64) {
     println!("{done} {:.6} {wrong}", begun.elapsed().as_secs_f64());
 }
 
+/// The same, and how many seconds a half of them and 99 of 100 of them took at most.
+fn report_waits(waits: &mut [f64], begun: Instant, wrong: u64) {
+    let seconds = begun.elapsed().as_secs_f64();
+    waits.sort_by(f64::total_cmp);
+    let wait = |part: usize| waits.get(waits.len().saturating_sub(1) * part / 100).copied().unwrap_or(0.0);
+    println!("{} {seconds:.6} {wrong} {:.6} {:.6}", waits.len(), wait(50), wait(99));
+}
+
 fn wait_for_end() {
     let _ = std::io::stdin().read_to_end(&mut Vec::new());
 }
@@ -502,8 +605,10 @@ fn main() {
     match words.first().map(String::as_str) {
         Some("servers") => servers(),
         Some("rate") => rate(port(), count(), number(3)),
+        Some("visits") => timed_rate(port(), count(), number(3)),
         Some("bulk") => bulk(port(), count(), number(3)),
         Some("ping") => ping(port(), count(), number(3)),
+        Some("paced") => paced(port(), count(), number(3), number(4)),
         Some("hold") => hold(port(), count()),
         Some("idle") => idle(port(), count()),
         Some("come") => come(port(), count()),
@@ -511,6 +616,6 @@ fn main() {
         Some("turns") => turns([port(), count() as u16], number(3)),
         Some("drip") => drip(port(), count(), number(3)),
         Some("echo") => echo_at(port()),
-        _ => panic!("servers, rate, bulk, ping, hold, idle, come, stall, turns, drip or echo"),
+        _ => panic!("servers, rate, visits, bulk, ping, paced, hold, idle, come, stall, turns, drip or echo"),
     }
 }
