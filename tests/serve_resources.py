@@ -192,3 +192,28 @@ def case_workers(case):
                 client.close()
             record = proxy.ended()
             case.check(f'{workers} workers: how they ended', record.ends(), {'closed done': 2 * workers + 40})
+
+
+def case_stuck_worker(case):
+    """One of two workers is stuck. The other one goes on getting connections, all but those that already wait for the first;
+    and these are served once it goes on."""
+    hold = pathlib.Path(case.room, 'hold')
+    variables = {'LD_PRELOAD': str(shared_object(case.room, 'stop')), 'HOLD_AT_READ': str(hold)}
+    config, port = plain(case, Server(echo))
+    with case.start(config, '--workers', '2', env=variables) as proxy:
+        hold.touch()
+        clients = [Client(port) for _ in range(400)]
+        for client in clients:
+            client.put(b'hello')
+        until(lambda: not hold.exists(), 'a worker is stuck')
+
+        def answered():
+            return select.select(clients, [], [], 0)[0]
+        until(lambda: len(answered()) >= 250, 'most clients are served beside a worker that is stuck')
+        time.sleep(0.5)
+        case.holds('some wait for the one that is stuck', len(answered()) < 400, len(answered()))
+        hold.with_suffix('.done').touch()
+        served_within(case, 'all of them once it goes on', clients, 10)
+        for client in clients:
+            client.close()
+        case.check('how they ended', proxy.ended().ends(), {'closed done': 400})

@@ -142,9 +142,12 @@ impl<'a, M: Ledger, K: Link, D: Door<Link = K>> Reception<'a, M, K, D> {
         });
     }
 
-    /// Hands the connection that came last to its worker. Where too many wait for that worker it is held.
+    /// Hands the connection that came last to a worker. Where too many wait for each of them it is held.
     fn hand_over(&mut self, arrival: NewConn<K>) {
-        self.held = hand_over(&mut self.acceptor.lanes, self.accepted, arrival);
+        match hand_over(&mut self.acceptor.lanes, self.accepted, arrival) {
+            Ok(worker) => self.acceptor.door.wake(worker),
+            Err(back) => self.held = Some(back),
+        }
     }
 
     fn reload<O: Ledger, B: Opening, G: Gate, C: Clock, R: Wait>(
@@ -202,20 +205,23 @@ fn have_begun<M: Ledger, O: Ledger, B: Opening, G: Gate, C: Clock>(
     false
 }
 
-/// Hands the connection of that number, counted from 1, to its worker. Where too many wait for that worker it comes
-/// back.
+/// Hands the connection of that number to the worker whose turn it is, or to the next one for which not too many wait,
+/// and says which one that is. Where too many wait for each of them it comes back.
 fn hand_over<K: Link>(
     lanes: &mut [Producer<NewConn<K>>],
     number: u64,
     arrival: NewConn<K>,
-) -> Option<NewConn<K>> {
+) -> Result<usize, NewConn<K>> {
     let count = lanes.len() as u64;
-    if count == 0 {
-        return None;
+    let mut held = arrival;
+    for step in 0..count {
+        let worker = (number.wrapping_add(step) % count) as usize;
+        if let Some(lane) = lanes.get_mut(worker) {
+            match lane.push(held) {
+                Ok(()) => return Ok(worker),
+                Err(PushError::Full(back)) => held = back,
+            }
+        }
     }
-    let place = (number.saturating_sub(1) % count) as usize;
-    match lanes[place].push(arrival) {
-        Ok(()) => None,
-        Err(PushError::Full(back)) => Some(back),
-    }
+    Err(held)
 }

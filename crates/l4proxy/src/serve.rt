@@ -347,6 +347,10 @@ impl<'a, R: Eprint, D: Door<Link = SocketLink>> Door for ReadyDoor<'a, R, D> {
         self.door.next()
     }
 
+    fn wake(&mut self, worker: usize) {
+        self.door.wake(worker);
+    }
+
     fn report(&mut self, answer: &Result<Reply, StepFault>) {
         self.door.report(answer);
     }

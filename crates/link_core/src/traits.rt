@@ -55,6 +55,9 @@ pub trait Door {
     /// What came next.
     fn next(&mut self) -> DoorEvent<Self::Link>;
 
+    /// Wakes that worker, counted from 0: the connection that was last handed out is with it.
+    fn wake(&mut self, worker: usize);
+
     /// What became of the reload or of the mark that was last handed out.
     fn report(&mut self, answer: &Result<Reply, StepFault>);
 

@@ -41,10 +41,6 @@ pub struct SocketDoor<'a, R: Log, C: Clock> {
     waker: Arc<Waker, Global>,
     /// What wakes the workers.
     workers: Vec<Arc<Alarm, Global>>,
-    /// How many connections were handed out.
-    given: u64,
-    /// Whether the worker of the last one is still to be woken.
-    owes_wake: bool,
     /// Until when nothing is accepted.
     resumes: Option<u64>,
     is_closed: bool,
@@ -100,8 +96,6 @@ impl<'a, R: Log + Net, C: Clock> SocketDoor<'a, R, C> {
             commands,
             waker,
             workers: Vec::new(alloc),
-            given: 0,
-            owes_wake: false,
             resumes: None,
             is_closed: false,
             is_full: false,
@@ -126,21 +120,9 @@ impl<'a, R: Log + Net, C: Clock> SocketDoor<'a, R, C> {
 }
 
 impl<'a, R: Log + Net, C: Clock> SocketDoor<'a, R, C> {
-    /// Has the door wake the next worker where a connection is for it. The workers are added in their order.
+    /// Has the door wake the next worker when a connection is with it. The workers are added in their order.
     pub fn add_worker(&mut self, alarm: Arc<Alarm, Global>) -> Result<(), AllocError> {
         Ok(self.workers.push(alarm)?)
-    }
-
-    /// Wakes the worker of the connection that was handed out last. Connection n goes to worker n modulo workers, and
-    /// is in the hands of its worker by the time that the door is asked again.
-    fn wake_last(&mut self) {
-        let count = self.workers.len();
-        if self.owes_wake && count != 0 {
-            let last = self.given.saturating_sub(1);
-            let place = (last % count as u64) as usize;
-            self.workers[place].set_off();
-        }
-        self.owes_wake = false;
     }
 
     fn wake_all(&self) {
@@ -198,8 +180,6 @@ impl<'a, R: Log + Net, C: Clock> SocketDoor<'a, R, C> {
         let permit = self.permit()?;
         match self.ports.accept() {
             AcceptResult::Conn(listener, pair, link) => {
-                self.given = self.given.wrapping_add(1);
-                self.owes_wake = true;
                 Some(DoorEvent::Conn(listener, pair, link.with_permit(permit)))
             }
             AcceptResult::Lost => {
@@ -365,7 +345,6 @@ impl<'a, R: Log + Net, C: Clock> Door for SocketDoor<'a, R, C> {
     type Link = SocketLink;
 
     fn next(&mut self) -> DoorEvent<SocketLink> {
-        self.wake_last();
         if self.is_closed {
             self.wake_all();
             return DoorEvent::Closed;
@@ -376,6 +355,12 @@ impl<'a, R: Log + Net, C: Clock> Door for SocketDoor<'a, R, C> {
         let limit = self.limit();
         self.ports.wait(limit);
         self.next_event().unwrap_or(DoorEvent::Idle)
+    }
+
+    fn wake(&mut self, worker: usize) {
+        if let Some(alarm) = self.workers.get(worker) {
+            alarm.set_off();
+        }
     }
 
     /// Says what became of a reload or of a mark, in one line for each.
