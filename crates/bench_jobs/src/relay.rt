@@ -5,7 +5,7 @@ use crate::digest::with_number;
 use crate::draw::{Draw, mixed};
 use crate::job::JobFault;
 use device_core::{Failed, Got, Input, Output, PIECE_BYTES, Put};
-use relay_core::{Burst, Drained, FlowFault, Relay};
+use relay_core::{Burst, Drained, FlowFault, Relay, Way};
 use std::alloc::{AllocError, Global};
 
 /// The bytes that each direction holds at most.
@@ -166,8 +166,8 @@ fn connection(
 {
     let mut digest = 0;
     for _burst in 0..BURSTS {
-        let forth = relay.burst_forth(sources.0, sinks.0, piece, PIECE_BYTES);
-        let back = relay.burst_back(sources.1, sinks.1, piece, PIECE_BYTES);
+        let forth = relay.burst(Way::Forth, sources.0, sinks.0, piece, PIECE_BYTES);
+        let back = relay.burst(Way::Back, sources.1, sinks.1, piece, PIECE_BYTES);
         digest = with_burst(with_burst(digest, &forth), &back);
     }
     digest

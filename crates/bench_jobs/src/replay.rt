@@ -14,9 +14,6 @@ use text_core::decimal::append_decimal;
 const HEADER: &[u8] =
     b"50524f58592054435034203230332e302e3131332e3737203139322e302e322e313020343030303120383434330d0a";
 
-/// How many digits of it come first, where it comes in two pieces.
-const FIRST_DIGITS: usize = 40;
-
 /// How many connections of a frontend are open at a time, on the average.
 const OPEN: u64 = 100;
 
@@ -69,7 +66,7 @@ impl Script {
         self.text.extend_from_slice(b"\n")
     }
 
-    /// A header, in one piece, in two, or in single bytes.
+    /// A header, in one piece, in two, of which the first has 40 digits, or in single bytes.
     fn header(&mut self, frontend: u64, serial: u64, kind: u64) -> Result<(), AllocError> {
         match kind {
             0 => {
@@ -79,8 +76,7 @@ impl Script {
                 Ok(())
             }
             1 => {
-                let first = HEADER.get(..FIRST_DIGITS).unwrap_or(HEADER);
-                let rest = HEADER.get(FIRST_DIGITS..).unwrap_or(HEADER);
+                let (first, rest) = HEADER.split_at(40);
                 self.piece(frontend, serial, first)?;
                 self.piece(frontend, serial, rest)
             }

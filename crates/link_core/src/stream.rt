@@ -67,7 +67,7 @@ fn end_writing<K: Link>(relay: &Relay, way: Way, output: &mut K) -> bool
     requires { IsDone (flow_of way relay.now) }
     ensures { K.held output.new ≡ K.held output.old }
 {
-    if relay.forth_done() && relay.back_done() {
+    if relay.is_over() {
         return true;
     }
     output.shut()
