@@ -6,3 +6,4 @@ pub mod Prefix
 pub mod Six
 pub mod Text
 pub mod Same
+pub mod Packed

@@ -3,7 +3,6 @@ pub mod Counts
 pub mod Lends
 pub mod Listed
 pub mod Needed
-pub mod Packed
 pub mod Stored
 pub mod Summaries
 pub mod Value

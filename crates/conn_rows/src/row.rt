@@ -11,9 +11,9 @@ ghost use Rattle.conn_model.specs.Settings.{settings_at};
 ghost use Rattle.conn_rows.specs.Summaries.{pending_in, stored_pending, names_in, names_of, stored_summary};
 ghost use Rattle.conn_rows.specs.Stored.{assignment_in, awaits, line_of, phase_of, phase_with, plan_at, plain_row, slot_of, stored_arrival, waits};
 
-use crate::packed::{PackedChoice, PackedPair};
+use crate::packed::PackedChoice;
 use crate::settings::{ServerPlace, backend_at, settings_by};
-use addr_core::{Endpoint, Pair};
+use addr_core::{Endpoint, PackedPair, Pair};
 use arrayvec::ArrayVec;
 use conn_model::copy_of_lines;
 use conn_model::plain::{Assignment, Phase, Row, Version};

@@ -7,52 +7,13 @@ use Rattle.std.specs.List.{position, AllByRecursion}
 use Rattle.std.proofs.lemmas.Bool.{cases_eq, false_from_ne_true}
 use Rattle.std.proofs.lemmas.Bool.Decides.{nat_tests}
 use Rattle.std.proofs.lemmas.Option.{slice_get-get_or}
-use Rattle.std.proofs.lemmas.Slice.Eq.{bytes_eq-Decides}
 use Rattle.proxy_types.specs.declared.server.ServerIdentity.{ServerIdentity}
 use Rattle.slot_core.specs.declared.slots.Count.{Count}
 use Rattle.slot_core.specs.declared.slots.SlotIx.{SlotIx}
 use Rattle.slot_core.specs.Counts.{is_of, place_of, closed, open_at, open_in, open_in_all, identity_at, named_at, changed, with_open, slots_at, IdentitiesDiffer}
 use Rattle.list_core.proofs.Items.{absent, all-at, found, get-other, get-set, one_item, position_first}
-use Rattle.addr_core.specs.declared.addr.Addr.{Addr}
-use Rattle.addr_core.specs.declared.addr.Endpoint.{Endpoint}
-use Rattle.addr_core.specs.Same.{same_addr, same_endpoint}
-use Rattle.addr_core.proofs.SameLemmas.{same_addr-is, same_addr-refl}
 use Rattle.proxy_types.specs.ServerIdentity.{same_server}
-
-same_number : (n : ℕ) → (n == n) ≡ true
-same_number n = grind (arith, nat_tests)
-
-same_text : (xs : List ℕ) → bytes_eq xs xs ≡ true
-same_text xs = (bytes_eq-Decides xs xs).1 refl
-
-pub same_server-refl : (i : ServerIdentity) → same_server i i ≡ true
-same_server-refl i = rw (same_text i.backend, same_text i.name, same_addr-refl i.to.addr, same_number i.to.port) refl
-
-and_true : (a b : Bool) → (a && b) ≡ true → (a ≡ true) × (b ≡ true)
-and_true true b is = (refl, is)
-and_true false b is = absurd (cc)
-
-number_is : (m n : ℕ) → (m == n) ≡ true → m ≡ n
-number_is m n e = grind (arith, nat_tests)
-
--- servers that pass for one are one
-pub server_is : (a b : ServerIdentity) → same_server a b ≡ true → a ≡ b
-server_is a b is =
-    let parts = and_true (bytes_eq a.backend b.backend && bytes_eq a.name b.name) (same_endpoint a.to b.to) is in
-    let names = and_true (bytes_eq a.backend b.backend) (bytes_eq a.name b.name) parts.0 in
-    let at = and_true (same_addr a.to.addr b.to.addr) (a.to.port == b.to.port) parts.1 in
-    let backend : a.backend ≡ b.backend = (bytes_eq-Decides a.backend b.backend).0 names.0 in
-    let name : a.name ≡ b.name = (bytes_eq-Decides a.name b.name).0 names.1 in
-    let addr : a.to.addr ≡ b.to.addr = same_addr-is a.to.addr b.to.addr at.0 in
-    let port : a.to.port ≡ b.to.port = number_is a.to.port b.to.port at.1 in
-    let to : a.to ≡ b.to = ap (λ x. endpoint x a.to.port) addr ∙ ap (λ n. endpoint b.to.addr n) port in
-    ap (λ x. server x a.name a.to) backend ∙ ap (λ x. server b.backend x a.to) name ∙ ap (λ x. server b.backend b.name x) to
-  where
-    endpoint : Addr → ℕ → Endpoint
-    endpoint addr port = record { addr = addr; port = port }
-
-    server : List ℕ → List ℕ → Endpoint → ServerIdentity
-    server backend name to = record { backend = backend; name = name; to = to }
+pub use Rattle.proxy_types.proofs.ServerLemmas.{same_server-refl, server_is}
 
 -- so servers that differ do so both ways
 other_server : (a b : ServerIdentity) → same_server a b ≡ false → same_server b a ≡ false

@@ -9,7 +9,7 @@ ghost use Rattle.stick_core.specs.PlainEntries.{plain, AreTrackers, count_at, tr
 use crate::entries::{PlainEntry, StickEntry, cnt_in, cur_in};
 use crate::key::key_of;
 use crate::touch_list::TouchList;
-use addr_core::Addr;
+use addr_core::{Addr, PackedAddr};
 use list_core::Seq;
 use proxy_types::{KeyType, Stores};
 use std::alloc::{AllocError, Global};
@@ -22,7 +22,7 @@ const MANY: usize = 65_536;
 
 /// One tracking of a key. It is spent by `release` on the table that gave it.
 pub struct TrackToken {
-    key: Addr,
+    key: PackedAddr,
 }
 
 impl Model for TrackToken {
@@ -38,7 +38,7 @@ impl TrackToken {
     pub fn key(&self) -> Addr
         ensures { result ≡ self.now }
     {
-        self.key
+        self.key.addr()
     }
 }
 
@@ -182,7 +182,7 @@ impl StickTable {
     pub fn trackers(&self, tracked: &TrackToken) -> u64
         ensures { result ≡ cur_of tracked.now self.now.entries }
     {
-        cur_in(self.touched.entry(&tracked.key))
+        cur_in(self.touched.entry(&tracked.key.addr()))
     }
 
     /// Whether the address could be tracked.
@@ -326,7 +326,9 @@ impl StickTable {
                 return Ok(None);
             }
         }
-        Ok(Some(TrackToken { key }))
+        Ok(Some(TrackToken {
+            key: PackedAddr::of(&key),
+        }))
     }
 
     /// Ends a tracking at a moment, without taking memory.
@@ -349,7 +351,7 @@ impl StickTable {
         ensures { self.new ≡ record self.old { entries = released self.old.clock tracked self.old.entries } }
     {
         let TrackToken { key } = tracked;
-        self.touched.lower(&key, self.clock);
+        self.touched.lower(&key.addr(), self.clock);
     }
 }
 

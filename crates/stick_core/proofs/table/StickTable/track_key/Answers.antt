@@ -96,23 +96,24 @@ returns-clause-tracked c =
       spare = c.self.inside.touched.spare;
     } in
     let in_table : key_in table.kind c.args.addr.now ≡ Some c.in-Some.key = sym c.key_of.ensures ∙ c.in-Some.is in
+    let token = ap (λ key. Some key) c.of.ensures in
     let rest = ap (λ t. key_taken t c.args.addr.now) c.self.view_is in
     elim c.if-not-raise.branch [
       | then-not-raise+then-has_place+in_ok-add w ↦
           let done = is-fresh-after c.self.inside.size c.self.inside.expire c.self.inside.clock kept c.raise.new.self.entries w.add.new.self.entries c.in-Some.key
           (ap (λ t. t.entries) (c.raise.ensures.same w.if-not-raise.true)) c.self.invariant.0 c.self.invariant.1 (sym c.raise.ensures.answer ∙ w.if-not-raise.true)
           (sym w.has_place.ensures ∙ w.if-has_place.true) w.in_ok-add.ensures.entries in
-          sym (taken-is table c.args.addr.now c.in-Some.key in_table done.can) ∙ rest
+          token ∙ sym (taken-is table c.args.addr.now c.in-Some.key in_table done.can) ∙ rest
       | then-not-raise+else-has_place+in_ok-replace_first_free+else-not-branch w ↦
           let done = is-replaced-after c.self.inside.size c.self.inside.expire c.self.inside.clock kept c.raise.new.self.entries w.replace_first_free.new.self.entries c.in-Some.key
           (ap (λ t. t.entries) (c.raise.ensures.same w.if-not-raise.true)) c.self.invariant.0 c.self.invariant.1 (sym c.raise.ensures.answer ∙ w.if-not-raise.true)
           (sym w.has_place.ensures ∙ w.if-has_place.false) (sym w.in_ok-replace_first_free.ensures.answer ∙ w.if-not-branch.false)
           (w.in_ok-replace_first_free.ensures.entries w.if-not-branch.false) in
-          sym (taken-is table c.args.addr.now c.in-Some.key in_table done.can) ∙ rest
+          token ∙ sym (taken-is table c.args.addr.now c.in-Some.key in_table done.can) ∙ rest
       | else-not-raise w ↦
           let done = is-raised c.self.inside.size c.self.inside.expire c.self.inside.clock kept c.raise.new.self.entries c.in-Some.key
           c.self.invariant.0 c.self.invariant.1 (sym c.raise.ensures.answer ∙ w.if-not-raise.false) (c.raise.ensures.entries w.if-not-raise.false) in
-          sym (taken-is table c.args.addr.now c.in-Some.key in_table done.can) ∙ rest
+          token ∙ sym (taken-is table c.args.addr.now c.in-Some.key in_table done.can) ∙ rest
     ]
 
 pub returns-clause-entries : goal.returns-clause-entries

@@ -1,4 +1,4 @@
--- Addresses as a row keeps them, in two halves.
+-- Addresses in two halves, as what keeps many of them has them.
 use Rattle.std.specs.Prelude.{ℕ, Bool, true, false, ◌+◌, ◌*◌, ◌^◌, ◌<◌}
 use Rattle.addr_core.specs.declared.addr.Addr.{Addr}
 use Rattle.addr_core.specs.declared.addr.Addr.TheVariants.{V4, V6}
