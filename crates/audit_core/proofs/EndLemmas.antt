@@ -13,7 +13,7 @@ use Rattle.audit_core.specs.Check.{IsFaultOf, Stops}
 use Rattle.audit_core.specs.declared.fault.Checked.{Checked}
 use Rattle.audit_core.specs.declared.fault.CheckFault.{CheckFault}
 use Rattle.audit_core.specs.declared.fault.CheckKind.{CheckKind}
-use Rattle.audit_core.specs.declared.fault.CheckKind.TheVariants.{Format, WrongReply, NoMemory, Read, TooLong, Config}
+use Rattle.audit_core.specs.declared.fault.CheckKind.TheVariants.{NoMemory, Read, Config}
 use Rattle.audit_core.proofs.VerdictLemmas.{verdict_start}
 use Rattle.audit_core.proofs.RecordLemmas.{Whole, right_record}
 
@@ -22,34 +22,43 @@ pub right_verdict : (text : List ℕ) (checked : Checked) (plan : Plan) → IsWe
     → verdict plan text ≡ Ok checked
 right_verdict text checked plan well is = verdict_start plan text well ∙ is
 
--- it is the record of a legal history
-pub right_checked : (config text : List ℕ) (checked : Checked) (plan : Plan) → meaning config ≡ Ok plan → verdict plan text ≡ Ok checked → IsChecked config text checked
-right_checked config text checked plan means is = by (history_on (opening plan 0) [] 0 LinePlace.between (parts is_line_feed text)) refl is
+-- The history of which a text that is right is the record.
+pub record IsFound (plan : Plan) (text : List ℕ) (checked : Checked) : Type 0 where
+  pub history : List Entry
+  pub reads : history_on (opening plan 0) [] 0 LinePlace.between (parts is_line_feed text) ≡ Ok history
+  pub whole : Whole (opening plan 0) history (parts is_line_feed text)
+  pub counts : counts_of (opening plan 0) history ≡ checked
+
+pub right_found : (plan : Plan) (text : List ℕ) (checked : Checked) → verdict plan text ≡ Ok checked → IsFound plan text checked
+right_found plan text checked is = by (history_on (opening plan 0) [] 0 LinePlace.between (parts is_line_feed text)) refl is
   where
-    by : (found : Result (List Entry) CheckFault) → history_on (opening plan 0) [] 0 LinePlace.between (parts is_line_feed text) ≡ found → counts_from (opening plan 0) found ≡ Ok checked → IsChecked config text checked
+    by : (found : Result (List Entry) CheckFault) → history_on (opening plan 0) [] 0 LinePlace.between (parts is_line_feed text) ≡ found → counts_from (opening plan 0) found ≡ Ok checked
+        → IsFound plan text checked
     by (Err fault) reads wrong = absurd (cc)
     by (Ok history) reads right =
-        let whole : Whole (opening plan 0) history (parts is_line_feed text) = right_record (opening plan 0) (parts is_line_feed text) history reads in
-        let same : counts_of (opening plan 0) history ≡ checked = cc in
-        record {
-          plan = plan;
-          history = history;
-          means = means;
-          legal = whole.legal;
-          is_record = whole.is_record;
-          within = whole.within;
-          counts = sym same;
-        }
+        record { history = history; reads = reads; whole = right_record (opening plan 0) (parts is_line_feed text) history reads; counts = cc }
+
+-- it is the record of a legal history
+pub right_checked : (config text : List ℕ) (checked : Checked) (plan : Plan) → meaning config ≡ Ok plan → verdict plan text ≡ Ok checked → IsChecked config text checked
+right_checked config text checked plan means is =
+    let found = right_found plan text checked is in
+    record {
+      plan = plan;
+      history = found.history;
+      means = means;
+      legal = found.whole.legal;
+      is_record = found.whole.is_record;
+      within = found.whole.within;
+      counts = sym found.counts;
+    }
 
 -- the fault of a text that is wrong
 pub wrong_verdict : (config text : List ℕ) (kind : CheckKind) (line : ℕ) (plan : Plan) → meaning config ≡ Ok plan → IsWell (opening plan 0) → Stops (start (opening plan 0)) text kind line
     → IsFaultOf config text kind line
-wrong_verdict config text Format line plan means well stops = (plan, means, verdict_start plan text well ∙ ap standing_counts stops)
-wrong_verdict config text WrongReply line plan means well stops = (plan, means, verdict_start plan text well ∙ ap standing_counts stops)
-wrong_verdict config text TooLong line plan means well stops = (plan, means, verdict_start plan text well ∙ ap standing_counts stops)
 wrong_verdict config text NoMemory line plan means well stops = stops
 wrong_verdict config text Read line plan means well stops = stops
 wrong_verdict config text (Config fault) line plan means well stops = absurd stops
+wrong_verdict config text kind line plan means well stops = (plan, means, verdict_start plan text well ∙ ap standing_counts stops)
 
 -- the same of a check at the opening of a configuration
 pub right_from : (config text : List ℕ) (checked : Checked) (s : Standing) → IsStarted config s → standing_counts (verdict_in s (parts is_line_feed text)) ≡ Ok checked

@@ -29,7 +29,7 @@ use Rattle.audit_core.specs.declared.fault.CheckKind.{CheckKind}
 use Rattle.audit_core.specs.declared.fault.CheckKind.TheVariants.{Format, WrongReply, NoMemory, Read, TooLong, Config}
 use Rattle.audit_core.specs.declared.fault.Checked.{Checked}
 use Rattle.audit_core.specs.declared.journal.Known.{Known}
-use Rattle.audit_core.proofs.RecordLemmas.{right_record}
+use Rattle.audit_core.proofs.EndLemmas.{right_found}
 use Rattle.audit_core.proofs.PassLemmas.{same_plan}
 use Rattle.audit_core.proofs.VerdictLemmas.{head_standing, pending_with, reply_gives, same_standing, standing, text_standing, verdict_start}
 
@@ -93,18 +93,13 @@ same_output p h before (LinePlace.awaiting timed) (line ∷ lines) g well legal 
 -- the output of a right record, by the state alone
 record_history : (plan : Plan) (text : List ℕ) (checked : Checked) → IsWell (opening plan 0) → verdict plan text ≡ Ok checked
     → record_output (start (opening plan 0)) text checked ≡ plan_output plan text
-record_history plan text checked well is = by (history_on (opening plan 0) [] 0 LinePlace.between (parts is_line_feed text)) refl is
-  where
-    by : (found : Result (List Entry) CheckFault) → history_on (opening plan 0) [] 0 LinePlace.between (parts is_line_feed text) ≡ found → counts_from (opening plan 0) found ≡ Ok checked
-        → record_output (start (opening plan 0)) text checked ≡ plan_output plan text
-    by (Err fault) reads wrong = absurd (cc)
-    by (Ok history) reads right =
-        let same : counts_of (opening plan 0) history ≡ checked = cc in
-        let lines = same_output (opening plan 0) [] 0 LinePlace.between (parts is_line_feed text) history well tt reads in
-        ap (λ c. output_in (start (opening plan 0)) nothing_noted.known (parts is_line_feed text) ++ counts_text c) (sym same)
-        ∙ ap (λ xs. xs ++ counts_text (counts_of (opening plan 0) history))
-        (sym (lines ∙ ap (λ p. output_in (start p) nothing_noted.known (parts is_line_feed text)) (after-nil (opening plan 0) well)))
-        ∙ ap (output_of (opening plan 0)) (sym reads)
+record_history plan text checked well is =
+    let found = right_found plan text checked is in
+    let lines = same_output (opening plan 0) [] 0 LinePlace.between (parts is_line_feed text) found.history well tt found.reads in
+    ap (λ c. output_in (start (opening plan 0)) nothing_noted.known (parts is_line_feed text) ++ counts_text c) (sym found.counts)
+    ∙ ap (λ xs. xs ++ counts_text (counts_of (opening plan 0) found.history))
+    (sym (lines ∙ ap (λ p. output_in (start p) nothing_noted.known (parts is_line_feed text)) (after-nil (opening plan 0) well)))
+    ∙ ap (output_of (opening plan 0)) (sym found.reads)
 
 -- the same of a check at the opening of a configuration
 pub output_from : (config text : List ℕ) (plan : Plan) (checked : Checked) (s : Standing) → IsStarted config s → meaning config ≡ Ok plan → verdict plan text ≡ Ok checked
@@ -151,21 +146,10 @@ fault_output config text fault is inside = fault_by config text fault.kind fault
 
 pub audited : (config text sent : List ℕ) (held : Option (List ℕ)) (plan : Plan) (checked : Checked) → meaning config ≡ Ok plan → verdict plan text ≡ Ok checked
     → held ≡ Some (sent ++ audit_output config text) → IsAudited config text sent held
-audited config text sent held plan checked means is wrote = by (history_on (opening plan 0) [] 0 LinePlace.between (parts is_line_feed text)) refl is
-  where
-    by : (found : Result (List Entry) CheckFault) → history_on (opening plan 0) [] 0 LinePlace.between (parts is_line_feed text) ≡ found → counts_from (opening plan 0) found ≡ Ok checked
-        → IsAudited config text sent held
-    by (Err fault) reads wrong = absurd (cc)
-    by (Ok history) reads right =
-        let whole = right_record (opening plan 0) (parts is_line_feed text) history reads in
-        record {
-          plan = plan;
-          history = history;
-          means = means;
-          legal = whole.legal;
-          is_record = whole.is_record;
-          wrote = wrote ∙ ap (λ m. Some (sent ++ output_by m text)) means ∙ ap (λ r. Some (sent ++ output_of (opening plan 0) r)) reads;
-        }
+audited config text sent held plan checked means is wrote =
+    let found = right_found plan text checked is in
+    let said = wrote ∙ ap (λ m. Some (sent ++ output_by m text)) means ∙ ap (λ r. Some (sent ++ output_of (opening plan 0) r)) found.reads in
+    record { plan = plan; history = found.history; means = means; legal = found.whole.legal; is_record = found.whole.is_record; wrote = said }
 
 -- the configuration has a plan, so no core is refused
 pub never_refused : (config : List ℕ) (fault : CheckFault) (f : PrintFault) (plan : Plan) → (fault ≡ fault_at 0 NoMemory) ⊎ ((o : OpenFault) × (fault ≡ fault_at 0 (Config o)) × (meaning config ≡ Err o))

@@ -1,8 +1,7 @@
 -- How far a record was read and checked.
-use Rattle.std.proofs.Common.{◌≡◌, ◌⊎◌, ◌<◌, ◌+◌, ℕ, true, List, [], ◌∷◌, ◌++◌, length, Option, Some, None, Result, Ok, Err, refl, ap, subst, sym, ◌∙◌, append_assoc, inl, inr, arith}
+use Rattle.std.proofs.Common.{◌≡◌, ◌⊎◌, ◌+◌, ℕ, true, List, [], ◌∷◌, ◌++◌, length, Option, Some, Result, Ok, Err, refl, ap, subst, sym, ◌∙◌, append_assoc, inl, inr}
 use Rattle.std.specs.Prelude.{nat_lt}
 use Rattle.std.specs.Io.KnownBytes.{Consumes}
-use Rattle.std.proofs.lemmas.Bool.Decides.{nat_tests}
 use Rattle.list_core.specs.Each.{◌>>=◌}
 use Rattle.text_core.specs.Parts.{parts, is_line_feed}
 use Rattle.line_reader.specs.Lines.{ConsumesAll, Gathers, GivesLastLine, GivesLine, GivesNothing, LineState}
@@ -10,6 +9,7 @@ use Rattle.line_reader.specs.Unended.{BeginsTooLong}
 use Rattle.line_reader.specs.declared.lines.ReadFault.{ReadFault}
 use Rattle.line_reader.specs.declared.lines.ReadFault.TheVariants as lines
 use Rattle.line_reader.specs.declared.lines.TheConstants.{MOST_LINE_BYTES}
+use Rattle.replay_core.proofs.ReadLemmas.{all_left, given_on, long_test}
 use Rattle.audit_core.specs.Verdict.{fault_at}
 use Rattle.audit_core.specs.Standing.{Reaches, Standing, at_end, on_due, on_line, verdict_in}
 use Rattle.audit_core.specs.Check.{IsLineFault, Stops, reading_fault}
@@ -17,30 +17,23 @@ use Rattle.audit_core.specs.declared.due.Due.{Due}
 use Rattle.audit_core.specs.declared.due.Due.TheVariants as dues
 use Rattle.audit_core.specs.declared.fault.CheckFault.{CheckFault}
 use Rattle.audit_core.specs.declared.fault.CheckKind.{CheckKind}
-use Rattle.audit_core.specs.declared.fault.CheckKind.TheVariants.{Format, WrongReply, NoMemory, Read, TooLong, Config}
+use Rattle.audit_core.specs.declared.fault.CheckKind.TheVariants.{NoMemory, Read, TooLong, Config}
 
 -- nothing read yet
 pub reaches_start : (s : Standing) (text : List ℕ) (left : Option (List ℕ)) (kept : List ℕ) → kept ≡ [] → left ≡ Some text → Reaches s text left s kept
 reaches_start s text left kept none is_left =
     subst (Reaches s text left s) (sym none) (record { got = []; rest = text; is_left = is_left; is_read = refl; same = λ more. refl })
 
-consumed : (rest : List ℕ) (new : Option (List ℕ)) (bytes : List ℕ) → Consumes (Some rest) new bytes → (less : List ℕ) × (new ≡ Some less) × (rest ≡ bytes ++ less)
-consumed rest None bytes moved = absurd moved
-consumed rest (Some less) bytes moved = (less, refl, moved)
-
-pub given : (rest : List ℕ) (left new : Option (List ℕ)) (bytes : List ℕ) → left ≡ Some rest → Consumes left new bytes → (less : List ℕ) × (new ≡ Some less) × (rest ≡ bytes ++ less)
-given rest left new bytes is moved = consumed rest new bytes (subst (λ l. Consumes l new bytes) is moved)
-
 -- more bytes
 reaches_more : (s : Standing) (text : List ℕ) (left : Option (List ℕ)) (t : Standing) (kept bytes : List ℕ) (less : Option (List ℕ))
     → Reaches s text left t kept → Consumes left less bytes → Reaches s text less t (kept ++ bytes)
 reaches_more s text left t kept bytes less reaches moved =
-    let taken = given reaches.rest left less bytes reaches.is_left moved in
+    let taken = given_on reaches.got reaches.rest text left less bytes reaches.is_read reaches.is_left moved in
     record {
       got = reaches.got ++ bytes;
       rest = taken.0;
       is_left = taken.1;
-      is_read = reaches.is_read ∙ ap (λ xs. reaches.got ++ xs) taken.2 ∙ sym (append_assoc reaches.got bytes taken.0);
+      is_read = taken.2;
       same = λ more.
           ap (λ xs. verdict_in t (parts is_line_feed xs)) (append_assoc kept bytes more) ∙ reaches.same (bytes ++ more)
           ∙ ap (λ xs. verdict_in s (parts is_line_feed xs)) (sym (append_assoc reaches.got bytes more));
@@ -74,12 +67,10 @@ whole : (s : Standing) (text : List ℕ) (left : Option (List ℕ)) (t : Standin
 whole s text left t kept reaches = ap (λ xs. verdict_in s (parts is_line_feed xs)) reaches.is_read ∙ sym (reaches.same reaches.rest)
 
 stops_by : (s : Standing) (text : List ℕ) (kind : CheckKind) (line : ℕ) → IsLineFault kind → verdict_in s (parts is_line_feed text) ≡ Err (fault_at line kind) → Stops s text kind line
-stops_by s text Format line is wrong = wrong
-stops_by s text WrongReply line is wrong = wrong
-stops_by s text TooLong line is wrong = wrong
 stops_by s text NoMemory line is wrong = absurd is
 stops_by s text Read line is wrong = absurd is
 stops_by s text (Config fault) line is wrong = absurd is
+stops_by s text kind line is wrong = wrong
 
 -- a fault that ends a check: want of memory, or what is wrong
 abbrev pub IsWrong : Result Standing CheckFault → CheckFault → Type 0
@@ -104,15 +95,11 @@ stops_line s text left t old new less fault reaches gives (inl is) = without_mem
 stops_line s text left t old new less fault reaches gives (inr wrong) =
     stops_by s text fault.kind fault.line wrong.0 (wrong_line s text left t old new less fault reaches gives wrong.1)
 
-pub all_left : (rest : List ℕ) (left less : Option (List ℕ)) (bytes : List ℕ) → left ≡ Some rest → ConsumesAll left less bytes → rest ≡ bytes
-all_left rest None less bytes is moved = absurd (cc)
-all_left rest (Some xs) less bytes is moved = let same : xs ≡ rest = cc in sym same ∙ moved.0
-
 -- all bytes
 all_read : (s : Standing) (text : List ℕ) (left : Option (List ℕ)) (t : Standing) (kept bytes : List ℕ) (less : Option (List ℕ))
     → Reaches s text left t kept → ConsumesAll left less bytes → verdict_in s (parts is_line_feed text) ≡ verdict_in t (parts is_line_feed (kept ++ bytes))
 all_read s text left t kept bytes less reaches moved =
-    whole s text left t kept reaches ∙ ap (λ xs. verdict_in t (parts is_line_feed (kept ++ xs))) (all_left reaches.rest left less bytes reaches.is_left moved)
+    whole s text left t kept reaches ∙ ap (λ xs. verdict_in t (parts is_line_feed (kept ++ xs))) (all_left reaches.rest left less bytes reaches.is_left moved).0
 
 -- the end after the last line feed
 pub done_end : (s : Standing) (text : List ℕ) (left : Option (List ℕ)) (t : Standing) (old new : LineState) (less : Option (List ℕ))
@@ -145,9 +132,6 @@ stops_last s text left t old new less fault reaches gives (inr wrong) =
 pub stops_end : (s : Standing) (text : List ℕ) (t : Standing) (fault : CheckFault) → verdict_in s (parts is_line_feed text) ≡ at_end t → IsLineFault fault.kind → at_end t ≡ Err fault
     → Stops s text fault.kind fault.line
 stops_end s text t fault all kind is = stops_by s text fault.kind fault.line kind (all ∙ is)
-
-long_test : (n : ℕ) → MOST_LINE_BYTES < n → nat_lt MOST_LINE_BYTES n ≡ true
-long_test n long = grind (arith, nat_tests)
 
 too_long : (t : Standing) (line : List ℕ) → nat_lt MOST_LINE_BYTES (length line) ≡ true → on_line t line ≡ Err (fault_at (t.lines + 1) TooLong)
 too_long t line long = by t.due

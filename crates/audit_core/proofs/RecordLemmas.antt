@@ -1,6 +1,6 @@
 -- A text that a check finds right is the record of a legal history.
 use Rattle.std.proofs.Common.{◌≡◌, ℕ, ◌+◌, ◌-◌, ◌<◌, ◌≤◌, Bool, true, false, List, [], ◌∷◌, ◌++◌, length, Option, Some, None, Result, Ok, Err, refl, ap, sym, subst, ◌∙◌, append_assoc, append-nil, arith}
-use Rattle.std.specs.Prelude.{nat_lt, ◌==◌, ◌||◌}
+use Rattle.std.specs.Prelude.{nat_lt, ◌==◌, ◌||◌, if◌then◌else◌}
 use Rattle.std.specs.List.{AllByRecursion}
 use Rattle.std.proofs.lemmas.Bool.Decides.{nat_tests}
 use Rattle.std.proofs.lemmas.List.{length-append}
@@ -12,39 +12,30 @@ use Rattle.conn_model.specs.declared.plain.Plain.{Plain}
 use Rattle.conn_model.specs.declared.reply.Reply.{Reply}
 use Rattle.conn_model.specs.declared.reply.StepFault.{StepFault}
 use Rattle.conn_model.specs.History.{Entry, IsLegal, answer, entry}
+use Rattle.conn_model.specs.Words.{or_fault}
 use Rattle.event_text.specs.Script.{bar_text, bar_texts, words_of, EventHead}
 use Rattle.audit_core.specs.Record.{numbered_event, numbered_head, recorded_reply, IsRecord}
-use Rattle.audit_core.specs.Verdict.{head_at, history_on, is_too_long, next_of, next_of_text, reply_at, text_at, IsWithinLimits, LinePlace}
+use Rattle.audit_core.specs.Verdict.{fault_at, head_at, history_on, is_too_long, next_of, next_of_text, reply_at, text_at, IsWithinLimits, LinePlace}
 use Rattle.audit_core.specs.declared.fault.TheConstants.{MOST_RECORD_LINES}
 use Rattle.audit_core.specs.declared.fault.CheckFault.{CheckFault}
+use Rattle.audit_core.specs.declared.fault.CheckKind.TheVariants.{Format, TooLong}
 use Rattle.audit_core.proofs.LinesLemmas.{texts_count, texts_push, whole_line, whole_text}
 use Rattle.audit_core.proofs.VerdictLemmas.{reply_gives}
+
+-- a line that was read is not too long
+line_gives : {T : Type 0} (too_long : Bool) (long wrong : CheckFault) (o : Option T) (x : T) → (if too_long then Err long else or_fault wrong o) ≡ Ok x → (o ≡ Some x) × (too_long ≡ false)
+line_gives true long wrong o x is = absurd (cc)
+line_gives false long wrong None x is = absurd (cc)
+line_gives false long wrong (Some found) x is = let same : found ≡ x = cc in (ap (λ t. Some t) same, refl)
 
 -- what a first line that was read says
 head_gives : (at number : ℕ) (line : List ℕ) (head : EventHead) → head_at at number line ≡ Ok head
     → (numbered_head number (words_of line) ≡ Some head) × (is_too_long at line ≡ false)
-head_gives at number line head is = by (is_too_long at line) refl (numbered_head number (words_of line)) refl
-  where
-    by : (a : Bool) → is_too_long at line ≡ a → (o : Option EventHead) → numbered_head number (words_of line) ≡ o
-        → (numbered_head number (words_of line) ≡ Some head) × (is_too_long at line ≡ false)
-    by true long o read = let wrong = rw long at is in absurd (cc)
-    by false short None read = let wrong = rw (short, read) at is in absurd (cc)
-    by false short (Some found) read =
-        let it = rw (short, read) at is in
-        let same : found ≡ head = cc in
-        (read ∙ ap (λ t. Some t) same, short)
+head_gives at number line head is = line_gives (is_too_long at line) (fault_at at TooLong) (fault_at at Format) (numbered_head number (words_of line)) head is
 
 -- and a line of a text
 text_gives : (at : ℕ) (line text : List ℕ) → text_at at line ≡ Ok text → (bar_text line ≡ Some text) × (is_too_long at line ≡ false)
-text_gives at line text is = by (is_too_long at line) refl (bar_text line) refl
-  where
-    by : (a : Bool) → is_too_long at line ≡ a → (o : Option (List ℕ)) → bar_text line ≡ o → (bar_text line ≡ Some text) × (is_too_long at line ≡ false)
-    by true long o read = let wrong = rw long at is in absurd (cc)
-    by false short None read = let wrong = rw (short, read) at is in absurd (cc)
-    by false short (Some found) read =
-        let it = rw (short, read) at is in
-        let same : found ≡ text = cc in
-        (read ∙ ap (λ t. Some t) same, short)
+text_gives at line text is = line_gives (is_too_long at line) (fault_at at TooLong) (fault_at at Format) (bar_text line) text is
 
 reply_short : (at : ℕ) (answered : Result Reply StepFault) (line : List ℕ) (reply : Reply) → reply_at at answered line ≡ Ok reply → is_too_long at line ≡ false
 reply_short at answered line reply is = by (is_too_long at line) refl

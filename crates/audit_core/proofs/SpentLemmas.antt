@@ -1,15 +1,10 @@
 -- Why a record that was right cannot be read again.
-use Rattle.std.proofs.Common.{◌≡◌, ◌⊎◌, ◌-◌, ℕ, List, ◌++◌, Option, Result, Ok, Err, refl, ap, sym, ◌∙◌, inl, inr}
+use Rattle.std.proofs.Common.{◌≡◌, ◌⊎◌, ℕ, List, ◌++◌, Option, Result, Ok, Err, refl, sym, ◌∙◌, inl, inr}
 use Rattle.text_core.specs.Parts.{parts, is_line_feed}
-use Rattle.device_core.specs.Device.{raised, raised_by}
-use Rattle.device_core.specs.Patience.{IsUnblocked}
-use Rattle.device_core.specs.declared.patience.TheConstants.{MOST_READS}
-use Rattle.device_core.proofs.StallLemmas.{worn_out_on}
-use Rattle.line_reader.specs.Lines.{Gathers, GivesLastLine, GivesLine, IsGivenUp, LineState}
+use Rattle.line_reader.specs.Lines.{Gathers, GivesLastLine, GivesLine, LineState}
 use Rattle.line_reader.specs.Unended.{BeginsTooLong}
 use Rattle.line_reader.specs.declared.lines.ReadFault.{ReadFault}
 use Rattle.line_reader.specs.declared.lines.ReadFault.TheVariants as lines
-use Rattle.replay_core.specs.Reading.{IsSpent}
 use Rattle.replay_core.specs.declared.fault.PrintFault.{PrintFault}
 use Rattle.replay_core.specs.declared.fault.PrintFault.TheVariants as prints
 use Rattle.audit_core.specs.Printing.{second_fault}
@@ -49,11 +44,3 @@ spent_reading Q s text left t old new less lines.NoMemory end reaches gathers lo
 spent_reading Q s text left t old new less lines.TooLong end reaches gathers long gave_up read right =
     let wrong = stops_reading s text left t old new less lines.TooLong reaches gathers long in
     let both = sym wrong ∙ right in absurd (cc)
-
-pub given_up_spent : (first before failures first_stalls blocked stalls called calls reads : ℕ) → before ≡ first → IsUnblocked first_stalls blocked → calls ≡ raised_by (MOST_READS - reads) called
-    → IsGivenUp before failures blocked stalls reads → IsSpent first failures first_stalls stalls called calls
-given_up_spent first before failures first_stalls blocked stalls called calls reads same unblocked counted (inl failed) = inl (failed ∙ ap raised same)
-given_up_spent first before failures first_stalls blocked stalls called calls reads same unblocked counted (inr (none, inl worn)) =
-    inr (none ∙ same, inl (worn_out_on first_stalls blocked stalls unblocked worn))
-given_up_spent first before failures first_stalls blocked stalls called calls reads same unblocked counted (inr (none, inr zero)) =
-    inr (none ∙ same, inr (counted ∙ ap (λ r. raised_by (MOST_READS - r) called) zero))

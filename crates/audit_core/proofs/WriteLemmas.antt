@@ -8,7 +8,7 @@ use Rattle.audit_core.specs.Standing.{Standing, on_line, standing_counts, verdic
 use Rattle.audit_core.specs.Ended.{counts_text}
 use Rattle.audit_core.specs.Printing.{after_right, all_output, counts_at, due_reply, known_with, line_with, noted_with, nothing_noted, output_in, record_output, Noted, Sends, Writes, Wrote}
 use Rattle.audit_core.specs.declared.fault.Checked.{Checked}
-use Rattle.audit_core.proofs.ReachLemmas.{all_left, given}
+use Rattle.replay_core.proofs.ReadLemmas.{all_left, given_line}
 
 -- a right line, of which the reply was noted
 step_output : (now : List ℕ) (k : Noted) (t u : Standing) (line : List ℕ) (more : List (List ℕ)) → on_line t line ≡ Ok u
@@ -28,18 +28,12 @@ writes_start sent j s text left held kept none is_left is_held =
 pub writes_line : (sent : List ℕ) (j : Noted) (s : Standing) (text : List ℕ) (left held : Option (List ℕ)) (k : Noted) (t u : Standing) (old new : LineState) (less : Option (List ℕ))
     → Writes sent j s text left held k t old.kept → GivesLine old new left less → on_line t new.line ≡ Ok u → Writes sent j s text less held (noted_with k (due_reply t.due)) u new.kept
 writes_line sent j s text left held k t u old new less writes gives step =
-    let taken = given writes.rest left less gives.bytes writes.is_left gives.moved in
-    record {
-      now = writes.now;
-      rest = taken.0;
-      is_held = writes.is_held;
-      is_left = taken.1;
-      same =
-          step_output writes.now k t u new.line (parts is_line_feed (new.kept ++ taken.0)) step
-          ∙ ap (λ ls. (writes.now ++ k.unsent) ++ output_in t k.known ls) (sym (gives.begins taken.0))
-          ∙ ap (all_output writes.now k t) (append_assoc old.kept gives.bytes taken.0 ∙ ap (λ xs. old.kept ++ xs) (sym taken.2))
-          ∙ writes.same;
-    }
+    let taken = given_line writes.rest left less old new writes.is_left gives in
+    let same =
+    step_output writes.now k t u new.line (parts is_line_feed (new.kept ++ taken.0)) step
+    ∙ ap (λ ls. (writes.now ++ k.unsent) ++ output_in t k.known ls) (sym taken.2)
+    ∙ writes.same in
+    record { now = writes.now; rest = taken.0; is_held = writes.is_held; is_left = taken.1; same = same }
 
 pub writes_sent : (sent : List ℕ) (j : Noted) (s : Standing) (text : List ℕ) (left held less : Option (List ℕ)) (k l : Noted) (t : Standing) (kept : List ℕ)
     → Writes sent j s text left held k t kept → ((now : List ℕ) → held ≡ Some now → Sends now k less l) → l.known ≡ k.known → Writes sent j s text left less l t kept
@@ -70,7 +64,7 @@ wrote_end sent j s text left held k t old new less writes gives = record {
   is_held = writes.is_held;
   same =
       sym (append-nil (writes.now ++ k.unsent))
-      ∙ ap (all_output writes.now k t) (sym (ap (λ xs. old.kept ++ xs) (all_left writes.rest left less gives.bytes writes.is_left gives.moved) ∙ gives.is_empty))
+      ∙ ap (all_output writes.now k t) (sym (ap (λ xs. old.kept ++ xs) (all_left writes.rest left less gives.bytes writes.is_left gives.moved).0 ∙ gives.is_empty))
       ∙ writes.same;
 }
 
@@ -84,7 +78,7 @@ wrote_last sent j s text left held k t u old new less writes gives step = record
       sym (append-nil (writes.now ++ (noted_with k (due_reply t.due)).unsent))
       ∙ step_output writes.now k t u new.line [] step
       ∙ ap (λ ls. (writes.now ++ k.unsent) ++ output_in t k.known ls) (sym gives.is_line)
-      ∙ ap (all_output writes.now k t) (sym (ap (λ xs. old.kept ++ xs) (all_left writes.rest left less gives.bytes writes.is_left gives.moved)))
+      ∙ ap (all_output writes.now k t) (sym (ap (λ xs. old.kept ++ xs) (all_left writes.rest left less gives.bytes writes.is_left gives.moved).0))
       ∙ writes.same;
 }
 
@@ -94,9 +88,11 @@ wrote_taken sent j s text left held k l t u old new less writes gives step noted
     subst (Wrote sent j s text held) (sym noted) (wrote_last sent j s text left held k t u old new less writes gives step)
 
 -- what was written is the front of all
-pub front_of : (sent : List ℕ) (j : Noted) (s : Standing) (text : List ℕ) (left held : Option (List ℕ)) (k : Noted) (t : Standing) (kept more : List ℕ)
-    → Writes sent j s text left held k t kept → IsFront held (all_output sent j s text ++ more)
-front_of sent j s text left held k t kept more writes =
+pub front_of : (j : Noted) (s : Standing) (before first left held : Option (List ℕ)) (k : Noted) (t : Standing) (kept : List ℕ)
+    → ((text sent : List ℕ) → before ≡ Some text → first ≡ Some sent → Writes sent j s text left held k t kept)
+    → (text sent more : List ℕ) → before ≡ Some text → first ≡ Some sent → IsFront held (all_output sent j s text ++ more)
+front_of j s before first left held k t kept wrote text sent more is_left is_held =
+    let writes = wrote text sent is_left is_held in
     let rest = output_in t k.known (parts is_line_feed (kept ++ writes.rest)) in (
       writes.now,
       k.unsent ++ (rest ++ more),
@@ -131,21 +127,15 @@ all_counted sent now unsent s end text checked same counts =
     ∙ whole_output sent s text checked
 
 -- the lines were written or noted, and then the counts
-pub counts_wrote : (sent : List ℕ) (s end : Standing) (text : List ℕ) (checked : Checked) (mid new : Option (List ℕ)) (j k : Noted) → j ≡ nothing_noted
-    → verdict_in s (parts is_line_feed text) ≡ Ok end → standing_counts (verdict_in s (parts is_line_feed text)) ≡ Ok checked → Wrote sent j s text mid k
-    → ((now : List ℕ) → mid ≡ Some now → new ≡ Some (now ++ (k.unsent ++ counts_text (counts_at end)))) → new ≡ Some (sent ++ record_output s text checked)
-counts_wrote sent s end text checked mid new j k none is counts wrote prints =
-    prints wrote.now wrote.is_held
-    ∙ ap (λ xs. Some xs)
-    (all_counted sent wrote.now k.unsent s end text checked (wrote.same ∙ ap (λ i. all_output sent i s text) none) (counted s end text checked is counts))
-
-pub counts_front : (sent : List ℕ) (s end : Standing) (text : List ℕ) (checked : Checked) (mid new : Option (List ℕ)) (j k : Noted) → j ≡ nothing_noted
-    → verdict_in s (parts is_line_feed text) ≡ Ok end → standing_counts (verdict_in s (parts is_line_feed text)) ≡ Ok checked → Wrote sent j s text mid k
-    → ((now : List ℕ) → mid ≡ Some now → IsFront new (now ++ (k.unsent ++ counts_text (counts_at end)))) → IsFront new (sent ++ record_output s text checked)
-counts_front sent s end text checked mid new j k none is counts wrote prints =
-    subst (IsFront new)
-    (all_counted sent wrote.now k.unsent s end text checked (wrote.same ∙ ap (λ i. all_output sent i s text) none) (counted s end text checked is counts))
-    (prints wrote.now wrote.is_held)
+pub counts_after : (P : List ℕ → Type 0) (s end : Standing) (left held mid : Option (List ℕ)) (j k : Noted) → j ≡ nothing_noted
+    → ((text : List ℕ) → left ≡ Some text → verdict_in s (parts is_line_feed text) ≡ Ok end)
+    → ((text sent : List ℕ) → left ≡ Some text → held ≡ Some sent → Wrote sent j s text mid k)
+    → ((now : List ℕ) → mid ≡ Some now → P (now ++ (k.unsent ++ counts_text (counts_at end))))
+    → (text sent : List ℕ) (checked : Checked) → left ≡ Some text → held ≡ Some sent → standing_counts (verdict_in s (parts is_line_feed text)) ≡ Ok checked → P (sent ++ record_output s text checked)
+counts_after P s end left held mid j k none ends wrote prints text sent checked is_left is_held counts =
+    let all = wrote text sent is_left is_held in
+    let same = all.same ∙ ap (λ i. all_output sent i s text) none in
+    subst P (all_counted sent all.now k.unsent s end text checked same (counted s end text checked (ends text is_left) counts)) (prints all.now all.is_held)
 
 -- the lines were not all written
 pub lines_front : (sent : List ℕ) (s : Standing) (text : List ℕ) (checked : Checked) (new : Option (List ℕ)) (j : Noted) → j ≡ nothing_noted

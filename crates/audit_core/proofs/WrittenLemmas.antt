@@ -9,7 +9,7 @@ use Rattle.std.proofs.lemmas.Slice.Eq.{bytes_eq-Decides}
 use Rattle.text_core.specs.Decimal.{decimal}
 use Rattle.text_core.specs.Parts.{parts, is_line_feed}
 use Rattle.conn_model.specs.declared.event.OwnedEvent.{OwnedEvent}
-use Rattle.conn_model.specs.declared.event.OwnedEvent.TheVariants.{Accept, Piece, Connected, ConnectFailed, Close, Expire, Reload, Mark}
+use Rattle.conn_model.specs.declared.event.OwnedEvent.TheVariants.{Reload}
 use Rattle.conn_model.specs.declared.reply.Reply.{Reply}
 use Rattle.conn_model.specs.History.{Entry}
 use Rattle.conn_model.specs.HandedIn.{AreHandedIn, IsHandedIn}
@@ -66,14 +66,8 @@ bars_plain [] plain = tt
 bars_plain (line ∷ lines) plain = (All-cons (λ c. is_line_feed c ≡ false) 0x7C line refl plain.0, bars_plain lines plain.1)
 
 after_plain : (event : OwnedEvent) → ArePlain (lines_after event)
-after_plain (Accept listener real) = tt
-after_plain (Piece id bytes) = tt
-after_plain (Connected id) = tt
-after_plain (ConnectFailed id) = tt
-after_plain (Close id why) = tt
-after_plain (Expire id) = tt
 after_plain (Reload text) = bars_plain (text_lines text) (text_plain text)
-after_plain (Mark backend n health) = tt
+after_plain event = tt
 
 one_more_plain : (lines : List (List ℕ)) (line : List ℕ) → ArePlain lines → IsPlain line → ArePlain (lines ++ line ∷ [])
 one_more_plain [] line plain last = (last, tt)

@@ -40,12 +40,8 @@ Stops s text (Config fault) line = ⊥
 
 -- the fault is one of the reader
 abbrev pub IsRead : CheckKind → Type 0
-IsRead Format = ⊥
-IsRead WrongReply = ⊥
-IsRead TooLong = ⊥
-IsRead NoMemory = ⊥
 IsRead Read = Unit {0}
-IsRead (Config fault) = ⊥
+IsRead kind = ⊥
 
 -- the fault if no line comes
 abbrev pub reading_fault : ℕ → ReadFault → CheckFault

@@ -5,7 +5,7 @@ use Rattle.addr_core.specs.Text.{endpoint_text}
 use Rattle.addr_core.specs.declared.addr.Endpoint.{Endpoint}
 use Rattle.conn_model.specs.declared.event.ConnId.{ConnId}
 use Rattle.conn_model.specs.declared.event.OwnedEvent.{OwnedEvent}
-use Rattle.conn_model.specs.declared.event.OwnedEvent.TheVariants.{Accept, Piece, Connected, ConnectFailed, Close, Expire, Reload, Mark}
+use Rattle.conn_model.specs.declared.event.OwnedEvent.TheVariants.{Accept}
 use Rattle.conn_model.specs.declared.reply.Said.{Said}
 use Rattle.conn_model.specs.declared.reply.Said.TheVariants.{Wait, Offer, Refuse, Up, Closed, Reloaded, Marked}
 use Rattle.event_text.specs.Script.{id_text, why_text}
@@ -14,13 +14,7 @@ use Rattle.event_text.specs.Replies.{cause_text}
 -- the peer of an event that is an accept
 abbrev pub event_peer : OwnedEvent → Option Endpoint
 event_peer (Accept listener real) = Some real.source
-event_peer (Piece id bytes) = None
-event_peer (Connected id) = None
-event_peer (ConnectFailed id) = None
-event_peer (Close id why) = None
-event_peer (Expire id) = None
-event_peer (Reload text) = None
-event_peer (Mark backend n health) = None
+event_peer event = None
 
 -- the connection and its peer
 abbrev pub front_text : ConnId → Endpoint → List ℕ

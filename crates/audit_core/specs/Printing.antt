@@ -44,10 +44,8 @@ with_known id what known other = if is_conn other.frontend other.serial id then 
 
 -- the reply that has to come, with the peer of its event
 abbrev pub due_reply : Due → Option (Option Endpoint × Reply)
-due_reply dues.Event = None
-due_reply (dues.Text pending) = None
 due_reply (dues.Reply peer (Ok reply)) = Some (peer, reply)
-due_reply (dues.Reply peer (Err fault)) = None
+due_reply due = None
 
 abbrev pub known_with : (ConnId → Option Known) → Option (Option Endpoint × Reply) → ConnId → Option Known
 known_with known None = known

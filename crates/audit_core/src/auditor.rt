@@ -121,12 +121,7 @@ fn peer_of(event: &EventRequest) -> Option<Endpoint>
 {
     match event {
         EventRequest::Accept(_, real) => Some(real.source()),
-        EventRequest::Piece(..)
-        | EventRequest::Connected(_)
-        | EventRequest::ConnectFailed(_)
-        | EventRequest::Close(..)
-        | EventRequest::Expire(_)
-        | EventRequest::Mark(..) => None,
+        _ => None,
     }
 }
 

@@ -7,7 +7,7 @@ pub use check::{check_record, open_auditor};
 pub use fault::{CheckFault, CheckKind, Checked, MOST_RECORD_LINES};
 pub use journal::Name;
 pub use line::audit_line;
-pub use printing::{again, write_bytes};
+pub use printing::{again, check_again, reading_again, write_bytes};
 pub use recording::{RECORD_BUFFER, RecordFault, write_journal, write_through};
 pub use writing::write_record;
 

@@ -1,5 +1,5 @@
 //! The lines of a record that is right are written.
-ghost use Rattle.std.specs.Prelude.{◌≡◌, ◌≢◌, ◌⊎◌, ◌-◌, ◌+◌, ◌≤◌, ◌<◌, ◌++◌, ℕ, List, [], length, Some, Ok, Err, OnOk, OnErr, IfOk, IfErr};
+ghost use Rattle.std.specs.Prelude.{◌≡◌, ◌≢◌, ◌⊎◌, ◌-◌, ◌+◌, ◌≤◌, ◌<◌, ◌++◌, ℕ, List, [], length, Some, Ok, Err, OnOk, OnErr, IfErr};
 ghost use Rattle.text_core.specs.Parts.{parts, is_line_feed};
 ghost use Rattle.device_core.specs.Device.{raised_by};
 ghost use Rattle.device_core.specs.Patience.{IsUnblocked};
@@ -50,7 +50,7 @@ pub fn again(fault: &CheckFault) -> PrintFault
 }
 
 /// The same of a fault if no line comes.
-fn reading_again(fault: ReadFault) -> PrintFault
+pub fn reading_again(fault: ReadFault) -> PrintFault
     ensures { result ≡ second_fault fault }
 {
     match fault {
@@ -74,7 +74,7 @@ fn note_due(auditor: &Auditor, journal: &mut AuditJournal) -> Result<(), PrintFa
 }
 
 /// Checks a line once more.
-fn check_again(auditor: &mut Auditor, line: &[u8]) -> Result<(), PrintFault>
+pub fn check_again(auditor: &mut Auditor, line: &[u8]) -> Result<(), PrintFault>
     requires { length line.now ≤ MOST_LINE_BYTES }
     ensures ok { OnOk result (on_line auditor.old line.now ≡ Ok auditor.new) }
     ensures next { OnOk result ((auditor.new.lines ≡ auditor.old.lines + 1) × (auditor.new.lines ≤ MOST_RECORD_LINES)) }

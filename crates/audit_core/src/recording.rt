@@ -63,15 +63,6 @@ fn send_block<W: Output>(block: &mut Vec<u8>, writer: &mut W) -> Result<(), Reco
     }
 }
 
-/// Writes the last block.
-fn end_block<W: Output>(block: Vec<u8>, writer: &mut W) -> Result<(), RecordFault>
-    ensures ok { OnOk result (Appends (W.held writer.old) (W.held writer.new) block.items) }
-    ensures front { OnErr result (AppendsFront (W.held writer.old) (W.held writer.new) block.items) }
-    ensures gave_up { OnErr result (GaveUp (W.failures writer.old) (W.failures writer.new) (W.stalls writer.old) (W.stalls writer.new)) }
-{
-    write_block(&block, writer)
-}
-
 /// Writes the records, the oldest first, each as its lines.
 pub fn write_journal<W: Output>(
     alloc: Global,
@@ -90,13 +81,7 @@ pub fn write_journal<W: Output>(
     ensures gave_up { result ≡ Err RecordFault.Write → GaveUp (W.failures writer.old) (W.failures writer.new) (W.stalls writer.old) (W.stalls writer.new) }
 {
     let mut block = Vec::new(alloc);
-    for record in records {
-        match write_record(&mut block, record) {
-            Ok(()) => send_block(&mut block, writer)?,
-            Err(_) => return Err(RecordFault::NoMemory),
-        }
-    }
-    end_block(block, writer)
+    write_through(&mut block, records, writer)
 }
 
 /// Writes the records as `write_journal` does, through a buffer that the caller keeps. What is in it before the call is

@@ -160,12 +160,7 @@ accept_answered p plan opens listener at real listens = subst (λ q. IsOk (answe
 
 says_wait : (said : Said) (id : ConnId) → waiting_in said ≡ Some id → (count : ℕ) × (said ≡ saids.Wait id count)
 says_wait (saids.Wait other count) id is = (count, let same : other ≡ id = let e : Some other ≡ Some id = is in cc in ap (λ i. saids.Wait i count) same)
-says_wait (saids.Offer other used line server to judged send) id is = absurd (let wrong : None ≡ Some id = is in cc)
-says_wait (saids.Refuse other used cause) id is = absurd (let wrong : None ≡ Some id = is in cc)
-says_wait (saids.Up other) id is = absurd (let wrong : None ≡ Some id = is in cc)
-says_wait (saids.Closed other why) id is = absurd (let wrong : None ≡ Some id = is in cc)
-says_wait (saids.Reloaded version) id is = absurd (let wrong : None ≡ Some id = is in cc)
-says_wait (saids.Marked line health) id is = absurd (let wrong : None ≡ Some id = is in cc)
+says_wait said id is = absurd (let wrong : None ≡ Some id = is in cc)
 
 -- the first connection of a listener, which is let wait
 row_waits : (plan : Plan) (listener : ℕ) (real : PairValue) (reply : Reply) (id : ConnId) (count : ℕ) → answer_in (opening plan 0) 0 (Accept listener real) ≡ Ok reply → reply.said ≡ saids.Wait id count →

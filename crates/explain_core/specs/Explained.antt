@@ -108,12 +108,7 @@ header_status bytes = status_on (Read (record { items = [] })) bytes
 -- the connection that a reply lets wait
 abbrev pub waiting_in : Said → Option ConnId
 waiting_in (saids.Wait id used) = Some id
-waiting_in (saids.Offer id used line server to judged send) = None
-waiting_in (saids.Refuse id used cause) = None
-waiting_in (saids.Up id) = None
-waiting_in (saids.Closed id why) = None
-waiting_in (saids.Reloaded version) = None
-waiting_in (saids.Marked line health) = None
+waiting_in said = None
 
 -- All of it.
 

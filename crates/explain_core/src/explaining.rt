@@ -174,12 +174,7 @@ fn waiting_in(reply: &Reply) -> Option<ConnId>
 {
     match &reply.said {
         Said::Wait { id, .. } => Some(*id),
-        Said::Offer { .. }
-        | Said::Refuse { .. }
-        | Said::Up { .. }
-        | Said::Closed { .. }
-        | Said::Reloaded { .. }
-        | Said::Marked { .. } => None,
+        _ => None,
     }
 }
 

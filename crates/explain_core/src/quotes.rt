@@ -117,53 +117,6 @@ fn write_value(out: &mut Vec<u8>, value: &Value) -> Result<(), AllocError>
     }
 }
 
-/// A criterion with its value.
-fn criterion_line<V: View>(
-    alloc: Global,
-    view: &V,
-    criterion: &Criterion,
-) -> Result<Seq<u8>, AllocError>
-    ensures { IfOk result (λ line. line ≡ criterion_line (V.worth view.now) criterion.now) }
-{
-    let mut line = Vec::new(alloc);
-    line.extend_from_slice(b"  ")?;
-    write_criterion(&mut line, criterion)?;
-    line.extend_from_slice(b" ")?;
-    write_value(&mut line, &view.value(criterion))?;
-    Ok(Seq::of(line))
-}
-
-/// Adds the line of a criterion.
-fn push_criterion<V: View>(
-    alloc: Global,
-    lines: &mut Vec<Seq<u8>>,
-    view: &V,
-    criterion: &Criterion,
-) -> Result<(), AllocError>
-    ensures { OnOk result (lines.new.items
-        ≡ lines.old.items ++ criterion_line (V.worth view.now) criterion.now ∷ []) }
-{
-    let line = criterion_line(alloc, view, criterion)?;
-    lines.push(line)?;
-    Ok(())
-}
-
-/// Adds a line for each test of a name.
-fn push_acl<V: View>(
-    alloc: Global,
-    lines: &mut Vec<Seq<u8>>,
-    view: &V,
-    acl: &Acl,
-) -> Result<(), AllocError>
-    ensures { OnOk result (lines.new.items
-        ≡ lines.old.items ++ map (criterion_line (V.worth view.now)) (asked_by_acl acl.now)) }
-{
-    for test in acl.tests.as_slice() {
-        push_criterion(alloc, lines, view, test.criterion())?;
-    }
-    Ok(())
-}
-
 /// The item of that number.
 pub fn item<T>(items: &[T], number: usize) -> Option<&T>
     ensures { option_copied result ≡ slice_get items.now number }
@@ -171,40 +124,75 @@ pub fn item<T>(items: &[T], number: usize) -> Option<&T>
     items.get(number)
 }
 
-/// Adds a line for each criterion that an operand asks for.
-fn push_operand<V: View>(
+/// What sees the criteria of conditions.
+#[derive(Drop)]
+struct Quoter<'v, V> {
     alloc: Global,
-    lines: &mut Vec<Seq<u8>>,
-    view: &V,
-    operand: &Operand,
-) -> Result<(), AllocError>
-    ensures { OnOk result (lines.new.items ≡ lines.old.items
-        ++ map (criterion_line (V.worth view.now)) (asked_by (V.acls view.now) operand.now)) }
-{
-    match operand {
-        Operand::Constant(_) => Ok(()),
-        Operand::Test(test) => push_criterion(alloc, lines, view, test.criterion()),
-        Operand::Acl(number) => match item(view.acls(), *number) {
-            Some(acl) => push_acl(alloc, lines, view, acl),
-            None => Ok(()),
-        },
-    }
+    view: &'v V,
 }
 
-/// Adds a line for each criterion that a group of terms asks for.
-fn push_group<V: View>(
-    alloc: Global,
-    lines: &mut Vec<Seq<u8>>,
-    view: &V,
-    group: &[Term],
-) -> Result<(), AllocError>
-    ensures { OnOk result (lines.new.items ≡ lines.old.items
-        ++ map (criterion_line (V.worth view.now)) (asked_in_group (V.acls view.now) group.now)) }
-{
-    for term in group {
-        push_operand(alloc, lines, view, &term.operand)?;
+impl<'v, V: View> Quoter<'v, V> {
+    /// A criterion with its value.
+    fn criterion_line(&self, criterion: &Criterion) -> Result<Seq<u8>, AllocError>
+        ensures { IfOk result (λ line. line
+            ≡ criterion_line (V.worth self.now.view.now) criterion.now) }
+    {
+        let mut line = Vec::new(self.alloc);
+        line.extend_from_slice(b"  ")?;
+        write_criterion(&mut line, criterion)?;
+        line.extend_from_slice(b" ")?;
+        write_value(&mut line, &self.view.value(criterion))?;
+        Ok(Seq::of(line))
     }
-    Ok(())
+
+    /// Adds the line of a criterion.
+    fn push(&self, lines: &mut Vec<Seq<u8>>, criterion: &Criterion) -> Result<(), AllocError>
+        ensures { OnOk result (lines.new.items
+            ≡ lines.old.items ++ criterion_line (V.worth self.now.view.now) criterion.now ∷ []) }
+    {
+        let line = self.criterion_line(criterion)?;
+        lines.push(line)?;
+        Ok(())
+    }
+
+    /// Adds a line for each test of a name.
+    fn push_acl(&self, lines: &mut Vec<Seq<u8>>, acl: &Acl) -> Result<(), AllocError>
+        ensures { OnOk result (lines.new.items ≡ lines.old.items
+            ++ map (criterion_line (V.worth self.now.view.now)) (asked_by_acl acl.now)) }
+    {
+        for test in acl.tests.as_slice() {
+            self.push(lines, test.criterion())?;
+        }
+        Ok(())
+    }
+
+    /// Adds a line for each criterion that an operand asks for.
+    fn push_operand(&self, lines: &mut Vec<Seq<u8>>, operand: &Operand) -> Result<(), AllocError>
+        ensures { OnOk result (lines.new.items ≡ lines.old.items
+            ++ map (criterion_line (V.worth self.now.view.now))
+            (asked_by (V.acls self.now.view.now) operand.now)) }
+    {
+        match operand {
+            Operand::Constant(_) => Ok(()),
+            Operand::Test(test) => self.push(lines, test.criterion()),
+            Operand::Acl(number) => match item(self.view.acls(), *number) {
+                Some(acl) => self.push_acl(lines, acl),
+                None => Ok(()),
+            },
+        }
+    }
+
+    /// Adds a line for each criterion that a group of terms asks for.
+    fn push_group(&self, lines: &mut Vec<Seq<u8>>, group: &[Term]) -> Result<(), AllocError>
+        ensures { OnOk result (lines.new.items ≡ lines.old.items
+            ++ map (criterion_line (V.worth self.now.view.now))
+            (asked_in_group (V.acls self.now.view.now) group.now)) }
+    {
+        for term in group {
+            self.push_operand(lines, &term.operand)?;
+        }
+        Ok(())
+    }
 }
 
 /// A line for each criterion that a condition asks for, in its order.
@@ -216,9 +204,10 @@ fn condition_lines<V: View>(
     ensures { IfOk result (λ lines. lines.items
         ≡ map (criterion_line (V.worth view.now)) (asked_in (V.acls view.now) condition.now)) }
 {
+    let quoter = Quoter { alloc, view };
     let mut lines = Vec::new(alloc);
     for group in condition.groups.as_slice() {
-        push_group(alloc, &mut lines, view, group.as_slice())?;
+        quoter.push_group(&mut lines, group.as_slice())?;
     }
     Ok(lines)
 }

@@ -36,10 +36,7 @@ abbrev pub UsesAtMost : ℕ → Said → Type 0
 UsesAtMost most (saids.Wait id used) = Unit {0}
 UsesAtMost most (saids.Offer id used line server to judged send) = used ≤ most
 UsesAtMost most (saids.Refuse id used cause) = Unit {0}
-UsesAtMost most (saids.Up id) = ⊥
-UsesAtMost most (saids.Closed id why) = ⊥
-UsesAtMost most (saids.Reloaded version) = ⊥
-UsesAtMost most (saids.Marked line health) = ⊥
+UsesAtMost most said = ⊥
 
 decision_uses : (candidate : Candidate) (used most : ℕ) (judged : PairValue) (made : TrackSlots) → used ≤ most → UsesAtMost most (decision candidate used judged made).said
 decision_uses candidate used most judged made within = by (verdict (view_of candidate judged.source.addr) candidate.frontend made).result

@@ -7,6 +7,7 @@ use Rattle.device_core.specs.declared.patience.TheConstants.{MOST_READS}
 use Rattle.device_core.specs.declared.patience.Moved.{Moved}
 use Rattle.device_core.specs.declared.patience.Moved.TheVariants.{Bytes, End}
 use Rattle.pipe_core.specs.declared.end.PipeFault.{PipeFault}
+use Rattle.pipe_core.specs.declared.end.PipeFault.TheVariants.{Read, Write}
 
 -- what was read is at the front of the buffer
 abbrev pub Gives : Result Moved PipeFault → Option (List ℕ) → Option (List ℕ) → List ℕ → Type 0
@@ -32,3 +33,8 @@ HasGivenUp before failures blocked stalls reads = (failures ≡ raised before) �
 abbrev pub IsSpent : ℕ → ℕ → ℕ → ℕ → ℕ → ℕ → Type 0
 IsSpent before failures blocked stalls called calls =
     (failures ≡ raised before) ⊎ ((failures ≡ before) × (IsWornOut blocked stalls ⊎ (calls ≡ raised_by MOST_READS called)))
+
+-- A call that cannot read or write ends so because that device gave up.
+pub record EndsByDevice {T I O : Type 0} (result : Result T PipeFault) (calls failures stalls : I → ℕ) (reader read : I) (write_failures write_stalls : O → ℕ) (writer written : O) : Type 0 where
+  pub spent : result ≡ Err Read → IsSpent (failures reader) (failures read) (stalls reader) (stalls read) (calls reader) (calls read)
+  pub gave_up : result ≡ Err Write → GaveUp (write_failures writer) (write_failures written) (write_stalls writer) (write_stalls written)

@@ -40,12 +40,7 @@ listener_of p name = option_and_then (λ number. option_and_then as_listener (po
 -- waits for a header, what is said to the bytes in one piece
 abbrev pub said_on : Plain → ℕ → PairValue → List ℕ → Reply → Said → Result Reply StepFault
 said_on p listener real bytes reply (Wait id used) = answer p (entry 0 (Accept listener real) reply ∷ []) 0 (Piece id bytes)
-said_on p listener real bytes reply (Offer id used line server to judged send) = Ok reply
-said_on p listener real bytes reply (Refuse id used cause) = Ok reply
-said_on p listener real bytes reply (Up id) = Ok reply
-said_on p listener real bytes reply (Closed id why) = Ok reply
-said_on p listener real bytes reply (Reloaded version) = Ok reply
-said_on p listener real bytes reply (Marked line health) = Ok reply
+said_on p listener real bytes reply said = Ok reply
 
 -- what is said to the first connection of a listener, which begins with these bytes
 abbrev pub said_to : Plain → ℕ → PairValue → List ℕ → Result Reply StepFault
@@ -56,12 +51,7 @@ said_to p listener real bytes = answer_in p 0 (Accept listener real) >>= λ repl
 -- the header that it is sent, and the connection's bytes after its own header; nothing where there is no offer
 abbrev pub passed_on : List ℕ → Said → List ℕ
 passed_on bytes (Offer id used line server to judged send) = send.items ++ drop used bytes
-passed_on bytes (Wait id used) = []
-passed_on bytes (Refuse id used cause) = []
-passed_on bytes (Up id) = []
-passed_on bytes (Closed id why) = []
-passed_on bytes (Reloaded version) = []
-passed_on bytes (Marked line health) = []
+passed_on bytes said = []
 
 -- how a connection of these bytes ends
 abbrev pub end_of : List ℕ → Said → Option PipeEnd

@@ -10,7 +10,7 @@ ghost use Rattle.conn_model.specs.History.{opening};
 ghost use Rattle.config_core.specs.Meaning.{meaning};
 ghost use Rattle.config_core.specs.declared.fault.OpenFault.{OpenFault};
 ghost use Rattle.conn_core.specs.Machine.{IsOpened};
-ghost use Rattle.pipe_core.specs.Devices.{GaveUp, HasGivenUp, IsSpent};
+ghost use Rattle.pipe_core.specs.Devices.{EndsByDevice, GaveUp, HasGivenUp, IsSpent};
 ghost use Rattle.pipe_core.specs.Stream.{ReadsAll, Delivery, DeliveryFront};
 ghost use Rattle.pipe_core.specs.Pipe.{as_listener, frontend_of, listener_of, IsEnded, IsPiped, IsPipedFrom, IsStopped};
 
@@ -123,8 +123,8 @@ fn pipe<I: Input, O: Output>(
     ensures early_end { IfErr result (λ f. (input sent : List ℕ) → I.left reader.old ≡ Some input → O.held writer.old ≡ Some sent →
         IsStopped core.old name.now real input sent (I.left reader.new) (O.held writer.new) f) }
     ensures calls { (n : ℕ) × (n ≤ MOST_READS) × (I.calls reader.new ≡ raised_by n (I.calls reader.old)) }
-    ensures spent { result ≡ Err PipeFault.Read → IsSpent (I.failures reader.old) (I.failures reader.new) (I.stalls reader.old) (I.stalls reader.new) (I.calls reader.old) (I.calls reader.new) }
-    ensures gave_up { result ≡ Err PipeFault.Write → GaveUp (O.failures writer.old) (O.failures writer.new) (O.stalls writer.old) (O.stalls writer.new) }
+    ensures devices { EndsByDevice result I.calls I.failures I.stalls reader.old reader.new
+        O.failures O.stalls writer.old writer.new }
     ensures not_config { (o : OpenFault) → result ≢ Err (PipeFault.Config o) }
 {
     let listener = first_listener(core, name)?;

@@ -6,7 +6,7 @@ use Rattle.replay_core.specs.Replay.{IsFront, ReplayOutcome, ending, final_outco
 use Rattle.replay_core.specs.Progress.{ReplayProgress, Continues, IsFrontOf, total, total_of}
 use Rattle.replay_core.specs.Reading.{Reaches, AnswersAll, IsCut, IsCutAfterAll, StopsAtLine, Stops, WritesAll, Ends, writes_answers}
 use Rattle.replay_core.specs.declared.fault.ReplayFault.{ReplayFault}
-use Rattle.replay_core.specs.declared.fault.ReplayFault.TheVariants.{Config, Format, TooLong, Read, Write, NoMemory}
+use Rattle.replay_core.specs.declared.fault.ReplayFault.TheVariants.{Format, TooLong, Read, Write}
 use Rattle.replay_core.proofs.ContinueLemmas.{front_continues, front_sent, continues_sent}
 
 wrote_all : (sent : List ℕ) (s : ReplayProgress) (script now : List ℕ) (new : Option (List ℕ)) (t : ReplayProgress) (fault : Option ReplayFault) → total now t (final_outcome fault) ≡ total_of sent s script
@@ -63,7 +63,6 @@ stopped_write sent s script left held new t fault stopped front =
 pub finish_ok : (sent : List ℕ) (s : ReplayProgress) (script : List ℕ) (left held new : Option (List ℕ)) (t u : ReplayProgress) (fault : ReplayFault) → writes_answers fault ≡ true → u.answered ≡ t.answered
     → ((now : List ℕ) → held ≡ Some now → new ≡ Some (now ++ t.unsent)) → ((now bytes : List ℕ) → held ≡ Some now → Continues now t bytes new u bytes)
     → Stops sent s script left held t fault → Ends sent s script left new u.answered fault
-finish_ok sent s script left held new t u (Config fault) answers same wrote continues stops = cc
 finish_ok sent s script left held new t u (Format line) answers same wrote continues stops =
     subst (λ n. WritesAll sent s script new n (Some (Format line))) (sym same) (stopped_ok sent s script left held new t (Some (Format line)) stops wrote)
 finish_ok sent s script left held new t u (TooLong line) answers same wrote continues stops =
@@ -77,13 +76,11 @@ finish_ok sent s script left held new t u Read answers same wrote continues stop
       is_read = reaches.is_read;
       front = front_continues sent s reaches.got new u stops.0 (continues_sent sent s reaches.got held t stops.0 new u reaches.continues continues);
     }
-finish_ok sent s script left held new t u Write answers same wrote continues stops = cc
-finish_ok sent s script left held new t u NoMemory answers same wrote continues stops = cc
+finish_ok sent s script left held new t u fault answers same wrote continues stops = cc
 
 -- a fault after which the answers could not be written
 pub finish_write : (sent : List ℕ) (s : ReplayProgress) (script : List ℕ) (left held new : Option (List ℕ)) (t : ReplayProgress) (fault : ReplayFault) → writes_answers fault ≡ true
     → ((now bytes : List ℕ) → held ≡ Some now → IsFrontOf now t bytes new) → Stops sent s script left held t fault → IsCut sent s script left new ⊎ IsCutAfterAll sent s script left new
-finish_write sent s script left held new t (Config fault) answers front stops = cc
 finish_write sent s script left held new t (Format line) answers front stops = stopped_write sent s script left held new t (Some (Format line)) stops front
 finish_write sent s script left held new t (TooLong line) answers front stops = stopped_write sent s script left held new t (Some (TooLong line)) stops front
 finish_write sent s script left held new t Read answers front stops =
@@ -95,8 +92,7 @@ finish_write sent s script left held new t Read answers front stops =
       is_read = reaches.is_read;
       front = front_sent sent s reaches.got held t stops.0 new reaches.continues front;
     })
-finish_write sent s script left held new t Write answers front stops = cc
-finish_write sent s script left held new t NoMemory answers front stops = cc
+finish_write sent s script left held new t fault answers front stops = cc
 
 pub ends_write : (sent : List ℕ) (s : ReplayProgress) (script : List ℕ) (left new : Option (List ℕ)) (lines : ℕ) (fault : ReplayFault) → fault ≡ Write
     → IsCut sent s script left new ⊎ IsCutAfterAll sent s script left new → Ends sent s script left new lines fault

@@ -1,4 +1,6 @@
 pub mod FrontLemmas
+pub mod Devices
+pub mod ReadLemmas
 pub mod ContinueLemmas
 pub mod ReachLemmas
 pub mod OutcomeLemmas

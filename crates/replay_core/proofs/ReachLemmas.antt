@@ -1,8 +1,7 @@
 -- How far a script was read and answered.
-use Rattle.std.proofs.Common.{◌≡◌, ◌⊎◌, ◌<◌, ◌+◌, ℕ, true, List, [], ◌∷◌, ◌++◌, length, Option, Some, None, Err, refl, ap, subst, sym, ◌∙◌, append_assoc, append-nil, inl, inr, arith}
+use Rattle.std.proofs.Common.{◌≡◌, ◌⊎◌, ◌+◌, ℕ, true, List, [], ◌∷◌, ◌++◌, length, Option, Some, None, Err, refl, ap, subst, sym, ◌∙◌, append-nil, inl, inr}
 use Rattle.std.specs.Prelude.{nat_lt}
 use Rattle.std.specs.Io.KnownBytes.{Consumes}
-use Rattle.std.proofs.lemmas.Bool.Decides.{nat_tests}
 use Rattle.text_core.specs.Parts.{parts, is_line_feed}
 use Rattle.conn_model.specs.declared.plain.Plain.{Plain}
 use Rattle.event_text.specs.Script.{Pending}
@@ -16,7 +15,8 @@ use Rattle.replay_core.specs.Turns.{outcome_in, script_outcome_in, turn}
 use Rattle.replay_core.specs.Progress.{ReplayProgress, Continues, IsFrontOf, IsLineFault, total, total_of, total_of_lines}
 use Rattle.replay_core.specs.Reading.{Reaches, AnswersAll, IsCut, StopsAtLine, Stops}
 use Rattle.replay_core.specs.declared.fault.ReplayFault.{ReplayFault}
-use Rattle.replay_core.specs.declared.fault.ReplayFault.TheVariants.{Config, Format, TooLong, Read, Write, NoMemory}
+use Rattle.replay_core.specs.declared.fault.ReplayFault.TheVariants.{Format, TooLong, Read, Write, NoMemory}
+use Rattle.replay_core.proofs.ReadLemmas.{all_left, given_on, long_test}
 use Rattle.replay_core.proofs.ContinueLemmas.{front_continues, front_sent, continues_line, continues_more, continues_sent, continues_start}
 
 -- nothing read yet
@@ -26,25 +26,13 @@ reaches_start sent s script left held kept none is_left is_held =
     subst (Reaches sent s script left held s) (sym none)
     (record { got = []; rest = script; is_left = is_left; is_read = refl; continues = continues_start sent s [] held is_held })
 
-consumed : (rest : List ℕ) (new : Option (List ℕ)) (bytes : List ℕ) → Consumes (Some rest) new bytes → (less : List ℕ) × (new ≡ Some less) × (rest ≡ bytes ++ less)
-consumed rest None bytes moved = absurd moved
-consumed rest (Some less) bytes moved = (less, refl, moved)
-
-given : (rest : List ℕ) (left new : Option (List ℕ)) (bytes : List ℕ) → left ≡ Some rest → Consumes left new bytes → (less : List ℕ) × (new ≡ Some less) × (rest ≡ bytes ++ less)
-given rest left new bytes is moved = consumed rest new bytes (subst (λ l. Consumes l new bytes) is moved)
-
 -- more bytes
 reaches_more : (sent : List ℕ) (s : ReplayProgress) (script : List ℕ) (left held : Option (List ℕ)) (t : ReplayProgress) (kept bytes : List ℕ) (less : Option (List ℕ))
     → Reaches sent s script left held t kept → Consumes left less bytes → Reaches sent s script less held t (kept ++ bytes)
 reaches_more sent s script left held t kept bytes less reaches moved =
-    let taken = given reaches.rest left less bytes reaches.is_left moved in
-    record {
-      got = reaches.got ++ bytes;
-      rest = taken.0;
-      is_left = taken.1;
-      is_read = reaches.is_read ∙ ap (λ xs. reaches.got ++ xs) taken.2 ∙ sym (append_assoc reaches.got bytes taken.0);
-      continues = continues_more sent s reaches.got held t kept bytes reaches.continues;
-    }
+    let taken = given_on reaches.got reaches.rest script left less bytes reaches.is_read reaches.is_left moved in
+    let continues = continues_more sent s reaches.got held t kept bytes reaches.continues in
+    record { got = reaches.got ++ bytes; rest = taken.0; is_left = taken.1; is_read = taken.2; continues = continues }
 
 -- the same bytes, in other places
 reaches_gathered : (sent : List ℕ) (s : ReplayProgress) (script : List ℕ) (left held : Option (List ℕ)) (t : ReplayProgress) (old new : LineState) (less : Option (List ℕ))
@@ -102,12 +90,22 @@ stops_write sent s script left held t u kept new fault is reaches front =
 
 stops_by : (sent : List ℕ) (s : ReplayProgress) (script : List ℕ) (left held : Option (List ℕ)) (u : ReplayProgress) (fault : ReplayFault) → IsLineFault fault
     → StopsAtLine sent s script left held u (Some fault) → Stops sent s script left held u fault
-stops_by sent s script left held u (Config f) kind stopped = absurd kind
 stops_by sent s script left held u (Format line) kind stopped = stopped
 stops_by sent s script left held u (TooLong line) kind stopped = stopped
-stops_by sent s script left held u Read kind stopped = absurd kind
-stops_by sent s script left held u Write kind stopped = absurd kind
-stops_by sent s script left held u NoMemory kind stopped = absurd kind
+stops_by sent s script left held u fault kind stopped = absurd kind
+
+-- what was read comes to a fault
+stops_so : (sent : List ℕ) (s : ReplayProgress) (script : List ℕ) (left held : Option (List ℕ)) (t u : ReplayProgress) (kept : List ℕ) (fault : ReplayFault) → (reaches : Reaches sent s script left held t kept)
+    → ((more : List ℕ) → total reaches.continues.now u (final_outcome (Some fault)) ≡ total_of reaches.continues.now t (kept ++ more)) → StopsAtLine sent s script left held u (Some fault)
+stops_so sent s script left held t u kept fault reaches stop = record {
+  got = reaches.got;
+  rest = reaches.rest;
+  now = reaches.continues.now;
+  is_left = reaches.is_left;
+  is_read = reaches.is_read;
+  is_held = reaches.continues.is_held;
+  same = λ more only. stop more ∙ reaches.continues.same more;
+}
 
 -- a line that ends it
 pub stops_line : (sent : List ℕ) (s : ReplayProgress) (script : List ℕ) (left held : Option (List ℕ)) (t u : ReplayProgress) (old new : LineState) (less : Option (List ℕ)) (fault : ReplayFault)
@@ -120,19 +118,8 @@ stops_line sent s script left held t u old new less fault reaches gives (inl is)
 stops_line sent s script left held t u old new less fault reaches gives (inr stop) =
     let more : Reaches sent s script less held t (old.kept ++ gives.bytes) = reaches_more sent s script left held t old.kept gives.bytes less reaches gives.moved in
     stops_by sent s script less held u fault stop.0
-    (record {
-      got = more.got;
-      rest = more.rest;
-      now = more.continues.now;
-      is_left = more.is_left;
-      is_read = more.is_read;
-      is_held = more.continues.is_held;
-      same = λ next only. stop.1 more.continues.now (parts is_line_feed (new.kept ++ next)) ∙ ap (total_of_lines more.continues.now t) (sym (gives.begins next)) ∙ more.continues.same next;
-    })
-
-all_left : (rest : List ℕ) (left less : Option (List ℕ)) (bytes : List ℕ) → left ≡ Some rest → ConsumesAll left less bytes → (rest ≡ bytes) × (less ≡ Some [])
-all_left rest None less bytes is moved = cc
-all_left rest (Some xs) less bytes is moved = let same : xs ≡ rest = cc in (sym same ∙ moved.0, moved.1)
+    (stops_so sent s script less held t u (old.kept ++ gives.bytes) fault more
+    (λ next. stop.1 more.continues.now (parts is_line_feed (new.kept ++ next)) ∙ ap (total_of_lines more.continues.now t) (sym (gives.begins next))))
 
 -- all bytes
 all_read : (sent : List ℕ) (s : ReplayProgress) (script : List ℕ) (left held : Option (List ℕ)) (t : ReplayProgress) (kept bytes : List ℕ) (less : Option (List ℕ))
@@ -215,9 +202,6 @@ stops_last sent s script left held t u old new less fault reaches gives (inr sto
     stops_after_all sent s script held u less fault stop.0 (all_left reaches.rest left less gives.bytes reaches.is_left gives.moved).1
     (done_by sent s script left held t u old new less (Some fault) reaches gives stop.1)
 
-long_test : (n : ℕ) → MOST_LINE_BYTES < n → nat_lt MOST_LINE_BYTES n ≡ true
-long_test n long = grind (arith, nat_tests)
-
 asked_too_long : (reload : Option Pending) (number : ℕ) (line : List ℕ) → nat_lt MOST_LINE_BYTES (length line) ≡ true → asked_at reload number line ≡ Err (TooLong number)
 asked_too_long reload number line long = rw long refl
 
@@ -236,15 +220,8 @@ pub stops_reading : (sent : List ℕ) (s : ReplayProgress) (script : List ℕ) (
     → Stops sent s script less held t (script_fault (t.before + 1) fault)
 stops_reading sent s script left held t old new less lines.TooLong reaches gathers long =
     let more : Reaches sent s script less held t (new.line ++ new.kept) = reaches_gathered sent s script left held t old new less reaches gathers in
-    record {
-      got = more.got;
-      rest = more.rest;
-      now = more.continues.now;
-      is_left = more.is_left;
-      is_read = more.is_read;
-      is_held = more.continues.is_held;
-      same = λ next only. ap (total more.continues.now t) (too_long t.plain t.reload t.before (new.line ++ new.kept) (long refl) next) ∙ more.continues.same next;
-    }
+    stops_so sent s script less held t t (new.line ++ new.kept) (TooLong (t.before + 1)) more
+    (λ next. ap (total more.continues.now t) (too_long t.plain t.reload t.before (new.line ++ new.kept) (long refl) next))
 stops_reading sent s script left held t old new less lines.Read reaches gathers long =
     (new.line ++ new.kept, reaches_gathered sent s script left held t old new less reaches gathers)
 stops_reading sent s script left held t old new less lines.NoMemory reaches gathers long =

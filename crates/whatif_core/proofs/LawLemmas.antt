@@ -1,5 +1,5 @@
 -- What is open in the trial is open in the balancer of the record.
-use Rattle.std.proofs.Common.{◌≡◌, ◌⊎◌, inl, inr, ℕ, zero, suc, ◌+◌, ◌-◌, ◌<◌, ◌^◌, Bool, true, false, List, [], ◌∷◌, ◌++◌, length, Option, Some, None, Result, Ok, Err, refl, ap, sym, subst, ◌∙◌, max, arith}
+use Rattle.std.proofs.Common.{◌≡◌, ◌⊎◌, inl, inr, ℕ, ◌+◌, ◌-◌, ◌<◌, ◌^◌, Bool, true, false, List, [], ◌∷◌, ◌++◌, length, Option, Some, None, Result, Ok, Err, refl, ap, sym, subst, ◌∙◌, max, arith}
 use Rattle.std.specs.Prelude.{◌==◌, ◌&&◌, ◌||◌, not, nat_lt, map, option_map, filter, find, slice_get, is_some, IsSome, if◌then◌else◌}
 use Rattle.std.specs.List.{list_any}
 use Rattle.std.specs.Option.{option_map_or}
@@ -23,7 +23,7 @@ use Rattle.conn_model.specs.declared.reply.StepFault.{StepFault}
 use Rattle.conn_model.specs.declared.reply.StepFault.TheVariants.{NoSuch}
 use Rattle.conn_model.specs.Answer.{admission, answer_in, candidate_at, new_row, reply_of, row_at, row_in, at_moment}
 use Rattle.conn_model.specs.History.{Entry, IsLegal, after, answer, arrival, arrival_of, arrivals, entry, frontend_after, has_ended, id_of, is_accept_at, is_last, leaves_open, opening, row_after, speaks_to}
-use Rattle.conn_model.specs.Words.{is_conn, map_from, or_fault}
+use Rattle.conn_model.specs.Words.{is_conn, or_fault}
 use Rattle.conn_model.proofs.Goes.{whole_in_parts}
 use Rattle.conn_model.proofs.Lists.{and_true, get-from_zero, or_left, or_right, or_true}
 use Rattle.conn_model.proofs.Replies.{accepted, admission-id, answered, Accepted, IsReload}
@@ -36,6 +36,7 @@ use Rattle.replay_core.specs.Turns.{plain_after}
 use Rattle.whatif_core.specs.Deciding.{closed, numbers_for, played, stepped, taken}
 use Rattle.whatif_core.specs.Reporting.{opened_by, history_report, report_of_turn, trial_opening, turn_of, Report}
 use Rattle.whatif_core.specs.declared.turn.Turn.{Turn}
+pub use Rattle.conn_laws.proofs.Rows.{before, contrary, one_item, Before}
 
 -- ---- rows
 
@@ -91,13 +92,7 @@ ends said number serial = is_last said && speaks_to number serial said
 -- the event opens that connection
 abbrev pub arrived : ℕ → ℕ → OwnedEvent → Said → Bool
 arrived number serial (Accept listener real) said = leaves_open said && speaks_to number serial said
-arrived number serial (Piece id bytes) said = false
-arrived number serial (Connected id) said = false
-arrived number serial (ConnectFailed id) said = false
-arrived number serial (Close id why) said = false
-arrived number serial (Expire id) said = false
-arrived number serial (Reload text) said = false
-arrived number serial (Mark backend n health) said = false
+arrived number serial event said = false
 
 has_new : (serial number clock version : ℕ) (real : PairValue) (said : Said) (id : Option ConnId)
     → has serial (arrival_of number clock version real said id) ≡ (leaves_open said && option_map_or (is_conn number serial) id false)
@@ -111,13 +106,7 @@ has_new serial number clock version real said (Some id) = by (leaves_open said) 
 
 pub has_arrived : (serial number clock version : ℕ) (event : OwnedEvent) (said : Said) → has serial (arrival number clock version event said) ≡ arrived number serial event said
 has_arrived serial number clock version (Accept listener real) said = has_new serial number clock version real said (id_of said)
-has_arrived serial number clock version (Piece id bytes) said = refl
-has_arrived serial number clock version (Connected id) said = refl
-has_arrived serial number clock version (ConnectFailed id) said = refl
-has_arrived serial number clock version (Close id why) said = refl
-has_arrived serial number clock version (Expire id) said = refl
-has_arrived serial number clock version (Reload text) said = refl
-has_arrived serial number clock version (Mark backend n health) said = refl
+has_arrived serial number clock version event said = refl
 
 -- the open connections after an entry
 has_after : (p : Plain) (e : Entry) (number serial : ℕ) (own : FrontendRows)
@@ -145,32 +134,6 @@ still_open : (p : Plain) (e : Entry) (number serial : ℕ) (own : FrontendRows) 
     → has serial (frontend_after p (e ∷ []) number own).rows ≡ true
 still_open p e number serial own is lasts = has_after p e number serial own ∙ ap (λ b. b && not (ends e.reply.said number serial)) is ∙ ap not lasts
 
--- ---- frontends by their numbers
-
-from_there : (change : ℕ → FrontendRows → FrontendRows) (k : ℕ) (owns : List FrontendRows) (i : ℕ) (y : FrontendRows) → slice_get (map_from change k owns) i ≡ Some y → (x : FrontendRows) × (slice_get owns i ≡ Some x)
-from_there change k [] i y is = absurd (let wrong : None ≡ Some y = is in cc)
-from_there change k (own ∷ owns) zero y is = (own, refl)
-from_there change k (own ∷ owns) (suc i) y is = from_there change (k + 1) owns i y is
-
-pub one_item : {X : Type 0} (o : Option X) (x y : X) → o ≡ Some x → o ≡ Some y → x ≡ y
-one_item o x y left right = let same : Some x ≡ Some y = sym left ∙ right in cc
-
--- a frontend after an entry was there before
-pub record Before (p : Plain) (e : Entry) (number : ℕ) (next : FrontendRows) : Type 0 where
-  pub own : FrontendRows
-  pub there : slice_get p.frontends number ≡ Some own
-  pub is : next ≡ frontend_after p (e ∷ []) number own
-
-pub before : (p : Plain) (e : Entry) (number : ℕ) (next : FrontendRows) → slice_get (after p (e ∷ [])).frontends number ≡ Some next → Before p e number next
-before p e number next there =
-    let own = from_there (frontend_after p (e ∷ [])) 0 p.frontends number next there in
-    record {
-      own = own.0;
-      there = own.1;
-      is = one_item (slice_get (map_from (frontend_after p (e ∷ [])) 0 p.frontends) number) next (frontend_after p (e ∷ []) number own.0) there
-          (get-from_zero (frontend_after p (e ∷ [])) p.frontends number own.0 own.1);
-    }
-
 -- ---- two states
 
 -- of each frontend of the first the second gave out as many serials, and has each connection open that the test does not end
@@ -188,43 +151,21 @@ nothing_ended number serial = false
 
 abbrev pub is_accept : OwnedEvent → Bool
 is_accept (Accept listener real) = true
-is_accept (Piece id bytes) = false
-is_accept (Connected id) = false
-is_accept (ConnectFailed id) = false
-is_accept (Close id why) = false
-is_accept (Expire id) = false
-is_accept (Reload text) = false
-is_accept (Mark number n health) = false
+is_accept event = false
 
 -- the second balancer answers as the first does to whom it speaks, where that is an accept
 abbrev pub Agree : OwnedEvent → Said → Said → Type 0
 Agree (Accept listener real) theirs said = (id_of theirs ≡ id_of said) × (is_judgement said ≡ true) × (is_judgement theirs ≡ true)
-Agree (Piece id bytes) theirs said = Unit {0}
-Agree (Connected id) theirs said = Unit {0}
-Agree (ConnectFailed id) theirs said = Unit {0}
-Agree (Close id why) theirs said = Unit {0}
-Agree (Expire id) theirs said = Unit {0}
-Agree (Reload text) theirs said = Unit {0}
-Agree (Mark number n health) theirs said = Unit {0}
+Agree event theirs said = Unit {0}
 
 same_accept : (number : ℕ) (event : OwnedEvent) (theirs said : Said) → Agree event theirs said → is_accept_at number event theirs ≡ is_accept_at number event said
 same_accept number (Accept listener real) theirs said agree = ap (λ (id : Option ConnId). option_map_or (λ id. id.frontend == number) id false) agree.0
-same_accept number (Piece id bytes) theirs said agree = refl
-same_accept number (Connected id) theirs said agree = refl
-same_accept number (ConnectFailed id) theirs said agree = refl
-same_accept number (Close id why) theirs said agree = refl
-same_accept number (Expire id) theirs said agree = refl
-same_accept number (Reload text) theirs said agree = refl
-same_accept number (Mark backend n health) theirs said agree = refl
+same_accept number event theirs said agree = refl
 
 left_open : (said : Said) → is_judgement said ≡ true → is_last said ≡ false → leaves_open said ≡ true
 left_open (saids.Wait id used) judged open_still = refl
 left_open (saids.Offer id used line server to judged2 send) judged open_still = refl
-left_open (saids.Refuse id used cause) judged open_still = absurd (cc)
-left_open (saids.Up id) judged open_still = absurd (cc)
-left_open (saids.Closed id why) judged open_still = absurd (cc)
-left_open (saids.Reloaded version) judged open_still = absurd (cc)
-left_open (saids.Marked line health) judged open_still = absurd (cc)
+left_open said judged open_still = absurd (cc)
 
 -- if the second opens a connection, so does the first, or its reply ends it
 same_arrived : (number serial : ℕ) (event : OwnedEvent) (theirs said : Said) → Agree event theirs said → arrived number serial event theirs ≡ true
@@ -238,12 +179,7 @@ same_arrived number serial (Accept listener real) theirs said agree is =
     by true last speaks = inr (rw (last, speaks) refl)
     by false lasts speaks = let stays = left_open said agree.1 lasts in inl (rw (stays, speaks) refl)
 same_arrived number serial (Piece id bytes) theirs said agree is = absurd (cc)
-same_arrived number serial (Connected id) theirs said agree is = absurd (cc)
-same_arrived number serial (ConnectFailed id) theirs said agree is = absurd (cc)
-same_arrived number serial (Close id why) theirs said agree is = absurd (cc)
-same_arrived number serial (Expire id) theirs said agree is = absurd (cc)
-same_arrived number serial (Reload text) theirs said agree is = absurd (cc)
-same_arrived number serial (Mark backend n health) theirs said agree is = absurd (cc)
+same_arrived number serial event theirs said agree is = absurd (cc)
 
 -- a row that is there, or came, is open after the entry, or the entry ends it
 kept_or_ended : (p : Plain) (e : Entry) (number serial : ℕ) (own : FrontendRows) → (has serial own.rows || arrived number serial e.event e.reply.said) ≡ true
@@ -300,13 +236,7 @@ both_answered n p e theirs agree below number next there =
 
 no_accept : (number : ℕ) (event : OwnedEvent) (said : Said) → is_accept event ≡ false → is_accept_at number event said ≡ false
 no_accept number (Accept listener real) said is = absurd (cc)
-no_accept number (Piece id bytes) said is = refl
-no_accept number (Connected id) said is = refl
-no_accept number (ConnectFailed id) said is = refl
-no_accept number (Close id why) said is = refl
-no_accept number (Expire id) said is = refl
-no_accept number (Reload text) said is = refl
-no_accept number (Mark backend n health) said is = refl
+no_accept number event said is = refl
 
 not_counted : (a b c : ℕ) → a ≡ b → c ≡ 0 → a ≡ b + (0 + c)
 not_counted a b c first none = omega (arith, first, none)
@@ -364,9 +294,6 @@ not_shut n said lasts number next there = record {
   serial = refl;
   rows = λ s is. (is, ap (λ b. b && speaks_to number s said) lasts);
 }
-
-pub contrary : (b : Bool) (A : Type 0) → b ≡ true → b ≡ false → A
-contrary b A is not_is = absurd (let wrong : true ≡ false = sym is ∙ not_is in cc)
 
 plus_none : (a : ℕ) → a + (0 + 0) ≡ a
 plus_none a = omega arith
@@ -456,26 +383,18 @@ past_on plan n moment event has_past = by (answer_in n moment event) refl
         }
 
 past_closed : (plan : Plan) (n : Plain) (moment : ℕ) (said : Said) → HasPast plan n → HasPast plan (closed moment said n)
-past_closed plan n moment (saids.Wait id used) has_past = has_past
-past_closed plan n moment (saids.Offer id used line server to judged send) has_past = has_past
 past_closed plan n moment (saids.Refuse id used cause) has_past = past_on plan n moment (Close id Done) has_past
-past_closed plan n moment (saids.Up id) has_past = has_past
 past_closed plan n moment (saids.Closed id why) has_past = past_on plan n moment (Close id Done) has_past
-past_closed plan n moment (saids.Reloaded version) has_past = has_past
-past_closed plan n moment (saids.Marked line health) has_past = has_past
+past_closed plan n moment said has_past = has_past
 
 listeners_after : (n : Plain) (moment : ℕ) (event : OwnedEvent) (answered : Result Reply StepFault) → (plain_after n moment event answered).listeners ≡ n.listeners
 listeners_after n moment event (Err fault) = refl
 listeners_after n moment event (Ok reply) = refl
 
 listeners_closed : (n : Plain) (moment : ℕ) (said : Said) → (closed moment said n).listeners ≡ n.listeners
-listeners_closed n moment (saids.Wait id used) = refl
-listeners_closed n moment (saids.Offer id used line server to judged send) = refl
 listeners_closed n moment (saids.Refuse id used cause) = listeners_after n moment (Close id Done) (answer_in n moment (Close id Done))
-listeners_closed n moment (saids.Up id) = refl
 listeners_closed n moment (saids.Closed id why) = listeners_after n moment (Close id Done) (answer_in n moment (Close id Done))
-listeners_closed n moment (saids.Reloaded version) = refl
-listeners_closed n moment (saids.Marked line health) = refl
+listeners_closed n moment said = refl
 
 -- how the trial answers an event that the balancer of the record answered so
 abbrev pub Outcome : Plain → ℕ → OwnedEvent → Said → Type 0
@@ -681,6 +600,17 @@ all_tied summary plan text trial (e ∷ h) opens legal =
     subst (λ p. Tied plan p (history_report summary o trial (e ∷ h)).trial) (whole_in_parts o (opening_well plan 0) (e ∷ []) h legal)
     (subst (Tied plan (after (after o h) (e ∷ []))) (sym (turn_trial summary (played (after o h).versions t.trial e.moment e.event e.reply.said) t (turn_of (after o h) t.trial e)))
     (entry_tied plan h t.trial e.moment e.event e.reply legal.0 legal.1 (all_tied summary plan text trial h opens legal.0)))
+
+-- the trial after a history, and after one entry more
+abbrev pub trial_after : Plan → Plain → List Entry → Plain
+trial_after plan trial h = (history_report false (opening plan 0) trial h).trial
+
+pub trial_next : (plan : Plan) (trial : Plain) (h : List Entry) (e : Entry)
+    → trial_after plan trial (e ∷ h) ≡ played (after (opening plan 0) h).versions (trial_after plan trial h) e.moment e.event e.reply.said
+trial_next plan trial h e =
+    let p : Plain = after (opening plan 0) h in
+    let n : Plain = trial_after plan trial h in
+    turn_trial false (played p.versions n e.moment e.event e.reply.said) (history_report false (opening plan 0) trial h) (turn_of p n e)
 
 -- ---- what is open
 

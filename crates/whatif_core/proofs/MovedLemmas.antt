@@ -1,9 +1,8 @@
 -- A connection that awaits its server in the record awaits it in the trial, unless it has had a difference, or was lost or saved.
-use Rattle.std.proofs.Common.{◌≡◌, ◌⊎◌, inl, inr, ℕ, ◌+◌, ◌≤◌, Bool, true, false, List, [], ◌∷◌, ◌++◌, Option, Some, None, Result, Ok, Err, refl, ap, sym, subst, ◌∙◌, max}
+use Rattle.std.proofs.Common.{◌≡◌, ◌⊎◌, inl, inr, ℕ, ◌+◌, ◌≤◌, Bool, true, false, List, [], ◌∷◌, ◌++◌, Option, Some, None, Ok, refl, ap, sym, subst, ◌∙◌, max}
 use Rattle.std.specs.Prelude.{◌==◌, ◌&&◌, ◌||◌, not, filter, slice_get, is_some, option_map, if◌then◌else◌}
 use Rattle.std.specs.Option.{option_map_or}
 use Rattle.addr_core.specs.PairValue.{PairValue}
-use Rattle.plan_types.specs.declared.plan.Frontend.{Frontend}
 use Rattle.plan_types.specs.declared.plan.Plan.{Plan}
 use Rattle.conn_model.specs.declared.event.ConnId.{ConnId}
 use Rattle.conn_model.specs.declared.event.OwnedEvent.{OwnedEvent}
@@ -19,23 +18,22 @@ use Rattle.conn_model.specs.declared.reply.Reply.{Reply}
 use Rattle.conn_model.specs.declared.reply.Said.{Said}
 use Rattle.conn_model.specs.declared.reply.Said.TheVariants as saids
 use Rattle.conn_model.specs.declared.reply.StepFault.TheVariants.{NoSuch}
-use Rattle.conn_model.specs.Answer.{answer_in, at_moment, awaits_server, failure_said, offer_in, other_server, new_row, reply_of, rest_in, row_at, row_in, NumberedServer}
+use Rattle.conn_model.specs.Answer.{answer_in, at_moment, awaits_server, failure_said, offer_in, other_server, new_row, reply_of, row_at, row_in, NumberedServer}
 use Rattle.conn_model.specs.History.{Entry, IsLegal, IsWell, after, arrival, arrival_of, arrivals, entry, frontend_after, has_ended, id_of, is_last, is_reload, leaves_open, opening, phase_by, phase_on, phase_up, plan_of, row_after, speaks_to}
-use Rattle.conn_model.specs.Words.{is_conn, or_fault}
-use Rattle.conn_model.proofs.Goes.{whole_in_parts}
-use Rattle.conn_model.proofs.Lists.{all-at, all-each, all-map, and_true, get-from_zero}
+use Rattle.conn_model.specs.Words.{or_fault}
+use Rattle.conn_model.proofs.Lists.{and_true, get-from_zero}
 use Rattle.conn_model.proofs.Offers.{failure_answers}
 use Rattle.conn_model.proofs.Replies.{answered, bind-ok, expired, has_failed, received, server_answered, IsNew}
-use Rattle.conn_model.proofs.Well.{after-nil, opening_well, well_after}
+use Rattle.conn_model.proofs.Well.{opening_well, well_after}
 use Rattle.conn_laws.specs.Deciding.{is_judgement, is_offer}
 use Rattle.replay_core.specs.Turns.{plain_after}
 use Rattle.whatif_core.specs.declared.decision.AfterFailure.{AfterFailure}
 use Rattle.whatif_core.specs.declared.decision.AfterFailure.TheVariants.{Moved, Ended}
 use Rattle.whatif_core.specs.Deciding.{after_failure, after_failure_by, closed, decided, decided_by, decision_of, difference, failure_outcome, handed, is_failure, is_parted, offer_of, played, stepped}
 use Rattle.whatif_core.specs.Reporting.{differs_of, history_report, parted_of, trial_opening, turn_of, HasDiffered, HasParted}
-use Rattle.whatif_core.proofs.LawLemmas.{accept_outcome, all_tied, and_no, before, contrary, ends, turn_trial, Outcome, Tied}
-use Rattle.whatif_core.proofs.OnceLemmas.{and_left, below_itself, found, found_appended, found_filtered, found_mapped, found_serial, is_waiting, not_false, not_new, offers, old_given, same_conn, speaks, spoken, waits_at, waits_here}
-use Rattle.whatif_core.proofs.WaitingLemmas.{came_in, differs_made, elsewhere, found_kept, found_next, found_on, judged_on, new_serial, not_either, spoken_id, waiting_row_at, waits_in_both, well_of, IsKept}
+use Rattle.whatif_core.proofs.LawLemmas.{all_tied, and_no, before, contrary, ends, trial_after, trial_next, Tied}
+use Rattle.whatif_core.proofs.OnceLemmas.{and_left, below_itself, found, found_appended, found_mapped, found_serial, live_row, not_new, offers, old_given, same_conn, speaks, spoken, waits_at, waits_here}
+use Rattle.whatif_core.proofs.WaitingLemmas.{along, both_told, elsewhere, found_kept, found_on, judged_on, newcomer_answered, newcomer_row, not_either, not_waiting, spoken_id, waiting_row_at, waits_in_both, well_of, IsKept}
 
 -- ---- who awaits its server after an entry
 
@@ -47,13 +45,8 @@ awaits_at q id = awaits_in (row_at q.frontends id)
 
 -- the reply says that a server took its connection
 abbrev is_up : Said → Bool
-is_up (saids.Wait id used) = false
-is_up (saids.Offer id used line server to judged send) = false
-is_up (saids.Refuse id used cause) = false
 is_up (saids.Up id) = true
-is_up (saids.Closed id why) = false
-is_up (saids.Reloaded version) = false
-is_up (saids.Marked line health) = false
+is_up said = false
 
 -- that connection
 abbrev takes : Said → ℕ → ℕ → Bool
@@ -74,11 +67,8 @@ awaited : (plan : Option Plan) (event : OwnedEvent) (said : Said) (phase : Phase
     (is_offer said ≡ true) ⊎ ((awaits_server phase ≡ true) × (is_up said ≡ false))
 awaited plan event (saids.Wait id used) phase is = inr (sym (on_piece_awaits _ phase) ∙ is, refl)
 awaited plan event (saids.Offer id used line server to judged send) phase is = inl refl
-awaited plan event (saids.Refuse id used cause) phase is = inr (is, refl)
 awaited plan event (saids.Up id) phase is = absurd (let wrong : false ≡ true = sym (once_up_awaits phase) ∙ is in cc)
-awaited plan event (saids.Closed id why) phase is = inr (is, refl)
-awaited plan event (saids.Reloaded version) phase is = inr (is, refl)
-awaited plan event (saids.Marked line health) phase is = inr (is, refl)
+awaited plan event said phase is = inr (is, refl)
 
 awaited_if : (plan : Option Plan) (event : OwnedEvent) (said : Said) (phase : Phase) (b : Bool) → awaits_server (if b then phase_by plan event said phase else phase) ≡ true →
     ((is_offer said && b) ≡ true) ⊎ ((awaits_server phase ≡ true) × ((is_up said && b) ≡ false))
@@ -107,12 +97,7 @@ none_awaits serial number clock version (Accept listener real) said row is = of 
         by true there = here (id.serial == serial) refl there
         by false there = absurd (let wrong : None ≡ Some row = there in cc)
 none_awaits serial number clock version (Piece id bytes) said row is = absurd (let wrong : None ≡ Some row = is in cc)
-none_awaits serial number clock version (Connected id) said row is = absurd (let wrong : None ≡ Some row = is in cc)
-none_awaits serial number clock version (ConnectFailed id) said row is = absurd (let wrong : None ≡ Some row = is in cc)
-none_awaits serial number clock version (Close id why) said row is = absurd (let wrong : None ≡ Some row = is in cc)
-none_awaits serial number clock version (Expire id) said row is = absurd (let wrong : None ≡ Some row = is in cc)
-none_awaits serial number clock version (Reload text) said row is = absurd (let wrong : None ≡ Some row = is in cc)
-none_awaits serial number clock version (Mark backend n health) said row is = absurd (let wrong : None ≡ Some row = is in cc)
+none_awaits serial number clock version event said row is = absurd (let wrong : None ≡ Some row = is in cc)
 
 -- of a connection that awaits its server after an entry: the reply does not end it, and it offers it one; or it awaited it
 -- before, and the reply does not say that this took it
@@ -125,41 +110,22 @@ found_awaits row o is awaits = ap awaits_in is ∙ awaits
 
 awaits_in_rows : (q : Plain) (e : Entry) (number serial : ℕ) (own : FrontendRows) → awaits_in (found serial (frontend_after q (e ∷ []) number own).rows) ≡ true →
     Awaited (awaits_in (found serial own.rows)) e.reply.said number serial
-awaits_in_rows q e number serial own is = by (found serial live) refl
+awaits_in_rows q e number serial own is =
+    let live = live_row (λ r. awaits_server r.phase) q e number serial own is in
+    let awaits = awaited_if (plan_of q [] live.row.version) e.event e.reply.said live.row.phase (speaks_to number live.row.serial e.reply.said) live.holds in
+    record { lasts = live.lasts; how = how_it_is live.row live.there live.same awaits }
   where
-    came : List Row
-    came = arrivals q number (e ∷ [])
-
-    live : List Row
-    live = filter (λ row. not (has_ended number (e ∷ []) row.serial)) (own.rows ++ came)
-
-    now : awaits_in (option_map (row_after q number (e ∷ [])) (found serial live)) ≡ true
-    now = sym (ap awaits_in (found_mapped serial (row_after q number (e ∷ [])) (λ row. refl) live)) ∙ is
-
-    old_one : (row : Row) → found serial (own.rows ++ came) ≡ Some row → awaits_server row.phase ≡ true → awaits_in (found serial own.rows) ≡ true
-    old_one row there awaits = elim (found_appended serial own.rows came row there) [
+    old_one : (row : Row) → found serial (own.rows ++ arrivals q number (e ∷ [])) ≡ Some row → awaits_server row.phase ≡ true → awaits_in (found serial own.rows) ≡ true
+    old_one row there awaits = elim (found_appended serial own.rows (arrivals q number (e ∷ [])) row there) [
       | inl old ↦ found_awaits row (found serial own.rows) old awaits
       | inr new ↦ contrary (awaits_server row.phase) (awaits_in (found serial own.rows) ≡ true) awaits (none_awaits serial number _ _ e.event e.reply.said row new)
     ]
 
-    how_it_is : (row : Row) → found serial (own.rows ++ came) ≡ Some row → row.serial ≡ serial →
+    how_it_is : (row : Row) → found serial (own.rows ++ arrivals q number (e ∷ [])) ≡ Some row → row.serial ≡ serial →
         ((is_offer e.reply.said && speaks_to number row.serial e.reply.said) ≡ true) ⊎ ((awaits_server row.phase ≡ true) × ((is_up e.reply.said && speaks_to number row.serial e.reply.said) ≡ false)) →
         (offers e.reply.said number serial ≡ true) ⊎ ((awaits_in (found serial own.rows) ≡ true) × (takes e.reply.said number serial ≡ false))
     how_it_is row there same (inl offered) = inl (ap (λ n. is_offer e.reply.said && speaks_to number n e.reply.said) (sym same) ∙ offered)
     how_it_is row there same (inr (awaits, untaken)) = inr (old_one row there awaits, ap (λ n. is_up e.reply.said && speaks_to number n e.reply.said) (sym same) ∙ untaken)
-
-    of_row : (row : Row) → found serial live ≡ Some row → awaits_server (row_after q number (e ∷ []) row).phase ≡ true → Awaited (awaits_in (found serial own.rows)) e.reply.said number serial
-    of_row row there awaits =
-        let kept = found_filtered serial (λ n. not (has_ended number (e ∷ []) n)) (own.rows ++ came) row there in
-        let same : row.serial ≡ serial = found_serial serial (own.rows ++ came) row kept.1 in
-        record {
-          lasts = not_false (is_last e.reply.said) (speaks_to number serial e.reply.said) kept.0;
-          how = how_it_is row kept.1 same (awaited_if (plan_of q [] row.version) e.event e.reply.said row.phase (speaks_to number row.serial e.reply.said) awaits);
-        }
-
-    by : (o : Option Row) → found serial live ≡ o → Awaited (awaits_in (found serial own.rows)) e.reply.said number serial
-    by None none = absurd (let wrong : false ≡ true = sym (ap (λ o. awaits_in (option_map (row_after q number (e ∷ [])) o)) none) ∙ now in cc)
-    by (Some row) there = of_row row there (sym (ap (λ o. awaits_in (option_map (row_after q number (e ∷ [])) o)) there) ∙ now)
 
 awaits_after : (q : Plain) (e : Entry) (id : ConnId) → awaits_at (after q (e ∷ [])) id ≡ true → Awaited (awaits_at q id) e.reply.said id.frontend id.serial
 awaits_after q e id is = by (slice_get (after q (e ∷ [])).frontends id.frontend) refl
@@ -183,26 +149,16 @@ awaits_if plan event said phase true quiet is = absurd (let wrong : true ≡ fal
 awaits_if plan event said phase false quiet is = is
 
 awaits_offer : (plan : Option Plan) (event : OwnedEvent) (said : Said) (phase : Phase) → is_offer said ≡ true → awaits_server (phase_by plan event said phase) ≡ true
-awaits_offer plan event (saids.Wait id used) phase offered = absurd (cc)
 awaits_offer plan event (saids.Offer id used line server to judged send) phase offered = refl
-awaits_offer plan event (saids.Refuse id used cause) phase offered = absurd (cc)
-awaits_offer plan event (saids.Up id) phase offered = absurd (cc)
-awaits_offer plan event (saids.Closed id why) phase offered = absurd (cc)
-awaits_offer plan event (saids.Reloaded version) phase offered = absurd (cc)
-awaits_offer plan event (saids.Marked line health) phase offered = absurd (cc)
+awaits_offer plan event said phase offered = absurd (cc)
 
 offered_if : (plan : Option Plan) (event : OwnedEvent) (said : Said) (phase : Phase) (b : Bool) → b ≡ true → is_offer said ≡ true → awaits_server (if b then phase_by plan event said phase else phase) ≡ true
 offered_if plan event said phase true told offered = awaits_offer plan event said phase offered
 offered_if plan event said phase false told offered = absurd (let wrong : false ≡ true = told in cc)
 
 offer_open : (said : Said) → is_offer said ≡ true → (leaves_open said ≡ true) × (is_last said ≡ false)
-offer_open (saids.Wait id used) is = absurd (cc)
 offer_open (saids.Offer id used line server to judged send) is = (refl, refl)
-offer_open (saids.Refuse id used cause) is = absurd (cc)
-offer_open (saids.Up id) is = absurd (cc)
-offer_open (saids.Closed id why) is = absurd (cc)
-offer_open (saids.Reloaded version) is = absurd (cc)
-offer_open (saids.Marked line health) is = absurd (cc)
+offer_open said is = absurd (cc)
 
 -- a row, old or new, that awaits its server once the reply came
 row_awaits : (q : Plain) (e : Entry) (number serial : ℕ) (own : FrontendRows) (row : Row) → found serial (own.rows ++ arrivals q number (e ∷ [])) ≡ Some row → ends e.reply.said number serial ≡ false →
@@ -272,19 +228,13 @@ awaits_offered q well e id row is offered whom =
 awaits_new : (q : Plain) → IsWell q → (moment listener : ℕ) (real : PairValue) (reply : Reply) (id : ConnId) → IsNew q reply.said → id_of reply.said ≡ Some id → is_offer reply.said ≡ true →
     awaits_at (after q (entry moment (Accept listener real) reply ∷ [])) id ≡ true
 awaits_new q well moment listener real reply id new whom offered =
-    let e : Entry = entry moment (Accept listener real) reply in
-    let same : new.id ≡ id = same_conn new.id id (id_of reply.said) new.speaks whom in
-    let there : slice_get q.frontends id.frontend ≡ Some new.own = ap (λ (i : ConnId). slice_get q.frontends i.frontend) (sym same) ∙ new.there in
-    let next : id.serial ≡ new.own.serial + 1 = ap (λ (i : ConnId). i.serial) (sym same) ∙ new.next in
-    let rows = found_next id.serial new.own.rows (arrivals q id.frontend (e ∷ [])) (new_serial q well id new.own there next) ∙ came_in id _ _ real reply.said whom (offer_open reply.said offered).0 in
-    let now : slice_get (after q (e ∷ [])).frontends id.frontend ≡ Some (frontend_after q (e ∷ []) id.frontend new.own) = get-from_zero (frontend_after q (e ∷ [])) q.frontends id.frontend new.own there in
-    ap (λ (o : Option FrontendRows). awaits_in (row_in id.serial o)) now
-    ∙ row_offered q e id.frontend id.serial new.own _ rows refl offered (speaks id reply.said whom)
+    let here = newcomer_row q well moment listener real reply id new whom (offer_open reply.said offered).0 in
+    ap (λ (o : Option FrontendRows). awaits_in (row_in id.serial o)) here.next
+    ∙ row_offered q (entry moment (Accept listener real) reply) id.frontend id.serial here.own here.row here.there here.same offered (speaks id reply.said whom)
 
 -- ---- decisions
 
 unlike_offer : (q r : Plain) (ours theirs : Said) → is_offer ours ≡ true → is_judgement theirs ≡ true → is_offer theirs ≡ false → is_some (difference (decision_of q ours) (decision_of r theirs)) ≡ true
-unlike_offer q r (saids.Wait id used) theirs offered judged other = absurd (cc)
 unlike_offer q r (saids.Offer own used line server to judged2 send) theirs offered judged other = by theirs _ judged other
   where
     by : (said : Said) (names : Option (List ℕ × List ℕ)) → is_judgement said ≡ true → is_offer said ≡ false → is_some (difference (Some (offer_of names line)) (decision_of r said)) ≡ true
@@ -297,11 +247,7 @@ unlike_offer q r (saids.Offer own used line server to judged2 send) theirs offer
     by (saids.Closed id why) names judged other = absurd (cc)
     by (saids.Reloaded version) names judged other = absurd (cc)
     by (saids.Marked line health) names judged other = absurd (cc)
-unlike_offer q r (saids.Refuse id used cause) theirs offered judged other = absurd (cc)
-unlike_offer q r (saids.Up id) theirs offered judged other = absurd (cc)
-unlike_offer q r (saids.Closed id why) theirs offered judged other = absurd (cc)
-unlike_offer q r (saids.Reloaded version) theirs offered judged other = absurd (cc)
-unlike_offer q r (saids.Marked line health) theirs offered judged other = absurd (cc)
+unlike_offer q r said theirs offered judged other = absurd (cc)
 
 decided_as : (q : Plain) (moment : ℕ) (event : OwnedEvent) (reply : Reply) → answer_in q moment event ≡ Ok reply → is_failure event ≡ false → decided q moment event ≡ decision_of (stepped q moment event) reply.said
 decided_as q moment event reply is no_failure = ap (decided_by (stepped q moment event) event) is ∙ ap (λ b. if b then None else decision_of (stepped q moment event) reply.said) no_failure
@@ -309,27 +255,16 @@ decided_as q moment event reply is no_failure = ap (decided_by (stepped q moment
 -- the record offers it a server, and so does the trial, or that is a difference
 both_offer : (p n : Plain) (moment : ℕ) (event : OwnedEvent) (reply theirs : Reply) (id : ConnId) → is_reload event ≡ false → is_failure event ≡ false → answer_in p moment event ≡ Ok reply → is_offer reply.said ≡ true → id_of reply.said ≡ Some id →
     answer_in n moment event ≡ Ok theirs → is_judgement theirs.said ≡ true → (is_offer theirs.said ≡ true) ⊎ (differs_of (turn_of p n (entry moment event reply)) ≡ Some id)
-both_offer p n moment event reply theirs id other no_failure is offered whom answers judged = by (is_offer theirs.said) refl
-  where
-    by : (b : Bool) → is_offer theirs.said ≡ b → (is_offer theirs.said ≡ true) ⊎ (differs_of (turn_of p n (entry moment event reply)) ≡ Some id)
-    by true they = inl they
-    by false they =
-        let some : is_some (difference (decided p moment event) (decided n moment event)) ≡ true =
-        ap (λ d. is_some (difference d (decided n moment event))) (decided_as p moment event reply is no_failure)
-        ∙ ap (λ d. is_some (difference (decision_of (stepped p moment event) reply.said) d)) (decided_as n moment event theirs answers no_failure)
-        ∙ unlike_offer (stepped p moment event) (stepped n moment event) reply.said theirs.said offered judged they in
-        inr (differs_made p n moment event reply id other some whom)
+both_offer p n moment event reply theirs id other no_failure is offered whom answers judged = both_told is_offer p n moment event reply theirs id other whom (λ they.
+    ap (λ d. is_some (difference d (decided n moment event))) (decided_as p moment event reply is no_failure)
+    ∙ ap (λ d. is_some (difference (decision_of (stepped p moment event) reply.said) d)) (decided_as n moment event theirs answers no_failure)
+    ∙ unlike_offer (stepped p moment event) (stepped n moment event) reply.said theirs.said offered judged they)
 
 -- ---- the trial
 
 pub closed_offer : (moment : ℕ) (said : Said) (q : Plain) → is_offer said ≡ true → closed moment said q ≡ q
-closed_offer moment (saids.Wait id used) q is = absurd (cc)
 closed_offer moment (saids.Offer id used line server to judged send) q is = refl
-closed_offer moment (saids.Refuse id used cause) q is = absurd (cc)
-closed_offer moment (saids.Up id) q is = absurd (cc)
-closed_offer moment (saids.Closed id why) q is = absurd (cc)
-closed_offer moment (saids.Reloaded version) q is = absurd (cc)
-closed_offer moment (saids.Marked line health) q is = absurd (cc)
+closed_offer moment said q is = absurd (cc)
 
 -- both offer it a server
 lets_await : (n : Plain) (moment : ℕ) (event : OwnedEvent) (reply theirs : Reply) (id : ConnId) → answer_in n moment event ≡ Ok theirs → awaits_at (after n (entry moment event theirs ∷ [])) id ≡ true → is_offer reply.said ≡ true →
@@ -346,30 +281,22 @@ AwaitsOn p n moment event reply id =
 -- a newcomer that the record offers a server
 comes_offered : (plan : Plan) (h : List Entry) (n : Plain) (moment listener : ℕ) (real : PairValue) (reply : Reply) (id : ConnId) → IsLegal (opening plan 0) h → answer_in (after (opening plan 0) h) moment (Accept listener real) ≡ Ok reply →
     Tied plan (after (opening plan 0) h) n → id_of reply.said ≡ Some id → is_offer reply.said ≡ true → AwaitsOn (after (opening plan 0) h) n moment (Accept listener real) reply id
-comes_offered plan h n moment listener real reply id legal is tied whom offered = by (accept_outcome plan h n moment listener real reply legal is tied)
-  where
-    p : Plain
-    p = after (opening plan 0) h
-
-    by : Outcome n moment (Accept listener real) reply.said → AwaitsOn p n moment (Accept listener real) reply id
-    by (inl (fault, refused, none)) = absurd (cc)
-    by (inr (theirs, answers, agree)) = elim (both_offer p n moment (Accept listener real) reply theirs id refl refl is offered whom answers agree.2) [
+comes_offered plan h n moment listener real reply id legal is tied whom offered = newcomer_answered plan h n moment listener real reply legal is tied
+    (λ theirs answers same judged. elim (both_offer (after (opening plan 0) h) n moment (Accept listener real) reply theirs id refl refl is offered whom answers judged) [
       | inl they ↦ inr (inr (lets_await n moment (Accept listener real) reply theirs id answers
-          (awaits_new n (well_of plan n tied.past tied.legal tied.is) moment listener real theirs id (answered n moment (Accept listener real) theirs answers) (agree.0 ∙ whom) they) offered))
+          (awaits_new n (well_of plan n tied.past tied.legal tied.is) moment listener real theirs id (answered n moment (Accept listener real) theirs answers) (same ∙ whom) they) offered))
       | inr different ↦ inl different
-    ]
+    ])
 
 -- a piece with which the record offers it one
 piece_offered : (plan : Plan) (h : List Entry) (n : Plain) (moment : ℕ) (id : ConnId) (bytes : List ℕ) (reply : Reply) → IsLegal (opening plan 0) h → answer_in (after (opening plan 0) h) moment (Piece id bytes) ≡ Ok reply →
     Tied plan (after (opening plan 0) h) n → is_offer reply.said ≡ true → waits_at n id ≡ true → AwaitsOn (after (opening plan 0) h) n moment (Piece id bytes) reply id
 piece_offered plan h n moment id bytes reply legal is tied offered there =
-    let p : Plain = after (opening plan 0) h in
     let judged = judged_on plan n tied.past tied.legal tied.is moment id bytes there in
-    let theirs : Reply = judged.0 in
     let here = waiting_row_at n id there in
-    elim (both_offer p n moment (Piece id bytes) reply theirs id refl refl is offered (answered p moment (Piece id bytes) reply is).speaks judged.1 judged.2) [
-      | inl they ↦ inr (inr (lets_await n moment (Piece id bytes) reply theirs id judged.1
-          (awaits_offered n (well_of plan n tied.past tied.legal tied.is) (entry moment (Piece id bytes) theirs) id here.row here.there they (answered n moment (Piece id bytes) theirs judged.1).speaks) offered))
+    elim (both_offer (after (opening plan 0) h) n moment (Piece id bytes) reply judged.0 id refl refl is offered (answered (after (opening plan 0) h) moment (Piece id bytes) reply is).speaks judged.1 judged.2) [
+      | inl they ↦ inr (inr (lets_await n moment (Piece id bytes) reply judged.0 id judged.1
+          (awaits_offered n (well_of plan n tied.past tied.legal tied.is) (entry moment (Piece id bytes) judged.0) id here.row here.there they (answered n moment (Piece id bytes) judged.0 judged.1).speaks) offered))
       | inr different ↦ inl different
     ]
 
@@ -423,14 +350,6 @@ moves_on plan h n moment id reply is tied offered there = by (is_offer theirs.sa
 
 -- ---- an entry that speaks to a connection that awaits its server, and offers it none
 
-not_waiting : (a b : Row) → is_waiting a.phase ≡ true → awaits_server b.phase ≡ true → a ≡ b → ⊥
-not_waiting a b waits awaits same = neither b.phase (ap (λ (r : Row). is_waiting r.phase) (sym same) ∙ waits) awaits
-  where
-    neither : (phase : Phase) → is_waiting phase ≡ true → awaits_server phase ≡ true → ⊥
-    neither (Waiting rest) waits awaits = let wrong : false ≡ true = awaits in cc
-    neither (Offered assignment) waits awaits = let wrong : false ≡ true = waits in cc
-    neither (Up assignment) waits awaits = let wrong : false ≡ true = waits in cc
-
 moved_or_ended : (id : ConnId) (given : Assignment) (other : Option NumberedServer) → is_offer (failure_said id given other) ≡ false → is_last (failure_said id given other) ≡ false → ⊥
 moved_or_ended id given None unoffered lasts = let wrong : true ≡ false = lasts in cc
 moved_or_ended id given (Some other) unoffered lasts = let wrong : true ≡ false = unoffered in cc
@@ -473,17 +392,6 @@ nothing_else plan h moment (Mark number k health) reply id legal is other awaits
 abbrev pub IsAwaited : Plan → Plain → List Entry → ConnId → Type 0
 IsAwaited plan trial h id =
     HasDiffered (opening plan 0) trial id h ⊎ (HasParted (opening plan 0) trial id h ⊎ (awaits_at (history_report false (opening plan 0) trial h).trial id ≡ true))
-
-nobody_awaits : (plan : Plan) (id : ConnId) → awaits_at (after (opening plan 0) []) id ≡ false
-nobody_awaits plan id = ap (λ q. awaits_at q id) (after-nil (opening plan 0) (opening_well plan 0)) ∙ by (slice_get (opening plan 0).frontends id.frontend) refl
-  where
-    by : (o : Option FrontendRows) → slice_get (opening plan 0).frontends id.frontend ≡ o → awaits_in (row_in id.serial o) ≡ false
-    by None none = refl
-    by (Some own) there =
-        let none : own.rows ≡ [] =
-        all-at (λ f. f.rows ≡ []) (opening plan 0).frontends id.frontend own
-        (all-map (λ f. f.rows ≡ []) (λ (frontend : Frontend). record { name = frontend.name; serial = 0; rows = [] }) plan.frontends (all-each _ plan.frontends (λ frontend. refl))) there in
-        ap (λ rows. awaits_in (found id.serial rows)) none
 
 -- one whose server is out of reach by the record awaits it
 pub failed_awaits : (q : Plain) (moment : ℕ) (id : ConnId) (reply : Reply) → answer_in q moment (ConnectFailed id) ≡ Ok reply → awaits_at q id ≡ true
@@ -558,43 +466,35 @@ at_offer plan text trial h n moment event reply id opens legal it is tied whom o
         let now = ap (λ ev. answer_in p moment ev) (sym same) ∙ is in
         none _ (answered p moment (Mark number k health) reply now).says refl
 
--- a connection that awaits its server in the record awaits it in the trial, unless it has had a difference, or was lost or saved
-pub offered_in_both : (plan : Plan) (text : List ℕ) (trial : Plain) (h : List Entry) (id : ConnId) → trial_opening plan text ≡ Ok trial → IsLegal (opening plan 0) h → awaits_at (after (opening plan 0) h) id ≡ true → IsAwaited plan trial h id
-offered_in_both plan text trial [] id opens legal awaits = contrary (awaits_at (after (opening plan 0) []) id) (IsAwaited plan trial [] id) awaits (nobody_awaits plan id)
-offered_in_both plan text trial (e ∷ h) id opens legal awaits =
-    by (awaits_after (after (opening plan 0) h) e id (ap (λ q. awaits_at q id) (whole_in_parts (opening plan 0) (opening_well plan 0) (e ∷ []) h legal) ∙ awaits)) (offered_in_both plan text trial h id opens legal.0)
-  where
-    o : Plain
-    o = opening plan 0
+offered_handed : (plan : Plan) (trial : Plain) (h : List Entry) (e : Entry) (id : ConnId) → is_reload e.event ≡ false → AwaitsOn (after (opening plan 0) h) (trial_after plan trial h) e.moment e.event e.reply id → IsAwaited plan trial (e ∷ h) id
+offered_handed plan trial h e id other (inl different) = inl (inl different)
+offered_handed plan trial h e id other (inr (inl parted)) = inr (inl (inl parted))
+offered_handed plan trial h e id other (inr (inr on)) =
+    let p : Plain = after (opening plan 0) h in
+    let n : Plain = trial_after plan trial h in
+    inr (inr (ap (λ q. awaits_at q id) (trial_next plan trial h e) ∙ ap (λ b. awaits_at (if b then n else handed p.versions n e.moment e.event e.reply.said) id) other ∙ on))
 
+offered_next : (plan : Plan) (text : List ℕ) (trial : Plain) (h : List Entry) (e : Entry) (id : ConnId) → trial_opening plan text ≡ Ok trial → IsLegal (opening plan 0) (e ∷ h) →
+    Awaited (awaits_at (after (opening plan 0) h) id) e.reply.said id.frontend id.serial → (awaits_at (after (opening plan 0) h) id ≡ true → IsAwaited plan trial h id) → IsAwaited plan trial (e ∷ h) id
+offered_next plan text trial h e id opens legal a earlier = on (is_reload e.event) refl (offers e.reply.said id.frontend id.serial) refl a.how
+  where
     p : Plain
-    p = after o h
+    p = after (opening plan 0) h
 
     n : Plain
-    n = (history_report false o trial h).trial
-
-    tied : Tied plan p n
-    tied = all_tied false plan text trial h opens legal.0
-
-    next : (history_report false o trial (e ∷ h)).trial ≡ played p.versions n e.moment e.event e.reply.said
-    next = turn_trial false (played p.versions n e.moment e.event e.reply.said) (history_report false o trial h) (turn_of p n e)
-
-    handed_next : is_reload e.event ≡ false → AwaitsOn p n e.moment e.event e.reply id → IsAwaited plan trial (e ∷ h) id
-    handed_next other (inl different) = inl (inl different)
-    handed_next other (inr (inl parted)) = inr (inl (inl parted))
-    handed_next other (inr (inr on)) = inr (inr (ap (λ q. awaits_at q id) next ∙ ap (λ b. awaits_at (if b then n else handed p.versions n e.moment e.event e.reply.said) id) other ∙ on))
+    n = trial_after plan trial h
 
     -- it awaited its server before, and still does if the trial does
     kept_next : (awaits_at n id ≡ true → awaits_at (played p.versions n e.moment e.event e.reply.said) id ≡ true) → IsAwaited plan trial h id → IsAwaited plan trial (e ∷ h) id
     kept_next goes (inl different) = inl (inr different)
     kept_next goes (inr (inl parted)) = inr (inl (inr parted))
-    kept_next goes (inr (inr there)) = inr (inr (ap (λ q. awaits_at q id) next ∙ goes there))
+    kept_next goes (inr (inr there)) = inr (inr (ap (λ q. awaits_at q id) (trial_next plan trial h e) ∙ goes there))
 
-    offer_next : is_reload e.event ≡ false → offers e.reply.said id.frontend id.serial ≡ true → (awaits_at p id ≡ true → IsAwaited plan trial h id) → IsAwaited plan trial (e ∷ h) id
-    offer_next other offered earlier =
+    offer_next : is_reload e.event ≡ false → offers e.reply.said id.frontend id.serial ≡ true → IsAwaited plan trial (e ∷ h) id
+    offer_next other offered =
         let both = and_true (is_offer e.reply.said) (speaks_to id.frontend id.serial e.reply.said) offered in
-        of_three (at_offer plan text trial h n e.moment e.event e.reply id opens legal.0 refl legal.1 tied (spoken id (id_of e.reply.said) both.1) both.0 earlier)
-        (λ different. inl (inr different)) (λ parted. inr (inl (inr parted))) (handed_next other)
+        of_three (at_offer plan text trial h n e.moment e.event e.reply id opens legal.0 refl legal.1 (all_tied false plan text trial h opens legal.0) (spoken id (id_of e.reply.said) both.1) both.0 earlier)
+        (λ different. inl (inr different)) (λ parted. inr (inl (inr parted))) (offered_handed plan trial h e id other)
 
     reload_next : is_reload e.event ≡ true → awaits_at n id ≡ true → awaits_at (played p.versions n e.moment e.event e.reply.said) id ≡ true
     reload_next is there = ap (λ b. awaits_at (if b then n else handed p.versions n e.moment e.event e.reply.said) id) is ∙ there
@@ -602,7 +502,7 @@ offered_in_both plan text trial (e ∷ h) id opens legal awaits =
     silent_next : is_reload e.event ≡ false → speaks_to id.frontend id.serial e.reply.said ≡ false → awaits_at n id ≡ true → awaits_at (played p.versions n e.moment e.event e.reply.said) id ≡ true
     silent_next other quiet there =
         ap (λ b. awaits_at (if b then n else handed p.versions n e.moment e.event e.reply.said) id) other
-        ∙ elsewhere awaits_at awaits_silent plan h n e.moment e.event e.reply id legal.0 legal.1 tied other quiet there
+        ∙ elsewhere awaits_at awaits_silent plan h n e.moment e.event e.reply id legal.0 legal.1 (all_tied false plan text trial h opens legal.0) other quiet there
 
     quiet_of : ends e.reply.said id.frontend id.serial ≡ false → offers e.reply.said id.frontend id.serial ≡ false → takes e.reply.said id.frontend id.serial ≡ false → is_reload e.event ≡ false → awaits_at p id ≡ true →
         (b : Bool) → speaks_to id.frontend id.serial e.reply.said ≡ b → speaks_to id.frontend id.serial e.reply.said ≡ false
@@ -625,14 +525,16 @@ offered_in_both plan text trial (e ∷ h) id opens legal awaits =
         no_offer (Reload text) answers is offered = contrary (is_offer e.reply.said) ⊥ offered (ap is_offer (answered p e.moment (Reload text) e.reply answers).says)
         no_offer (Mark number k health) answers is offered = let wrong : false ≡ true = is in cc
 
-    by : Awaited (awaits_at p id) e.reply.said id.frontend id.serial → (awaits_at p id ≡ true → IsAwaited plan trial h id) → IsAwaited plan trial (e ∷ h) id
-    by a earlier = on (is_reload e.event) refl (offers e.reply.said id.frontend id.serial) refl a.how
-      where
-        on : (b : Bool) → is_reload e.event ≡ b → (c : Bool) → offers e.reply.said id.frontend id.serial ≡ c → (offers e.reply.said id.frontend id.serial ≡ true) ⊎ ((awaits_at p id ≡ true) × (takes e.reply.said id.frontend id.serial ≡ false)) →
-            IsAwaited plan trial (e ∷ h) id
-        on true is c offered (inl offers_it) = absurd (reload_offers is offers_it)
-        on true is c offered (inr (before_it, untaken)) = kept_next (reload_next is) (earlier before_it)
-        on false other true offered how = offer_next other offered earlier
-        on false other false unoffered (inl offers_it) = contrary (offers e.reply.said id.frontend id.serial) (IsAwaited plan trial (e ∷ h) id) offers_it unoffered
-        on false other false unoffered (inr (before_it, untaken)) =
-            kept_next (silent_next other (quiet_of a.lasts unoffered untaken other before_it (speaks_to id.frontend id.serial e.reply.said) refl)) (earlier before_it)
+    on : (b : Bool) → is_reload e.event ≡ b → (c : Bool) → offers e.reply.said id.frontend id.serial ≡ c → (offers e.reply.said id.frontend id.serial ≡ true) ⊎ ((awaits_at p id ≡ true) × (takes e.reply.said id.frontend id.serial ≡ false)) →
+        IsAwaited plan trial (e ∷ h) id
+    on true is c offered (inl offers_it) = absurd (reload_offers is offers_it)
+    on true is c offered (inr (before_it, untaken)) = kept_next (reload_next is) (earlier before_it)
+    on false other true offered how = offer_next other offered
+    on false other false unoffered (inl offers_it) = contrary (offers e.reply.said id.frontend id.serial) (IsAwaited plan trial (e ∷ h) id) offers_it unoffered
+    on false other false unoffered (inr (before_it, untaken)) =
+        kept_next (silent_next other (quiet_of a.lasts unoffered untaken other before_it (speaks_to id.frontend id.serial e.reply.said) refl)) (earlier before_it)
+
+-- a connection that awaits its server in the record awaits it in the trial, unless it has had a difference, or was lost or saved
+pub offered_in_both : (plan : Plan) (text : List ℕ) (trial : Plain) (h : List Entry) (id : ConnId) → trial_opening plan text ≡ Ok trial → IsLegal (opening plan 0) h → awaits_at (after (opening plan 0) h) id ≡ true → IsAwaited plan trial h id
+offered_in_both plan text trial h id opens =
+    along awaits_in refl plan id (λ g. IsAwaited plan trial g id) (λ g e legal now. offered_next plan text trial g e id opens legal (awaits_after (after (opening plan 0) g) e id now)) h

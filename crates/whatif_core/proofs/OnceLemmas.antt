@@ -1,6 +1,6 @@
 -- A connection has one difference at the most.
 use Rattle.std.proofs.Common.{◌≡◌, ◌⊎◌, inl, inr, ℕ, ◌+◌, ◌≤◌, Bool, true, false, List, [], ◌∷◌, ◌++◌, Option, Some, None, Result, Ok, Err, refl, ap, sym, subst, ◌∙◌, max, arith}
-use Rattle.std.specs.Prelude.{◌==◌, ◌&&◌, ◌||◌, not, map, filter, find, slice_get, is_some, option_map, option_and_then, if◌then◌else◌}
+use Rattle.std.specs.Prelude.{◌==◌, ◌&&◌, ◌||◌, not, filter, slice_get, is_some, option_map, option_and_then, if◌then◌else◌}
 use Rattle.std.specs.Option.{option_map_or}
 use Rattle.std.proofs.lemmas.Bool.{eq-eqb, eqb-true}
 use Rattle.list_core.specs.Each.{◌>>=◌}
@@ -37,13 +37,11 @@ use Rattle.replay_core.specs.Turns.{plain_after}
 use Rattle.whatif_core.specs.declared.decision.ComparedDecision.{ComparedDecision}
 use Rattle.whatif_core.specs.declared.decision.ComparedDecision.TheVariants as decisions
 use Rattle.whatif_core.specs.Deciding.{closed, decided, decided_by, decided_for, decision_of, difference, handed, is_failure, numbers_for, played, stepped, stepped_for, taken}
-use Rattle.whatif_core.specs.Reporting.{differs_at, differs_of, history_report, trial_opening, turn_of, turn_with, HasDiffered, Report}
-use Rattle.whatif_core.proofs.LawLemmas.{accept_outcome, all_tied, and_no, arrived, before, contrary, ends, found_has, has, has_arrived, nothing_ended, one_item, turn_trial, IsBelow, Outcome, Tied}
+use Rattle.whatif_core.specs.Reporting.{differs_at, differs_of, history_report, trial_opening, turn_of, turn_with, HasDiffered}
+use Rattle.whatif_core.proofs.LawLemmas.{accept_outcome, all_tied, and_no, arrived, before, contrary, ends, found_has, has, has_arrived, nothing_ended, one_item, trial_after, trial_next, IsBelow, Outcome, Tied}
+pub use Rattle.conn_laws.proofs.Rows.{found, found_appended, found_filtered, found_mapped, found_serial}
 
 -- ---- rows by their serials
-
-abbrev pub found : ℕ → List Row → Option Row
-found serial rows = find (λ row. row.serial == serial) rows
 
 abbrev pub is_waiting : Phase → Bool
 is_waiting phase = is_some (rest_in phase)
@@ -53,47 +51,6 @@ waits_in row = option_map_or (λ (r : Row). is_waiting r.phase) row false
 
 abbrev pub waits_at : Plain → ConnId → Bool
 waits_at q id = waits_in (row_at q.frontends id)
-
-pub found_mapped : (serial : ℕ) (change : Row → Row) → ((row : Row) → (change row).serial ≡ row.serial) → (rows : List Row) → found serial (map change rows) ≡ option_map change (found serial rows)
-found_mapped serial change keeps [] = refl
-found_mapped serial change keeps (row ∷ rows) = by (row.serial == serial) refl (found_mapped serial change keeps rows)
-  where
-    by : (b : Bool) → (row.serial == serial) ≡ b → found serial (map change rows) ≡ option_map change (found serial rows) → found serial (map change (row ∷ rows)) ≡ option_map change (found serial (row ∷ rows))
-    by true is rest = let here : ((change row).serial == serial) ≡ true = ap (λ n. n == serial) (keeps row) ∙ is in rw (here, is) refl
-    by false is rest = let there : ((change row).serial == serial) ≡ false = ap (λ n. n == serial) (keeps row) ∙ is in rw (there, is) rest
-
-pub found_serial : (serial : ℕ) (rows : List Row) (row : Row) → found serial rows ≡ Some row → row.serial ≡ serial
-found_serial serial [] row is = absurd (let wrong : None ≡ Some row = is in cc)
-found_serial serial (other ∷ rows) row is = by (other.serial == serial) refl is (found_serial serial rows row)
-  where
-    by : (b : Bool) → (other.serial == serial) ≡ b → found serial (other ∷ rows) ≡ Some row → (found serial rows ≡ Some row → row.serial ≡ serial) → row.serial ≡ serial
-    by true here there later = let same : Some other ≡ Some row = rw here at there in let one : other ≡ row = cc in ap (λ (r : Row). r.serial) (sym one) ∙ eqb-true other.serial serial here
-    by false here there later = later (rw here at there)
-
-pub found_filtered : (serial : ℕ) (test : ℕ → Bool) (rows : List Row) (row : Row) → found serial (filter (λ r. test r.serial) rows) ≡ Some row → (test serial ≡ true) × (found serial rows ≡ Some row)
-found_filtered serial test [] row is = absurd (let wrong : None ≡ Some row = is in cc)
-found_filtered serial test (other ∷ rows) row is = by (test other.serial) refl (other.serial == serial) refl is (found_filtered serial test rows row)
-  where
-    by : (a : Bool) → test other.serial ≡ a → (b : Bool) → (other.serial == serial) ≡ b → found serial (filter (λ r. test r.serial) (other ∷ rows)) ≡ Some row →
-        (found serial (filter (λ r. test r.serial) rows) ≡ Some row → (test serial ≡ true) × (found serial rows ≡ Some row)) → (test serial ≡ true) × (found serial (other ∷ rows) ≡ Some row)
-    by true keeps true here there later = (ap test (sym (eqb-true other.serial serial here)) ∙ keeps, let same : Some other ≡ Some row = rw (keeps, here) at there in rw here same)
-    by true keeps false here there later = let rest = later (rw (keeps, here) at there) in (rest.0, rw here rest.1)
-    by false drops true here there later =
-        let rest = later (rw drops at there) in
-        let not_kept : test serial ≡ false = ap test (sym (eqb-true other.serial serial here)) ∙ drops in
-        contrary (test serial) ((test serial ≡ true) × (found serial (other ∷ rows) ≡ Some row)) rest.0 not_kept
-    by false drops false here there later = let rest = later (rw drops at there) in (rest.0, rw here rest.1)
-
-pub found_appended : (serial : ℕ) (xs ys : List Row) (row : Row) → found serial (xs ++ ys) ≡ Some row → (found serial xs ≡ Some row) ⊎ (found serial ys ≡ Some row)
-found_appended serial [] ys row is = inr is
-found_appended serial (other ∷ xs) ys row is = by (other.serial == serial) refl is (found_appended serial xs ys row)
-  where
-    by : (b : Bool) → (other.serial == serial) ≡ b → found serial (other ∷ xs ++ ys) ≡ Some row → (found serial (xs ++ ys) ≡ Some row → (found serial xs ≡ Some row) ⊎ (found serial ys ≡ Some row)) → (found serial (other ∷ xs) ≡ Some row) ⊎ (found serial ys ≡ Some row)
-    by true here there later = inl (let same : Some other ≡ Some row = rw here at there in rw here same)
-    by false here there later = elim (later (rw here at there)) [
-      | inl before_it ↦ inl (rw here before_it)
-      | inr after_it ↦ inr after_it
-    ]
 
 -- ---- who waits after an entry
 
@@ -114,11 +71,8 @@ once_up (Up assignment) = refl
 waited : (plan : Option Plan) (event : OwnedEvent) (said : Said) (phase : Phase) → is_waiting (phase_by plan event said phase) ≡ true → (is_waiting phase ≡ true) × (is_offer said ≡ false)
 waited plan event (saids.Wait id used) phase is = (sym (on_piece _ phase) ∙ is, refl)
 waited plan event (saids.Offer id used line server to judged send) phase is = absurd (cc)
-waited plan event (saids.Refuse id used cause) phase is = (is, refl)
 waited plan event (saids.Up id) phase is = (sym (once_up phase) ∙ is, refl)
-waited plan event (saids.Closed id why) phase is = (is, refl)
-waited plan event (saids.Reloaded version) phase is = (is, refl)
-waited plan event (saids.Marked line health) phase is = (is, refl)
+waited plan event said phase is = (is, refl)
 
 waited_if : (plan : Option Plan) (event : OwnedEvent) (said : Said) (phase : Phase) (b : Bool) → is_waiting (if b then phase_by plan event said phase else phase) ≡ true → (is_waiting phase ≡ true) × ((is_offer said && b) ≡ false)
 waited_if plan event said phase true is = let both = waited plan event said phase is in (both.0, ap (λ o. o && true) both.1)
@@ -138,9 +92,16 @@ not_false true true is = absurd (cc)
 not_false true false is = refl
 not_false false b is = refl
 
-waits_in_rows : (q : Plain) (e : Entry) (number serial : ℕ) (own : FrontendRows) → waits_in (found serial (frontend_after q (e ∷ []) number own).rows) ≡ true →
-    Waited (waits_in (found serial own.rows)) (arrived number serial e.event e.reply.said) e.reply.said number serial
-waits_in_rows q e number serial own is = by (found serial live) refl
+-- The row of a connection of which something holds after an entry: it was there before, or came, and the reply does not end it.
+pub record LiveRow (test : Row → Bool) (q : Plain) (e : Entry) (number serial : ℕ) (own : FrontendRows) : Type 0 where
+  pub row : Row
+  pub there : found serial (own.rows ++ arrivals q number (e ∷ [])) ≡ Some row
+  pub same : row.serial ≡ serial
+  pub lasts : ends e.reply.said number serial ≡ false
+  pub holds : test (row_after q number (e ∷ []) row) ≡ true
+
+pub live_row : (test : Row → Bool) (q : Plain) (e : Entry) (number serial : ℕ) (own : FrontendRows) → option_map_or test (found serial (frontend_after q (e ∷ []) number own).rows) false ≡ true → LiveRow test q e number serial own
+live_row test q e number serial own is = by (found serial live) refl
   where
     came : List Row
     came = arrivals q number (e ∷ [])
@@ -148,26 +109,37 @@ waits_in_rows q e number serial own is = by (found serial live) refl
     live : List Row
     live = filter (λ row. not (has_ended number (e ∷ []) row.serial)) (own.rows ++ came)
 
-    now : waits_in (option_map (row_after q number (e ∷ [])) (found serial live)) ≡ true
-    now = sym (ap waits_in (found_mapped serial (row_after q number (e ∷ [])) (λ row. refl) live)) ∙ is
+    tested : Option Row → Bool
+    tested o = option_map_or test (option_map (row_after q number (e ∷ [])) o) false
 
-    of_row : (row : Row) → found serial live ≡ Some row → is_waiting (row_after q number (e ∷ []) row).phase ≡ true → Waited (waits_in (found serial own.rows)) (arrived number serial e.event e.reply.said) e.reply.said number serial
-    of_row row there waits =
+    now : tested (found serial live) ≡ true
+    now = sym (ap (λ o. option_map_or test o false) (found_mapped serial (row_after q number (e ∷ [])) (λ row. refl) live)) ∙ is
+
+    by : (o : Option Row) → found serial live ≡ o → LiveRow test q e number serial own
+    by None none = absurd (let wrong : false ≡ true = sym (ap tested none) ∙ now in cc)
+    by (Some row) there =
         let kept = found_filtered serial (λ n. not (has_ended number (e ∷ []) n)) (own.rows ++ came) row there in
-        let same : row.serial ≡ serial = found_serial serial (own.rows ++ came) row kept.1 in
-        let first = waited_if (plan_of q [] row.version) e.event e.reply.said row.phase (speaks_to number row.serial e.reply.said) waits in
         record {
-          first = elim (found_appended serial own.rows came row kept.1) [
-            | inl old ↦ inl (found_waits row (found serial own.rows) old first.0)
-            | inr new ↦ inr (sym (has_arrived serial number _ _ e.event e.reply.said) ∙ sym (found_has serial came) ∙ ap is_some new)
-          ];
+          row = row;
+          there = kept.1;
+          same = found_serial serial (own.rows ++ came) row kept.1;
           lasts = not_false (is_last e.reply.said) (speaks_to number serial e.reply.said) kept.0;
-          unoffered = ap (λ n. is_offer e.reply.said && speaks_to number n e.reply.said) (sym same) ∙ first.1;
+          holds = sym (ap tested there) ∙ now;
         }
 
-    by : (o : Option Row) → found serial live ≡ o → Waited (waits_in (found serial own.rows)) (arrived number serial e.event e.reply.said) e.reply.said number serial
-    by None none = absurd (let wrong : false ≡ true = sym (ap (λ o. waits_in (option_map (row_after q number (e ∷ [])) o)) none) ∙ now in cc)
-    by (Some row) there = of_row row there (sym (ap (λ o. waits_in (option_map (row_after q number (e ∷ [])) o)) there) ∙ now)
+waits_in_rows : (q : Plain) (e : Entry) (number serial : ℕ) (own : FrontendRows) → waits_in (found serial (frontend_after q (e ∷ []) number own).rows) ≡ true →
+    Waited (waits_in (found serial own.rows)) (arrived number serial e.event e.reply.said) e.reply.said number serial
+waits_in_rows q e number serial own is =
+    let live = live_row (λ r. is_waiting r.phase) q e number serial own is in
+    let first = waited_if (plan_of q [] live.row.version) e.event e.reply.said live.row.phase (speaks_to number live.row.serial e.reply.said) live.holds in
+    record {
+      first = elim (found_appended serial own.rows (arrivals q number (e ∷ [])) live.row live.there) [
+        | inl old ↦ inl (found_waits live.row (found serial own.rows) old first.0)
+        | inr new ↦ inr (sym (has_arrived serial number _ _ e.event e.reply.said) ∙ sym (found_has serial (arrivals q number (e ∷ []))) ∙ ap is_some new)
+      ];
+      lasts = live.lasts;
+      unoffered = ap (λ n. is_offer e.reply.said && speaks_to number n e.reply.said) (sym live.same) ∙ first.1;
+    }
 
 pub waits_after : (q : Plain) (e : Entry) (id : ConnId) → waits_at (after q (e ∷ [])) id ≡ true → Waited (waits_at q id) (arrived id.frontend id.serial e.event e.reply.said) e.reply.said id.frontend id.serial
 waits_after q e id is = by (slice_get (after q (e ∷ [])).frontends id.frontend) refl
@@ -218,12 +190,7 @@ not_come : (n p : Plain) → IsBelow n p nothing_ended → (id : ConnId) (own : 
 not_come n p below id own there given moment (Accept listener real) theirs is came =
     not_new n p below id own there given theirs.said (answered n moment (Accept listener real) theirs is) (spoken id (id_of theirs.said) (and_true (leaves_open theirs.said) (speaks_to id.frontend id.serial theirs.said) came).1)
 not_come n p below id own there given moment (Piece other bytes) theirs is came = absurd (cc)
-not_come n p below id own there given moment (Connected other) theirs is came = absurd (cc)
-not_come n p below id own there given moment (ConnectFailed other) theirs is came = absurd (cc)
-not_come n p below id own there given moment (Close other why) theirs is came = absurd (cc)
-not_come n p below id own there given moment (Expire other) theirs is came = absurd (cc)
-not_come n p below id own there given moment (Reload text) theirs is came = absurd (cc)
-not_come n p below id own there given moment (Mark number k health) theirs is came = absurd (cc)
+not_come n p below id own there given moment event theirs is came = absurd (cc)
 
 -- each state is below itself
 pub below_itself : (p : Plain) → IsBelow p p nothing_ended
@@ -250,13 +217,9 @@ held_stepped holds brought n moment event id old is = by (answer_in n moment eve
     ]
 
 held_closed : (holds : Plain → ConnId → Bool) → IsBrought holds → (n : Plain) (moment : ℕ) (said : Said) (id : ConnId) → holds (closed moment said n) id ≡ true → holds n id ≡ true
-held_closed holds brought n moment (saids.Wait other used) id is = is
-held_closed holds brought n moment (saids.Offer other used line server to judged send) id is = is
 held_closed holds brought n moment (saids.Refuse other used cause) id is = held_stepped holds brought n moment (Close other Done) id (λ theirs answers came. absurd (cc)) is
-held_closed holds brought n moment (saids.Up other) id is = is
 held_closed holds brought n moment (saids.Closed other why) id is = held_stepped holds brought n moment (Close other Done) id (λ theirs answers came. absurd (cc)) is
-held_closed holds brought n moment (saids.Reloaded version) id is = is
-held_closed holds brought n moment (saids.Marked line health) id is = is
+held_closed holds brought n moment said id is = is
 
 -- a report lets no connection in
 held_reported : (holds : Plain → ConnId → Bool) → IsBrought holds → (n : Plain) (moment : ℕ) (health : Health) (at : Option ServerNumbers) (id : ConnId) →
@@ -315,12 +278,7 @@ past_on holds brought plan p n moment event reply id tied is past =
 
 pub decides : (q : Plain) (said : Said) → is_some (decision_of q said) ≡ is_judgement said
 decides q (saids.Wait id used) = refl
-decides q (saids.Offer id used line server to judged send) = refl
-decides q (saids.Refuse id used cause) = refl
-decides q (saids.Up id) = refl
-decides q (saids.Closed id why) = refl
-decides q (saids.Reloaded version) = refl
-decides q (saids.Marked line health) = refl
+decides q said = refl
 
 -- a report decides nothing of a connection, so it makes no difference as which server the trial takes it
 report_undecided : (q : Plain) (moment number k : ℕ) (health : Health) → decided q moment (Mark number k health) ≡ None
@@ -338,26 +296,14 @@ taken_undecided n moment health None = refl
 taken_undecided n moment health (Some at) = report_undecided n moment at.backend at.server health
 
 pub same_decided : (recorded : List Version) (n : Plain) (moment : ℕ) (event : OwnedEvent) → decided_for recorded n moment event ≡ decided n moment event
-same_decided recorded n moment (Accept listener real) = refl
-same_decided recorded n moment (Piece id bytes) = refl
-same_decided recorded n moment (Connected id) = refl
-same_decided recorded n moment (ConnectFailed id) = refl
-same_decided recorded n moment (Close id why) = refl
-same_decided recorded n moment (Expire id) = refl
-same_decided recorded n moment (Reload text) = refl
 same_decided recorded n moment (Mark number k health) = taken_undecided n moment health (numbers_for recorded n.versions number k) ∙ sym (report_undecided n moment number k health)
+same_decided recorded n moment event = refl
 
 -- an event that decides is handed in as it is
 same_stepped : (recorded : List Version) (n : Plain) (moment : ℕ) (event : OwnedEvent) → is_some (decided n moment event) ≡ true → stepped_for recorded n moment event ≡ stepped n moment event
-same_stepped recorded n moment (Accept listener real) is = refl
-same_stepped recorded n moment (Piece id bytes) is = refl
-same_stepped recorded n moment (Connected id) is = refl
-same_stepped recorded n moment (ConnectFailed id) is = refl
-same_stepped recorded n moment (Close id why) is = refl
-same_stepped recorded n moment (Expire id) is = refl
-same_stepped recorded n moment (Reload text) is = refl
 same_stepped recorded n moment (Mark number k health) is =
     contrary (is_some (decided n moment (Mark number k health))) (stepped_for recorded n moment (Mark number k health) ≡ stepped n moment (Mark number k health)) is (ap is_some (report_undecided n moment number k health))
+same_stepped recorded n moment event is = refl
 
 pub record IsJudgedSo (q : Plain) (moment : ℕ) (event : OwnedEvent) : Type 0 where
   pub reply : Reply
@@ -386,12 +332,7 @@ both_decide (Some was) (Some would) is = (refl, refl)
 
 pub wait_decision : (q : Plain) (said : Said) → is_wait said ≡ true → decision_of q said ≡ Some decisions.Wait
 wait_decision q (saids.Wait id used) is = refl
-wait_decision q (saids.Offer id used line server to judged send) is = absurd (cc)
-wait_decision q (saids.Refuse id used cause) is = absurd (cc)
-wait_decision q (saids.Up id) is = absurd (cc)
-wait_decision q (saids.Closed id why) is = absurd (cc)
-wait_decision q (saids.Reloaded version) is = absurd (cc)
-wait_decision q (saids.Marked line health) is = absurd (cc)
+wait_decision q said is = absurd (cc)
 
 pub decided_wait : (q : Plain) (moment : ℕ) (event : OwnedEvent) (reply : Reply) → answer_in q moment event ≡ Ok reply → is_failure event ≡ false → is_wait reply.said ≡ true → decided q moment event ≡ Some decisions.Wait
 decided_wait q moment event reply is no_failure waits =
@@ -401,12 +342,7 @@ decided_wait q moment event reply is no_failure waits =
 
 pub then_waits : (said : Said) → is_judgement said ≡ true → is_last said ≡ false → is_offer said ≡ false → is_wait said ≡ true
 then_waits (saids.Wait id used) judged lasts unoffered = refl
-then_waits (saids.Offer id used line server to judged2 send) judged lasts unoffered = absurd (cc)
-then_waits (saids.Refuse id used cause) judged lasts unoffered = absurd (cc)
-then_waits (saids.Up id) judged lasts unoffered = absurd (cc)
-then_waits (saids.Closed id why) judged lasts unoffered = absurd (cc)
-then_waits (saids.Reloaded version) judged lasts unoffered = absurd (cc)
-then_waits (saids.Marked line health) judged lasts unoffered = absurd (cc)
+then_waits said judged lasts unoffered = absurd (cc)
 
 pub and_left : (a b : Bool) → (a && b) ≡ false → b ≡ true → a ≡ false
 and_left true b is one = absurd (let wrong : true ≡ false = sym one ∙ is in cc)
@@ -570,18 +506,28 @@ not_again plan p n moment (Mark number k health) reply theirs id is no_failure j
 
 -- ---- along a history
 
-past_at : (plan : Plan) (text : List ℕ) (trial : Plain) (h : List Entry) (id : ConnId) → trial_opening plan text ≡ Ok trial → IsLegal (opening plan 0) h → HasDiffered (opening plan 0) trial id h →
-    IsPast waits_at (after (opening plan 0) h) (history_report false (opening plan 0) trial h).trial id
-past_at plan text trial [] id opens legal has = absurd has
-past_at plan text trial (e ∷ h) id opens legal has =
-    let o : Plain = opening plan 0 in
-    let t : Report = history_report false o trial h in
-    subst (λ p. IsPast waits_at p (history_report false o trial (e ∷ h)).trial id) (whole_in_parts o (opening_well plan 0) (e ∷ []) h legal)
-    (subst (λ n. IsPast waits_at (after (after o h) (e ∷ [])) n id) (sym (turn_trial false (played (after o h).versions t.trial e.moment e.event e.reply.said) t (turn_of (after o h) t.trial e)))
-    (elim has [
-      | inl now ↦ past_by plan h t.trial e.moment e.event e.reply id legal.0 legal.1 (all_tied false plan text trial h opens legal.0) (differs (after o h) t.trial e.moment e.event e.reply id now)
-      | inr before_it ↦ past_on waits_at waits_brought plan (after o h) t.trial e.moment e.event e.reply id (all_tied false plan text trial h opens legal.0) legal.1 (past_at plan text trial h id opens legal.0 before_it)
+-- what a connection has had along a history is past from there on, if it is past at the entry where it had it
+pub past_along : (holds : Plain → ConnId → Bool) → IsBrought holds → (plan : Plan) (text : List ℕ) (trial : Plain) (id : ConnId) (Has Now : List Entry → Type 0) → trial_opening plan text ≡ Ok trial →
+    (Has [] → ⊥) → ((h : List Entry) (e : Entry) → Has (e ∷ h) → Now (e ∷ h) ⊎ Has h) →
+    ((h : List Entry) (e : Entry) → IsLegal (opening plan 0) (e ∷ h) → Now (e ∷ h) →
+    IsPast holds (after (after (opening plan 0) h) (e ∷ [])) (played (after (opening plan 0) h).versions (trial_after plan trial h) e.moment e.event e.reply.said) id) →
+    (h : List Entry) → IsLegal (opening plan 0) h → Has h → IsPast holds (after (opening plan 0) h) (trial_after plan trial h) id
+past_along holds brought plan text trial id Has Now opens none either past [] legal has = absurd (none has)
+past_along holds brought plan text trial id Has Now opens none either past (e ∷ h) legal has =
+    let p : Plain = after (opening plan 0) h in
+    let n : Plain = trial_after plan trial h in
+    subst (λ q. IsPast holds q (trial_after plan trial (e ∷ h)) id) (whole_in_parts (opening plan 0) (opening_well plan 0) (e ∷ []) h legal)
+    (subst (λ m. IsPast holds (after p (e ∷ [])) m id) (sym (trial_next plan trial h e))
+    (elim (either h e has) [
+      | inl now ↦ past h e legal now
+      | inr earlier ↦ past_on holds brought plan p n e.moment e.event e.reply id (all_tied false plan text trial h opens legal.0) legal.1
+          (past_along holds brought plan text trial id Has Now opens none either past h legal.0 earlier)
     ]))
+
+past_at : (plan : Plan) (text : List ℕ) (trial : Plain) (h : List Entry) (id : ConnId) → trial_opening plan text ≡ Ok trial → IsLegal (opening plan 0) h → HasDiffered (opening plan 0) trial id h →
+    IsPast waits_at (after (opening plan 0) h) (trial_after plan trial h) id
+past_at plan text trial h id opens = past_along waits_at waits_brought plan text trial id (HasDiffered (opening plan 0) trial id) (λ g. differs_at (opening plan 0) trial g ≡ Some id) opens (λ has. has) (λ g e has. has)
+    (λ g e legal now. past_by plan g (trial_after plan trial g) e.moment e.event e.reply id legal.0 legal.1 (all_tied false plan text trial g opens legal.0) (differs (after (opening plan 0) g) (trial_after plan trial g) e.moment e.event e.reply id now)) h
 
 pub one_difference : (plan : Plan) (text : List ℕ) (trial : Plain) (h : List Entry) (e : Entry) (id : ConnId) → trial_opening plan text ≡ Ok trial → IsLegal (opening plan 0) (e ∷ h) →
     HasDiffered (opening plan 0) trial id h → differs_at (opening plan 0) trial (e ∷ h) ≡ Some id → ⊥

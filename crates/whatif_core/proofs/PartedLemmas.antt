@@ -13,7 +13,6 @@ use Rattle.conn_model.specs.declared.reply.Said.{Said}
 use Rattle.conn_model.specs.declared.reply.StepFault.{StepFault}
 use Rattle.conn_model.specs.Answer.{answer_in, at_moment, failure_said, other_server, row_at, row_in, NumberedServer}
 use Rattle.conn_model.specs.History.{Entry, IsLegal, after, entry, frontend_after, id_of, is_last, is_reload, opening, speaks_to}
-use Rattle.conn_model.proofs.Goes.{whole_in_parts}
 use Rattle.conn_model.proofs.Replies.{answered, has_failed}
 use Rattle.conn_model.proofs.Well.{opening_well, well_after}
 use Rattle.conn_laws.specs.Deciding.{is_offer}
@@ -21,9 +20,9 @@ use Rattle.replay_core.specs.Turns.{plain_after}
 use Rattle.whatif_core.specs.declared.decision.AfterFailure.{AfterFailure}
 use Rattle.whatif_core.specs.declared.decision.AfterFailure.TheVariants.{Moved, Ended}
 use Rattle.whatif_core.specs.Deciding.{after_failure, after_failure_by, after_failure_for, failure_outcome, is_failure, is_parted, played, stepped}
-use Rattle.whatif_core.specs.Reporting.{history_report, parted_at, parted_of, trial_opening, turn_of, turn_with, HasParted, Report}
-use Rattle.whatif_core.proofs.LawLemmas.{all_tied, arrived, before, contrary, ends, found_has, has, open_after, turn_trial, Tied}
-use Rattle.whatif_core.proofs.OnceLemmas.{given_on_answer, past_on, same_conn, speaks, IsBrought, IsPast}
+use Rattle.whatif_core.specs.Reporting.{history_report, parted_at, parted_of, trial_opening, turn_of, turn_with, HasParted}
+use Rattle.whatif_core.proofs.LawLemmas.{arrived, before, contrary, ends, found_has, has, open_after, trial_after, Tied}
+use Rattle.whatif_core.proofs.OnceLemmas.{given_on_answer, past_along, same_conn, speaks, IsBrought, IsPast}
 use Rattle.whatif_core.proofs.MovedLemmas.{closed_offer, outcome_if, outcome_is}
 
 -- ---- open connections
@@ -175,17 +174,9 @@ past_parted plan h n moment event reply id legal is got =
 -- ---- along a history
 
 parted_past : (plan : Plan) (text : List ℕ) (trial : Plain) (h : List Entry) (id : ConnId) → trial_opening plan text ≡ Ok trial → IsLegal (opening plan 0) h → HasParted (opening plan 0) trial id h →
-    IsPast open_at (after (opening plan 0) h) (history_report false (opening plan 0) trial h).trial id
-parted_past plan text trial [] id opens legal has = absurd has
-parted_past plan text trial (e ∷ h) id opens legal has =
-    let o : Plain = opening plan 0 in
-    let t : Report = history_report false o trial h in
-    subst (λ p. IsPast open_at p (history_report false o trial (e ∷ h)).trial id) (whole_in_parts o (opening_well plan 0) (e ∷ []) h legal)
-    (subst (λ n. IsPast open_at (after (after o h) (e ∷ [])) n id) (sym (turn_trial false (played (after o h).versions t.trial e.moment e.event e.reply.said) t (turn_of (after o h) t.trial e)))
-    (elim has [
-      | inl now ↦ past_parted plan h t.trial e.moment e.event e.reply id legal.0 legal.1 (parts (after o h) t.trial e.moment e.event e.reply id legal.1 now)
-      | inr before_it ↦ past_on open_at open_brought plan (after o h) t.trial e.moment e.event e.reply id (all_tied false plan text trial h opens legal.0) legal.1 (parted_past plan text trial h id opens legal.0 before_it)
-    ]))
+    IsPast open_at (after (opening plan 0) h) (trial_after plan trial h) id
+parted_past plan text trial h id opens = past_along open_at open_brought plan text trial id (HasParted (opening plan 0) trial id) (λ g. parted_at (opening plan 0) trial g ≡ Some id) opens (λ has. has) (λ g e has. has)
+    (λ g e legal now. past_parted plan g (trial_after plan trial g) e.moment e.event e.reply id legal.0 legal.1 (parts (after (opening plan 0) g) (trial_after plan trial g) e.moment e.event e.reply id legal.1 now)) h
 
 pub one_parting : (plan : Plan) (text : List ℕ) (trial : Plain) (h : List Entry) (e : Entry) (id : ConnId) → trial_opening plan text ≡ Ok trial → IsLegal (opening plan 0) (e ∷ h) →
     HasParted (opening plan 0) trial id h → parted_at (opening plan 0) trial (e ∷ h) ≡ Some id → ⊥

@@ -19,7 +19,7 @@ use Rattle.conn_model.proofs.Replies.{answered, bind-ok, expired, received, serv
 use Rattle.conn_laws.specs.Deciding.{is_judgement}
 use Rattle.whatif_core.specs.Deciding.{after_failure, decided, decided_by, decision_of, is_failure, stepped}
 use Rattle.whatif_core.specs.Reporting.{history_report, trial_opening, IsSeen}
-use Rattle.whatif_core.proofs.LawLemmas.{accept_outcome, all_tied, contrary, Outcome, Tied}
+use Rattle.whatif_core.proofs.LawLemmas.{accept_outcome, all_tied, contrary, trial_after, Outcome, Tied}
 use Rattle.whatif_core.proofs.OnceLemmas.{decides, same_conn, waits_at, waits_here}
 use Rattle.whatif_core.proofs.WaitingLemmas.{judged_on, waiting_row_at, waits_in_both, WaitingRow}
 use Rattle.whatif_core.proofs.MovedLemmas.{failed_awaits, failure_answered, offered_in_both, of_three, outcome_is}
@@ -66,14 +66,11 @@ pub seen : (plan : Plan) (text : List ℕ) (trial : Plain) (h : List Entry) (e :
     IsSeen (opening plan 0) trial id e h
 seen plan text trial h e id opens legal judged whom = by e.event refl
   where
-    o : Plain
-    o = opening plan 0
-
     p : Plain
-    p = after o h
+    p = after (opening plan 0) h
 
     n : Plain
-    n = (history_report false o trial h).trial
+    n = trial_after plan trial h
 
     tied : Tied plan p n
     tied = all_tied false plan text trial h opens legal.0
@@ -81,13 +78,13 @@ seen plan text trial h e id opens legal judged whom = by e.event refl
     answers : (event : OwnedEvent) → e.event ≡ event → answer_in p e.moment event ≡ Ok e.reply
     answers event is = ap (λ ev. answer_in p e.moment ev) (sym is) ∙ legal.1
 
-    none : (said : Said) → said ≡ e.reply.said → is_judgement said ≡ false → IsSeen o trial id e h
-    none said same other = contrary (is_judgement e.reply.said) (IsSeen o trial id e h) judged (ap is_judgement (sym same) ∙ other)
+    none : (said : Said) → said ≡ e.reply.said → is_judgement said ≡ false → IsSeen (opening plan 0) trial id e h
+    none said same other = contrary (is_judgement e.reply.said) (IsSeen (opening plan 0) trial id e h) judged (ap is_judgement (sym same) ∙ other)
 
-    by : (event : OwnedEvent) → e.event ≡ event → IsSeen o trial id e h
+    by : (event : OwnedEvent) → e.event ≡ event → IsSeen (opening plan 0) trial id e h
     by (Accept listener real) is = of (accept_outcome plan h n e.moment listener real e.reply legal.0 (answers (Accept listener real) is) tied)
       where
-        of : Outcome n e.moment (Accept listener real) e.reply.said → IsSeen o trial id e h
+        of : Outcome n e.moment (Accept listener real) e.reply.said → IsSeen (opening plan 0) trial id e h
         of (inl (fault, refused, wrong)) = absurd (cc)
         of (inr (theirs, found, agree)) = inl (ap (λ ev. is_some (decided n e.moment ev)) is ∙ decided_some n e.moment (Accept listener real) theirs found refl agree.2)
     by (Piece own bytes) is =

@@ -9,7 +9,7 @@ use Rattle.plan_types.specs.declared.plan.Backend.{Backend}
 use Rattle.plan_types.specs.declared.plan.Server.{Server}
 use Rattle.conn_model.specs.declared.event.Health.{Health}
 use Rattle.conn_model.specs.declared.event.OwnedEvent.{OwnedEvent}
-use Rattle.conn_model.specs.declared.event.OwnedEvent.TheVariants.{Accept, Piece, Connected, ConnectFailed, Close, Expire, Reload, Mark}
+use Rattle.conn_model.specs.declared.event.OwnedEvent.TheVariants.{Accept, Mark}
 use Rattle.conn_model.specs.declared.plain.FrontendRows.{FrontendRows}
 use Rattle.conn_model.specs.declared.plain.Plain.{Plain}
 use Rattle.conn_model.specs.declared.plain.Version.{Version}
@@ -98,12 +98,7 @@ line_taken s next line timed step given = event_taken s next line timed s.due st
 -- an event that a line hands in is no reload
 pub not_reload : (piece : List ℕ) (request : EventRequest) → is_reload (event_read piece request) ≡ false
 not_reload piece (reads.Accept listener real) = refl
-not_reload piece (reads.Piece id length) = refl
-not_reload piece (reads.Connected id) = refl
-not_reload piece (reads.ConnectFailed id) = refl
-not_reload piece (reads.Close id why) = refl
-not_reload piece (reads.Expire id) = refl
-not_reload piece (reads.Mark number k health) = refl
+not_reload piece event = refl
 
 -- ---- the event of a line, as the trial takes it
 
@@ -152,14 +147,8 @@ numbers_kept p moment number k health reply others is = ap found (newest_kept p 
 
 -- what the trial takes it as is the same before it and after it
 same_event : (p : Plain) (moment : ℕ) (event : OwnedEvent) (reply : Reply) (others : List Version) → answer_in p moment event ≡ Ok reply → event_for (after p (entry moment event reply ∷ [])).versions others event ≡ event_for p.versions others event
-same_event p moment (Accept listener real) reply others is = refl
-same_event p moment (Piece id bytes) reply others is = refl
-same_event p moment (Connected id) reply others is = refl
-same_event p moment (ConnectFailed id) reply others is = refl
-same_event p moment (Close id why) reply others is = refl
-same_event p moment (Expire id) reply others is = refl
-same_event p moment (Reload text) reply others is = refl
 same_event p moment (Mark number k health) reply others is = ap (option_map (λ (at : ServerNumbers). Mark at.backend at.server health)) (numbers_kept p moment number k health reply others is)
+same_event p moment event reply others is = refl
 
 answered_turn : (p trial : Plain) (moment : ℕ) (event : OwnedEvent) (answered : Result Reply StepFault) → is_reload event ≡ false → answer_in p moment event ≡ answered
     → option_map (turn_after (plain_after p moment event answered) trial moment event) (due_reply (dues.Reply (event_peer event) answered)) ≡ option_and_then (turn_of p trial) (entry_by moment event answered)

@@ -1,6 +1,6 @@
 -- A connection that waits in the record waits in the trial, unless it has had a difference.
 use Rattle.std.proofs.Common.{◌≡◌, ◌⊎◌, inl, inr, ℕ, ◌+◌, ◌≤◌, Bool, true, false, List, [], ◌∷◌, ◌++◌, Option, Some, None, Result, Ok, Err, refl, ap, sym, subst, ◌∙◌, max, arith}
-use Rattle.std.specs.Prelude.{◌==◌, ◌&&◌, ◌||◌, not, filter, slice_get, is_some, nat_le, option_map, if◌then◌else◌}
+use Rattle.std.specs.Prelude.{◌==◌, ◌&&◌, ◌||◌, not, filter, slice_get, is_some, option_map, if◌then◌else◌}
 use Rattle.std.specs.Option.{option_map_or}
 use Rattle.std.proofs.lemmas.Bool.{eq-eqb, eqb-true}
 use Rattle.addr_core.specs.PairValue.{PairValue}
@@ -12,7 +12,6 @@ use Rattle.conn_model.specs.declared.event.Health.{Health}
 use Rattle.conn_model.specs.declared.plain.Assignment.{Assignment}
 use Rattle.conn_model.specs.declared.event.OwnedEvent.{OwnedEvent}
 use Rattle.conn_model.specs.declared.event.OwnedEvent.TheVariants.{Accept, Piece, Connected, ConnectFailed, Close, Expire, Reload, Mark}
-use Rattle.conn_model.specs.declared.event.TheConstants.{HEADER_WAIT}
 use Rattle.conn_model.specs.declared.event.Why.TheVariants.{Done}
 use Rattle.conn_model.specs.declared.plain.FrontendRows.{FrontendRows}
 use Rattle.conn_model.specs.declared.plain.Phase.{Phase}
@@ -24,23 +23,23 @@ use Rattle.conn_model.specs.declared.reply.Reply.{Reply}
 use Rattle.conn_model.specs.declared.reply.Said.{Said}
 use Rattle.conn_model.specs.declared.reply.Said.TheVariants as saids
 use Rattle.conn_model.specs.declared.reply.StepFault.{StepFault}
-use Rattle.conn_model.specs.declared.reply.StepFault.TheVariants.{NoSuch, NotDue}
-use Rattle.conn_model.specs.Answer.{answer_in, at_moment, awaits_server, offer_in, new_row, reply_of, rest_in, row_at, row_in}
+use Rattle.conn_model.specs.declared.reply.StepFault.TheVariants.{NoSuch}
+use Rattle.conn_model.specs.Answer.{answer_in, at_moment, awaits_server, offer_in, new_row, reply_of, row_at, row_in}
 use Rattle.conn_model.specs.History.{Entry, IsFrontendWell, IsLegal, IsWell, after, arrival_of, arrivals, entry, frontend_after, has_ended, id_of, is_last, is_reload, leaves_open, opening, phase_by, plan_of, row_after, speaks_to}
 use Rattle.conn_model.specs.Words.{is_conn, or_fault}
 use Rattle.conn_model.proofs.Goes.{whole_in_parts}
 use Rattle.conn_model.proofs.Lists.{all-at, all-each, all-found, all-map, and_true, get-from_zero}
-use Rattle.conn_model.proofs.Replies.{answered, bind-ok, expired, has_failed, received, server_answered, IsNew}
+use Rattle.conn_model.proofs.Replies.{answered, bind-ok, expired, has_failed, server_answered, IsNew}
 use Rattle.conn_model.proofs.Well.{after-nil, opening_well, well_after}
 use Rattle.conn_laws.specs.Deciding.{is_judgement, is_offer, is_wait, IsJudged, Waiter}
 use Rattle.conn_laws.proofs.Judged.{piece_judged}
 use Rattle.conn_laws.proofs.Present.{waits_there}
 use Rattle.replay_core.specs.Turns.{plain_after}
 use Rattle.whatif_core.specs.declared.decision.ComparedDecision.TheVariants as decisions
-use Rattle.whatif_core.specs.Deciding.{closed, decided, decided_by, decision_of, difference, handed, is_failure, numbers_for, offer_of, played, stepped, taken}
-use Rattle.whatif_core.specs.Reporting.{differs_of, history_report, trial_opening, turn_of, turn_with, HasDiffered, IsSeen}
-use Rattle.whatif_core.proofs.LawLemmas.{accept_outcome, all_tied, and_no, arrived, contrary, ends, turn_trial, Outcome, Tied}
-use Rattle.whatif_core.proofs.OnceLemmas.{same_decided, and_left, below_itself, decided_wait, decides, found, found_mapped, found_serial, is_waiting, not_new, offers, old_given, on_piece, once_up, same_conn, same_reply, same_whom, spoken, then_waits, waits_after, waits_at, waits_here, waits_in, Waited}
+use Rattle.whatif_core.specs.Deciding.{closed, decided, decided_by, decision_of, difference, handed, is_failure, numbers_for, offer_of, stepped, taken}
+use Rattle.whatif_core.specs.Reporting.{differs_of, history_report, trial_opening, turn_of, turn_with, HasDiffered}
+use Rattle.whatif_core.proofs.LawLemmas.{accept_outcome, all_tied, and_no, arrived, contrary, ends, trial_after, trial_next, Outcome, Tied}
+use Rattle.whatif_core.proofs.OnceLemmas.{same_decided, and_left, below_itself, decided_wait, found, found_mapped, found_serial, is_waiting, not_new, offers, old_given, on_piece, once_up, same_conn, same_reply, same_whom, spoken, then_waits, waits_after, waits_at, waits_in, Waited}
 
 -- ---- a connection that waits on
 
@@ -75,11 +74,8 @@ found_kept serial test (other ∷ rows) row keeps is = by (test other.serial) re
 waits_by : (plan : Option Plan) (event : OwnedEvent) (said : Said) (phase : Phase) → is_offer said ≡ false → is_waiting phase ≡ true → is_waiting (phase_by plan event said phase) ≡ true
 waits_by plan event (saids.Wait id used) phase other is = on_piece _ phase ∙ is
 waits_by plan event (saids.Offer id used line server to judged send) phase other is = absurd (cc)
-waits_by plan event (saids.Refuse id used cause) phase other is = is
 waits_by plan event (saids.Up id) phase other is = once_up phase ∙ is
-waits_by plan event (saids.Closed id why) phase other is = is
-waits_by plan event (saids.Reloaded version) phase other is = is
-waits_by plan event (saids.Marked line health) phase other is = is
+waits_by plan event said phase other is = is
 
 waits_if : (plan : Option Plan) (event : OwnedEvent) (said : Said) (phase : Phase) (b : Bool) → (is_offer said && b) ≡ false → is_waiting phase ≡ true → is_waiting (if b then phase_by plan event said phase else phase) ≡ true
 waits_if plan event said phase true other is = waits_by plan event said phase (and_left (is_offer said) true other refl) is
@@ -111,6 +107,14 @@ waiting_row_at q id is = by (row_at q.frontends id) refl is
     by None none now = absurd (let wrong : false ≡ true = now in cc)
     by (Some row) there now = record { row = row; there = there; waits = now }
 
+pub not_waiting : (a b : Row) → is_waiting a.phase ≡ true → awaits_server b.phase ≡ true → a ≡ b → ⊥
+not_waiting a b waits awaits same = neither b.phase (ap (λ (r : Row). is_waiting r.phase) (sym same) ∙ waits) awaits
+  where
+    neither : (phase : Phase) → is_waiting phase ≡ true → awaits_server phase ≡ true → ⊥
+    neither (Waiting rest) waits awaits = let wrong : false ≡ true = awaits in cc
+    neither (Offered assignment) waits awaits = let wrong : false ≡ true = waits in cc
+    neither (Up assignment) waits awaits = let wrong : false ≡ true = waits in cc
+
 -- a connection that waits waits after such an entry
 waits_kept : (q : Plain) → IsWell q → (e : Entry) (id : ConnId) → waits_at q id ≡ true → ends e.reply.said id.frontend id.serial ≡ false → offers e.reply.said id.frontend id.serial ≡ false → waits_at (after q (e ∷ [])) id ≡ true
 waits_kept q well e id is lasts unoffered =
@@ -125,12 +129,7 @@ waits_kept q well e id is lasts unoffered =
 
 waits_open : (said : Said) → is_wait said ≡ true → (leaves_open said ≡ true) × (is_last said ≡ false) × (is_offer said ≡ false)
 waits_open (saids.Wait id used) is = (refl, refl, refl)
-waits_open (saids.Offer id used line server to judged send) is = absurd (cc)
-waits_open (saids.Refuse id used cause) is = absurd (cc)
-waits_open (saids.Up id) is = absurd (cc)
-waits_open (saids.Closed id why) is = absurd (cc)
-waits_open (saids.Reloaded version) is = absurd (cc)
-waits_open (saids.Marked line health) is = absurd (cc)
+waits_open said is = absurd (cc)
 
 pub came_in : (id : ConnId) (clock version : ℕ) (real : PairValue) (said : Said) → id_of said ≡ Some id → leaves_open said ≡ true → found id.serial (arrival_of id.frontend clock version real said (id_of said)) ≡ Some (new_row id.serial version real clock)
 came_in id clock version real said whom stays = rw (whom, stays, eq-eqb id.frontend id.frontend refl, eq-eqb id.serial id.serial refl) refl
@@ -148,34 +147,51 @@ new_serial q well id own there next = by (found id.serial own.rows) refl
         let less : row.serial ≤ own.serial = here.0 in
         absurd (omega (arith, same, less, next))
 
-waits_new : (q : Plain) → IsWell q → (moment listener : ℕ) (real : PairValue) (reply : Reply) (id : ConnId) → IsNew q reply.said → id_of reply.said ≡ Some id → is_wait reply.said ≡ true →
-    waits_at (after q (entry moment (Accept listener real) reply ∷ [])) id ≡ true
-waits_new q well moment listener real reply id new whom waits =
+-- The row of a newcomer.
+pub record NewRow (q : Plain) (e : Entry) (id : ConnId) : Type 0 where
+  pub own : FrontendRows
+  pub row : Row
+  pub there : found id.serial (own.rows ++ arrivals q id.frontend (e ∷ [])) ≡ Some row
+  pub same : row.serial ≡ id.serial
+  pub waits : is_waiting row.phase ≡ true
+  pub next : slice_get (after q (e ∷ [])).frontends id.frontend ≡ Some (frontend_after q (e ∷ []) id.frontend own)
+
+pub newcomer_row : (q : Plain) → IsWell q → (moment listener : ℕ) (real : PairValue) (reply : Reply) (id : ConnId) → IsNew q reply.said → id_of reply.said ≡ Some id → leaves_open reply.said ≡ true →
+    NewRow q (entry moment (Accept listener real) reply) id
+newcomer_row q well moment listener real reply id new whom stays =
     let e : Entry = entry moment (Accept listener real) reply in
     let same : new.id ≡ id = same_conn new.id id (id_of reply.said) new.speaks whom in
     let there : slice_get q.frontends id.frontend ≡ Some new.own = ap (λ (i : ConnId). slice_get q.frontends i.frontend) (sym same) ∙ new.there in
     let next : id.serial ≡ new.own.serial + 1 = ap (λ (i : ConnId). i.serial) (sym same) ∙ new.next in
+    let rows = found_next id.serial new.own.rows (arrivals q id.frontend (e ∷ [])) (new_serial q well id new.own there next) ∙ came_in id _ _ real reply.said whom stays in
+    record {
+      own = new.own;
+      row = _;
+      there = rows;
+      same = refl;
+      waits = refl;
+      next = get-from_zero (frontend_after q (e ∷ [])) q.frontends id.frontend new.own there;
+    }
+
+waits_new : (q : Plain) → IsWell q → (moment listener : ℕ) (real : PairValue) (reply : Reply) (id : ConnId) → IsNew q reply.said → id_of reply.said ≡ Some id → is_wait reply.said ≡ true →
+    waits_at (after q (entry moment (Accept listener real) reply ∷ [])) id ≡ true
+waits_new q well moment listener real reply id new whom waits =
     let open_still = waits_open reply.said waits in
-    let rows = found_next id.serial new.own.rows (arrivals q id.frontend (e ∷ [])) (new_serial q well id new.own there next) ∙ came_in id _ _ real reply.said whom open_still.0 in
-    let now : slice_get (after q (e ∷ [])).frontends id.frontend ≡ Some (frontend_after q (e ∷ []) id.frontend new.own) = get-from_zero (frontend_after q (e ∷ [])) q.frontends id.frontend new.own there in
-    ap (λ (o : Option FrontendRows). waits_in (row_in id.serial o)) now
-    ∙ row_waits q e id.frontend id.serial new.own _ rows refl refl
+    let here = newcomer_row q well moment listener real reply id new whom open_still.0 in
+    ap (λ (o : Option FrontendRows). waits_in (row_in id.serial o)) here.next
+    ∙ row_waits q (entry moment (Accept listener real) reply) id.frontend id.serial here.own here.row here.there here.waits here.same
     (ap (λ b. b && speaks_to id.frontend id.serial reply.said) open_still.1) (ap (λ b. b && speaks_to id.frontend id.serial reply.said) open_still.2)
 
 -- ---- decisions
 
 unlike_wait : (q : Plain) (said : Said) → is_judgement said ≡ true → is_wait said ≡ false → is_some (difference (Some decisions.Wait) (decision_of q said)) ≡ true
-unlike_wait q (saids.Wait id used) judged other = absurd (cc)
 unlike_wait q (saids.Offer id used line server to judged2 send) judged other = by _
   where
     by : (names : Option (List ℕ × List ℕ)) → is_some (difference (Some decisions.Wait) (Some (offer_of names line))) ≡ true
     by None = refl
     by (Some names) = refl
 unlike_wait q (saids.Refuse id used cause) judged other = refl
-unlike_wait q (saids.Up id) judged other = absurd (cc)
-unlike_wait q (saids.Closed id why) judged other = absurd (cc)
-unlike_wait q (saids.Reloaded version) judged other = absurd (cc)
-unlike_wait q (saids.Marked line health) judged other = absurd (cc)
+unlike_wait q said judged other = absurd (cc)
 
 pub differs_made : (p n : Plain) (moment : ℕ) (event : OwnedEvent) (reply : Reply) (id : ConnId) → is_reload event ≡ false → is_some (difference (decided p moment event) (decided n moment event)) ≡ true → id_of reply.said ≡ Some id →
     differs_of (turn_of p n (entry moment event reply)) ≡ Some id
@@ -184,20 +200,23 @@ differs_made p n moment event reply id other some whom =
     ∙ ap (λ b. if b then id_of reply.said else None) (ap (λ d. is_some (difference (decided p moment event) d)) (same_decided p.versions n moment event) ∙ some)
     ∙ whom
 
--- the record lets it wait, and so does the trial, or that is a difference
+-- the trial tells it the same, or that is a difference
+pub both_told : (told : Said → Bool) (p n : Plain) (moment : ℕ) (event : OwnedEvent) (reply theirs : Reply) (id : ConnId) → is_reload event ≡ false → id_of reply.said ≡ Some id →
+    (told theirs.said ≡ false → is_some (difference (decided p moment event) (decided n moment event)) ≡ true) → (told theirs.said ≡ true) ⊎ (differs_of (turn_of p n (entry moment event reply)) ≡ Some id)
+both_told told p n moment event reply theirs id other whom unlike = by (told theirs.said) refl
+  where
+    by : (b : Bool) → told theirs.said ≡ b → (told theirs.said ≡ true) ⊎ (differs_of (turn_of p n (entry moment event reply)) ≡ Some id)
+    by true they = inl they
+    by false they = inr (differs_made p n moment event reply id other (unlike they) whom)
+
+-- the record lets it wait
 both_wait : (p n : Plain) (moment : ℕ) (event : OwnedEvent) (reply theirs : Reply) (id : ConnId) → is_reload event ≡ false → is_failure event ≡ false → answer_in p moment event ≡ Ok reply → is_wait reply.said ≡ true → id_of reply.said ≡ Some id →
     answer_in n moment event ≡ Ok theirs → is_judgement theirs.said ≡ true → (is_wait theirs.said ≡ true) ⊎ (differs_of (turn_of p n (entry moment event reply)) ≡ Some id)
-both_wait p n moment event reply theirs id other no_failure is waits whom answers judged = by (is_wait theirs.said) refl
-  where
-    by : (b : Bool) → is_wait theirs.said ≡ b → (is_wait theirs.said ≡ true) ⊎ (differs_of (turn_of p n (entry moment event reply)) ≡ Some id)
-    by true they = inl they
-    by false they =
-        let some : is_some (difference (decided p moment event) (decided n moment event)) ≡ true =
-        ap (λ d. is_some (difference d (decided n moment event))) (decided_wait p moment event reply is no_failure waits)
-        ∙ ap (λ a. is_some (difference (Some decisions.Wait) (decided_by (stepped n moment event) event a))) answers
-        ∙ ap (λ b. is_some (difference (Some decisions.Wait) (if b then None else decision_of (stepped n moment event) theirs.said))) no_failure
-        ∙ unlike_wait (stepped n moment event) theirs.said judged they in
-        inr (differs_made p n moment event reply id other some whom)
+both_wait p n moment event reply theirs id other no_failure is waits whom answers judged = both_told is_wait p n moment event reply theirs id other whom (λ they.
+    ap (λ d. is_some (difference d (decided n moment event))) (decided_wait p moment event reply is no_failure waits)
+    ∙ ap (λ a. is_some (difference (Some decisions.Wait) (decided_by (stepped n moment event) event a))) answers
+    ∙ ap (λ b. is_some (difference (Some decisions.Wait) (if b then None else decision_of (stepped n moment event) theirs.said))) no_failure
+    ∙ unlike_wait (stepped n moment event) theirs.said judged they)
 
 -- ---- the trial
 
@@ -229,13 +248,9 @@ closed_other holds kept n well moment other id apart is = by (answer_in n moment
     by (Ok reply) answers = kept n well (entry moment (Close other Done) reply) id is (ap (λ o. option_map_or (is_conn id.frontend id.serial) o false) (answered n moment (Close other Done) reply answers).speaks ∙ apart)
 
 closed_on : (holds : Plain → ConnId → Bool) → IsKept holds → (n : Plain) → IsWell n → (moment : ℕ) (said : Said) (id : ConnId) → ends said id.frontend id.serial ≡ false → holds n id ≡ true → holds (closed moment said n) id ≡ true
-closed_on holds kept n well moment (saids.Wait other used) id lasts is = is
-closed_on holds kept n well moment (saids.Offer other used line server to judged send) id lasts is = is
 closed_on holds kept n well moment (saids.Refuse other used cause) id lasts is = closed_other holds kept n well moment other id lasts is
-closed_on holds kept n well moment (saids.Up other) id lasts is = is
 closed_on holds kept n well moment (saids.Closed other why) id lasts is = closed_other holds kept n well moment other id lasts is
-closed_on holds kept n well moment (saids.Reloaded version) id lasts is = is
-closed_on holds kept n well moment (saids.Marked line health) id lasts is = is
+closed_on holds kept n well moment said id lasts is = is
 
 -- the trial after an event that was handed in, whose answer leaves it so
 handed_on : (holds : Plain → ConnId → Bool) → IsKept holds → (n : Plain) → IsWell n → (moment : ℕ) (event : OwnedEvent) (said : Said) (id : ConnId) → ((fault : StepFault) → answer_in n moment event ≡ Err fault → holds n id ≡ true) →
@@ -309,31 +324,33 @@ lets_wait plan n moment event reply theirs id past legal is answers on waits =
 abbrev WaitsOn : Plain → Plain → ℕ → OwnedEvent → Reply → ConnId → Type 0
 WaitsOn p n moment event reply id = (differs_of (turn_of p n (entry moment event reply)) ≡ Some id) ⊎ (waits_at (handed p.versions n moment event reply.said) id ≡ true)
 
+-- what comes of how the trial answers a newcomer
+pub newcomer_answered : {R : Type 0} (plan : Plan) (h : List Entry) (n : Plain) (moment listener : ℕ) (real : PairValue) (reply : Reply) → IsLegal (opening plan 0) h → answer_in (after (opening plan 0) h) moment (Accept listener real) ≡ Ok reply →
+    Tied plan (after (opening plan 0) h) n → ((theirs : Reply) → answer_in n moment (Accept listener real) ≡ Ok theirs → id_of theirs.said ≡ id_of reply.said → is_judgement theirs.said ≡ true → R) → R
+newcomer_answered {R = R} plan h n moment listener real reply legal is tied leads = by (accept_outcome plan h n moment listener real reply legal is tied)
+  where
+    by : Outcome n moment (Accept listener real) reply.said → R
+    by (inl (fault, refused, none)) = absurd (cc)
+    by (inr (theirs, answers, agree)) = leads theirs answers agree.0 agree.2
+
 -- a newcomer that the record lets wait
 comes : (plan : Plan) (h : List Entry) (n : Plain) (moment listener : ℕ) (real : PairValue) (reply : Reply) (id : ConnId) → IsLegal (opening plan 0) h → answer_in (after (opening plan 0) h) moment (Accept listener real) ≡ Ok reply →
     Tied plan (after (opening plan 0) h) n → id_of reply.said ≡ Some id → is_wait reply.said ≡ true → WaitsOn (after (opening plan 0) h) n moment (Accept listener real) reply id
-comes plan h n moment listener real reply id legal is tied whom waits = by (accept_outcome plan h n moment listener real reply legal is tied)
-  where
-    p : Plain
-    p = after (opening plan 0) h
-
-    by : Outcome n moment (Accept listener real) reply.said → WaitsOn p n moment (Accept listener real) reply id
-    by (inl (fault, refused, none)) = absurd (cc)
-    by (inr (theirs, answers, agree)) = elim (both_wait p n moment (Accept listener real) reply theirs id refl refl is waits whom answers agree.2) [
+comes plan h n moment listener real reply id legal is tied whom waits = newcomer_answered plan h n moment listener real reply legal is tied
+    (λ theirs answers same judged. elim (both_wait (after (opening plan 0) h) n moment (Accept listener real) reply theirs id refl refl is waits whom answers judged) [
       | inl they ↦ inr (lets_wait plan n moment (Accept listener real) reply theirs id tied.past tied.legal tied.is answers
-          (waits_new n (well_of plan n tied.past tied.legal tied.is) moment listener real theirs id (answered n moment (Accept listener real) theirs answers) (agree.0 ∙ whom) they) waits)
+          (waits_new n (well_of plan n tied.past tied.legal tied.is) moment listener real theirs id (answered n moment (Accept listener real) theirs answers) (same ∙ whom) they) waits)
       | inr different ↦ inl different
-    ]
+    ])
 
 -- a piece after which it waits on in the record
 goes_on : (plan : Plan) (h : List Entry) (n : Plain) (moment : ℕ) (id : ConnId) (bytes : List ℕ) (reply : Reply) → IsLegal (opening plan 0) h → answer_in (after (opening plan 0) h) moment (Piece id bytes) ≡ Ok reply →
     Tied plan (after (opening plan 0) h) n → is_wait reply.said ≡ true → waits_at n id ≡ true → WaitsOn (after (opening plan 0) h) n moment (Piece id bytes) reply id
 goes_on plan h n moment id bytes reply legal is tied waits there =
-    let p : Plain = after (opening plan 0) h in
     let judged = judged_on plan n tied.past tied.legal tied.is moment id bytes there in
     let theirs : Reply = judged.0 in
     let old = answered n moment (Piece id bytes) theirs judged.1 in
-    elim (both_wait p n moment (Piece id bytes) reply theirs id refl refl is waits (answered p moment (Piece id bytes) reply is).speaks judged.1 judged.2) [
+    elim (both_wait (after (opening plan 0) h) n moment (Piece id bytes) reply theirs id refl refl is waits (answered (after (opening plan 0) h) moment (Piece id bytes) reply is).speaks judged.1 judged.2) [
       | inl they ↦ (
           let open_still = waits_open theirs.said they in
           inr (lets_wait plan n moment (Piece id bytes) reply theirs id tied.past tied.legal tied.is judged.1
@@ -386,15 +403,7 @@ on_entry plan h n moment event reply id legal is tied other waits there before c
         let got = server_answered p own (saids.Up own) reply now in
         let one : own ≡ id = spoken_id id own reply.said (answered p moment (Connected own) reply now).speaks spoken_to in
         let here = waiting_row_at p id waits in
-        absurd (not_both got.row here.row got.awaits here.waits (let twice : Some got.row ≡ Some here.row = sym got.row_is ∙ ap (row_at p.frontends) one ∙ here.there in cc))
-      where
-        not_both : (a b : Row) → awaits_server a.phase ≡ true → is_waiting b.phase ≡ true → a ≡ b → ⊥
-        not_both a b awaits waits same = neither b.phase (ap (λ (r : Row). awaits_server r.phase) (sym same) ∙ awaits) waits
-          where
-            neither : (phase : Phase) → awaits_server phase ≡ true → is_waiting phase ≡ true → ⊥
-            neither (Waiting rest) awaits waits = let wrong : false ≡ true = awaits in cc
-            neither (Offered assignment) awaits waits = let wrong : false ≡ true = waits in cc
-            neither (Up assignment) awaits waits = let wrong : false ≡ true = waits in cc
+        absurd (not_waiting here.row got.row here.waits got.awaits (let twice : Some got.row ≡ Some here.row = sym got.row_is ∙ ap (row_at p.frontends) one ∙ here.there in cc))
     spoken_on (ConnectFailed own) same spoken_to =
         let now = ap (λ ev. answer_in p moment ev) (sym same) ∙ is in
         let got = has_failed (at_moment moment p) own reply now in
@@ -435,87 +444,78 @@ at_entry plan h n moment (Accept listener real) reply id legal is tied came befo
   where
     opens : (said : Said) → leaves_open said ≡ true → is_offer said ≡ false → is_wait said ≡ true
     opens (saids.Wait id used) stays other = refl
-    opens (saids.Offer id used line server to judged send) stays other = absurd (cc)
-    opens (saids.Refuse id used cause) stays other = absurd (cc)
-    opens (saids.Up id) stays other = absurd (cc)
-    opens (saids.Closed id why) stays other = absurd (cc)
-    opens (saids.Reloaded version) stays other = absurd (cc)
-    opens (saids.Marked line health) stays other = absurd (cc)
+    opens said stays other = absurd (cc)
 at_entry plan h n moment (Piece own bytes) reply id legal is tied came before came_too w = absurd (cc)
-at_entry plan h n moment (Connected own) reply id legal is tied came before came_too w = absurd (cc)
-at_entry plan h n moment (ConnectFailed own) reply id legal is tied came before came_too w = absurd (cc)
-at_entry plan h n moment (Close own why) reply id legal is tied came before came_too w = absurd (cc)
-at_entry plan h n moment (Expire own) reply id legal is tied came before came_too w = absurd (cc)
-at_entry plan h n moment (Reload text) reply id legal is tied came before came_too w = absurd (cc)
-at_entry plan h n moment (Mark number k health) reply id legal is tied came before came_too w = absurd (cc)
+at_entry plan h n moment event reply id legal is tied came before came_too w = absurd (cc)
 
-nobody_waits : (plan : Plan) (id : ConnId) → waits_at (after (opening plan 0) []) id ≡ false
-nobody_waits plan id = ap (λ q. waits_at q id) (after-nil (opening plan 0) (opening_well plan 0)) ∙ by (slice_get (opening plan 0).frontends id.frontend) refl
+nobody : (holds : Option Row → Bool) → holds None ≡ false → (plan : Plan) (id : ConnId) → holds (row_at (after (opening plan 0) []).frontends id) ≡ false
+nobody holds none plan id = ap (λ (q : Plain). holds (row_at q.frontends id)) (after-nil (opening plan 0) (opening_well plan 0)) ∙ by (slice_get (opening plan 0).frontends id.frontend) refl
   where
-    by : (o : Option FrontendRows) → slice_get (opening plan 0).frontends id.frontend ≡ o → waits_in (row_in id.serial o) ≡ false
-    by None none = refl
+    by : (o : Option FrontendRows) → slice_get (opening plan 0).frontends id.frontend ≡ o → holds (row_in id.serial o) ≡ false
+    by None is = none
     by (Some own) there =
-        let none : own.rows ≡ [] =
+        let empty : own.rows ≡ [] =
         all-at (λ f. f.rows ≡ []) (opening plan 0).frontends id.frontend own
         (all-map (λ f. f.rows ≡ []) (λ (frontend : Frontend). record { name = frontend.name; serial = 0; rows = [] }) plan.frontends (all-each _ plan.frontends (λ frontend. refl))) there in
-        ap (λ rows. waits_in (found id.serial rows)) none
+        ap (λ rows. holds (found id.serial rows)) empty ∙ none
 
--- a connection that waits in the record waits in the trial, unless it has had a difference
-pub waits_in_both : (plan : Plan) (text : List ℕ) (trial : Plain) (h : List Entry) (id : ConnId) → trial_opening plan text ≡ Ok trial → IsLegal (opening plan 0) h → waits_at (after (opening plan 0) h) id ≡ true → IsKnown plan trial h id
-waits_in_both plan text trial [] id opens legal waits = contrary (waits_at (after (opening plan 0) []) id) (IsKnown plan trial [] id) waits (nobody_waits plan id)
-waits_in_both plan text trial (e ∷ h) id opens legal waits =
-    by (waits_after (after (opening plan 0) h) e id (ap (λ q. waits_at q id) (whole_in_parts (opening plan 0) (opening_well plan 0) (e ∷ []) h legal) ∙ waits)) (waits_in_both plan text trial h id opens legal.0)
+-- what holds of no row at the opening leads to something after each history, if it does so from entry to entry
+pub along : (holds : Option Row → Bool) → holds None ≡ false → (plan : Plan) (id : ConnId) (Leads : List Entry → Type 0) →
+    ((h : List Entry) (e : Entry) → IsLegal (opening plan 0) (e ∷ h) → holds (row_at (after (after (opening plan 0) h) (e ∷ [])).frontends id) ≡ true →
+    (holds (row_at (after (opening plan 0) h).frontends id) ≡ true → Leads h) → Leads (e ∷ h)) →
+    (h : List Entry) → IsLegal (opening plan 0) h → holds (row_at (after (opening plan 0) h).frontends id) ≡ true → Leads h
+along holds none plan id Leads next [] legal now = contrary (holds (row_at (after (opening plan 0) []).frontends id)) (Leads []) now (nobody holds none plan id)
+along holds none plan id Leads next (e ∷ h) legal now =
+    next h e legal (ap (λ (q : Plain). holds (row_at q.frontends id)) (whole_in_parts (opening plan 0) (opening_well plan 0) (e ∷ []) h legal) ∙ now) (along holds none plan id Leads next h legal.0)
+
+waits_handed : (plan : Plan) (trial : Plain) (h : List Entry) (e : Entry) (id : ConnId) → is_reload e.event ≡ false → WaitsOn (after (opening plan 0) h) (trial_after plan trial h) e.moment e.event e.reply id → IsKnown plan trial (e ∷ h) id
+waits_handed plan trial h e id other (inl different) = inl (inl different)
+waits_handed plan trial h e id other (inr on) =
+    let p : Plain = after (opening plan 0) h in
+    let n : Plain = trial_after plan trial h in
+    inr (ap (λ q. waits_at q id) (trial_next plan trial h e) ∙ ap (λ b. waits_at (if b then n else handed p.versions n e.moment e.event e.reply.said) id) other ∙ on)
+
+waits_next : (plan : Plan) (text : List ℕ) (trial : Plain) (h : List Entry) (e : Entry) (id : ConnId) → trial_opening plan text ≡ Ok trial → IsLegal (opening plan 0) (e ∷ h) →
+    Waited (waits_at (after (opening plan 0) h) id) (arrived id.frontend id.serial e.event e.reply.said) e.reply.said id.frontend id.serial → (waits_at (after (opening plan 0) h) id ≡ true → IsKnown plan trial h id) →
+    IsKnown plan trial (e ∷ h) id
+waits_next plan text trial h e id opens legal w earlier = on (is_reload e.event) refl
   where
-    o : Plain
-    o = opening plan 0
-
     p : Plain
-    p = after o h
+    p = after (opening plan 0) h
 
     n : Plain
-    n = (history_report false o trial h).trial
+    n = trial_after plan trial h
 
-    tied : Tied plan p n
-    tied = all_tied false plan text trial h opens legal.0
+    came_next : is_reload e.event ≡ false → arrived id.frontend id.serial e.event e.reply.said ≡ true → IsKnown plan trial (e ∷ h) id
+    came_next other came =
+        waits_handed plan trial h e id other
+        (at_entry plan h n e.moment e.event e.reply id legal.0 legal.1 (all_tied false plan text trial h opens legal.0) came (waits_at p id) (arrived id.frontend id.serial e.event e.reply.said) w)
 
-    next : (history_report false o trial (e ∷ h)).trial ≡ played p.versions n e.moment e.event e.reply.said
-    next = turn_trial false (played p.versions n e.moment e.event e.reply.said) (history_report false o trial h) (turn_of p n e)
-
-    handed_next : is_reload e.event ≡ false → WaitsOn p n e.moment e.event e.reply id → IsKnown plan trial (e ∷ h) id
-    handed_next other (inl different) = inl (inl different)
-    handed_next other (inr on) = inr (ap (λ q. waits_at q id) next ∙ ap (λ b. waits_at (if b then n else handed p.versions n e.moment e.event e.reply.said) id) other ∙ on)
-
-    came_next : is_reload e.event ≡ false → Waited (waits_at p id) (arrived id.frontend id.serial e.event e.reply.said) e.reply.said id.frontend id.serial → arrived id.frontend id.serial e.event e.reply.said ≡ true → IsKnown plan trial (e ∷ h) id
-    came_next other w came = handed_next other (at_entry plan h n e.moment e.event e.reply id legal.0 legal.1 tied came (waits_at p id) (arrived id.frontend id.serial e.event e.reply.said) w)
-
-    kept_next : is_reload e.event ≡ false → Waited (waits_at p id) (arrived id.frontend id.serial e.event e.reply.said) e.reply.said id.frontend id.serial → waits_at p id ≡ true → IsKnown plan trial h id → IsKnown plan trial (e ∷ h) id
-    kept_next other w before_it (inl different) = inl (inr different)
-    kept_next other w before_it (inr there) =
-        handed_next other (on_entry plan h n e.moment e.event e.reply id legal.0 legal.1 tied other before_it there (waits_at p id) (arrived id.frontend id.serial e.event e.reply.said) w)
+    kept_next : is_reload e.event ≡ false → waits_at p id ≡ true → IsKnown plan trial h id → IsKnown plan trial (e ∷ h) id
+    kept_next other before_it (inl different) = inl (inr different)
+    kept_next other before_it (inr there) =
+        waits_handed plan trial h e id other
+        (on_entry plan h n e.moment e.event e.reply id legal.0 legal.1 (all_tied false plan text trial h opens legal.0) other before_it there (waits_at p id) (arrived id.frontend id.serial e.event e.reply.said) w)
 
     reload_next : is_reload e.event ≡ true → IsKnown plan trial h id → IsKnown plan trial (e ∷ h) id
     reload_next is (inl different) = inl (inr different)
-    reload_next is (inr there) = inr (ap (λ q. waits_at q id) next ∙ ap (λ b. waits_at (if b then n else handed p.versions n e.moment e.event e.reply.said) id) is ∙ there)
+    reload_next is (inr there) = inr (ap (λ q. waits_at q id) (trial_next plan trial h e) ∙ ap (λ b. waits_at (if b then n else handed p.versions n e.moment e.event e.reply.said) id) is ∙ there)
 
     no_arrival : (event : OwnedEvent) (said : Said) → is_reload event ≡ true → arrived id.frontend id.serial event said ≡ true → ⊥
     no_arrival (Accept listener real) said is came = absurd (cc)
-    no_arrival (Piece own bytes) said is came = absurd (cc)
-    no_arrival (Connected own) said is came = absurd (cc)
-    no_arrival (ConnectFailed own) said is came = absurd (cc)
-    no_arrival (Close own why) said is came = absurd (cc)
-    no_arrival (Expire own) said is came = absurd (cc)
-    no_arrival (Reload text) said is came = absurd (cc)
-    no_arrival (Mark number k health) said is came = absurd (cc)
+    no_arrival event said is came = absurd (cc)
 
-    by : Waited (waits_at p id) (arrived id.frontend id.serial e.event e.reply.said) e.reply.said id.frontend id.serial → (waits_at p id ≡ true → IsKnown plan trial h id) → IsKnown plan trial (e ∷ h) id
-    by w earlier = on (is_reload e.event) refl
-      where
-        on : (b : Bool) → is_reload e.event ≡ b → IsKnown plan trial (e ∷ h) id
-        on true is = elim w.first [
-          | inl before_it ↦ reload_next is (earlier before_it)
-          | inr came ↦ absurd (no_arrival e.event e.reply.said is came)
-        ]
-        on false other = elim w.first [
-          | inl before_it ↦ kept_next other w before_it (earlier before_it)
-          | inr came ↦ came_next other w came
-        ]
+    on : (b : Bool) → is_reload e.event ≡ b → IsKnown plan trial (e ∷ h) id
+    on true is = elim w.first [
+      | inl before_it ↦ reload_next is (earlier before_it)
+      | inr came ↦ absurd (no_arrival e.event e.reply.said is came)
+    ]
+    on false other = elim w.first [
+      | inl before_it ↦ kept_next other before_it (earlier before_it)
+      | inr came ↦ came_next other came
+    ]
+
+-- a connection that waits in the record waits in the trial, unless it has had a difference
+pub waits_in_both : (plan : Plan) (text : List ℕ) (trial : Plain) (h : List Entry) (id : ConnId) → trial_opening plan text ≡ Ok trial → IsLegal (opening plan 0) h → waits_at (after (opening plan 0) h) id ≡ true → IsKnown plan trial h id
+waits_in_both plan text trial h id opens =
+    along waits_in refl plan id (λ g. IsKnown plan trial g id) (λ g e legal now. waits_next plan text trial g e id opens legal (waits_after (after (opening plan 0) g) e id now)) h

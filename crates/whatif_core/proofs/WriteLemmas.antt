@@ -4,7 +4,7 @@ use Rattle.std.specs.Prelude.{IfOk, OnOk}
 use Rattle.text_core.specs.Parts.{parts, is_line_feed}
 use Rattle.line_reader.specs.Lines.{GivesLastLine, GivesLine, GivesNothing, LineState}
 use Rattle.replay_core.specs.Replay.{IsFront}
-use Rattle.audit_core.proofs.ReachLemmas.{all_left, given}
+use Rattle.replay_core.proofs.ReadLemmas.{all_left, given_line}
 use Rattle.whatif_core.specs.Lines.{both_on, report_of_record, report_on_lines, turn_at, Both}
 use Rattle.whatif_core.specs.Noting.{whole_report, noted_with, nothing_noted, report_from, Noted, Printed, Sends, Writes, Wrote}
 use Rattle.whatif_core.specs.Sums.{sums_text}
@@ -19,18 +19,12 @@ writes_start sent j s text left held kept none is_left is_held =
 writes_line : (sent : List ℕ) (j : Noted) (s : Both) (text : List ℕ) (left held : Option (List ℕ)) (k : Noted) (t u : Both) (old new : LineState) (less : Option (List ℕ))
     → Writes sent j s text left held k t old.kept → GivesLine old new left less → both_on t new.line ≡ Ok u → Writes sent j s text less held (noted_with k (turn_at t new.line)) u new.kept
 writes_line sent j s text left held k t u old new less writes gives step =
-    let taken = given writes.rest left less gives.bytes writes.is_left gives.moved in
-    record {
-      now = writes.now;
-      rest = taken.0;
-      is_held = writes.is_held;
-      is_left = taken.1;
-      same =
-          line_report writes.now k t u new.line (parts is_line_feed (new.kept ++ taken.0)) step
-          ∙ ap (λ ls. report_on_lines k.summary t.checked (report_from writes.now k t) ls) (sym (gives.begins taken.0))
-          ∙ ap (whole_report writes.now k t) (append_assoc old.kept gives.bytes taken.0 ∙ ap (λ xs. old.kept ++ xs) (sym taken.2))
-          ∙ writes.same;
-    }
+    let taken = given_line writes.rest left less old new writes.is_left gives in
+    let same =
+    line_report writes.now k t u new.line (parts is_line_feed (new.kept ++ taken.0)) step
+    ∙ ap (λ ls. report_on_lines k.summary t.checked (report_from writes.now k t) ls) (sym taken.2)
+    ∙ writes.same in
+    record { now = writes.now; rest = taken.0; is_held = writes.is_held; is_left = taken.1; same = same }
 
 pub writes_sent : (sent : List ℕ) (j : Noted) (s : Both) (text : List ℕ) (left held less : Option (List ℕ)) (k l : Noted) (t : Both) (kept : List ℕ)
     → Writes sent j s text left held k t kept → ((now : List ℕ) → held ≡ Some now → Sends now k less l) → l ≡ record k { unsent = l.unsent } → Writes sent j s text left less l t kept
@@ -61,7 +55,7 @@ wrote_end sent j s text left held k t old new less writes gives = record {
   now = writes.now;
   is_held = writes.is_held;
   same =
-      ap (whole_report writes.now k t) (sym (ap (λ xs. old.kept ++ xs) (all_left writes.rest left less gives.bytes writes.is_left gives.moved) ∙ gives.is_empty))
+      ap (whole_report writes.now k t) (sym (ap (λ xs. old.kept ++ xs) (all_left writes.rest left less gives.bytes writes.is_left gives.moved).0 ∙ gives.is_empty))
       ∙ writes.same;
 }
 
@@ -74,7 +68,7 @@ wrote_last sent j s text left held k t u old new less writes gives step = record
   same =
       line_report writes.now k t u new.line [] step
       ∙ ap (λ ls. report_on_lines k.summary t.checked (report_from writes.now k t) ls) (sym gives.is_line)
-      ∙ ap (whole_report writes.now k t) (sym (ap (λ xs. old.kept ++ xs) (all_left writes.rest left less gives.bytes writes.is_left gives.moved)))
+      ∙ ap (whole_report writes.now k t) (sym (ap (λ xs. old.kept ++ xs) (all_left writes.rest left less gives.bytes writes.is_left gives.moved).0))
       ∙ writes.same;
 }
 
@@ -84,9 +78,11 @@ wrote_taken sent j s text left held k l t u old new less writes gives step noted
     subst (λ n. Wrote sent j s text held n u) (sym noted) (wrote_last sent j s text left held k t u old new less writes gives step)
 
 -- what was written is the front of all
-pub front_of : (sent : List ℕ) (j : Noted) (s : Both) (text : List ℕ) (left held : Option (List ℕ)) (k : Noted) (t : Both) (kept more : List ℕ)
-    → Writes sent j s text left held k t kept → IsFront held ((whole_report sent j s text).text ++ more)
-front_of sent j s text left held k t kept more writes =
+pub front_of : (j : Noted) (s : Both) (before first left held : Option (List ℕ)) (k : Noted) (t : Both) (kept : List ℕ)
+    → ((text sent : List ℕ) → before ≡ Some text → first ≡ Some sent → Writes sent j s text left held k t kept)
+    → (text sent more : List ℕ) → before ≡ Some text → first ≡ Some sent → IsFront held ((whole_report sent j s text).text ++ more)
+front_of j s before first left held k t kept wrote text sent more is_left is_held =
+    let writes = wrote text sent is_left is_held in
     let tail = earlier_report k.summary t.checked (report_from writes.now k t) (parts is_line_feed (kept ++ writes.rest)) in (
       writes.now,
       k.unsent ++ (tail.0 ++ more),

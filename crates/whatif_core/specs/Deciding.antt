@@ -46,10 +46,7 @@ abbrev pub decision_with : Option (List ℕ × List ℕ) → Said → Option Com
 decision_with names (saids.Wait id used) = Some Wait
 decision_with names (saids.Offer id used line server to judged send) = Some (offer_of names line)
 decision_with names (saids.Refuse id used cause) = Some (Refuse cause)
-decision_with names (saids.Up id) = None
-decision_with names (saids.Closed id why) = None
-decision_with names (saids.Reloaded version) = None
-decision_with names (saids.Marked line health) = None
+decision_with names said = None
 
 -- what a reply decides of its connection, in the state after it
 abbrev pub decision_of : Plain → Said → Option ComparedDecision
@@ -57,14 +54,8 @@ decision_of p said = decision_with (option_and_then (offered_at p) (id_of said))
 
 -- the event says that the server of a connection is out of reach
 abbrev pub is_failure : OwnedEvent → Bool
-is_failure (Accept listener real) = false
-is_failure (Piece id bytes) = false
-is_failure (Connected id) = false
 is_failure (ConnectFailed id) = true
-is_failure (Close id why) = false
-is_failure (Expire id) = false
-is_failure (Reload text) = false
-is_failure (Mark number n health) = false
+is_failure event = false
 
 -- What the reply to an event decides. A connection that is moved from a server out of reach to another one of its backend
 -- was decided of before.
@@ -128,24 +119,18 @@ is_parted came would_come = is_lost came would_come || is_saved came would_come
 -- two refusals are for the same kind of cause; the numbers of lines are not compared
 abbrev pub same_kind : Cause → Cause → Bool
 same_kind (Line a) (Line b) = true
-same_kind (Line a) other = false
 same_kind (Header a) (Header b) = true
-same_kind (Header a) other = false
 same_kind Expired Expired = true
-same_kind Expired other = false
 same_kind (NoBackend a) (NoBackend b) = true
-same_kind (NoBackend a) other = false
 same_kind (NoServer a) (NoServer b) = true
-same_kind (NoServer a) other = false
+same_kind one other = false
 
 -- both wait, both are offered a server of a backend of one name, or both are refused for the same kind of cause
 abbrev pub alike : ComparedDecision → ComparedDecision → Bool
 alike Wait Wait = true
-alike Wait other = false
 alike (Offer backend server line) (Offer backend2 server2 line2) = bytes_eq backend backend2
-alike (Offer backend server line) other = false
 alike (Refuse cause) (Refuse cause2) = same_kind cause cause2
-alike (Refuse cause) other = false
+alike was would = false
 
 abbrev pub unlike : ComparedDecision → ComparedDecision → Option (ComparedDecision × ComparedDecision)
 unlike was would = if alike was would then None else Some (was, would)
@@ -158,10 +143,8 @@ difference (Some was) (Some would) = unlike was would
 
 -- two offers of different servers of one backend
 abbrev pub is_other_server : ComparedDecision → ComparedDecision → Bool
-is_other_server Wait other = false
 is_other_server (Offer backend server line) (Offer backend2 server2 line2) = bytes_eq backend backend2 && not (bytes_eq server server2)
-is_other_server (Offer backend server line) other = false
-is_other_server (Refuse cause) other = false
+is_other_server said other = false
 
 -- both are decisions, and the test holds of them
 abbrev pub of_both : (ComparedDecision → ComparedDecision → Bool) → Option ComparedDecision → Option ComparedDecision → Bool
@@ -177,13 +160,8 @@ has_let_in p id = is_some (row_at p.frontends id)
 
 -- a reply of the record refuses a connection that the trial has let in, at the same event or before
 abbrev pub is_let_in : Plain → Said → Bool
-is_let_in trial (saids.Wait id used) = false
-is_let_in trial (saids.Offer id used line server to judged send) = false
 is_let_in trial (saids.Refuse id used cause) = has_let_in trial id
-is_let_in trial (saids.Up id) = false
-is_let_in trial (saids.Closed id why) = false
-is_let_in trial (saids.Reloaded version) = false
-is_let_in trial (saids.Marked line health) = false
+is_let_in trial said = false
 
 -- ---- events of the record, handed to the trial
 

@@ -157,12 +157,7 @@ pub fn failure_outcome(said: &Said) -> AfterFailure
 {
     match said {
         Said::Offer { .. } => AfterFailure::Moved,
-        Said::Wait { .. }
-        | Said::Refuse { .. }
-        | Said::Up { .. }
-        | Said::Closed { .. }
-        | Said::Reloaded { .. }
-        | Said::Marked { .. } => AfterFailure::Ended,
+        _ => AfterFailure::Ended,
     }
 }
 

@@ -8,7 +8,6 @@ ghost use Rattle.line_reader.specs.declared.lines.TheConstants.{MOST_LINE_BYTES}
 ghost use Rattle.replay_core.specs.Progress.{GaveUp};
 ghost use Rattle.replay_core.specs.Reading.{IsSpent};
 ghost use Rattle.replay_core.specs.Replay.{IsFront};
-ghost use Rattle.audit_core.specs.Printing.{second_fault};
 ghost use Rattle.audit_core.specs.Standing.{verdict_in, Standing};
 ghost use Rattle.audit_core.specs.declared.fault.CheckFault.{CheckFault as Fault};
 ghost use Rattle.audit_core.specs.declared.fault.TheConstants.{MOST_RECORD_LINES};
@@ -19,21 +18,11 @@ ghost use Rattle.whatif_core.specs.Reporting.{written_of};
 
 use crate::journal::WhatifJournal;
 use crate::twin::Twin;
-use audit_core::write_bytes;
+use audit_core::{reading_again, write_bytes};
 use device_core::{Input, Output};
-use line_reader::{LineReader, Next, ReadFault};
+use line_reader::{LineReader, Next};
 use replay_core::{MOST_UNSENT, PrintFault};
 use std::alloc::Global;
-
-/// The fault if no line comes of a record that was right.
-fn reading_again(fault: ReadFault) -> PrintFault
-    ensures { result ≡ second_fault fault }
-{
-    match fault {
-        ReadFault::NoMemory => PrintFault::NoMemory,
-        ReadFault::TooLong | ReadFault::Read => PrintFault::Read,
-    }
-}
 
 /// Takes a line, and adds to the journal what both say of the entry that begins there.
 fn take_line(twin: &mut Twin, journal: &mut WhatifJournal, line: &[u8]) -> Result<(), PrintFault>

@@ -1,9 +1,9 @@
 //! The balancer of a record, and beside it the trial: the balancer with the other configuration.
-ghost use Rattle.std.specs.Prelude.{◌≡◌, ◌⊎◌, ◌+◌, ◌≤◌, length, Option, Some, None, Ok, Err, IfOk, IfErr, OnOk, option_and_then, option_map};
+ghost use Rattle.std.specs.Prelude.{◌≡◌, ◌⊎◌, ◌+◌, ◌≤◌, length, Option, Some, None, Ok, Err, IfOk, IfErr, OnOk, option_map};
 ghost use Rattle.line_reader.specs.declared.lines.TheConstants.{MOST_LINE_BYTES};
 ghost use Rattle.conn_model.specs.declared.event.TheConstants.{PIECE_LIMIT};
 ghost use Rattle.conn_model.specs.HandedIn.{HasPieceInLimit};
-ghost use Rattle.conn_model.specs.History.{id_of, owned_event};
+ghost use Rattle.conn_model.specs.History.{owned_event};
 ghost use Rattle.conn_core.specs.Summaries.{names_in};
 ghost use Rattle.event_text.specs.Script.{head_read, words_of};
 ghost use Rattle.audit_core.specs.Printing.{due_reply};
@@ -20,7 +20,7 @@ ghost use Rattle.whatif_core.specs.Lines.{both_on, handed_after, turn_after, tur
 
 use crate::decision::{AfterFailure, ComparedDecision, decision_in, failure_outcome, named};
 use crate::turn::Turn;
-use audit_core::{Auditor, CheckFault, again, answer};
+use audit_core::{Auditor, CheckFault, again, answer, check_again};
 use conn_core::{Core, ServerNames, ServerNumbers};
 use conn_model::event::{ConnId, Event, PIECE_LIMIT, Why};
 use conn_model::reply::Said;
@@ -65,12 +65,7 @@ fn trial_names<'a>(trial: &'a Core, said: &Said) -> Option<ServerNames<'a>>
 {
     match said {
         Said::Offer { id, .. } => trial.server(*id),
-        Said::Wait { .. }
-        | Said::Refuse { .. }
-        | Said::Up { .. }
-        | Said::Closed { .. }
-        | Said::Reloaded { .. }
-        | Said::Marked { .. } => None,
+        _ => None,
     }
 }
 
@@ -80,12 +75,7 @@ fn recorded_names<'a>(auditor: &'a Auditor, said: &Said) -> Option<ServerNames<'
 {
     match said {
         Said::Offer { id, .. } => auditor.server(*id),
-        Said::Wait { .. }
-        | Said::Refuse { .. }
-        | Said::Up { .. }
-        | Said::Closed { .. }
-        | Said::Reloaded { .. }
-        | Said::Marked { .. } => None,
+        _ => None,
     }
 }
 
@@ -95,13 +85,7 @@ fn is_failure(event: &Event<'_>) -> bool
 {
     match event {
         Event::ConnectFailed(_) => true,
-        Event::Accept(..)
-        | Event::Piece(..)
-        | Event::Connected(_)
-        | Event::Close(..)
-        | Event::Expire(_)
-        | Event::Reload(_)
-        | Event::Mark(..) => false,
+        _ => false,
     }
 }
 
@@ -210,13 +194,7 @@ fn hand_on(
                 would_come: None,
             }),
         },
-        Event::Accept(..)
-        | Event::Piece(..)
-        | Event::Connected(_)
-        | Event::ConnectFailed(_)
-        | Event::Close(..)
-        | Event::Expire(_)
-        | Event::Reload(_) => hand_in(alloc, trial, moment, event),
+        _ => hand_in(alloc, trial, moment, event),
     }
 }
 
@@ -240,11 +218,7 @@ fn close_ended(trial: &mut Core, moment: u64, said: &Said) -> Result<bool, Alloc
             close(trial, moment, *id)?;
             Ok(false)
         }
-        Said::Wait { .. }
-        | Said::Offer { .. }
-        | Said::Up { .. }
-        | Said::Reloaded { .. }
-        | Said::Marked { .. } => Ok(false),
+        _ => Ok(false),
     }
 }
 
@@ -277,19 +251,6 @@ fn play(
                 would_come,
             }))
         }
-    }
-}
-
-/// Checks a line once more.
-fn check_again(auditor: &mut Auditor, line: &[u8]) -> Result<(), PrintFault>
-    requires { length line.now ≤ MOST_LINE_BYTES }
-    ensures ok { OnOk result (on_line auditor.old line.now ≡ Ok auditor.new) }
-    ensures next { OnOk result ((auditor.new.lines ≡ auditor.old.lines + 1) × (auditor.new.lines ≤ MOST_RECORD_LINES)) }
-    ensures fault { IfErr result (λ f. (f ≡ PrintFault.NoMemory) ⊎ ((f ≡ PrintFault.Read) × (fault : Fault) × (on_line auditor.old line.now ≡ Err fault))) }
-{
-    match auditor.check_line(line) {
-        Ok(()) => Ok(()),
-        Err(fault) => Err(again(&fault)),
     }
 }
 

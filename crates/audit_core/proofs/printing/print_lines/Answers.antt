@@ -1,26 +1,23 @@
-use Rattle.std.proofs.Common.{◌≡◌, ◌∙◌, Err, refl, sym, ap, arith}
+use Rattle.std.proofs.Common.{◌≡◌, ◌∙◌, Err, refl, sym, ap}
 use Rattle.line_reader.specs.declared.lines.ReadFault.{ReadFault}
 use Rattle.std.proofs.lemmas.Result.{err_from_is_err_and, on_ok_weaker}
-use Rattle.device_core.proofs.StallLemmas.{unblocked_on}
 use Rattle.replay_core.specs.declared.fault.PrintFault.TheVariants.{Read}
+use Rattle.replay_core.proofs.Devices.{given_up_spent, reads_on, writes_on}
 use Rattle.audit_core.specs.Printing.{noted_in}
 use Rattle.audit_core.proofs.ReachLemmas.{done_end, done_last, reaches_line}
-use Rattle.audit_core.proofs.SpentLemmas.{given_up_spent, never_end, never_last, never_line, spent_reading}
+use Rattle.audit_core.proofs.SpentLemmas.{never_end, never_last, never_line, spent_reading}
 use Rattle.audit_core.proofs.WriteLemmas.{front_of, front_sent, on_err_always, writes_sent, writes_taken, wrote_end, wrote_taken}
 use Rattle.audit_core.proofs.printing.print_lines.Goals as goal
 
 pub loop-auditor-preserved : goal.loop-auditor-preserved
 loop-auditor-preserved g c =
+    let line = c.in-Ok-Line.ensures in
     let gives = rw c.in-Ok-Line.field-0-is at c.in-Ok-Line.ensures.gives in
     let before = c.loop-auditor.invariant in
     let step = rw c.line.ensures at c.in_ok-take_line-in-Ok-Line.ensures.ok in
     record {
-      reads = omega (arith, c.in-Ok-Line.ensures.no_more);
-      calls = omega (arith, c.in-Ok-Line.ensures.calls, c.in-Ok-Line.ensures.no_more, before.calls);
-      failures = c.in-Ok-Line.ensures.failures (λ e. cc) ∙ before.failures;
-      stalls = unblocked_on _ _ _ before.stalls (c.in-Ok-Line.ensures.stalls (λ e. cc));
-      writes = c.in_ok-send_many-in-Ok-Line.ensures.failures ∙ before.writes;
-      write_stalls = unblocked_on _ _ _ before.write_stalls c.in_ok-send_many-in-Ok-Line.ensures.stalls;
+      reader = reads_on _ _ _ _ _ _ _ _ before.reader line.no_more line.calls (line.failures (λ e. cc)) (line.stalls (λ e. cc));
+      writer = writes_on _ _ _ _ _ before.writer c.in_ok-send_many-in-Ok-Line.ensures.failures c.in_ok-send_many-in-Ok-Line.ensures.stalls;
       reaches = λ text left.
           reaches_line c.args.auditor.now text _ c.loop-auditor.auditor c.take_line.new.auditor c.loop-auditor.lines c.advance.new.self _ (before.reaches text left) gives step;
       wrote = λ text sent left held.
@@ -32,10 +29,7 @@ loop-auditor-preserved g c =
 
 pub returns-in_err-take_line-in-Ok-Line-clause-front : goal.returns-in_err-take_line-in-Ok-Line-clause-front
 returns-in_err-take_line-in-Ok-Line-clause-front g c =
-    on_err_always c.from_residual.result
-    (λ text sent rest left held.
-    front_of sent (noted_in c.args.journal.now) c.args.auditor.now text _ _ (noted_in c.loop-auditor.journal) c.loop-auditor.auditor c.loop-auditor.lines.kept rest
-    (c.loop-auditor.invariant.wrote text sent left held))
+    on_err_always c.from_residual.result (front_of _ _ _ _ _ _ _ _ _ c.loop-auditor.invariant.wrote)
 
 pub returns-in_err-take_line-in-Ok-Line-clause-spent : goal.returns-in_err-take_line-in-Ok-Line-clause-spent
 returns-in_err-take_line-in-Ok-Line-clause-spent g c = λ is text end left right.
@@ -60,10 +54,7 @@ returns-in_err-send_many-in-Ok-Line-clause-front g c =
 
 pub returns-in_err-take_line-in-Ok-LastLine-clause-front : goal.returns-in_err-take_line-in-Ok-LastLine-clause-front
 returns-in_err-take_line-in-Ok-LastLine-clause-front g c =
-    on_err_always c.from_residual-in_err-take_line-in-Ok-LastLine.result
-    (λ text sent rest left held.
-    front_of sent (noted_in c.args.journal.now) c.args.auditor.now text _ _ (noted_in c.loop-auditor.journal) c.loop-auditor.auditor c.loop-auditor.lines.kept rest
-    (c.loop-auditor.invariant.wrote text sent left held))
+    on_err_always c.from_residual-in_err-take_line-in-Ok-LastLine.result (front_of _ _ _ _ _ _ _ _ _ c.loop-auditor.invariant.wrote)
 
 pub returns-in_err-take_line-in-Ok-LastLine-clause-spent : goal.returns-in_err-take_line-in-Ok-LastLine-clause-spent
 returns-in_err-take_line-in-Ok-LastLine-clause-spent g c = λ is text end left right.
@@ -98,10 +89,7 @@ returns-in-Ok-LastLine-clause-wrote g c =
 
 pub returns-in-Ok-LastLine-clause-front : goal.returns-in-Ok-LastLine-clause-front
 returns-in-Ok-LastLine-clause-front g c =
-    on_err_always c.finish_again.result
-    (λ text sent rest left held.
-    front_of sent (noted_in c.args.journal.now) c.args.auditor.now text _ _ (noted_in c.loop-auditor.journal) c.loop-auditor.auditor c.loop-auditor.lines.kept rest
-    (c.loop-auditor.invariant.wrote text sent left held))
+    on_err_always c.finish_again.result (front_of _ _ _ _ _ _ _ _ _ c.loop-auditor.invariant.wrote)
 
 pub returns-in-Ok-LastLine-clause-spent : goal.returns-in-Ok-LastLine-clause-spent
 returns-in-Ok-LastLine-clause-spent g c = λ is text end left right.
@@ -133,10 +121,7 @@ returns-in-Ok-End-clause-wrote g c =
 
 pub returns-in-Ok-End-clause-front : goal.returns-in-Ok-End-clause-front
 returns-in-Ok-End-clause-front g c =
-    on_err_always c.finish_again-in-Ok-End.result
-    (λ text sent rest left held.
-    front_of sent (noted_in c.args.journal.now) c.args.auditor.now text _ _ (noted_in c.loop-auditor.journal) c.loop-auditor.auditor c.loop-auditor.lines.kept rest
-    (c.loop-auditor.invariant.wrote text sent left held))
+    on_err_always c.finish_again-in-Ok-End.result (front_of _ _ _ _ _ _ _ _ _ c.loop-auditor.invariant.wrote)
 
 pub returns-in-Ok-End-clause-spent : goal.returns-in-Ok-End-clause-spent
 returns-in-Ok-End-clause-spent g c = λ is text end left right.
@@ -147,17 +132,14 @@ returns-in-Ok-End-clause-spent g c = λ is text end left right.
     (rw is at c.finish_again-in-Ok-End.ensures.fault) refl right)
 
 pub returns-in-Err-clause-front : goal.returns-in-Err-clause-front
-returns-in-Err-clause-front g c = λ text sent rest left held.
-    front_of sent (noted_in c.args.journal.now) c.args.auditor.now text _ _ (noted_in c.loop-auditor.journal) c.loop-auditor.auditor c.loop-auditor.lines.kept rest
-    (c.loop-auditor.invariant.wrote text sent left held)
+returns-in-Err-clause-front g c = front_of _ _ _ _ _ _ _ _ _ c.loop-auditor.invariant.wrote
 
 pub returns-in-Err-clause-spent : goal.returns-in-Err-clause-spent
 returns-in-Err-clause-spent g c = λ is text end left right.
     let before = c.loop-auditor.invariant in
+    let line = c.in-Err.ensures in
     let result : c.reading_again.result ≡ Read = cc in
     spent_reading _ c.args.auditor.now text _ c.loop-auditor.auditor c.loop-auditor.lines c.advance.new.self _ c.in-Err.fault end (before.reaches text left) c.in-Err.ensures.err c.in-Err.ensures.too_long
     (λ gave_up.
-    given_up_spent _ _ _ _ _ _ _ _ c.advance.new.self.reads before.failures before.stalls
-    (omega (arith, c.in-Err.ensures.calls, c.in-Err.ensures.no_more, before.calls, before.reads))
-    (c.in-Err.ensures.given_up (ap (λ (f : ReadFault). Err f) gave_up)))
+    given_up_spent _ _ _ _ _ _ _ _ before.reader line.no_more line.calls (line.given_up (ap (λ (f : ReadFault). Err f) gave_up)))
     (sym c.reading_again.ensures ∙ result) right

@@ -1,20 +1,14 @@
-use Rattle.std.proofs.Common.{◌≡◌, ℕ, ◌-◌, ◌≤◌, List, Some}
-use Rattle.device_core.specs.Device.{raised_by}
-use Rattle.device_core.specs.Patience.{IsUnblocked}
-use Rattle.device_core.specs.declared.patience.TheConstants.{MOST_READS}
+use Rattle.std.proofs.Common.{◌≡◌, ℕ, ◌-◌, List, Some}
 use Rattle.audit_core.specs.Printing.{noted_in, Writes}
 use Rattle.audit_core.specs.Standing.{Reaches}
 use Rattle.audit_core.specs.declared.fault.TheConstants.{MOST_RECORD_LINES}
+use Rattle.replay_core.proofs.Devices.{StillReads, StillWrites}
 use Rattle.audit_core.proofs.printing.print_lines.Given as goal
 
 abbrev pub invariant-loop-auditor : goal.invariant-loop-auditor
 invariant-loop-auditor g l = record {
-  reads : l.lines.reads ≤ MOST_READS;
-  calls : g.I.Input.calls l.reader ≡ raised_by (MOST_READS - l.lines.reads) (g.I.Input.calls l.initial.reader);
-  failures : g.I.Input.failures l.reader ≡ g.I.Input.failures l.initial.reader;
-  stalls : IsUnblocked (g.I.Input.stalls l.initial.reader) (g.I.Input.stalls l.reader);
-  writes : g.O.Output.failures l.writer ≡ g.O.Output.failures l.initial.writer;
-  write_stalls : IsUnblocked (g.O.Output.stalls l.initial.writer) (g.O.Output.stalls l.writer);
+  reader : StillReads g.I.Input.calls g.I.Input.failures g.I.Input.stalls l.initial.reader l.reader l.lines.reads;
+  writer : StillWrites g.O.Output.failures g.O.Output.stalls l.initial.writer l.writer;
   reaches : (text : List ℕ) → g.I.Input.left l.initial.reader ≡ Some text →
       Reaches l.initial.auditor text (g.I.Input.left l.reader) l.auditor l.lines.kept;
   wrote : (text sent : List ℕ) → g.I.Input.left l.initial.reader ≡ Some text → g.O.Output.held l.initial.writer ≡ Some sent →

@@ -1,21 +1,17 @@
-use Rattle.std.proofs.Common.{◌∙◌, arith}
+use Rattle.std.proofs.Common.{◌∙◌}
 use Rattle.std.proofs.lemmas.Result.{IfErr-weaker, on_ok_weaker, err_from_is_err_and}
-use Rattle.device_core.proofs.StallLemmas.{unblocked_on}
+use Rattle.replay_core.proofs.Devices.{reads_on}
 use Rattle.audit_core.proofs.ReachLemmas.{done_end, done_last, reaches_line, stops_end, stops_last, stops_line, stops_reading}
 use Rattle.audit_core.proofs.reading.check_lines.Goals as goal
 
 pub loop-auditor-preserved : goal.loop-auditor-preserved
 loop-auditor-preserved g c =
-    let gives = rw c.in-Ok-Line.field-0-is at c.in-Ok-Line.ensures.gives in
-    let before = c.loop-auditor.invariant in
+    let line = c.in-Ok-Line.ensures in
     record {
-      reads = omega (arith, c.in-Ok-Line.ensures.no_more);
-      calls = omega (arith, c.in-Ok-Line.ensures.calls, c.in-Ok-Line.ensures.no_more, before.calls);
-      failures = c.in-Ok-Line.ensures.failures (λ e. cc) ∙ before.failures;
-      stalls = unblocked_on _ _ _ before.stalls (c.in-Ok-Line.ensures.stalls (λ e. cc));
+      reader = reads_on _ _ _ _ _ _ _ _ c.loop-auditor.invariant.reader line.no_more line.calls (line.failures (λ e. cc)) (line.stalls (λ e. cc));
       reaches = λ text left.
           reaches_line c.args.auditor.now text _ c.loop-auditor.auditor c.check_line.new.self c.loop-auditor.lines c.advance.new.self _
-          (before.reaches text left) gives (rw c.line.ensures at c.in_ok-check_line-in-Ok-Line.ensures.ok);
+          (c.loop-auditor.invariant.reaches text left) (rw c.in-Ok-Line.field-0-is at c.in-Ok-Line.ensures.gives) (rw c.line.ensures at c.in_ok-check_line-in-Ok-Line.ensures.ok);
     }
 
 pub returns-in_err-check_line-in-Ok-Line-clause-stops : goal.returns-in_err-check_line-in-Ok-Line-clause-stops

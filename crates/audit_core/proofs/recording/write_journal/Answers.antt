@@ -1,47 +1,11 @@
-use Rattle.std.proofs.Common.{◌∙◌, subst, arith}
-use Rattle.std.proofs.lemmas.Result.{on_err_weaker, on_ok_weaker}
+use Rattle.std.proofs.Common.{subst}
+use Rattle.std.proofs.lemmas.Result.{on_ok_weaker}
 use Rattle.std.specs.Io.KnownBytes.{Appends}
-use Rattle.device_core.proofs.StallLemmas.{unblocked_on}
-use Rattle.audit_core.proofs.RecordingLemmas.{all_written, block_front, record_front, records_history, written_front, written_record}
-use Rattle.audit_core.proofs.WriteLemmas.{on_err_always}
+use Rattle.audit_core.proofs.RecordingLemmas.{records_history}
 use Rattle.audit_core.proofs.recording.write_journal.Goals as goal
-
-pub loop-record-preserved : goal.loop-record-preserved
-loop-record-preserved g c =
-    let before = c.loop-record.invariant in
-    record {
-      written =
-          written_record _ _ _ c.loop-record.block.items c.write_record.new.out.items _ c.loop-record.record-index c.args.records.now c.record-item.result before.written
-          c.loop-record-test.true c.record-item.is c.in-Ok.ensures c.in_ok-send_block-in-Ok.ensures.ok;
-      failures = c.in_ok-send_block-in-Ok.ensures.failures ∙ before.failures;
-      stalls = unblocked_on _ _ _ before.stalls c.in_ok-send_block-in-Ok.ensures.stalls;
-    }
-
-pub returns-in-Err-clause-front : goal.returns-in-Err-clause-front
-returns-in-Err-clause-front g c = written_front _ _ c.loop-record.block.items c.loop-record.record-index c.args.records.now c.loop-record.invariant.written
-
-pub returns-in_err-send_block-in-Ok-clause-front : goal.returns-in_err-send_block-in-Ok-clause-front
-returns-in_err-send_block-in-Ok-clause-front g c =
-    on_err_always c.from_residual.result
-    (record_front _ _ _ c.loop-record.block.items c.write_record.new.out.items c.loop-record.record-index c.args.records.now c.record-item.result c.loop-record.invariant.written
-    c.loop-record-test.true c.record-item.is c.in-Ok.ensures c.in_err-send_block-in-Ok.ensures.front)
-
-pub returns-clause-front : goal.returns-clause-front
-returns-clause-front g c =
-    on_err_weaker c.end_block.result
-    (λ part. block_front _ _ _ c.loop-record.block.items c.loop-record.record-index c.args.records.now c.loop-record.invariant.written part)
-    c.end_block.ensures.front
 
 pub returns-clause-history : goal.returns-clause-history
 returns-clause-history g c =
-    on_ok_weaker c.end_block.result
-    (λ added numbered.
-    subst (Appends _ _) (records_history c.args.records.now numbered)
-    (all_written _ _ _ c.loop-record.block.items c.args.records.now c.loop-record.record-index c.loop-record.invariant.written (omega arith) added))
-    c.end_block.ensures.ok
-
-pub returns-clause-ok : goal.returns-clause-ok
-returns-clause-ok g c =
-    on_ok_weaker c.end_block.result
-    (λ added. all_written _ _ _ c.loop-record.block.items c.args.records.now c.loop-record.record-index c.loop-record.invariant.written (omega arith) added)
-    c.end_block.ensures.ok
+    on_ok_weaker c.write_through.result
+    (λ added numbered. subst (Appends _ _) (records_history c.args.records.now numbered) added)
+    c.write_through.ensures.ok

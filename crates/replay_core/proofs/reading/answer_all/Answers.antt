@@ -1,6 +1,5 @@
-use Rattle.std.proofs.Common.{◌∙◌, arith}
 use Rattle.std.proofs.lemmas.Result.{IfErr-weaker, on_ok_weaker, err_from_is_err_and}
-use Rattle.device_core.proofs.StallLemmas.{unblocked_on}
+use Rattle.replay_core.proofs.Devices.{reads_on, writes_on}
 use Rattle.replay_core.proofs.ReachLemmas.{done_end, done_last, reaches_line, reaches_sent, stops_end, stops_last, stops_line, stops_reading, stops_write}
 use Rattle.replay_core.proofs.reading.answer_all.Goals as goal
 
@@ -26,19 +25,15 @@ returns-in_err-send_many-in-Ok-Line-clause-stops g c =
 
 pub loop-session-preserved : goal.loop-session-preserved
 loop-session-preserved g c =
+    let line = c.in-Ok-Line.ensures in
     let gives = rw c.in-Ok-Line.field-0-is at c.in-Ok-Line.ensures.gives in
-    let before = c.loop-session.invariant in
     record {
-      reads = omega (arith, c.in-Ok-Line.ensures.no_more);
-      calls = omega (arith, c.in-Ok-Line.ensures.calls, c.in-Ok-Line.ensures.no_more, before.calls);
-      failures = c.in-Ok-Line.ensures.failures (λ e. cc) ∙ before.failures;
-      stalls = unblocked_on _ _ _ before.stalls (c.in-Ok-Line.ensures.stalls (λ e. cc));
-      writes = c.in_ok-send_many-in-Ok-Line.ensures.failures ∙ before.writes;
-      write_stalls = unblocked_on _ _ _ before.write_stalls c.in_ok-send_many-in-Ok-Line.ensures.stalls;
+      reader = reads_on _ _ _ _ _ _ _ _ c.loop-session.invariant.reader line.no_more line.calls (line.failures (λ e. cc)) (line.stalls (λ e. cc));
+      writer = writes_on _ _ _ _ _ c.loop-session.invariant.writer c.in_ok-send_many-in-Ok-Line.ensures.failures c.in_ok-send_many-in-Ok-Line.ensures.stalls;
       reaches = λ script sent left held.
           reaches_sent sent c.args.session.now script _ _ c.answer_line.new.self c.advance.new.self.kept _ c.send_many.new.self
           (reaches_line sent c.args.session.now script _ _ c.loop-session.session c.answer_line.new.self c.loop-session.lines c.advance.new.self _
-          (before.reaches script sent left held) gives (rw c.line.ensures at c.in_ok-answer_line-in-Ok-Line.ensures.ok))
+          (c.loop-session.invariant.reaches script sent left held) gives (rw c.line.ensures at c.in_ok-answer_line-in-Ok-Line.ensures.ok))
           c.in_ok-send_many-in-Ok-Line.ensures.ok;
     }
 

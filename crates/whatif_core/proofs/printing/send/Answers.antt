@@ -4,8 +4,7 @@ use Rattle.whatif_core.proofs.printing.send.Goals as goal
 
 pub returns-in-Ok-clause-sends : goal.returns-in-Ok-clause-sends
 returns-in-Ok-clause-sends g c = λ sent is.
-    let wrote = rw c.unsent.ensures at c.in-Ok.ensures.ok in
-    sends_all _ sent (noted_in c.args.journal.now) (noted_in c.clear.new.self) (wrote sent is) c.clear.ensures
+    sends_all _ sent (noted_in c.args.journal.now) (noted_in c.clear.new.self) ((rw c.unsent.ensures at c.in-Ok.ensures.ok) sent is) c.clear.ensures
 
 pub returns-in-Err-clause-front : goal.returns-in-Err-clause-front
 returns-in-Err-clause-front g c = rw c.unsent.ensures at c.in-Err.ensures.front

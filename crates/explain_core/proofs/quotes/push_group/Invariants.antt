@@ -1,8 +1,0 @@
-use Rattle.std.proofs.Common.{◌≡◌, ◌++◌, drop, map}
-use Rattle.explain_core.specs.Text.{asked_in_group, criterion_line}
-use Rattle.explain_core.proofs.quotes.push_group.Given as goal
-
-abbrev pub invariant-loop-term : goal.invariant-loop-term
-invariant-loop-term g l =
-    l.lines.items ++ map (criterion_line (g.V.View.worth l.view)) (asked_in_group (g.V.View.acls l.view) (drop l.term-index l.group))
-    ≡ l.initial.lines.items ++ map (criterion_line (g.V.View.worth l.view)) (asked_in_group (g.V.View.acls l.view) l.group)
