@@ -14,10 +14,8 @@ use Rattle.conf_line.specs.declared.statement.Statement.TheVariants as statement
 
 -- a counter is below 3
 abbrev pub IsSoundAction : ActionWords → Type 0
-IsSoundAction actions.Accept = Unit {0}
-IsSoundAction actions.Reject = Unit {0}
 IsSoundAction (actions.Track track) = track.counter < COUNTERS
-IsSoundAction actions.ExpectProxy = Unit {0}
+IsSoundAction event = Unit {0}
 
 abbrev pub IsWithin : ℕ → ℕ → Type 0
 IsWithin most number = (1 ≤ number) × (number ≤ most)

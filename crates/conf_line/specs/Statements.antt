@@ -142,10 +142,7 @@ option_of words = do
 -- in global all words after `log` are free
 abbrev pub log_of : SectionKind → List (List ℕ) → Result Statement ConfKind
 log_of sections.Global words = Ok statements.Nothing
-log_of sections.Outside words = without_effect_if is_global words
-log_of sections.Defaults words = without_effect_if is_global words
-log_of sections.Frontend words = without_effect_if is_global words
-log_of sections.Backend words = without_effect_if is_global words
+log_of section words = without_effect_if is_global words
 
 -- Timeouts.
 

@@ -89,51 +89,35 @@ table_options (name ∷ value ∷ rest) = table_option name value >>= λ option.
 
 abbrev pub option_keys : TableOption → Option KeyType
 option_keys (options.Keys keys) = Some keys
-option_keys (options.Size size) = None
-option_keys (options.Store stores) = None
-option_keys (options.Expire ms) = None
+option_keys option = None
 
 abbrev pub option_size : TableOption → Option ℕ
-option_size (options.Keys keys) = None
 option_size (options.Size size) = Some size
-option_size (options.Store stores) = None
-option_size (options.Expire ms) = None
+option_size option = None
 
 abbrev pub option_expire : TableOption → Option ℕ
-option_expire (options.Keys keys) = None
-option_expire (options.Size size) = None
-option_expire (options.Store stores) = None
 option_expire (options.Expire ms) = Some ms
+option_expire option = None
 
 abbrev pub is_keys : TableOption → Bool
 is_keys (options.Keys keys) = true
-is_keys (options.Size size) = false
-is_keys (options.Store stores) = false
-is_keys (options.Expire ms) = false
+is_keys option = false
 
 abbrev pub is_size : TableOption → Bool
-is_size (options.Keys keys) = false
 is_size (options.Size size) = true
-is_size (options.Store stores) = false
-is_size (options.Expire ms) = false
+is_size option = false
 
 abbrev pub is_expire : TableOption → Bool
-is_expire (options.Keys keys) = false
-is_expire (options.Size size) = false
-is_expire (options.Store stores) = false
 is_expire (options.Expire ms) = true
+is_expire option = false
 
 abbrev pub stores_cur : TableOption → Bool
-stores_cur (options.Keys keys) = false
-stores_cur (options.Size size) = false
 stores_cur (options.Store stores) = stores.cur
-stores_cur (options.Expire ms) = false
+stores_cur option = false
 
 abbrev pub stores_cnt : TableOption → Bool
-stores_cnt (options.Keys keys) = false
-stores_cnt (options.Size size) = false
 stores_cnt (options.Store stores) = stores.cnt
-stores_cnt (options.Expire ms) = false
+stores_cnt option = false
 
 -- `type`, `size` or `expire` is given twice
 abbrev pub has_repeat : List TableOption → Bool

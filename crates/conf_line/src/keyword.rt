@@ -1,6 +1,6 @@
 //! Keywords.
 ghost use Rattle.std.specs.Prelude.{◌≡◌};
-ghost use Rattle.conf_line.specs.Keywords.{keyword_of, check_keyword};
+ghost use Rattle.conf_line.specs.Keywords.{keyword_of, check_keyword, check_keyword_in, check_support, in_backend, in_defaults, in_frontend, in_global};
 
 use crate::fault::ConfKind;
 use crate::statement::SectionKind;
@@ -85,55 +85,100 @@ pub fn check_keyword(kind: SectionKind, keyword: Keyword) -> Result<(), ConfKind
         Keyword::Unknown => Err(ConfKind::UnknownKeyword),
         Keyword::Listen => Err(ConfKind::Unsupported),
         Keyword::Global | Keyword::Defaults | Keyword::Frontend | Keyword::Backend => Ok(()),
-        _ => match kind {
-            SectionKind::Outside => Err(ConfKind::NoSection),
-            SectionKind::Global => match keyword {
-                Keyword::Log
-                | Keyword::Daemon
-                | Keyword::User
-                | Keyword::Group
-                | Keyword::Chroot
-                | Keyword::Pidfile
-                | Keyword::Nbthread => Ok(()),
-                _ => Err(ConfKind::Unsupported),
-            },
-            SectionKind::Defaults => match keyword {
-                Keyword::Mode
-                | Keyword::MaxConn
-                | Keyword::DefaultBackend
-                | Keyword::Balance
-                | Keyword::Log
-                | Keyword::Option
-                | Keyword::Timeout
-                | Keyword::Retries => Ok(()),
-                _ => Err(ConfKind::Unsupported),
-            },
-            SectionKind::Frontend => match keyword {
-                Keyword::Mode
-                | Keyword::MaxConn
-                | Keyword::DefaultBackend
-                | Keyword::Bind
-                | Keyword::Acl
-                | Keyword::TcpRequest
-                | Keyword::UseBackend
-                | Keyword::StickTable
-                | Keyword::Log
-                | Keyword::Option
-                | Keyword::Timeout
-                | Keyword::Retries => Ok(()),
-                _ => Err(ConfKind::Unsupported),
-            },
-            SectionKind::Backend => match keyword {
-                Keyword::Mode
-                | Keyword::Balance
-                | Keyword::StickTable
-                | Keyword::Server
-                | Keyword::Log
-                | Keyword::Option
-                | Keyword::Timeout
-                | Keyword::Retries => Ok(()),
-                _ => Err(ConfKind::Unsupported),
-            },
-        },
+        _ => check_keyword_in(kind, keyword),
     }
+}
+
+/// The same of a keyword that opens no section.
+fn check_keyword_in(kind: SectionKind, keyword: Keyword) -> Result<(), ConfKind>
+    ensures { result ≡ check_keyword_in kind keyword }
+{
+    match kind {
+        SectionKind::Outside => Err(ConfKind::NoSection),
+        SectionKind::Global => check_support(in_global(keyword)),
+        SectionKind::Defaults => check_support(in_defaults(keyword)),
+        SectionKind::Frontend => check_support(in_frontend(keyword)),
+        SectionKind::Backend => check_support(in_backend(keyword)),
+    }
+}
+
+fn check_support(is_supported: bool) -> Result<(), ConfKind>
+    ensures { result ≡ check_support is_supported }
+{
+    if is_supported {
+        Ok(())
+    } else {
+        Err(ConfKind::Unsupported)
+    }
+}
+
+/// Whether a keyword is one of `global`.
+fn in_global(keyword: Keyword) -> bool
+    ensures { result ≡ in_global keyword }
+{
+    matches!(
+        keyword,
+        Keyword::Log
+            | Keyword::Daemon
+            | Keyword::User
+            | Keyword::Group
+            | Keyword::Chroot
+            | Keyword::Pidfile
+            | Keyword::Nbthread
+    )
+}
+
+/// Whether a keyword is one of `defaults`.
+fn in_defaults(keyword: Keyword) -> bool
+    ensures { result ≡ in_defaults keyword }
+{
+    matches!(
+        keyword,
+        Keyword::Mode
+            | Keyword::MaxConn
+            | Keyword::DefaultBackend
+            | Keyword::Balance
+            | Keyword::Log
+            | Keyword::Option
+            | Keyword::Timeout
+            | Keyword::Retries
+    )
+}
+
+/// Whether a keyword is one of a frontend.
+fn in_frontend(keyword: Keyword) -> bool
+    ensures { result ≡ in_frontend keyword }
+{
+    matches!(
+        keyword,
+        Keyword::Mode
+            | Keyword::MaxConn
+            | Keyword::DefaultBackend
+            | Keyword::Bind
+            | Keyword::Acl
+            | Keyword::TcpRequest
+            | Keyword::UseBackend
+            | Keyword::StickTable
+            | Keyword::Log
+            | Keyword::Option
+            | Keyword::Timeout
+            | Keyword::Retries
+    )
+}
+
+/// Whether a keyword is one of a backend.
+fn in_backend(keyword: Keyword) -> bool
+    ensures { result ≡ in_backend keyword }
+{
+    matches!(
+        keyword,
+        Keyword::Mode
+            | Keyword::Balance
+            | Keyword::StickTable
+            | Keyword::Server
+            | Keyword::Log
+            | Keyword::Option
+            | Keyword::Timeout
+            | Keyword::Retries
+    )
 }

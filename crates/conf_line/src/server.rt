@@ -135,51 +135,33 @@ pub struct Options {
 }
 
 /// The same with one option more, which counts before those.
-fn with_option(options: Options, option: &ServerOption) -> Options
+fn with_option(mut options: Options, option: &ServerOption) -> Options
     ensures { result ≡ with_option options option.now }
 {
     match option {
-        ServerOption::Weight(weight) => Options {
-            weight: Some(*weight),
-            ..options
-        },
-        ServerOption::MaxConn(limit) => Options {
-            limit: Some(*limit),
-            exceeds: options.exceeds || *limit > MOST_CONNECTIONS,
-            ..options
-        },
-        ServerOption::Disabled => Options {
-            disabled: true,
-            ..options
-        },
-        ServerOption::SendProxy => Options {
-            send_proxy: true,
-            ..options
-        },
-        ServerOption::SendProxyV2 => Options {
-            send_proxy_v2: true,
-            ..options
-        },
-        ServerOption::Check => Options {
-            check: true,
-            ..options
-        },
-        ServerOption::Inter(ms) => Options {
-            inter: Some(*ms),
-            exceeds: options.exceeds || *ms > MOST_INTERVAL,
-            ..options
-        },
-        ServerOption::Fall(count) => Options {
-            fall: Some(*count),
-            exceeds: options.exceeds || *count > MOST_CHECKS,
-            ..options
-        },
-        ServerOption::Rise(count) => Options {
-            rise: Some(*count),
-            exceeds: options.exceeds || *count > MOST_CHECKS,
-            ..options
-        },
+        ServerOption::Weight(weight) => options.weight = Some(*weight),
+        ServerOption::MaxConn(limit) => {
+            options.limit = Some(*limit);
+            options.exceeds = options.exceeds || *limit > MOST_CONNECTIONS;
+        }
+        ServerOption::Disabled => options.disabled = true,
+        ServerOption::SendProxy => options.send_proxy = true,
+        ServerOption::SendProxyV2 => options.send_proxy_v2 = true,
+        ServerOption::Check => options.check = true,
+        ServerOption::Inter(ms) => {
+            options.inter = Some(*ms);
+            options.exceeds = options.exceeds || *ms > MOST_INTERVAL;
+        }
+        ServerOption::Fall(count) => {
+            options.fall = Some(*count);
+            options.exceeds = options.exceeds || *count > MOST_CHECKS;
+        }
+        ServerOption::Rise(count) => {
+            options.rise = Some(*count);
+            options.exceeds = options.exceeds || *count > MOST_CHECKS;
+        }
     }
+    options
 }
 
 /// What all options of the words say together.

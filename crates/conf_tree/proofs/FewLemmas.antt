@@ -40,43 +40,13 @@ below n is = grind (arith, is)
 
 frontends_of : (items : List ConfigLine) (line : ℕ) (place : SectionPlace) (s : Statement) → is_full items place s ≡ false → length (filter is_frontend (claims_of items)) ≤ 64
     → length (filter is_frontend (claims_of items)) + length (filter is_frontend (claims_of (record { line = line; place = place; statement = s } ∷ []))) ≤ 64
-frontends_of items line place statements.Nothing full few = (omega arith)
-frontends_of items line place statements.Global full few = (omega arith)
-frontends_of items line place statements.Defaults full few = (omega arith)
 frontends_of items line place (statements.Frontend name) full few = below (length (filter is_frontend (claims_of items))) full
-frontends_of items line place (statements.Backend name) full few = (omega arith)
-frontends_of items line place (statements.MaxConn limit) full few = (omega arith)
-frontends_of items line place (statements.Timeout kind ms) full few = (omega arith)
-frontends_of items line place (statements.Retries count) full few = (omega arith)
-frontends_of items line place (statements.Redispatch every) full few = (omega arith)
-frontends_of items line place (statements.DefaultBackend name) full few = (omega arith)
-frontends_of items line place (statements.Balance method) full few = (omega arith)
-frontends_of items line place (statements.Bind at proxy) full few = (omega arith)
-frontends_of items line place (statements.Rule list action when) full few = (omega arith)
-frontends_of items line place (statements.UseBackend name when) full few = (omega arith)
-frontends_of items line place (statements.Acl name test) full few = (omega arith)
-frontends_of items line place (statements.StickTable table) full few = (omega arith)
-frontends_of items line place (statements.Server server) full few = (omega arith)
+frontends_of items line place statement full few = (omega arith)
 
 backends_of : (items : List ConfigLine) (line : ℕ) (place : SectionPlace) (s : Statement) → is_full items place s ≡ false → length (filter is_backend (claims_of items)) ≤ 64
     → length (filter is_backend (claims_of items)) + length (filter is_backend (claims_of (record { line = line; place = place; statement = s } ∷ []))) ≤ 64
-backends_of items line place statements.Nothing full few = (omega arith)
-backends_of items line place statements.Global full few = (omega arith)
-backends_of items line place statements.Defaults full few = (omega arith)
-backends_of items line place (statements.Frontend name) full few = (omega arith)
 backends_of items line place (statements.Backend name) full few = below (length (filter is_backend (claims_of items))) full
-backends_of items line place (statements.MaxConn limit) full few = (omega arith)
-backends_of items line place (statements.Timeout kind ms) full few = (omega arith)
-backends_of items line place (statements.Retries count) full few = (omega arith)
-backends_of items line place (statements.Redispatch every) full few = (omega arith)
-backends_of items line place (statements.DefaultBackend name) full few = (omega arith)
-backends_of items line place (statements.Balance method) full few = (omega arith)
-backends_of items line place (statements.Bind at proxy) full few = (omega arith)
-backends_of items line place (statements.Rule list action when) full few = (omega arith)
-backends_of items line place (statements.UseBackend name when) full few = (omega arith)
-backends_of items line place (statements.Acl name test) full few = (omega arith)
-backends_of items line place (statements.StickTable table) full few = (omega arith)
-backends_of items line place (statements.Server server) full few = (omega arith)
+backends_of items line place statement full few = (omega arith)
 
 joined : (test : Claim → Bool) (items : List ConfigLine) (item : ConfigLine)
     → length (filter test (claims_of (items ++ item ∷ []))) ≡ length (filter test (claims_of items)) + length (filter test (claims_of (item ∷ [])))

@@ -48,19 +48,7 @@ first_within items statements.Global within = omega arith
 first_within items statements.Defaults within = omega arith
 first_within items (statements.Frontend name) within = omega arith
 first_within items (statements.Backend name) within = omega arith
-first_within items (statements.Acl name test) within = omega (arith, within)
-first_within items statements.Nothing within = omega (arith, within)
-first_within items (statements.MaxConn limit) within = omega (arith, within)
-first_within items (statements.Timeout kind ms) within = omega (arith, within)
-first_within items (statements.Retries count) within = omega (arith, within)
-first_within items (statements.Redispatch every) within = omega (arith, within)
-first_within items (statements.DefaultBackend name) within = omega (arith, within)
-first_within items (statements.Balance method) within = omega (arith, within)
-first_within items (statements.Bind at proxy) within = omega (arith, within)
-first_within items (statements.Rule list action when) within = omega (arith, within)
-first_within items (statements.UseBackend name when) within = omega (arith, within)
-first_within items (statements.StickTable table) within = omega (arith, within)
-first_within items (statements.Server server) within = omega (arith, within)
+first_within items statement within = omega (arith, within)
 
 place_within : (items : List ConfigLine) (item : ConfigLine) → item.place ≡ place_of (place_after items) (length items) item.statement → (place_after items).first ≤ length items →
     (place_after (items ++ item ∷ [])).first ≤ length (items ++ item ∷ [])

@@ -99,38 +99,14 @@ place_opened place number statements.Global is = refl
 place_opened place number statements.Defaults is = refl
 place_opened place number (statements.Frontend name) is = refl
 place_opened place number (statements.Backend name) is = refl
-place_opened place number statements.Nothing is = absurd cc
-place_opened place number (statements.MaxConn limit) is = absurd cc
-place_opened place number (statements.Timeout kind ms) is = absurd cc
-place_opened place number (statements.Retries count) is = absurd cc
-place_opened place number (statements.Redispatch every) is = absurd cc
-place_opened place number (statements.DefaultBackend name) is = absurd cc
-place_opened place number (statements.Balance method) is = absurd cc
-place_opened place number (statements.Bind at proxy) is = absurd cc
-place_opened place number (statements.Acl name test) is = absurd cc
-place_opened place number (statements.Rule list action when) is = absurd cc
-place_opened place number (statements.UseBackend name when) is = absurd cc
-place_opened place number (statements.StickTable table) is = absurd cc
-place_opened place number (statements.Server server) is = absurd cc
+place_opened place number statement is = absurd cc
 
 pub place_kept : (place : SectionPlace) (number : ℕ) (s : Statement) → opens s ≡ false → place_of place number s ≡ place
 place_kept place number statements.Global is = absurd cc
 place_kept place number statements.Defaults is = absurd cc
 place_kept place number (statements.Frontend name) is = absurd cc
 place_kept place number (statements.Backend name) is = absurd cc
-place_kept place number statements.Nothing is = refl
-place_kept place number (statements.MaxConn limit) is = refl
-place_kept place number (statements.Timeout kind ms) is = refl
-place_kept place number (statements.Retries count) is = refl
-place_kept place number (statements.Redispatch every) is = refl
-place_kept place number (statements.DefaultBackend name) is = refl
-place_kept place number (statements.Balance method) is = refl
-place_kept place number (statements.Bind at proxy) is = refl
-place_kept place number (statements.Acl name test) is = refl
-place_kept place number (statements.Rule list action when) is = refl
-place_kept place number (statements.UseBackend name when) is = refl
-place_kept place number (statements.StickTable table) is = refl
-place_kept place number (statements.Server server) is = refl
+place_kept place number statement is = refl
 
 -- Room for one line more of a kind.
 
@@ -162,42 +138,12 @@ number_more most test lines item few room =
     by false more = subst (λ xs. length xs ≤ most) (sym (append-nil those)) few
 
 room_of_bind : (items : List ConfigLine) (place : SectionPlace) (s : Statement) → is_full items place s ≡ false → HasRoomOf MOST_BINDS is_bind s (section_lines place items)
-room_of_bind items place statements.Nothing full is = absurd cc
-room_of_bind items place statements.Global full is = absurd cc
-room_of_bind items place statements.Defaults full is = absurd cc
-room_of_bind items place (statements.Frontend name) full is = absurd cc
-room_of_bind items place (statements.Backend name) full is = absurd cc
-room_of_bind items place (statements.MaxConn limit) full is = absurd cc
-room_of_bind items place (statements.Timeout kind ms) full is = absurd cc
-room_of_bind items place (statements.Retries count) full is = absurd cc
-room_of_bind items place (statements.Redispatch every) full is = absurd cc
-room_of_bind items place (statements.DefaultBackend name) full is = absurd cc
-room_of_bind items place (statements.Balance method) full is = absurd cc
 room_of_bind items place (statements.Bind at proxy) full is = below (number is_bind (section_lines place items)) full
-room_of_bind items place (statements.Acl name test) full is = absurd cc
-room_of_bind items place (statements.Rule list action when) full is = absurd cc
-room_of_bind items place (statements.UseBackend name when) full is = absurd cc
-room_of_bind items place (statements.StickTable table) full is = absurd cc
-room_of_bind items place (statements.Server server) full is = absurd cc
+room_of_bind items place statement full is = absurd cc
 
 room_of_server : (items : List ConfigLine) (place : SectionPlace) (s : Statement) → is_full items place s ≡ false → HasRoomOf MOST_SERVERS is_server s (section_lines place items)
-room_of_server items place statements.Nothing full is = absurd cc
-room_of_server items place statements.Global full is = absurd cc
-room_of_server items place statements.Defaults full is = absurd cc
-room_of_server items place (statements.Frontend name) full is = absurd cc
-room_of_server items place (statements.Backend name) full is = absurd cc
-room_of_server items place (statements.MaxConn limit) full is = absurd cc
-room_of_server items place (statements.Timeout kind ms) full is = absurd cc
-room_of_server items place (statements.Retries count) full is = absurd cc
-room_of_server items place (statements.Redispatch every) full is = absurd cc
-room_of_server items place (statements.DefaultBackend name) full is = absurd cc
-room_of_server items place (statements.Balance method) full is = absurd cc
-room_of_server items place (statements.Bind at proxy) full is = absurd cc
-room_of_server items place (statements.Acl name test) full is = absurd cc
-room_of_server items place (statements.Rule list action when) full is = absurd cc
-room_of_server items place (statements.UseBackend name when) full is = absurd cc
-room_of_server items place (statements.StickTable table) full is = absurd cc
 room_of_server items place (statements.Server server) full is = below (number is_server (section_lines place items)) full
+room_of_server items place statement full is = absurd cc
 
 -- A server's name that no other one has.
 
@@ -209,24 +155,9 @@ other_way a b differ = by (bytes_eq b a) refl
     by false is = refl
 
 free_in_rest : (first : ConfigLine) (rest : List ConfigLine) (s : Statement) → has_server (first ∷ rest) s ≡ false → has_server rest s ≡ false
-free_in_rest first rest statements.Nothing free = refl
-free_in_rest first rest statements.Global free = refl
-free_in_rest first rest statements.Defaults free = refl
-free_in_rest first rest (statements.Frontend name) free = refl
-free_in_rest first rest (statements.Backend name) free = refl
-free_in_rest first rest (statements.MaxConn limit) free = refl
-free_in_rest first rest (statements.Timeout kind ms) free = refl
-free_in_rest first rest (statements.Retries count) free = refl
-free_in_rest first rest (statements.Redispatch every) free = refl
-free_in_rest first rest (statements.DefaultBackend name) free = refl
-free_in_rest first rest (statements.Balance method) free = refl
-free_in_rest first rest (statements.Bind at proxy) free = refl
-free_in_rest first rest (statements.Acl name test) free = refl
-free_in_rest first rest (statements.Rule list action when) free = refl
-free_in_rest first rest (statements.UseBackend name when) free = refl
-free_in_rest first rest (statements.StickTable table) free = refl
 free_in_rest first rest (statements.Server server) free =
     (neither (is_server_named server.name first.statement) (list_any (λ item. is_server_named server.name item.statement) rest) free).1
+free_in_rest first rest statement free = refl
 
 -- the server before it has another name
 other_before : (words : ServerWords) (line : ℕ) (place : SectionPlace) (rest : List ConfigLine) (s : Statement) → has_server (record { line = line; place = place; statement = statements.Server words } ∷ rest) s ≡ false →
@@ -252,26 +183,11 @@ other_before words line place rest (statements.Server server) free =
 
 one_name_more : (s : Statement) (line : ℕ) (place : SectionPlace) (rest : List ConfigLine) (item : ConfigLine) → has_server rest s ≡ false →
     has_server (record { line = line; place = place; statement = s } ∷ rest) item.statement ≡ false → has_server (rest ++ item ∷ []) s ≡ false
-one_name_more statements.Nothing line place rest item before free = refl
-one_name_more statements.Global line place rest item before free = refl
-one_name_more statements.Defaults line place rest item before free = refl
-one_name_more (statements.Frontend name) line place rest item before free = refl
-one_name_more (statements.Backend name) line place rest item before free = refl
-one_name_more (statements.MaxConn limit) line place rest item before free = refl
-one_name_more (statements.Timeout kind ms) line place rest item before free = refl
-one_name_more (statements.Retries count) line place rest item before free = refl
-one_name_more (statements.Redispatch every) line place rest item before free = refl
-one_name_more (statements.DefaultBackend name) line place rest item before free = refl
-one_name_more (statements.Balance method) line place rest item before free = refl
-one_name_more (statements.Bind at proxy) line place rest item before free = refl
-one_name_more (statements.Acl name test) line place rest item before free = refl
-one_name_more (statements.Rule list action when) line place rest item before free = refl
-one_name_more (statements.UseBackend name when) line place rest item before free = refl
-one_name_more (statements.StickTable table) line place rest item before free = refl
 one_name_more (statements.Server words) line place rest item before free =
     list_any-append (λ i. is_server_named words.name i.statement) rest (item ∷ [])
     ∙ ap (λ b. b || (is_server_named words.name item.statement || false)) before
     ∙ ap (λ b. b || false) (other_before words line place rest item.statement free)
+one_name_more statement line place rest item before free = refl
 
 names_more : (lines : List ConfigLine) (item : ConfigLine) → ServersDiffer lines → has_server lines item.statement ≡ false → ServersDiffer (lines ++ item ∷ [])
 names_more [] item differ free = (free, tt)

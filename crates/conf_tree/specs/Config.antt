@@ -66,22 +66,7 @@ section_lines place items = drop place.first items
 
 abbrev pub acl_name : Statement → Option (List ℕ)
 acl_name (statements.Acl name test) = Some name
-acl_name statements.Nothing = None
-acl_name statements.Global = None
-acl_name statements.Defaults = None
-acl_name (statements.Frontend name) = None
-acl_name (statements.Backend name) = None
-acl_name (statements.MaxConn limit) = None
-acl_name (statements.Timeout kind ms) = None
-acl_name (statements.Retries count) = None
-acl_name (statements.Redispatch every) = None
-acl_name (statements.DefaultBackend name) = None
-acl_name (statements.Balance method) = None
-acl_name (statements.Bind at proxy) = None
-acl_name (statements.Rule list action when) = None
-acl_name (statements.UseBackend name when) = None
-acl_name (statements.StickTable table) = None
-acl_name (statements.Server server) = None
+acl_name statement = None
 
 -- the names that some lines of a section declare, each once, in the order of their first declarations
 abbrev pub acl_names : List ConfigLine → List (List ℕ)
@@ -241,22 +226,7 @@ text_fault (Err f) = Err (record { line = f.line; kind = kinds.Text f.kind })
 
 abbrev pub has_effect : Statement → Bool
 has_effect statements.Nothing = false
-has_effect statements.Global = true
-has_effect statements.Defaults = true
-has_effect (statements.Frontend name) = true
-has_effect (statements.Backend name) = true
-has_effect (statements.MaxConn limit) = true
-has_effect (statements.Timeout kind ms) = true
-has_effect (statements.Retries count) = true
-has_effect (statements.Redispatch every) = true
-has_effect (statements.DefaultBackend name) = true
-has_effect (statements.Balance method) = true
-has_effect (statements.Bind at proxy) = true
-has_effect (statements.Acl name test) = true
-has_effect (statements.Rule list action when) = true
-has_effect (statements.UseBackend name when) = true
-has_effect (statements.StickTable table) = true
-has_effect (statements.Server server) = true
+has_effect statement = true
 
 -- the items of the lines that have an effect
 abbrev pub with_effect : List ConfigLine → List ConfigLine

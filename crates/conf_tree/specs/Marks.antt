@@ -6,6 +6,4 @@ use Rattle.conf_tree.specs.declared.claim.Claim.TheVariants as claims
 -- the port of an endpoint
 abbrev pub mark_of : Claim → ℕ
 mark_of (claims.Endpoint at) = at.port
-mark_of (claims.Frontend name) = 0
-mark_of (claims.Backend name) = 0
-mark_of (claims.Table name) = 0
+mark_of claim = 0

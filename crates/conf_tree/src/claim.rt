@@ -34,19 +34,7 @@ pub fn claim_of<'a>(place: &SectionPlace<'a>, statement: &Statement<'a>) -> Opti
         Statement::Backend(name) => Some(Claim::Backend(name.again())),
         Statement::Bind(at, _) => Some(Claim::Endpoint(*at)),
         Statement::StickTable(_) => Some(Claim::Table(place.name.again())),
-        Statement::Nothing
-        | Statement::Global
-        | Statement::Defaults
-        | Statement::MaxConn(_)
-        | Statement::Timeout(..)
-        | Statement::Retries(_)
-        | Statement::Redispatch(_)
-        | Statement::DefaultBackend(_)
-        | Statement::Balance(_)
-        | Statement::Acl(_, _)
-        | Statement::Rule(_, _, _)
-        | Statement::UseBackend(_, _)
-        | Statement::Server(_) => None,
+        _ => None,
     }
 }
 

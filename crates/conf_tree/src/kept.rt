@@ -53,18 +53,7 @@ fn names_after<'a>(
         Statement::Global | Statement::Defaults | Statement::Frontend(_) | Statement::Backend(_) =>
             Ok(Seq::new(alloc)),
         Statement::Acl(name, _) => names_with(known, name.again()),
-        Statement::Nothing
-        | Statement::MaxConn(_)
-        | Statement::Timeout(..)
-        | Statement::Retries(_)
-        | Statement::Redispatch(_)
-        | Statement::DefaultBackend(_)
-        | Statement::Balance(_)
-        | Statement::Bind(_, _)
-        | Statement::Rule(_, _, _)
-        | Statement::UseBackend(_, _)
-        | Statement::StickTable(_)
-        | Statement::Server(_) => Ok(known),
+        _ => Ok(known),
     }
 }
 

@@ -16,22 +16,7 @@ fn acl_name<'a>(statement: &Statement<'a>) -> Option<Word<'a>>
 {
     match statement {
         Statement::Acl(name, _) => Some(name.again()),
-        Statement::Nothing
-        | Statement::Global
-        | Statement::Defaults
-        | Statement::Frontend(_)
-        | Statement::Backend(_)
-        | Statement::MaxConn(_)
-        | Statement::Timeout(..)
-        | Statement::Retries(_)
-        | Statement::Redispatch(_)
-        | Statement::DefaultBackend(_)
-        | Statement::Balance(_)
-        | Statement::Bind(_, _)
-        | Statement::Rule(_, _, _)
-        | Statement::UseBackend(_, _)
-        | Statement::StickTable(_)
-        | Statement::Server(_) => None,
+        _ => None,
     }
 }
 

@@ -79,19 +79,7 @@ fn place_of<'a>(
             name: name.again(),
             first: number,
         },
-        Statement::Nothing
-        | Statement::MaxConn(_)
-        | Statement::Timeout(..)
-        | Statement::Retries(_)
-        | Statement::Redispatch(_)
-        | Statement::DefaultBackend(_)
-        | Statement::Balance(_)
-        | Statement::Bind(_, _)
-        | Statement::Acl(_, _)
-        | Statement::Rule(_, _, _)
-        | Statement::UseBackend(_, _)
-        | Statement::StickTable(_)
-        | Statement::Server(_) => place,
+        _ => place,
     }
 }
 
@@ -237,16 +225,7 @@ fn is_full(kept: &Kept, place: &SectionPlace, statement: &Statement) -> bool
             are_rules(section_lines(place, items))
         }
         Statement::Server(_) => are_servers(section_lines(place, items)),
-        Statement::Nothing
-        | Statement::Global
-        | Statement::Defaults
-        | Statement::MaxConn(_)
-        | Statement::Timeout(..)
-        | Statement::Retries(_)
-        | Statement::Redispatch(_)
-        | Statement::DefaultBackend(_)
-        | Statement::Balance(_)
-        | Statement::StickTable(_) => false,
+        _ => false,
     }
 }
 

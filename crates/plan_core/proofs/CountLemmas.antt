@@ -98,41 +98,11 @@ as_many {X} setting test same (item ∷ rest) = by (setting item.line item.state
 
 is_one_bind : (at : ℕ) (s : Statement) → is_some (line_bind at s) ≡ is_bind s
 is_one_bind at statements.Nothing = refl
-is_one_bind at statements.Global = refl
-is_one_bind at statements.Defaults = refl
-is_one_bind at (statements.Frontend name) = refl
-is_one_bind at (statements.Backend name) = refl
-is_one_bind at (statements.MaxConn limit) = refl
-is_one_bind at (statements.Timeout kind ms) = refl
-is_one_bind at (statements.Retries count) = refl
-is_one_bind at (statements.Redispatch every) = refl
-is_one_bind at (statements.DefaultBackend name) = refl
-is_one_bind at (statements.Balance method) = refl
-is_one_bind at (statements.Acl called test) = refl
-is_one_bind at (statements.UseBackend called when) = refl
-is_one_bind at (statements.Bind endpoint flag) = refl
-is_one_bind at (statements.Rule list action when) = refl
-is_one_bind at (statements.StickTable table) = refl
-is_one_bind at (statements.Server server) = refl
+is_one_bind at statement = refl
 
 is_one_server : (at : ℕ) (s : Statement) → is_some (line_server at s) ≡ is_server s
 is_one_server at statements.Nothing = refl
-is_one_server at statements.Global = refl
-is_one_server at statements.Defaults = refl
-is_one_server at (statements.Frontend name) = refl
-is_one_server at (statements.Backend name) = refl
-is_one_server at (statements.MaxConn limit) = refl
-is_one_server at (statements.Timeout kind ms) = refl
-is_one_server at (statements.Retries count) = refl
-is_one_server at (statements.Redispatch every) = refl
-is_one_server at (statements.DefaultBackend name) = refl
-is_one_server at (statements.Balance method) = refl
-is_one_server at (statements.Acl called test) = refl
-is_one_server at (statements.UseBackend called when) = refl
-is_one_server at (statements.Bind endpoint flag) = refl
-is_one_server at (statements.Rule list action when) = refl
-is_one_server at (statements.StickTable table) = refl
-is_one_server at (statements.Server server) = refl
+is_one_server at statement = refl
 
 pub few_binds : (own : List ConfigLine) → IsSoundSection own → length (all_of line_bind own) ≤ MOST_BINDS
 few_binds own sound = rw (as_many line_bind is_bind is_one_bind own) sound.binds

@@ -29,43 +29,13 @@ use Rattle.plan_core.specs.Proxies.{line_head, base_after, proxy_with, proxies, 
 
 one_frontend : (setting : Statement) (line : ℕ) (place : SectionPlace) (base own : List ConfigLine) (rest : List Proxy) (claims : List Claim) → length (filter is_frontend rest) ≡ length (filter config.is_frontend claims) →
     length (filter is_frontend (option_to_list (option_map (proxy_with base own) (line_head line setting)) ++ rest)) ≡ length (filter config.is_frontend (cons_option (config.claim_of place setting) claims))
-one_frontend statements.Nothing line place base own rest claims same = same
-one_frontend statements.Global line place base own rest claims same = same
-one_frontend statements.Defaults line place base own rest claims same = same
 one_frontend (statements.Frontend name) line place base own rest claims same = ap (λ n. suc n) same
-one_frontend (statements.Backend name) line place base own rest claims same = same
-one_frontend (statements.MaxConn limit) line place base own rest claims same = same
-one_frontend (statements.Timeout kind ms) line place base own rest claims same = same
-one_frontend (statements.Retries count) line place base own rest claims same = same
-one_frontend (statements.Redispatch every) line place base own rest claims same = same
-one_frontend (statements.DefaultBackend name) line place base own rest claims same = same
-one_frontend (statements.Balance method) line place base own rest claims same = same
-one_frontend (statements.Acl called test) line place base own rest claims same = same
-one_frontend (statements.UseBackend called when) line place base own rest claims same = same
-one_frontend (statements.Bind endpoint flag) line place base own rest claims same = same
-one_frontend (statements.Rule list action when) line place base own rest claims same = same
-one_frontend (statements.StickTable table) line place base own rest claims same = same
-one_frontend (statements.Server server) line place base own rest claims same = same
+one_frontend statement line place base own rest claims same = same
 
 one_backend : (setting : Statement) (line : ℕ) (place : SectionPlace) (base own : List ConfigLine) (rest : List Proxy) (claims : List Claim) → length (filter is_backend rest) ≡ length (filter config.is_backend claims) →
     length (filter is_backend (option_to_list (option_map (proxy_with base own) (line_head line setting)) ++ rest)) ≡ length (filter config.is_backend (cons_option (config.claim_of place setting) claims))
-one_backend statements.Nothing line place base own rest claims same = same
-one_backend statements.Global line place base own rest claims same = same
-one_backend statements.Defaults line place base own rest claims same = same
-one_backend (statements.Frontend name) line place base own rest claims same = same
 one_backend (statements.Backend name) line place base own rest claims same = ap (λ n. suc n) same
-one_backend (statements.MaxConn limit) line place base own rest claims same = same
-one_backend (statements.Timeout kind ms) line place base own rest claims same = same
-one_backend (statements.Retries count) line place base own rest claims same = same
-one_backend (statements.Redispatch every) line place base own rest claims same = same
-one_backend (statements.DefaultBackend name) line place base own rest claims same = same
-one_backend (statements.Balance method) line place base own rest claims same = same
-one_backend (statements.Acl called test) line place base own rest claims same = same
-one_backend (statements.UseBackend called when) line place base own rest claims same = same
-one_backend (statements.Bind endpoint flag) line place base own rest claims same = same
-one_backend (statements.Rule list action when) line place base own rest claims same = same
-one_backend (statements.StickTable table) line place base own rest claims same = same
-one_backend (statements.Server server) line place base own rest claims same = same
+one_backend statement line place base own rest claims same = same
 
 frontends_claimed : (base items : List ConfigLine) → length (frontends (proxies base items)) ≡ length (filter config.is_frontend (config.claims_of items))
 frontends_claimed base [] = refl
@@ -114,23 +84,9 @@ Parted (proxy ∷ rest) =
 
 one_behind : (setting : Statement) (n line : ℕ) (base own : List ConfigLine) (rest : List Proxy) → n < line → AreBehind n rest →
     AreBehind n (option_to_list (option_map (proxy_with base own) (line_head line setting)) ++ rest)
-one_behind statements.Nothing n line base own rest less behind = behind
-one_behind statements.Global n line base own rest less behind = behind
-one_behind statements.Defaults n line base own rest less behind = behind
 one_behind (statements.Frontend name) n line base own rest less behind = (less, behind)
 one_behind (statements.Backend name) n line base own rest less behind = (less, behind)
-one_behind (statements.MaxConn limit) n line base own rest less behind = behind
-one_behind (statements.Timeout kind ms) n line base own rest less behind = behind
-one_behind (statements.Retries count) n line base own rest less behind = behind
-one_behind (statements.Redispatch every) n line base own rest less behind = behind
-one_behind (statements.DefaultBackend name) n line base own rest less behind = behind
-one_behind (statements.Balance method) n line base own rest less behind = behind
-one_behind (statements.Acl called test) n line base own rest less behind = behind
-one_behind (statements.UseBackend called when) n line base own rest less behind = behind
-one_behind (statements.Bind endpoint flag) n line base own rest less behind = behind
-one_behind (statements.Rule list action when) n line base own rest less behind = behind
-one_behind (statements.StickTable table) n line base own rest less behind = behind
-one_behind (statements.Server server) n line base own rest less behind = behind
+one_behind statement n line base own rest less behind = behind
 
 heads_behind : (n : ℕ) (base items : List ConfigLine) → AreAbove n items → AreBehind n (proxies base items)
 heads_behind n base [] above = tt
@@ -139,23 +95,11 @@ heads_behind n base (item ∷ rest) above =
     (heads_behind n (base_after base (own_lines rest) item.statement) rest above.1)
 
 no_head : (setting : Statement) (line : ℕ) (base own : List ConfigLine) → opens setting ≡ false → option_to_list (option_map (proxy_with base own) (line_head line setting)) ≡ []
-no_head statements.Nothing line base own is = refl
 no_head statements.Global line base own is = absurd cc
 no_head statements.Defaults line base own is = absurd cc
 no_head (statements.Frontend name) line base own is = absurd cc
 no_head (statements.Backend name) line base own is = absurd cc
-no_head (statements.MaxConn limit) line base own is = refl
-no_head (statements.Timeout kind ms) line base own is = refl
-no_head (statements.Retries count) line base own is = refl
-no_head (statements.Redispatch every) line base own is = refl
-no_head (statements.DefaultBackend name) line base own is = refl
-no_head (statements.Balance method) line base own is = refl
-no_head (statements.Acl called test) line base own is = refl
-no_head (statements.UseBackend called when) line base own is = refl
-no_head (statements.Bind endpoint flag) line base own is = refl
-no_head (statements.Rule list action when) line base own is = refl
-no_head (statements.StickTable table) line base own is = refl
-no_head (statements.Server server) line base own is = refl
+no_head statement line base own is = refl
 
 pub own_above : (n : ℕ) (items : List ConfigLine) → AreAbove n items → AllByRecursion (λ item. n < item.line) (own_lines items)
 own_above n [] above = tt
@@ -180,23 +124,9 @@ own_before base (item ∷ rest) rises = rw (own_more item rest) (by (opens item.
 
 one_parted : (setting : Statement) (line : ℕ) (base own : List ConfigLine) (rest : List Proxy) → AllByRecursion (λ item. line < item.line) own → AllByRecursion (λ item. AreBehind item.line rest) own → Parted rest →
     Parted (option_to_list (option_map (proxy_with base own) (line_head line setting)) ++ rest)
-one_parted statements.Nothing line base own rest above before parted = parted
-one_parted statements.Global line base own rest above before parted = parted
-one_parted statements.Defaults line base own rest above before parted = parted
 one_parted (statements.Frontend name) line base own rest above before parted = (above, before, parted)
 one_parted (statements.Backend name) line base own rest above before parted = (above, before, parted)
-one_parted (statements.MaxConn limit) line base own rest above before parted = parted
-one_parted (statements.Timeout kind ms) line base own rest above before parted = parted
-one_parted (statements.Retries count) line base own rest above before parted = parted
-one_parted (statements.Redispatch every) line base own rest above before parted = parted
-one_parted (statements.DefaultBackend name) line base own rest above before parted = parted
-one_parted (statements.Balance method) line base own rest above before parted = parted
-one_parted (statements.Acl called test) line base own rest above before parted = parted
-one_parted (statements.UseBackend called when) line base own rest above before parted = parted
-one_parted (statements.Bind endpoint flag) line base own rest above before parted = parted
-one_parted (statements.Rule list action when) line base own rest above before parted = parted
-one_parted (statements.StickTable table) line base own rest above before parted = parted
-one_parted (statements.Server server) line base own rest above before parted = parted
+one_parted statement line base own rest above before parted = parted
 
 parted : (base items : List ConfigLine) → Rises items → Parted (proxies base items)
 parted base [] rises = tt

@@ -39,23 +39,11 @@ AreOtherNames name all = AllByRecursion (λ other. other ≢ name) all
 
 frontend_apart : (s : Statement) (at : ℕ) (place : SectionPlace) (base own : List ConfigLine) (name : List ℕ) (rest : List Proxy) (all : List Claim) → (AreOthers (claims.Frontend name) all → AreOtherNames name (names (frontends rest))) →
     AreOthers (claims.Frontend name) (cons_option (claim_of place s) all) → AreOtherNames name (names (frontends (option_to_list (option_map (proxy_with base own) (line_head at s)) ++ rest)))
-frontend_apart statements.Nothing at place base own name rest all later others = later others
-frontend_apart statements.Global at place base own name rest all later others = later others
-frontend_apart statements.Defaults at place base own name rest all later others = later others
 frontend_apart (statements.Frontend own_name) at place base own name rest all later others = (other_name own_name name others.0, later others.1)
 frontend_apart (statements.Backend own_name) at place base own name rest all later others = later others.1
-frontend_apart (statements.MaxConn limit) at place base own name rest all later others = later others
-frontend_apart (statements.Timeout kind ms) at place base own name rest all later others = later others
-frontend_apart (statements.Retries count) at place base own name rest all later others = later others
-frontend_apart (statements.Redispatch every) at place base own name rest all later others = later others
-frontend_apart (statements.DefaultBackend own_name) at place base own name rest all later others = later others
-frontend_apart (statements.Balance method) at place base own name rest all later others = later others
-frontend_apart (statements.Acl called test) at place base own name rest all later others = later others
-frontend_apart (statements.UseBackend called when) at place base own name rest all later others = later others
 frontend_apart (statements.Bind endpoint flag) at place base own name rest all later others = later others.1
-frontend_apart (statements.Rule list action when) at place base own name rest all later others = later others
 frontend_apart (statements.StickTable table) at place base own name rest all later others = later others.1
-frontend_apart (statements.Server server) at place base own name rest all later others = later others
+frontend_apart statement at place base own name rest all later others = later others
 
 frontends_apart : (name : List ℕ) (base items : List ConfigLine) → AreOthers (claims.Frontend name) (claims_of items) → AreOtherNames name (names (frontends (proxies base items)))
 frontends_apart name base [] others = tt
@@ -66,23 +54,11 @@ frontends_apart name base (item ∷ rest) others =
 one_frontend : (s : Statement) (at : ℕ) (place : SectionPlace) (base own : List ConfigLine) (rest : List Proxy) (all : List Claim) →
     ((name : List ℕ) → AreOthers (claims.Frontend name) all → AreOtherNames name (names (frontends rest))) → (ClaimsDiffer all → NamesDiffer (names (frontends rest))) →
     ClaimsDiffer (cons_option (claim_of place s) all) → NamesDiffer (names (frontends (option_to_list (option_map (proxy_with base own) (line_head at s)) ++ rest)))
-one_frontend statements.Nothing at place base own rest all apart later differ = later differ
-one_frontend statements.Global at place base own rest all apart later differ = later differ
-one_frontend statements.Defaults at place base own rest all apart later differ = later differ
 one_frontend (statements.Frontend own_name) at place base own rest all apart later differ = (apart own_name differ.0, later differ.1)
 one_frontend (statements.Backend own_name) at place base own rest all apart later differ = later differ.1
-one_frontend (statements.MaxConn limit) at place base own rest all apart later differ = later differ
-one_frontend (statements.Timeout kind ms) at place base own rest all apart later differ = later differ
-one_frontend (statements.Retries count) at place base own rest all apart later differ = later differ
-one_frontend (statements.Redispatch every) at place base own rest all apart later differ = later differ
-one_frontend (statements.DefaultBackend own_name) at place base own rest all apart later differ = later differ
-one_frontend (statements.Balance method) at place base own rest all apart later differ = later differ
-one_frontend (statements.Acl called test) at place base own rest all apart later differ = later differ
-one_frontend (statements.UseBackend called when) at place base own rest all apart later differ = later differ
 one_frontend (statements.Bind endpoint flag) at place base own rest all apart later differ = later differ.1
-one_frontend (statements.Rule list action when) at place base own rest all apart later differ = later differ
 one_frontend (statements.StickTable table) at place base own rest all apart later differ = later differ.1
-one_frontend (statements.Server server) at place base own rest all apart later differ = later differ
+one_frontend statement at place base own rest all apart later differ = later differ
 
 frontends_differ : (base items : List ConfigLine) → ClaimsDiffer (claims_of items) → NamesDiffer (names (frontends (proxies base items)))
 frontends_differ base [] differ = tt
@@ -94,23 +70,11 @@ frontends_differ base (item ∷ rest) differ =
 
 backend_apart : (s : Statement) (at : ℕ) (place : SectionPlace) (base own : List ConfigLine) (name : List ℕ) (rest : List Proxy) (all : List Claim) → (AreOthers (claims.Backend name) all → AreOtherNames name (names (backends rest))) →
     AreOthers (claims.Backend name) (cons_option (claim_of place s) all) → AreOtherNames name (names (backends (option_to_list (option_map (proxy_with base own) (line_head at s)) ++ rest)))
-backend_apart statements.Nothing at place base own name rest all later others = later others
-backend_apart statements.Global at place base own name rest all later others = later others
-backend_apart statements.Defaults at place base own name rest all later others = later others
 backend_apart (statements.Frontend own_name) at place base own name rest all later others = later others.1
 backend_apart (statements.Backend own_name) at place base own name rest all later others = (other_name own_name name others.0, later others.1)
-backend_apart (statements.MaxConn limit) at place base own name rest all later others = later others
-backend_apart (statements.Timeout kind ms) at place base own name rest all later others = later others
-backend_apart (statements.Retries count) at place base own name rest all later others = later others
-backend_apart (statements.Redispatch every) at place base own name rest all later others = later others
-backend_apart (statements.DefaultBackend own_name) at place base own name rest all later others = later others
-backend_apart (statements.Balance method) at place base own name rest all later others = later others
-backend_apart (statements.Acl called test) at place base own name rest all later others = later others
-backend_apart (statements.UseBackend called when) at place base own name rest all later others = later others
 backend_apart (statements.Bind endpoint flag) at place base own name rest all later others = later others.1
-backend_apart (statements.Rule list action when) at place base own name rest all later others = later others
 backend_apart (statements.StickTable table) at place base own name rest all later others = later others.1
-backend_apart (statements.Server server) at place base own name rest all later others = later others
+backend_apart statement at place base own name rest all later others = later others
 
 backends_apart : (name : List ℕ) (base items : List ConfigLine) → AreOthers (claims.Backend name) (claims_of items) → AreOtherNames name (names (backends (proxies base items)))
 backends_apart name base [] others = tt
@@ -121,23 +85,11 @@ backends_apart name base (item ∷ rest) others =
 one_backend : (s : Statement) (at : ℕ) (place : SectionPlace) (base own : List ConfigLine) (rest : List Proxy) (all : List Claim) →
     ((name : List ℕ) → AreOthers (claims.Backend name) all → AreOtherNames name (names (backends rest))) → (ClaimsDiffer all → NamesDiffer (names (backends rest))) →
     ClaimsDiffer (cons_option (claim_of place s) all) → NamesDiffer (names (backends (option_to_list (option_map (proxy_with base own) (line_head at s)) ++ rest)))
-one_backend statements.Nothing at place base own rest all apart later differ = later differ
-one_backend statements.Global at place base own rest all apart later differ = later differ
-one_backend statements.Defaults at place base own rest all apart later differ = later differ
 one_backend (statements.Frontend own_name) at place base own rest all apart later differ = later differ.1
 one_backend (statements.Backend own_name) at place base own rest all apart later differ = (apart own_name differ.0, later differ.1)
-one_backend (statements.MaxConn limit) at place base own rest all apart later differ = later differ
-one_backend (statements.Timeout kind ms) at place base own rest all apart later differ = later differ
-one_backend (statements.Retries count) at place base own rest all apart later differ = later differ
-one_backend (statements.Redispatch every) at place base own rest all apart later differ = later differ
-one_backend (statements.DefaultBackend own_name) at place base own rest all apart later differ = later differ
-one_backend (statements.Balance method) at place base own rest all apart later differ = later differ
-one_backend (statements.Acl called test) at place base own rest all apart later differ = later differ
-one_backend (statements.UseBackend called when) at place base own rest all apart later differ = later differ
 one_backend (statements.Bind endpoint flag) at place base own rest all apart later differ = later differ.1
-one_backend (statements.Rule list action when) at place base own rest all apart later differ = later differ
 one_backend (statements.StickTable table) at place base own rest all apart later differ = later differ.1
-one_backend (statements.Server server) at place base own rest all apart later differ = later differ
+one_backend statement at place base own rest all apart later differ = later differ
 
 backends_differ : (base items : List ConfigLine) → ClaimsDiffer (claims_of items) → NamesDiffer (names (backends (proxies base items)))
 backends_differ base [] differ = tt
@@ -152,23 +104,8 @@ server_names all = map (λ server. server.name) all
 
 server_apart : (s : Statement) (at : ℕ) (name : List ℕ) (rest : List Server) → is_server_named name s ≡ false → AreOtherNames name (server_names rest) →
     AreOtherNames name (server_names (cons_option (line_server at s) rest))
-server_apart statements.Nothing at name rest none later = later
-server_apart statements.Global at name rest none later = later
-server_apart statements.Defaults at name rest none later = later
-server_apart (statements.Frontend own_name) at name rest none later = later
-server_apart (statements.Backend own_name) at name rest none later = later
-server_apart (statements.MaxConn limit) at name rest none later = later
-server_apart (statements.Timeout kind ms) at name rest none later = later
-server_apart (statements.Retries count) at name rest none later = later
-server_apart (statements.Redispatch every) at name rest none later = later
-server_apart (statements.DefaultBackend own_name) at name rest none later = later
-server_apart (statements.Balance method) at name rest none later = later
-server_apart (statements.Bind endpoint flag) at name rest none later = later
-server_apart (statements.Acl called test) at name rest none later = later
-server_apart (statements.Rule list action when) at name rest none later = later
-server_apart (statements.UseBackend called when) at name rest none later = later
-server_apart (statements.StickTable table) at name rest none later = later
 server_apart (statements.Server server) at name rest none later = (other_name server.name name none, later)
+server_apart statement at name rest none later = later
 
 servers_apart : (name : List ℕ) (own : List ConfigLine) → list_any (λ item. is_server_named name item.statement) own ≡ false → AreOtherNames name (server_names (all_of line_server own))
 servers_apart name [] none = tt
@@ -178,23 +115,8 @@ servers_apart name (item ∷ rest) none =
 
 one_server : (s : Statement) (at : ℕ) (rest : List ConfigLine) → has_server rest s ≡ false → NamesDiffer (server_names (all_of line_server rest)) →
     NamesDiffer (server_names (cons_option (line_server at s) (all_of line_server rest)))
-one_server statements.Nothing at rest free later = later
-one_server statements.Global at rest free later = later
-one_server statements.Defaults at rest free later = later
-one_server (statements.Frontend own_name) at rest free later = later
-one_server (statements.Backend own_name) at rest free later = later
-one_server (statements.MaxConn limit) at rest free later = later
-one_server (statements.Timeout kind ms) at rest free later = later
-one_server (statements.Retries count) at rest free later = later
-one_server (statements.Redispatch every) at rest free later = later
-one_server (statements.DefaultBackend own_name) at rest free later = later
-one_server (statements.Balance method) at rest free later = later
-one_server (statements.Bind endpoint flag) at rest free later = later
-one_server (statements.Acl called test) at rest free later = later
-one_server (statements.Rule list action when) at rest free later = later
-one_server (statements.UseBackend called when) at rest free later = later
-one_server (statements.StickTable table) at rest free later = later
 one_server (statements.Server server) at rest free later = (servers_apart server.name rest free, later)
+one_server statement at rest free later = later
 
 pub server_names_differ : (own : List ConfigLine) → ServersDiffer own → NamesDiffer (map (λ server. server.name) (all_of line_server own))
 server_names_differ [] differ = tt

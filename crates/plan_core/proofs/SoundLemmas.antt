@@ -57,14 +57,12 @@ some_table tables name None = within (is_table_of name) tables
 some_table tables name (Some other) = within (λ (table : Table). bytes_eq table.name other) tables
 
 some_action : (tables : List Table) (name : List ℕ) (action : line.ActionWords) → lines.IsSoundAction action → IfSome (action_of tables name action) (IsSoundAction (length tables))
-some_action tables name words.Accept sound = tt
-some_action tables name words.Reject sound = tt
-some_action tables name words.ExpectProxy sound = tt
 some_action tables name (words.Track track) sound = by (table_number tables name track.table) (some_table tables name track.table)
   where
     by : (o : Option ℕ) → IfSome o (λ n. n < length tables) → IfSome (option_map (track_with track.counter) o) (IsSoundAction (length tables))
     by None less = tt
     by (Some n) less = (sound, less)
+some_action tables name event sound = tt
 
 some_default : (backends : List Backend) (setting : Option Named) → IfSome (default_number backends setting) (λ n. n < length backends)
 some_default backends None = tt
@@ -76,28 +74,13 @@ abbrev IsRuleOf : ℕ → ℕ → Rule → Type 0
 IsRuleOf tables at rule = IsSoundAction tables rule.action × (rule.line ≡ at)
 
 some_rule : (list : Ruleset) (tables : List Table) (name : List ℕ) (at : ℕ) (s : Statement) → IsSoundStatement s → IfSome (line_rule list tables name at s) (IsRuleOf (length tables) at)
-some_rule list tables name at statements.Nothing sound = tt
-some_rule list tables name at statements.Global sound = tt
-some_rule list tables name at statements.Defaults sound = tt
-some_rule list tables name at (statements.Frontend other) sound = tt
-some_rule list tables name at (statements.Backend other) sound = tt
-some_rule list tables name at (statements.MaxConn limit) sound = tt
-some_rule list tables name at (statements.Timeout kind ms) sound = tt
-some_rule list tables name at (statements.Retries count) sound = tt
-some_rule list tables name at (statements.Redispatch every) sound = tt
-some_rule list tables name at (statements.DefaultBackend other) sound = tt
-some_rule list tables name at (statements.Balance method) sound = tt
-some_rule list tables name at (statements.Acl called test) sound = tt
-some_rule list tables name at (statements.UseBackend called when) sound = tt
-some_rule list tables name at (statements.Bind endpoint flag) sound = tt
 some_rule list tables name at (statements.Rule other action when) sound = by (is_in list other) (action_of tables name action) (some_action tables name action sound)
   where
     by : (b : Bool) (o : Option Action) → IfSome o (IsSoundAction (length tables)) → IfSome (if b then option_map (rule_with at when) o else None) (IsRuleOf (length tables) at)
     by true None is = tt
     by true (Some done) is = (is, refl)
     by false o is = tt
-some_rule list tables name at (statements.StickTable table) sound = tt
-some_rule list tables name at (statements.Server server) sound = tt
+some_rule list tables name at statement sound = tt
 
 -- one rule more in front
 rules_more : (o : Option Rule) (tables at : ℕ) (rest : List Rule) → IfSome o (IsRuleOf tables at) → AllByRecursion (λ rule. IsSoundAction tables rule.action) rest →
@@ -144,27 +127,12 @@ abbrev IsChoiceOf : ℕ → ℕ → Choice → Type 0
 IsChoiceOf backends at choice = (choice.backend < backends) × (choice.line ≡ at)
 
 some_choice : (backends : List Backend) (at : ℕ) (s : Statement) → IfSome (line_choice backends at s) (IsChoiceOf (length backends) at)
-some_choice backends at statements.Nothing = tt
-some_choice backends at statements.Global = tt
-some_choice backends at statements.Defaults = tt
-some_choice backends at (statements.Frontend other) = tt
-some_choice backends at (statements.Backend other) = tt
-some_choice backends at (statements.MaxConn limit) = tt
-some_choice backends at (statements.Timeout kind ms) = tt
-some_choice backends at (statements.Retries count) = tt
-some_choice backends at (statements.Redispatch every) = tt
-some_choice backends at (statements.DefaultBackend other) = tt
-some_choice backends at (statements.Balance method) = tt
-some_choice backends at (statements.Bind endpoint flag) = tt
-some_choice backends at (statements.Acl called test) = tt
-some_choice backends at (statements.Rule list action when) = tt
 some_choice backends at (statements.UseBackend called when) = by (backend_number backends called) (within (λ (backend : Backend). bytes_eq backend.name called) backends)
   where
     by : (o : Option ℕ) → IfSome o (λ n. n < length backends) → IfSome (option_map (choice_with at when) o) (IsChoiceOf (length backends) at)
     by None less = tt
     by (Some n) less = (less, refl)
-some_choice backends at (statements.StickTable table) = tt
-some_choice backends at (statements.Server server) = tt
+some_choice backends at statement = tt
 
 choices_within : (backends : List Backend) (items : List ConfigLine) → AllByRecursion (λ choice. choice.backend < length backends) (all_of (line_choice backends) items)
 choices_within backends [] = tt
@@ -213,23 +181,8 @@ own_rises (item ∷ rest) rises = subst (λ xs. Rises xs) (sym (own_more item re
     by false later = (own_above item.line rest rises.0, later)
 
 base_sound : (s : Statement) (base own : List ConfigLine) → AreSoundStatements base → AreSoundStatements own → AreSoundStatements (base_after base own s)
-base_sound statements.Nothing base own sound more = sound
-base_sound statements.Global base own sound more = sound
 base_sound statements.Defaults base own sound more = more
-base_sound (statements.Frontend name) base own sound more = sound
-base_sound (statements.Backend name) base own sound more = sound
-base_sound (statements.MaxConn limit) base own sound more = sound
-base_sound (statements.Timeout kind ms) base own sound more = sound
-base_sound (statements.Retries count) base own sound more = sound
-base_sound (statements.Redispatch every) base own sound more = sound
-base_sound (statements.DefaultBackend name) base own sound more = sound
-base_sound (statements.Balance method) base own sound more = sound
-base_sound (statements.Acl called test) base own sound more = sound
-base_sound (statements.UseBackend called when) base own sound more = sound
-base_sound (statements.Bind endpoint flag) base own sound more = sound
-base_sound (statements.Rule list action when) base own sound more = sound
-base_sound (statements.StickTable table) base own sound more = sound
-base_sound (statements.Server server) base own sound more = sound
+base_sound statement base own sound more = sound
 
 record IsSoundProxy (proxy : Proxy) : Type 0 where
   rises : Rises proxy.own
@@ -239,23 +192,9 @@ record IsSoundProxy (proxy : Proxy) : Type 0 where
 
 one_proxy : (s : Statement) (at : ℕ) (base own : List ConfigLine) (rest : List Proxy) → Rises own → AreSoundStatements own → AreSoundStatements base → IsSoundSection own → AllByRecursion IsSoundProxy rest →
     AllByRecursion IsSoundProxy (option_to_list (option_map (proxy_with base own) (line_head at s)) ++ rest)
-one_proxy statements.Nothing at base own rest rises sound more section all = all
-one_proxy statements.Global at base own rest rises sound more section all = all
-one_proxy statements.Defaults at base own rest rises sound more section all = all
 one_proxy (statements.Frontend name) at base own rest rises sound more section all = (record { rises = rises; own = sound; base = more; section = section }, all)
 one_proxy (statements.Backend name) at base own rest rises sound more section all = (record { rises = rises; own = sound; base = more; section = section }, all)
-one_proxy (statements.MaxConn limit) at base own rest rises sound more section all = all
-one_proxy (statements.Timeout kind ms) at base own rest rises sound more section all = all
-one_proxy (statements.Retries count) at base own rest rises sound more section all = all
-one_proxy (statements.Redispatch every) at base own rest rises sound more section all = all
-one_proxy (statements.DefaultBackend name) at base own rest rises sound more section all = all
-one_proxy (statements.Balance method) at base own rest rises sound more section all = all
-one_proxy (statements.Acl called test) at base own rest rises sound more section all = all
-one_proxy (statements.UseBackend called when) at base own rest rises sound more section all = all
-one_proxy (statements.Bind endpoint flag) at base own rest rises sound more section all = all
-one_proxy (statements.Rule list action when) at base own rest rises sound more section all = all
-one_proxy (statements.StickTable table) at base own rest rises sound more section all = all
-one_proxy (statements.Server server) at base own rest rises sound more section all = all
+one_proxy statement at base own rest rises sound more section all = all
 
 all_proxies : (base items : List ConfigLine) → AreSoundStatements base → AreSoundStatements items → Rises items → AreSoundSections items → AllByRecursion IsSoundProxy (proxies base items)
 all_proxies base [] more sound rises sections = tt
@@ -269,29 +208,18 @@ or_some : {X : Type 0} (P : X → Type 0) (a b : Option X) → IfSome a P → If
 or_some P None b one other = other
 or_some P (Some x) b one other = one
 
+-- what is said last is sound where each line is
+last_sound : {X : Type 0} (read : ℕ → Statement → Option X) (P : X → Type 0) → ((at : ℕ) (s : Statement) → IsSoundStatement s → IfSome (read at s) P) → (items : List ConfigLine) → AreSoundStatements items →
+    IfSome (last_of read items) P
+last_sound read P each [] sound = tt
+last_sound read P each (item ∷ rest) sound = or_some P (last_of read rest) (read item.line item.statement) (last_sound read P each rest sound.1) (each item.line item.statement sound.0)
+
 some_limit : (at : ℕ) (s : Statement) → IsSoundStatement s → IfSome (line_limit at s) (λ limit. IsWithin MOST_CONNECTIONS limit.limit)
-some_limit at statements.Nothing sound = tt
-some_limit at statements.Global sound = tt
-some_limit at statements.Defaults sound = tt
-some_limit at (statements.Frontend name) sound = tt
-some_limit at (statements.Backend name) sound = tt
 some_limit at (statements.MaxConn limit) sound = sound
-some_limit at (statements.Timeout kind ms) sound = tt
-some_limit at (statements.Retries count) sound = tt
-some_limit at (statements.Redispatch every) sound = tt
-some_limit at (statements.DefaultBackend name) sound = tt
-some_limit at (statements.Balance method) sound = tt
-some_limit at (statements.Acl called test) sound = tt
-some_limit at (statements.UseBackend called when) sound = tt
-some_limit at (statements.Bind endpoint flag) sound = tt
-some_limit at (statements.Rule list action when) sound = tt
-some_limit at (statements.StickTable table) sound = tt
-some_limit at (statements.Server server) sound = tt
+some_limit at statement sound = tt
 
 last_limit : (items : List ConfigLine) → AreSoundStatements items → IfSome (last_of line_limit items) (λ limit. IsWithin MOST_CONNECTIONS limit.limit)
-last_limit [] sound = tt
-last_limit (item ∷ rest) sound =
-    or_some (λ limit. IsWithin MOST_CONNECTIONS limit.limit) (last_of line_limit rest) (line_limit item.line item.statement) (last_limit rest sound.1) (some_limit item.line item.statement sound.0)
+last_limit = last_sound line_limit (λ limit. IsWithin MOST_CONNECTIONS limit.limit) some_limit
 
 sound_limit : (proxy : Proxy) → IsSoundProxy proxy → IsWithin MOST_CONNECTIONS (limit_in proxy).limit
 sound_limit proxy sound =
@@ -303,28 +231,11 @@ sound_limit proxy sound =
     by (Some limit) is = is
 
 some_words : (at : ℕ) (s : Statement) → IsSoundStatement s → IfSome (line_table at s) (λ words. IsWithin MOST_ENTRIES words.size)
-some_words at statements.Nothing sound = tt
-some_words at statements.Global sound = tt
-some_words at statements.Defaults sound = tt
-some_words at (statements.Frontend name) sound = tt
-some_words at (statements.Backend name) sound = tt
-some_words at (statements.MaxConn limit) sound = tt
-some_words at (statements.Timeout kind ms) sound = tt
-some_words at (statements.Retries count) sound = tt
-some_words at (statements.Redispatch every) sound = tt
-some_words at (statements.DefaultBackend name) sound = tt
-some_words at (statements.Balance method) sound = tt
-some_words at (statements.Acl called test) sound = tt
-some_words at (statements.UseBackend called when) sound = tt
-some_words at (statements.Bind endpoint flag) sound = tt
-some_words at (statements.Rule list action when) sound = tt
 some_words at (statements.StickTable table) sound = sound
-some_words at (statements.Server server) sound = tt
+some_words at statement sound = tt
 
 last_words : (items : List ConfigLine) → AreSoundStatements items → IfSome (last_of line_table items) (λ words. IsWithin MOST_ENTRIES words.size)
-last_words [] sound = tt
-last_words (item ∷ rest) sound =
-    or_some (λ words. IsWithin MOST_ENTRIES words.size) (last_of line_table rest) (line_table item.line item.statement) (last_words rest sound.1) (some_words item.line item.statement sound.0)
+last_words = last_sound line_table (λ words. IsWithin MOST_ENTRIES words.size) some_words
 
 sound_tables : (all : List Proxy) → AllByRecursion IsSoundProxy all → AllByRecursion IsSoundTable (tables_in all)
 sound_tables [] sound = tt
@@ -366,27 +277,12 @@ check_sound server inter fall rise = by server.check
     by false = tt
 
 some_server : (at : ℕ) (s : Statement) → IsSoundStatement s → IfSome (line_server at s) IsSoundServer
-some_server at statements.Nothing sound = tt
-some_server at statements.Global sound = tt
-some_server at statements.Defaults sound = tt
-some_server at (statements.Frontend name) sound = tt
-some_server at (statements.Backend name) sound = tt
-some_server at (statements.MaxConn limit) sound = tt
-some_server at (statements.Timeout kind ms) sound = tt
-some_server at (statements.Retries count) sound = tt
-some_server at (statements.Redispatch every) sound = tt
-some_server at (statements.DefaultBackend name) sound = tt
-some_server at (statements.Balance method) sound = tt
-some_server at (statements.Acl called test) sound = tt
-some_server at (statements.UseBackend called when) sound = tt
-some_server at (statements.Bind endpoint flag) sound = tt
-some_server at (statements.Rule list action when) sound = tt
-some_server at (statements.StickTable table) sound = tt
 some_server at (statements.Server server) sound = record {
   weight = weight_sound server.weight sound.0;
   limit = limit_sound server.limit sound.1;
   check = check_sound server sound.2 sound.3 sound.4;
 }
+some_server at statement sound = tt
 
 sound_servers : (items : List ConfigLine) → AreSoundStatements items → AllByRecursion IsSoundServer (all_of line_server items)
 sound_servers [] sound = tt

@@ -152,20 +152,7 @@ fn line_fault(
             choice_fault(backends, line, backend),
             when_fault(tables, backends, all, name, line, when),
         ),
-        Statement::Nothing
-        | Statement::Global
-        | Statement::Defaults
-        | Statement::Frontend(_)
-        | Statement::Backend(_)
-        | Statement::MaxConn(_)
-        | Statement::Timeout(..)
-        | Statement::Retries(_)
-        | Statement::Redispatch(_)
-        | Statement::DefaultBackend(_)
-        | Statement::Balance(_)
-        | Statement::Bind(_, _)
-        | Statement::StickTable(_)
-        | Statement::Server(_) => None,
+        _ => None,
     }
 }
 

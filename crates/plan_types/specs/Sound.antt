@@ -18,10 +18,8 @@ use Rattle.plan_types.specs.Lines.{LinesDiffer}
 
 -- a counter tracks in one of so many tables
 abbrev pub IsSoundAction : ℕ → Action → Type 0
-IsSoundAction tables actions.Accept = Unit {0}
-IsSoundAction tables actions.Reject = Unit {0}
 IsSoundAction tables (actions.Track counter table) = (counter < COUNTERS) × (table < tables)
-IsSoundAction tables actions.ExpectProxy = Unit {0}
+IsSoundAction tables event = Unit {0}
 
 -- each rule's line is less than those of all rules after it
 abbrev pub RulesRise : List Rule → Type 0
