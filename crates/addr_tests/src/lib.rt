@@ -2,16 +2,6 @@
 //! of RFC 4291, RFC 5952 and proxy-protocol.txt where a test names them.
 #![tactic(auto)]
 
-#[cfg(test)]
-mod addr;
 pub mod callers;
 #[cfg(test)]
-mod endpoints;
-#[cfg(test)]
-mod header;
-#[cfg(test)]
-mod nets;
-#[cfg(test)]
-mod pairs;
-#[cfg(test)]
-mod text;
+mod tests;

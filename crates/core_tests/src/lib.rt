@@ -3,8 +3,4 @@
 
 pub mod callers;
 #[cfg(test)]
-mod printed;
-#[cfg(test)]
-mod states;
-#[cfg(test)]
-mod steps;
+mod tests;

@@ -4,26 +4,4 @@
 
 pub mod callers;
 #[cfg(test)]
-mod door;
-#[cfg(test)]
-mod faults;
-#[cfg(test)]
-mod link;
-#[cfg(test)]
-mod outcome;
-#[cfg(test)]
-mod play;
-#[cfg(test)]
-mod reloads;
-#[cfg(test)]
-mod segments;
-#[cfg(test)]
-mod shelf;
-#[cfg(test)]
-mod silence;
-#[cfg(test)]
-mod stage;
-#[cfg(test)]
-mod stops;
-#[cfg(test)]
-mod workers;
+mod tests;

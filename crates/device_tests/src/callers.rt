@@ -3,7 +3,7 @@ ghost use Rattle.std.specs.Prelude.{◌≡◌, ◌≤◌, ◌++◌, [], Err, len
 ghost use Rattle.device_tests.specs.declared.callers.TheConstants.{ROOM};
 
 use device_core::{Input, Output};
-use relay_core::{FlowFault, Relay};
+use relay_core::{FlowFault, Relay, Way};
 use std::alloc::{AllocError, Global};
 
 /// How many bytes a relay holds for each direction at most.
@@ -28,6 +28,6 @@ pub fn pass_on<I: Input, O: Output>(
     ensures unread { result ≡ Err FlowFault.Read → relay.new.forth ≡ relay.old.forth }
 {
     let mut piece = [0; ROOM];
-    relay.forth(client, server, &mut piece)?;
-    Ok(relay.forth_done())
+    relay.pass(Way::Forth, client, server, &mut piece)?;
+    Ok(relay.is_done(Way::Forth))
 }

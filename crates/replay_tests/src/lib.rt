@@ -2,22 +2,6 @@
 //! schedule.
 #![tactic(auto)]
 
-#[cfg(test)]
-mod audits;
 pub mod callers;
 #[cfg(test)]
-mod check;
-#[cfg(test)]
-mod devices;
-#[cfg(test)]
-mod pipes;
-#[cfg(test)]
-mod records;
-#[cfg(test)]
-mod reloads;
-#[cfg(test)]
-mod replay;
-#[cfg(test)]
-mod runs;
-#[cfg(test)]
-mod writing;
+mod tests;
