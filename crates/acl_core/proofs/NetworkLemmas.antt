@@ -45,11 +45,7 @@ in_front worth addr is criteria.Source patterns nets more =
     rw (is, networks_hold addr patterns, list_any-append (has_addr addr) (networks patterns) nets)
     (either (list_any (has_addr addr) (networks patterns)) (list_any (has_addr addr) nets) more)
 in_front worth addr is (criteria.TrackedConnections counter) patterns nets more = between _ _ more
-in_front worth addr is (criteria.TrackedTotal counter) patterns nets more = between _ _ more
-in_front worth addr is (criteria.SourceConnections table) patterns nets more = between _ _ more
-in_front worth addr is (criteria.SourceTotal table) patterns nets more = between _ _ more
-in_front worth addr is (criteria.FrontendConnections frontend) patterns nets more = between _ _ more
-in_front worth addr is (criteria.BackendConnections backend) patterns nets more = between _ _ more
+in_front worth addr is criterion patterns nets more = between _ _ more
 
 -- some test holds exactly where some network of those of the source address has it, or some other test holds
 pub tests_hold : (worth : Criterion → Value) (addr : Addr) → worth criteria.Source ≡ Source addr → (tests : List TestValue) →

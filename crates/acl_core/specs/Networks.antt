@@ -2,7 +2,7 @@
 use Rattle.std.specs.Prelude.{Bool, true, false, List, [], ◌∷◌, ◌++◌, if◌then◌else◌}
 use Rattle.addr_core.specs.Prefix.{Prefix}
 use Rattle.acl_core.specs.declared.criterion.Criterion.{Criterion}
-use Rattle.acl_core.specs.declared.criterion.Criterion.TheVariants.{Source, TrackedConnections, TrackedTotal, SourceConnections, SourceTotal, FrontendConnections, BackendConnections}
+use Rattle.acl_core.specs.declared.criterion.Criterion.TheVariants.{Source}
 use Rattle.acl_core.specs.declared.criterion.Pattern.{Pattern}
 use Rattle.acl_core.specs.declared.criterion.Pattern.TheVariants.{Network, Within, Compared}
 use Rattle.acl_core.specs.TestValue.{TestValue}
@@ -17,12 +17,7 @@ networks (Compared operator bound ∷ rest) = networks rest
 -- the criterion is the source address
 abbrev pub is_source : Criterion → Bool
 is_source Source = true
-is_source (TrackedConnections counter) = false
-is_source (TrackedTotal counter) = false
-is_source (SourceConnections table) = false
-is_source (SourceTotal table) = false
-is_source (FrontendConnections frontend) = false
-is_source (BackendConnections backend) = false
+is_source criterion = false
 
 -- a test of the source address
 abbrev pub is_of_source : TestValue → Bool

@@ -152,12 +152,7 @@ numbers_of (word ∷ rest) = numbers_by (operator_of word) word rest
 -- the values of a criterion
 abbrev pub patterns_of : Criterion → List (List ℕ) → Result (List Pattern) AclFault
 patterns_of criteria.Source words = values_of Networks words
-patterns_of (criteria.TrackedConnections counter) words = numbers_of words
-patterns_of (criteria.TrackedTotal counter) words = numbers_of words
-patterns_of (criteria.SourceConnections table) words = numbers_of words
-patterns_of (criteria.SourceTotal table) words = numbers_of words
-patterns_of (criteria.FrontendConnections frontend) words = numbers_of words
-patterns_of (criteria.BackendConnections backend) words = numbers_of words
+patterns_of criterion words = numbers_of words
 
 -- a criterion and its values
 abbrev pub test_of : List (List ℕ) → Result TestValue AclFault

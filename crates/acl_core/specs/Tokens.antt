@@ -35,15 +35,9 @@ abbrev pub tokens_of : List (List ℕ) → List Token
 tokens_of words = tokens_after None words
 
 abbrev pub is_or : Token → Bool
-is_or Not = false
 is_or Or = true
-is_or (Plain word) = false
-is_or (Braces words) = false
-is_or (OpenBrace words) = false
+is_or token = false
 
 abbrev pub is_not : Token → Bool
 is_not Not = true
-is_not Or = false
-is_not (Plain word) = false
-is_not (Braces words) = false
-is_not (OpenBrace words) = false
+is_not token = false

@@ -245,12 +245,7 @@ fn patterns(
 {
     match criterion {
         Criterion::Source => values(alloc, Form::Networks, words),
-        Criterion::TrackedConnections(_)
-        | Criterion::TrackedTotal(_)
-        | Criterion::SourceConnections(_)
-        | Criterion::SourceTotal(_)
-        | Criterion::FrontendConnections(_)
-        | Criterion::BackendConnections(_) => numbers(alloc, words),
+        _ => numbers(alloc, words),
     }
 }
 

@@ -17,7 +17,7 @@ use Rattle.conn_model.specs.declared.plain.Plain.{Plain}
 use Rattle.conn_model.specs.declared.plain.Row.{Row}
 use Rattle.conn_model.specs.declared.reply.Reply.{Reply}
 use Rattle.conn_model.specs.declared.reply.Said.{Said}
-use Rattle.conn_model.specs.declared.reply.Said.TheVariants.{Wait, Offer, Refuse, Up, Closed, Reloaded, Marked}
+use Rattle.conn_model.specs.declared.reply.Said.TheVariants.{Wait, Offer, Up}
 use Rattle.conn_model.specs.Answer.{answer_in, row_at, row_in}
 use Rattle.conn_model.specs.Counts.{total, open_connections}
 use Rattle.conn_model.specs.History.{after, arrival, entry, frontend_after, has_ended, id_of, is_last, leaves_open, newest_number, opening, row_after, speaks_to, Entry, IsFrontendWell, IsWell}
@@ -108,11 +108,8 @@ elsewhere p number e id own whom differs =
 not_last : (said : Said) → leaves_open said ≡ true → is_last said ≡ false
 not_last (Wait id used) is = refl
 not_last (Offer id used line server to judged send) is = refl
-not_last (Refuse id used cause) is = absurd (false≢true is)
 not_last (Up id) is = refl
-not_last (Closed id why) is = absurd (false≢true is)
-not_last (Reloaded version) is = absurd (false≢true is)
-not_last (Marked line health) is = absurd (false≢true is)
+not_last said is = absurd (false≢true is)
 
 accept_here : (p : Plain) (moment listener : ℕ) (real : PairValue) (reply : Reply) (id : ConnId) (own : FrontendRows) → IsFrontendWell p.versions own → id_of reply.said ≡ Some id → id.serial ≡ own.serial + 1 →
     length (frontend_after p (entry moment (Accept listener real) reply ∷ []) id.frontend own).rows + 0 ≡ length own.rows + (if leaves_open reply.said then 1 else 0)

@@ -16,13 +16,7 @@ IsNothingCounted p = (ask : Ask) (counts : Counts) → counts_in p ask ≡ Some 
 -- an accept opens a connection where it has to wait or is offered a server
 abbrev pub connections_opened : OwnedEvent → Said → ℕ
 connections_opened (Accept listener real) said = if leaves_open said then 1 else 0
-connections_opened (Piece id bytes) said = 0
-connections_opened (Connected id) said = 0
-connections_opened (ConnectFailed id) said = 0
-connections_opened (Close id why) said = 0
-connections_opened (Expire id) said = 0
-connections_opened (Reload text) said = 0
-connections_opened (Mark backend n health) said = 0
+connections_opened event said = 0
 
 -- another event of a connection ends it where the reply is a last one
 abbrev pub connections_ended : OwnedEvent → Said → ℕ

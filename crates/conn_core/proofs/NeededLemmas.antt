@@ -18,7 +18,7 @@ use Rattle.conn_model.specs.declared.plain.Version.{Version}
 use Rattle.conn_model.specs.declared.plain.Plain.{Plain}
 use Rattle.conn_model.specs.Words.{newest}
 use Rattle.conn_model.specs.Answer.{version_at}
-use Rattle.conn_model.specs.Tables.{same_id, table_at, written_tables, IsTrackListed}
+use Rattle.conn_model.specs.Tables.{same_id, table_at, tracks_at, without_tracks, written_tables, IsTrackListed}
 use Rattle.conn_model.specs.History.{has_version, is_last, is_needed, needed_versions, newest_number, tables_of, with_said, with_version, IsFrontendWell, IsWell}
 use Rattle.conn_model.proofs.Goes.{versions_below}
 use Rattle.conn_model.proofs.Listed.{all-in, IsIn}
@@ -28,6 +28,7 @@ use Rattle.conn_model.proofs.TableSteps.{listed_in, newest-all}
 use Rattle.conn_model.proofs.Versions.{last_no_offer, version_at-filter, version_at-with, versions_kept}
 use Rattle.conn_rows.specs.Tables.{is_listed_in}
 use Rattle.conn_model.specs.Changes.{without_conn}
+use Rattle.conn_rows.specs.Value.{RowsValue}
 use Rattle.conn_rows.specs.Needed.{versions_needed, AreTracksHeld, AreVersionsKept, IsNextNumber}
 use Rattle.conn_core.specs.Changes.{spoken}
 use Rattle.conn_core.specs.Machine.{IsNextVersion}
@@ -131,6 +132,14 @@ own_without versions frontends id all = by (slice_get frontends id.frontend) ref
 -- the others track keys of tables that are kept
 pub held_without : (p : Plain) → IsWell p → (id : ConnId) → AreTracksHeld (without_conn id p.frontends) (versions_needed (without_conn id p.frontends) p.versions)
 held_without p well id = held_needed (without_conn id p.frontends) p.versions (own_without p.versions p.frontends id (own_tables p well))
+
+-- the same of the rows, once it was taken out of them
+pub held_removed : {before passed left : RowsValue} (id : ConnId) →
+    left ≡ record before { frontends = without_conn id before.frontends; tables = without_tracks before.clock (tracks_at before.frontends id) before.tables } → before ≡ passed →
+    AreTracksHeld (without_conn id passed.frontends) (versions_needed (without_conn id passed.frontends) passed.versions) → AreTracksHeld left.frontends (versions_needed left.frontends left.versions)
+held_removed id left_is before_is held =
+    subst (λ (r : RowsValue). AreTracksHeld r.frontends (versions_needed r.frontends r.versions))
+    (sym (left_is ∙ ap (λ (r : RowsValue). record r { frontends = without_conn id r.frontends; tables = without_tracks r.clock (tracks_at r.frontends id) r.tables }) before_is)) held
 
 -- also where the step was a reply to it
 pub held_spoken : (p : Plain) → IsWell p → (event : OwnedEvent) (id : ConnId) (reply : Reply) (number : ℕ) → is_last reply.said ≡ true →

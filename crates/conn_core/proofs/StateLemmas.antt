@@ -1,6 +1,6 @@
 -- The state of a core after one event.
 use Rattle.std.proofs.Common.{◌≡◌, ℕ, [], ◌∷◌, List, Bool, true, false, Option, Some, None, Result, Ok, refl, max, sym, ap, subst, append-nil, ◌∙◌}
-use Rattle.std.specs.Prelude.{slice_get, slice_set, find, filter, not, map, option_and_then, option_map, ◌==◌, ◌++◌, if◌then◌else◌}
+use Rattle.std.specs.Prelude.{slice_get, slice_set, find, filter, not, map, option_map, ◌==◌, ◌++◌, if◌then◌else◌}
 use Rattle.std.specs.List.{enumerate_from, AllByRecursion}
 use Rattle.std.specs.Option.{option_map_or}
 use Rattle.std.proofs.Math.Path.{fun_ext}
@@ -10,7 +10,7 @@ use Rattle.config_core.specs.Meaning.{meaning}
 use Rattle.config_core.specs.declared.fault.OpenFault.{OpenFault}
 use Rattle.conn_model.specs.declared.event.ConnId.{ConnId}
 use Rattle.conn_model.specs.declared.event.OwnedEvent.{OwnedEvent}
-use Rattle.conn_model.specs.declared.event.OwnedEvent.TheVariants.{Accept, Piece, Connected, ConnectFailed, Close, Expire, Reload, Mark}
+use Rattle.conn_model.specs.declared.event.OwnedEvent.TheVariants.{Accept, Connected, Reload, Mark}
 use Rattle.conn_model.specs.declared.reply.Reply.{Reply}
 use Rattle.conn_model.specs.declared.reply.Said.{Said}
 use Rattle.conn_model.specs.declared.reply.Said.TheVariants.{Reloaded, Up, Marked}
@@ -22,7 +22,7 @@ use Rattle.conn_model.specs.declared.plain.Version.{Version}
 use Rattle.conn_model.specs.declared.plain.Plain.{Plain}
 use Rattle.conn_model.specs.Counts.{change_row}
 use Rattle.conn_model.specs.Answer.{answer_in, at_moment, reply_of, row_at, row_in, checked_server, mark_answer}
-use Rattle.conn_model.specs.History.{after, by_counter, entry, id_of, is_last, judging_version, needed_versions, newest_number, next_version, number_said, phase_by, phase_up, plan_in, plan_of, plan_with, tables_passed, tables_with, tracks_at, version_of, with_said, with_version, Entry, marked_by}
+use Rattle.conn_model.specs.History.{after, by_counter, entry, id_of, is_last, judging_version, needed_versions, newest_number, next_version, phase_by, phase_up, plan_in, plan_of, plan_with, tables_passed, tables_with, tracks_at, version_of, with_said, with_version, Entry, marked_by}
 use Rattle.plan_types.specs.declared.plan.Table.{Table}
 use Rattle.plan_types.specs.declared.track.Track.{Track}
 use Rattle.conn_model.specs.Tables.{is_listed_by, is_new, new_table, table_alive, tables_alive, without_tracks, written_tables}
@@ -31,7 +31,7 @@ use Rattle.conn_model.proofs.Goes.{well_at}
 use Rattle.conn_model.proofs.Lists.{all-more}
 use Rattle.conn_model.proofs.Trackings.{tables_ended, tables_kept}
 use Rattle.conn_model.proofs.Well.{after-nil, well_after}
-use Rattle.conn_model.proofs.Steps.{after-change, after-end, after-reload, judging-old, last_no_offer, row_said, versions_kept, IsOfOpen, after-mark}
+use Rattle.conn_model.proofs.Steps.{after-change, after-end, after-reload, judging-old, last_no_offer, no_version, row_said, versions_kept, IsOfOpen, after-mark}
 use Rattle.conn_model.proofs.Versions.{newest-end}
 use Rattle.conn_model.proofs.VersionSteps.{plans_stay}
 use Rattle.conn_model.specs.Changes.{row_up, with_conn, without_conn}
@@ -45,17 +45,6 @@ use Rattle.plan_types.specs.declared.plan.Backend.{Backend}
 use Rattle.plan_types.specs.declared.plan.Server.{Server}
 use Rattle.proxy_types.specs.declared.server.ServerIdentity.{ServerIdentity}
 use Rattle.conn_model.specs.Servers.{identity_in}
-
--- an event with no plan brings no version
-no_version : (e : Entry) → plan_with e.event ≡ None → version_of e ≡ None
-no_version e none = ap (brought (number_said e.reply.said)) none ∙ by (number_said e.reply.said)
-  where
-    brought : Option ℕ → Option Plan → Option (ℕ × Plan)
-    brought number plan = option_and_then {U = ℕ × Plan} (λ n. option_map (λ plan. (n, plan)) plan) number
-
-    by : (number : Option ℕ) → brought number None ≡ None
-    by None = refl
-    by (Some number) = refl
 
 -- each plan that an entry brings is sound
 abbrev pub BringsSound : Entry → Type 0
@@ -122,12 +111,8 @@ frontend_of frontends id row is = by (slice_get frontends id.frontend) refl
 open_no_plan : (event : OwnedEvent) → IsOfOpen event → plan_with event ≡ None
 open_no_plan (Accept listener real) old = absurd old
 open_no_plan (Mark number n health) old = absurd old
-open_no_plan (Piece id bytes) old = refl
-open_no_plan (Connected id) old = refl
-open_no_plan (ConnectFailed id) old = refl
-open_no_plan (Close id why) old = refl
-open_no_plan (Expire id) old = refl
 open_no_plan (Reload text) old = absurd old
+open_no_plan event old = refl
 
 -- the state once something is said to a connection that is open
 pub after_spoken : (p : Plain) → IsCoreState p → (moment : ℕ) (event : OwnedEvent) (id : ConnId) (reply : Reply) (row : Row) → row_at p.frontends id ≡ Some row →

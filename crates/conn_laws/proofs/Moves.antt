@@ -18,7 +18,7 @@ use Rattle.plan_types.specs.declared.track.Track.{Track}
 use Rattle.plan_types.specs.Moves.{moves_of}
 use Rattle.conn_model.specs.declared.event.ConnId.{ConnId}
 use Rattle.conn_model.specs.declared.event.OwnedEvent.{OwnedEvent}
-use Rattle.conn_model.specs.declared.event.OwnedEvent.TheVariants.{Accept, Piece, Connected, ConnectFailed, Close, Expire, Reload, Mark}
+use Rattle.conn_model.specs.declared.event.OwnedEvent.TheVariants.{Accept, Piece, ConnectFailed}
 use Rattle.conn_model.specs.declared.plain.Assignment.{Assignment}
 use Rattle.conn_model.specs.declared.plain.FrontendRows.{FrontendRows}
 use Rattle.conn_model.specs.declared.plain.Phase.{Phase}
@@ -77,21 +77,13 @@ no_more lines phase is = subst (λ all. IsTried all phase) (sym (append-nil line
 unoffered : (event : OwnedEvent) (said : Said) (q : Plain) (version : ℕ) (lines : List ℕ) (phase : Phase) → is_offer said ≡ false → IsTried lines phase → IsTried (lines ++ line_offered said) (phase_by (plan_of q [] version) event said phase)
 unoffered event (saids.Wait id used) q version lines phase other is = on_piece (lines ++ []) (piece_of event) phase (no_more lines phase is)
 unoffered event (saids.Offer id used line server to judged send) q version lines phase other is = absurd (false≢true (sym other))
-unoffered event (saids.Refuse id used cause) q version lines phase other is = no_more lines phase is
 unoffered event (saids.Up id) q version lines phase other is = once_up (lines ++ []) phase (no_more lines phase is)
-unoffered event (saids.Closed id why) q version lines phase other is = no_more lines phase is
-unoffered event (saids.Reloaded next) q version lines phase other is = no_more lines phase is
-unoffered event (saids.Marked line health) q version lines phase other is = no_more lines phase is
+unoffered event said q version lines phase other is = no_more lines phase is
 
 -- an offer, where those that failed are the servers before
 offered : (event : OwnedEvent) (said : Said) (q : Plain) (version : ℕ) (lines : List ℕ) (phase : Phase) → is_offer said ≡ true → lines ≡ failed_by event phase → IsTried (lines ++ line_offered said) (phase_by (plan_of q [] version) event said phase)
-offered event (saids.Wait id used) q version lines phase offers same = absurd (false≢true offers)
 offered event (saids.Offer id used line server to judged send) q version lines phase offers same = ap (λ all. all ++ line ∷ []) same
-offered event (saids.Refuse id used cause) q version lines phase offers same = absurd (false≢true offers)
-offered event (saids.Up id) q version lines phase offers same = absurd (false≢true offers)
-offered event (saids.Closed id why) q version lines phase offers same = absurd (false≢true offers)
-offered event (saids.Reloaded next) q version lines phase offers same = absurd (false≢true offers)
-offered event (saids.Marked line health) q version lines phase offers same = absurd (false≢true offers)
+offered event said q version lines phase offers same = absurd (false≢true offers)
 
 -- ---- the servers before an offer
 
@@ -132,7 +124,6 @@ before_offer q well lines moment (Piece own bytes) reply id row answer row_is sp
     let got = received (at_moment moment q) own bytes reply answer in
     let one : got.row ≡ row = one_item (row_at q.frontends id) got.row row (ap (row_at q.frontends) (sym (same_id own id that.0 that.1)) ∙ got.row_is) row_is in
     waits_after_none lines row.phase got.rest (phase_waits row.phase got.rest (ap (λ (r : Row). rest_in r.phase) (sym one) ∙ got.waits)) tried
-before_offer q well lines moment (Connected own) reply id row answer row_is spoken tried may = absurd (false≢true may)
 before_offer q well lines moment (ConnectFailed own) reply id row answer row_is spoken tried may =
     let old = answered q moment (ConnectFailed own) reply answer in
     let that = speaks_that id.frontend id.serial reply.said own old.speaks spoken in
@@ -140,10 +131,7 @@ before_offer q well lines moment (ConnectFailed own) reply id row answer row_is 
     let one : got.row ≡ row = one_item (row_at q.frontends id) got.row row (ap (row_at q.frontends) (sym (same_id own id that.0 that.1)) ∙ got.row_is) row_is in
     let phase : row.phase ≡ Offered got.given = ap (λ (r : Row). r.phase) (sym one) ∙ offer-phase got.row.phase got.given got.offered in
     subst (λ p. IsTried lines p → lines ≡ failed_by (ConnectFailed own) p) (sym phase) (λ is. is) tried
-before_offer q well lines moment (Close own why) reply id row answer row_is spoken tried may = absurd (false≢true may)
-before_offer q well lines moment (Expire own) reply id row answer row_is spoken tried may = absurd (false≢true may)
-before_offer q well lines moment (Reload text) reply id row answer row_is spoken tried may = absurd (false≢true may)
-before_offer q well lines moment (Mark number n health) reply id row answer row_is spoken tried may = absurd (false≢true may)
+before_offer q well lines moment event reply id row answer row_is spoken tried may = absurd (false≢true may)
 
 -- ---- one entry
 
@@ -219,12 +207,7 @@ new_rows p well h legal moment (Accept listener real) reply answer number own th
     let none : lines_offered (conn number new.id.serial) h ≡ [] = lines_unspoken number new.id.serial h (not_spoken p well h legal number own there reply.said new here) in
     rw none (new_after (after p h) version listener real reply.said (speaks_to number new.id.serial reply.said)))
 new_rows p well h legal moment (Piece id bytes) reply answer number own there clock version = tt
-new_rows p well h legal moment (Connected id) reply answer number own there clock version = tt
-new_rows p well h legal moment (ConnectFailed id) reply answer number own there clock version = tt
-new_rows p well h legal moment (Close id why) reply answer number own there clock version = tt
-new_rows p well h legal moment (Expire id) reply answer number own there clock version = tt
-new_rows p well h legal moment (Reload text) reply answer number own there clock version = tt
-new_rows p well h legal moment (Mark backend n health) reply answer number own there clock version = tt
+new_rows p well h legal moment event reply answer number own there clock version = tt
 
 -- a connection that came
 new_row : (p : Plain) → IsWell p → (h : List Entry) (e : Entry) → IsLegal p (e ∷ h) → (id : ConnId) (row : Row) → found id.serial (arrivals (after p h) id.frontend (e ∷ [])) ≡ Some row → row.serial ≡ id.serial → (own : FrontendRows) →
@@ -301,13 +284,8 @@ other_line q row given other is =
     none_last (λ line. line == other.server.line) given.line given.failed (ap (λ n. list_any (λ line. line == n) (given.line ∷ given.failed)) (sym offer.line_is) ∙ free)
 
 offers_line : (said : Said) (line : ℕ) → line_offered said ≡ line ∷ [] → is_offer said ≡ true
-offers_line (saids.Wait id used) line is = absurd (cc)
 offers_line (saids.Offer id used n server to judged send) line is = refl
-offers_line (saids.Refuse id used cause) line is = absurd (cc)
-offers_line (saids.Up id) line is = absurd (cc)
-offers_line (saids.Closed id why) line is = absurd (cc)
-offers_line (saids.Reloaded next) line is = absurd (cc)
-offers_line (saids.Marked n health) line is = absurd (cc)
+offers_line said line is = absurd (cc)
 
 -- the line of an offer after a failure
 failure_line : (q : Plain) (id : ConnId) (given : Assignment) (row : Row) (o : Option NumberedServer) → other_server q row given ≡ o → (line : ℕ) → line_offered (failure_said id given o) ≡ line ∷ [] → list_any (λ l. l == line) (given.failed ++ given.line ∷ []) ≡ false
@@ -333,7 +311,6 @@ at_offer plan last h legal moment (Piece own bytes) reply answer id spoken may =
     let got = received (at_moment moment q) own bytes reply answer in
     let row_is : row_at q.frontends id ≡ Some got.row = ap (row_at q.frontends) (sym (same_id own id that.0 that.1)) ∙ got.row_is in
     inl (waits_after_none (lines_offered id h) got.row.phase got.rest (phase_waits got.row.phase got.rest got.waits) (tried_after plan last h legal id got.row row_is))
-at_offer plan last h legal moment (Connected own) reply answer id spoken may = absurd (false≢true may)
 at_offer plan last h legal moment (ConnectFailed own) reply answer id spoken may =
     let q : Plain = after (opening plan last) h in
     let that = speaks_that id.frontend id.serial reply.said own (answered q moment (ConnectFailed own) reply answer).speaks spoken in
@@ -346,10 +323,7 @@ at_offer plan last h legal moment (ConnectFailed own) reply answer id spoken may
       lines_are = subst (IsTried (lines_offered id h)) (offer-phase got.row.phase got.given got.offered) (tried_after plan last h legal id got.row row_is);
       said_is = ap (λ (r : Reply). r.said) got.reply_is;
     })
-at_offer plan last h legal moment (Close own why) reply answer id spoken may = absurd (false≢true may)
-at_offer plan last h legal moment (Expire own) reply answer id spoken may = absurd (false≢true may)
-at_offer plan last h legal moment (Reload text) reply answer id spoken may = absurd (false≢true may)
-at_offer plan last h legal moment (Mark number n health) reply answer id spoken may = absurd (false≢true may)
+at_offer plan last h legal moment event reply answer id spoken may = absurd (false≢true may)
 
 -- it is offered none of those
 not_again : (q : Plain) (lines : List ℕ) (reply : Reply) (line : ℕ) → line_offered reply.said ≡ line ∷ [] → (lines ≡ []) ⊎ IsMovedFrom q lines reply → list_any (λ l. l == line) lines ≡ false
@@ -389,13 +363,8 @@ distinct_more (x ∷ xs) y differ none =
 
 -- an entry offers one server at most
 line_or_none : (said : Said) → (line_offered said ≡ []) ⊎ ((line : ℕ) × (line_offered said ≡ line ∷ []))
-line_or_none (saids.Wait id used) = inl refl
 line_or_none (saids.Offer id used line server to judged send) = inr (line, refl)
-line_or_none (saids.Refuse id used cause) = inl refl
-line_or_none (saids.Up id) = inl refl
-line_or_none (saids.Closed id why) = inl refl
-line_or_none (saids.Reloaded next) = inl refl
-line_or_none (saids.Marked line health) = inl refl
+line_or_none said = inl refl
 
 -- ---- along a history
 

@@ -1,7 +1,6 @@
 -- The lines of each plan that a text means name backends that it has.
 use Rattle.std.specs.Prelude.{ℕ, Bool, List, [], ◌∷◌, length, position, Option, Some, None, option_map, Result, Ok, Err, IfSome, refl, ◌<◌, ◌≡◌, ◌==◌}
 use Rattle.std.specs.List.{cons_option, AllByRecursion}
-use Rattle.std.specs.Option.{option_and_then}
 use Rattle.std.specs.Str.{bytes_eq}
 use Rattle.std.proofs.Common.{ap, ◌∙◌, subst}
 use Rattle.conf_line.specs.declared.fault.ConfFault.{ConfFault}
@@ -25,7 +24,7 @@ use Rattle.config_core.specs.Meaning.{meaning, meant, opened}
 use Rattle.config_core.specs.declared.fault.OpenFault.{OpenFault}
 use Rattle.conn_model.specs.declared.event.ConnId.{ConnId}
 use Rattle.conn_model.specs.declared.event.OwnedEvent.{OwnedEvent}
-use Rattle.conn_model.specs.declared.event.OwnedEvent.TheVariants.{Accept, Piece, Connected, ConnectFailed, Close, Expire, Reload, Mark}
+use Rattle.conn_model.specs.declared.event.OwnedEvent.TheVariants.{Reload}
 use Rattle.conn_model.specs.declared.plain.Plain.{Plain}
 use Rattle.conn_model.specs.History.{after, number_said, opening, plan_in, plan_with, Entry, IsLegal, IsWell}
 use Rattle.conn_model.proofs.Goes.{whole_in_parts}
@@ -34,6 +33,7 @@ use Rattle.conn_model.proofs.TableSteps.{newest-all}
 use Rattle.conn_model.proofs.VersionSteps.{plans_stay}
 use Rattle.conn_model.proofs.Well.{opening_well, well_after}
 use Rattle.conn_laws.specs.Deciding.{Arrival, Waiter}
+use Rattle.conn_model.proofs.Reloads.{with_plan}
 
 -- the lines of a frontend name none but so many backends
 pub record NamesBackends (backends : ℕ) (frontend : Frontend) : Type 0 where
@@ -53,27 +53,12 @@ within test xs = by (position test xs) refl
     by (Some n) is = position_within test xs n is
 
 some_choice : (backends : List Backend) (line : ℕ) (s : Statement) → IfSome (line_choice backends line s) (λ choice. choice.backend < length backends)
-some_choice backends line statements.Nothing = tt
-some_choice backends line statements.Global = tt
-some_choice backends line statements.Defaults = tt
-some_choice backends line (statements.Frontend name) = tt
-some_choice backends line (statements.Backend name) = tt
-some_choice backends line (statements.MaxConn limit) = tt
-some_choice backends line (statements.Timeout kind ms) = tt
-some_choice backends line (statements.Retries count) = tt
-some_choice backends line (statements.Redispatch every) = tt
-some_choice backends line (statements.DefaultBackend name) = tt
-some_choice backends line (statements.Balance method) = tt
-some_choice backends line (statements.Bind endpoint flag) = tt
-some_choice backends line (statements.Acl name test) = tt
-some_choice backends line (statements.Rule list action when) = tt
 some_choice backends line (statements.UseBackend name when) = by (backend_number backends name) (within (λ (backend : Backend). bytes_eq backend.name name) backends)
   where
     by : (o : Option ℕ) → IfSome o (λ n. n < length backends) → IfSome (option_map (choice_with line when) o) (λ choice. choice.backend < length backends)
     by None less = tt
     by (Some n) less = less
-some_choice backends line (statements.StickTable table) = tt
-some_choice backends line (statements.Server server) = tt
+some_choice backends line statement = tt
 
 choices_within : (backends : List Backend) (items : List ConfigLine) → AllByRecursion (λ choice. choice.backend < length backends) (all_of (line_choice backends) items)
 choices_within backends [] = tt
@@ -111,31 +96,12 @@ text_names text plan is = by (items_of text) refl is
 
 -- the plan that an event brings is the one that its text means
 brought_names : (event : OwnedEvent) (plan : Plan) → plan_with event ≡ Some plan → NamesOwn plan
-brought_names (Accept listener real) plan is = absurd (let wrong : None ≡ Some plan = is in cc)
-brought_names (Piece id bytes) plan is = absurd (let wrong : None ≡ Some plan = is in cc)
-brought_names (Connected id) plan is = absurd (let wrong : None ≡ Some plan = is in cc)
-brought_names (ConnectFailed id) plan is = absurd (let wrong : None ≡ Some plan = is in cc)
-brought_names (Close id why) plan is = absurd (let wrong : None ≡ Some plan = is in cc)
-brought_names (Expire id) plan is = absurd (let wrong : None ≡ Some plan = is in cc)
-brought_names (Mark number n health) plan is = absurd (let wrong : None ≡ Some plan = is in cc)
 brought_names (Reload text) plan is = by (meaning text) refl is
   where
     by : (r : Result Plan OpenFault) → meaning text ≡ r → plan_in r ≡ Some plan → NamesOwn plan
     by (Err fault) meant_is now = absurd (let wrong : None ≡ Some plan = now in cc)
     by (Ok other) meant_is now = let same : other ≡ plan = cc in text_names text plan (meant_is ∙ ap Ok same)
-
-abbrev numbered : ℕ → Plan → ℕ × Plan
-numbered n plan = (n, plan)
-
-with_plan : (event : OwnedEvent) (number : Option ℕ) (n : ℕ) (plan : Plan) → option_and_then (λ m. option_map (numbered m) (plan_with event)) number ≡ Some (numbered n plan) → plan_with event ≡ Some plan
-with_plan event None n plan is = absurd (let wrong : None ≡ Some (numbered n plan) = is in cc)
-with_plan event (Some m) n plan is = by (plan_with event) refl is
-  where
-    by : (o : Option Plan) → plan_with event ≡ o → option_map (numbered m) o ≡ Some (numbered n plan) → plan_with event ≡ Some plan
-    by None e it = absurd (let wrong : None ≡ Some (numbered n plan) = it in cc)
-    by (Some p) e it =
-        let same : numbered m p ≡ numbered n plan = let both : Some (numbered m p) ≡ Some (numbered n plan) = it in cc in
-        e ∙ ap (λ pair. Some pair.1) same
+brought_names event plan is = absurd (let wrong : None ≡ Some plan = is in cc)
 
 names_stay : (plan : Plan) (last : ℕ) (h : List Entry) → NamesOwn plan → IsLegal (opening plan last) h → AllByRecursion (λ version. NamesOwn version.plan) (after (opening plan last) h).versions
 names_stay plan last [] names legal = (names, tt)

@@ -456,16 +456,14 @@ offers_not : (reply : Reply) (said : Said) → reply_of said ≡ reply → is_of
 offers_not reply said is none offers = sym none ∙ ap (λ (r : Reply). is_offer r.said) is ∙ offers
 
 pub nothing_else : (q : Plain) (moment : ℕ) (event : OwnedEvent) (reply : Reply) → answer_in q moment event ≡ Ok reply → is_offer reply.said ≡ true → may_offer event ≡ true
-nothing_else q moment (Accept listener real) reply is offers = refl
-nothing_else q moment (Piece id bytes) reply is offers = refl
 nothing_else q moment (Connected id) reply is offers = offers_not reply (saids.Up id) (server_answered (at_moment moment q) id (saids.Up id) reply is).reply_is refl offers
-nothing_else q moment (ConnectFailed id) reply is offers = refl
 nothing_else q moment (Close id why) reply is offers =
     let one = bind-ok (or_fault NoSuch (row_at q.frontends id)) _ reply is in
     offers_not reply (saids.Closed id why) (let it : Ok (reply_of (saids.Closed id why)) ≡ Ok reply = one.2 in cc) refl offers
 nothing_else q moment (Expire id) reply is offers = let got = expired (at_moment moment q) (max q.clock moment) id reply is in offers_not reply _ got.reply_is refl offers
 nothing_else q moment (Reload text) reply is offers = let got = followed (at_moment moment q) text reply is in offers_not reply _ got.reply_is refl offers
 nothing_else q moment (Mark number n health) reply is offers = let got = reported (at_moment moment q) number n health reply is in offers_not reply _ got.reply_is refl offers
+nothing_else q moment event reply is offers = refl
 
 no_track : (reply : Reply) (said : Said) → reply_of said ≡ reply → reply.tracks.items ≡ []
 no_track reply said is = ap (λ (r : Reply). r.tracks.items) (sym is)

@@ -12,7 +12,7 @@ use Rattle.plan_core.specs.Binds.{has_all_binds, has_bind, has_binds_of, has_nam
 use Rattle.plan_core.proofs.BindLemmas.{decides_bound}
 use Rattle.conn_model.specs.declared.event.ConnId.{ConnId}
 use Rattle.conn_model.specs.declared.event.OwnedEvent.{OwnedEvent}
-use Rattle.conn_model.specs.declared.event.OwnedEvent.TheVariants.{Accept, Piece, Connected, ConnectFailed, Close, Expire, Reload, Mark}
+use Rattle.conn_model.specs.declared.event.OwnedEvent.TheVariants.{Accept, Piece}
 use Rattle.conn_model.specs.declared.reply.Reply.{Reply}
 use Rattle.conn_model.specs.declared.plain.FrontendRows.{FrontendRows}
 use Rattle.conn_model.specs.declared.plain.Listener.{Listener}
@@ -212,12 +212,7 @@ opened_at q moment number clock version (Accept listener real) reply is n row th
     by true false e now = absurd (nowhere n row now)
     by false b e now = absurd (nowhere n row now)
 opened_at q moment number clock version (Piece id bytes) reply is n row there = absurd (nowhere n row there)
-opened_at q moment number clock version (Connected id) reply is n row there = absurd (nowhere n row there)
-opened_at q moment number clock version (ConnectFailed id) reply is n row there = absurd (nowhere n row there)
-opened_at q moment number clock version (Close id why) reply is n row there = absurd (nowhere n row there)
-opened_at q moment number clock version (Expire id) reply is n row there = absurd (nowhere n row there)
-opened_at q moment number clock version (Reload text) reply is n row there = absurd (nowhere n row there)
-opened_at q moment number clock version (Mark backend k health) reply is n row there = absurd (nowhere n row there)
+opened_at q moment number clock version event reply is n row there = absurd (nowhere n row there)
 
 came_by : (p : Plain) (h : List Entry) → IsLegal p h → (number n : ℕ) (row : Row) → slice_get (opened p number h) n ≡ Some row → CameBy p.listeners number
 came_by p [] legal number n row is = absurd (nowhere n row is)

@@ -51,11 +51,9 @@ named : (said : Said) (id own : ConnId) (used : ℕ) (cause : Cause) → id_of s
 named said id own used cause speaks is = let same : Some id ≡ Some own = ap id_of (sym is) ∙ speaks in cc
 
 withheld_for : (candidate : Candidate) (judged : PairValue) (made : TrackSlots) (cause : Cause) → IsNotRejected (scene_of (view_of candidate judged.source.addr)) made candidate.frontend.session_rules → Lacks (choice_view candidate judged made) cause → IsWithheld candidate judged made cause
-withheld_for candidate judged made (Line line) none has = absurd has
-withheld_for candidate judged made (Header fault) none has = absurd has
-withheld_for candidate judged made Expired none has = absurd has
 withheld_for candidate judged made (NoBackend line) none has = (none, has)
 withheld_for candidate judged made (NoServer line) none has = (none, has)
+withheld_for candidate judged made cause none has = absurd has
 
 refuses : (candidate : Candidate) (used : ℕ) (judged : PairValue) (made : TrackSlots) (id : ConnId) (count : ℕ) (cause : Cause) → NamesBackends (length candidate.version.plan.backends) candidate.frontend → (decision candidate used judged made).said ≡ Refuse id count cause →
     Refuses candidate judged made used cause count
@@ -159,11 +157,9 @@ refused_at_accept candidate accept_proxy real others id used cause names is = by
 
 whole_refused : (q : Plain) (moment : ℕ) (id : ConnId) (waiter : Waiter q id) (bytes : List ℕ) (count : ℕ) (meaning : Meaning) (cause : Cause) (tracks : List Track) → status bytes ≡ statuses.Whole count meaning →
     IsWithheld (waiting q moment id waiter) (judged_pair waiter.row.real meaning) no_tracks cause → tracks ≡ session_tracks (waiting q moment id waiter) (judged_pair waiter.row.real meaning) no_tracks → IsRefusedAtPiece q moment id waiter bytes count cause tracks
-whole_refused q moment id waiter bytes count meaning (Line line) tracks is withheld made = record { meaning = meaning; header = is; withheld = withheld; tracks_are = made }
 whole_refused q moment id waiter bytes count meaning (Header fault) tracks is withheld made = absurd withheld
 whole_refused q moment id waiter bytes count meaning Expired tracks is withheld made = absurd withheld
-whole_refused q moment id waiter bytes count meaning (NoBackend line) tracks is withheld made = record { meaning = meaning; header = is; withheld = withheld; tracks_are = made }
-whole_refused q moment id waiter bytes count meaning (NoServer line) tracks is withheld made = record { meaning = meaning; header = is; withheld = withheld; tracks_are = made }
+whole_refused q moment id waiter bytes count meaning cause tracks is withheld made = record { meaning = meaning; header = is; withheld = withheld; tracks_are = made }
 
 refused_at_piece : (q : Plain) (moment : ℕ) (id : ConnId) (waiter : Waiter q id) (bytes piece : List ℕ) (before : ℕ) (other : ConnId) (used : ℕ) (cause : Cause) (state : Status) → NamesBackends (length waiter.version.plan.backends) waiter.frontend → status bytes ≡ shifted before state →
     (header_reply (waiting q moment id waiter) waiter.row.real (length piece) state).said ≡ Refuse other used cause →

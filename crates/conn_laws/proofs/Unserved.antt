@@ -25,7 +25,7 @@ use Rattle.plan_types.specs.declared.plan.Backend.{Backend}
 use Rattle.plan_types.specs.declared.plan.Choice.{Choice}
 use Rattle.plan_types.specs.declared.plan.Server.{Server}
 use Rattle.conn_model.specs.declared.reply.Cause.{Cause}
-use Rattle.conn_model.specs.declared.reply.Cause.TheVariants.{Line, Header, Expired, NoBackend, NoServer}
+use Rattle.conn_model.specs.declared.reply.Cause.TheVariants.{NoBackend, NoServer}
 use Rattle.conn_model.specs.Servers.{cursor_at, has_room, identity_in, load_of, loads_of, pick_in, weight_of, weight_by}
 use Rattle.conn_model.specs.Rules.{backend_for, worth, RuleView}
 use Rattle.conn_model.specs.Answer.{numbered_server, server_for, NumberedServer}
@@ -190,11 +190,9 @@ none_chosen view is = by (find (is_chosen view) view.frontend.choices) refl is
 -- Both.
 
 abbrev pub Lacks : RuleView → Cause → Type 0
-Lacks view (Line line) = ⊥
-Lacks view (Header fault) = ⊥
-Lacks view Expired = ⊥
 Lacks view (NoBackend line) = LacksBackend view line
 Lacks view (NoServer line) = LacksServer view line
+Lacks view cause = ⊥
 
 pub lacks : (view : RuleView) (cause : Cause) → NamesBackends (length view.version.plan.backends) view.frontend → server_for view ≡ Err cause → Lacks view cause
 lacks view cause names is = by (backend_for (worth view) view.frontend) refl

@@ -198,21 +198,11 @@ pub record IsMoved (p : Plain) (id : ConnId) (said : Said) (tracks : List Track)
 
 abbrev pub is_wait : Said → Bool
 is_wait (saids.Wait id used) = true
-is_wait (saids.Offer id used line server to judged send) = false
-is_wait (saids.Refuse id used cause) = false
-is_wait (saids.Up id) = false
-is_wait (saids.Closed id why) = false
-is_wait (saids.Reloaded version) = false
-is_wait (saids.Marked line health) = false
+is_wait said = false
 
 abbrev pub is_offer : Said → Bool
-is_offer (saids.Wait id used) = false
 is_offer (saids.Offer id used line server to judged send) = true
-is_offer (saids.Refuse id used cause) = false
-is_offer (saids.Up id) = false
-is_offer (saids.Closed id why) = false
-is_offer (saids.Reloaded version) = false
-is_offer (saids.Marked line health) = false
+is_offer said = false
 
 -- it waits, is offered a server, or is refused
 abbrev pub is_judgement : Said → Bool
@@ -384,9 +374,5 @@ IsCause p before moment (Accept listener real) id used cause tracks =
     × IsRefusedAtAccept (newcomer p moment real listener arrival) arrival.at.accept_proxy real (length arrival.own.rows) cause tracks)
 IsCause p before moment (Piece own bytes) id used cause tracks =
     (id ≡ own) × ((waiter : Waiter p own) × IsRefusedAtPiece p moment own waiter (before own ++ bytes) (used + length (before own)) cause tracks)
-IsCause p before moment (Connected own) id used cause tracks = ⊥
-IsCause p before moment (ConnectFailed own) id used cause tracks = ⊥
-IsCause p before moment (Close own why) id used cause tracks = ⊥
 IsCause p before moment (Expire own) id used cause tracks = (id ≡ own) × (used ≡ 0) × IsLate p moment own cause tracks
-IsCause p before moment (Reload text) id used cause tracks = ⊥
-IsCause p before moment (Mark number n health) id used cause tracks = ⊥
+IsCause p before moment event id used cause tracks = ⊥

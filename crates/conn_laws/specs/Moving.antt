@@ -7,13 +7,8 @@ use Rattle.conn_model.specs.History.{speaks_to, Entry}
 
 -- the line of the server that a reply offers
 abbrev pub line_offered : Said → List ℕ
-line_offered (saids.Wait id used) = []
 line_offered (saids.Offer id used line server to judged send) = line ∷ []
-line_offered (saids.Refuse id used cause) = []
-line_offered (saids.Up id) = []
-line_offered (saids.Closed id why) = []
-line_offered (saids.Reloaded version) = []
-line_offered (saids.Marked line health) = []
+line_offered said = []
 
 -- the lines of the servers that a connection was offered, the first one first
 abbrev pub lines_offered : ConnId → List Entry → List ℕ

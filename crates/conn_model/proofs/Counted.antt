@@ -9,33 +9,29 @@ use Rattle.std.proofs.lemmas.List.Elements.{filter-append}
 use Rattle.addr_core.specs.PairValue.{PairValue}
 use Rattle.proxy_types.specs.declared.server.ServerIdentity.{ServerIdentity}
 use Rattle.proxy_types.specs.ServerIdentity.{same_server}
-use Rattle.pp_any.specs.declared.rest.Rest.{Rest}
 use Rattle.plan_types.specs.declared.plan.Plan.{Plan}
 use Rattle.plan_types.specs.declared.track.Track.{Track}
 use Rattle.conn_model.specs.declared.event.ConnId.{ConnId}
 use Rattle.conn_model.specs.declared.event.OwnedEvent.{OwnedEvent}
 use Rattle.conn_model.specs.declared.event.OwnedEvent.TheVariants.{Accept, Piece, Connected, ConnectFailed, Close, Expire, Reload, Mark}
-use Rattle.conn_model.specs.declared.event.Why.TheVariants.{Failed}
 use Rattle.conn_model.specs.declared.reply.Reply.{Reply}
 use Rattle.conn_model.specs.declared.reply.Said.{Said}
 use Rattle.conn_model.specs.declared.reply.Said.TheVariants as saids
 use Rattle.conn_model.specs.declared.reply.Said.TheVariants.{Wait, Offer, Refuse, Closed, Reloaded, Marked}
-use Rattle.conn_model.specs.declared.reply.StepFault.TheVariants.{NoSuch}
 use Rattle.conn_model.specs.declared.plain.Phase.{Phase}
 use Rattle.conn_model.specs.declared.plain.Phase.TheVariants.{Waiting, Offered, Up}
 use Rattle.conn_model.specs.declared.plain.Row.{Row}
 use Rattle.conn_model.specs.declared.plain.FrontendRows.{FrontendRows}
 use Rattle.conn_model.specs.declared.plain.Plain.{Plain}
 use Rattle.conn_model.specs.declared.plain.Version.{Version}
-use Rattle.conn_model.specs.Words.{or_fault, row_at, row_in, Rise}
+use Rattle.conn_model.specs.Words.{row_at, row_in, Rise}
 use Rattle.conn_model.specs.Counts.{change_row, is_served_by, served_by, served_in, total}
-use Rattle.conn_model.specs.Answer.{answer_in, at_moment, reply_of, rest_in, version_at}
+use Rattle.conn_model.specs.Answer.{answer_in, at_moment, reply_of, version_at}
 use Rattle.conn_model.specs.History.{after, by_counter, entry, id_of, identity_of, is_last, judging_version, newest_number, opening, phase_by, phase_on, phase_up, plan_of, served_less, served_more, version_for, Entry, IsLegal, IsWell, leaves_server}
-use Rattle.conn_model.proofs.Replies.{answered, bind-ok, expired, followed, received, server_answered, Followed, IsNew, IsOld, Received, IsReported, reported}
+use Rattle.conn_model.proofs.Replies.{answered, followed, Followed, IsNew, IsOld, IsReported, reported}
 use Rattle.conn_model.proofs.Goes.{well_at, whole_in_parts}
 use Rattle.conn_model.proofs.Well.{opening_well, well_after}
 use Rattle.conn_model.proofs.Trackings.{row_unused}
-use Rattle.conn_model.proofs.Versions.{is_offer}
 use Rattle.conn_model.proofs.VersionSteps.{judging-new, judging-old}
 use Rattle.conn_model.proofs.Totals.{total-set}
 use Rattle.conn_model.proofs.Steps.{after-accept, after-change, after-end, after-reload, row_said, rows_left, IsOfOpen, after-mark}
@@ -150,7 +146,6 @@ judged_plan q said n judges = plan_is q n ∙ ap (λ m. option_map (λ version. 
 -- the row that an accept leaves
 left-counts : (q : Plain) (server : ServerIdentity) (clock : ℕ) (real : PairValue) (tracks : List Track) (said : Said) → judging_version q.frontends (newest_number q) said ≡ newest_number q →
     option_and_then (row_at q.frontends) (id_of said) ≡ None → passing (λ row. is_served_by server row.phase) (rows_left q clock real tracks said) + served_less q said server ≡ served_more q said server
-left-counts q server clock real tracks (Wait id used) judges none = refl
 left-counts q server clock real tracks (Offer id used line n to judged send) judges none =
     let said : Said = Offer id used line n to judged send in
     let plan : plan_of q [] (newest_number q) ≡ option_map (λ version. version.plan) (version_for q said) = judged_plan q said (newest_number q) judges in
@@ -167,10 +162,8 @@ left-counts q server clock real tracks (Offer id used line n to judged send) jud
     let less : served_less q said server ≡ 0 = rw none refl in
     omega (arith, count, less) ∙ ap (λ p. one_if (same_server server (identity_of p line n to))) plan
 left-counts q server clock real tracks (Refuse id used cause) judges none = rw none refl
-left-counts q server clock real tracks (saids.Up id) judges none = refl
 left-counts q server clock real tracks (Closed id why) judges none = rw none refl
-left-counts q server clock real tracks (Reloaded version) judges none = refl
-left-counts q server clock real tracks (Marked line health) judges none = refl
+left-counts q server clock real tracks said judges none = refl
 
 accept_counts : (q : Plain) → IsWell q → (moment listener : ℕ) (real : PairValue) (reply : Reply) → IsNew q reply.said → (server : ServerIdentity) →
     served_by (after q (entry moment (Accept listener real) reply ∷ [])).frontends server + served_less q reply.said server ≡ served_by q.frontends server + served_more q reply.said server
@@ -235,22 +228,14 @@ phase_counts q event (Reloaded version) row server judges last = refl
 phase_counts q event (Marked line health) row server judges last = refl
 
 last_leaves : (said : Said) → is_last said ≡ true → leaves_server said ≡ true
-last_leaves (Wait id used) last = absurd (false≢true last)
 last_leaves (Offer id used line n to judged send) last = refl
 last_leaves (Refuse id used cause) last = refl
-last_leaves (saids.Up id) last = absurd (false≢true last)
 last_leaves (Closed id why) last = refl
-last_leaves (Reloaded version) last = absurd (false≢true last)
-last_leaves (Marked line health) last = absurd (false≢true last)
+last_leaves said last = absurd (false≢true last)
 
 last_more : (q : Plain) (said : Said) (server : ServerIdentity) → is_last said ≡ true → served_more q said server ≡ 0
-last_more q (Wait id used) server last = refl
 last_more q (Offer id used line n to judged send) server last = absurd (false≢true last)
-last_more q (Refuse id used cause) server last = refl
-last_more q (saids.Up id) server last = refl
-last_more q (Closed id why) server last = refl
-last_more q (Reloaded version) server last = refl
-last_more q (Marked line health) server last = refl
+last_more q said server last = refl
 
 open_counts : (q : Plain) → IsWell q → (moment : ℕ) (event : OwnedEvent) (reply : Reply) (id : ConnId) → IsOfOpen event → answer_in q moment event ≡ Ok reply → IsOld q id reply.said → (server : ServerIdentity) →
     served_by (after q (entry moment event reply ∷ [])).frontends server + served_less q reply.said server ≡ served_by q.frontends server + served_more q reply.said server

@@ -19,7 +19,6 @@ use Rattle.conn_model.specs.declared.event.OwnedEvent.{OwnedEvent}
 use Rattle.conn_model.specs.declared.event.OwnedEvent.TheVariants.{Accept, Piece, Connected, ConnectFailed, Close, Expire, Reload, Mark}
 use Rattle.conn_model.specs.declared.reply.Cause.{Cause}
 use Rattle.conn_model.specs.declared.reply.Said.{Said}
-use Rattle.conn_model.specs.declared.event.Why.TheVariants.{Failed}
 use Rattle.conn_model.specs.declared.reply.Said.TheVariants as saids
 use Rattle.conn_model.specs.declared.reply.Said.TheVariants.{Wait, Offer, Refuse, Closed, Reloaded, Marked}
 use Rattle.conn_model.specs.declared.reply.Reply.{Reply}
@@ -86,16 +85,10 @@ rows-found (row ∷ rows) rise = (
 -- Bytes of a connection to which nothing is said.
 
 piece-unspoken : (q : Plain) (event : OwnedEvent) (said : Said) (number serial : ℕ) → Says q event said → speaks_to number serial said ≡ false → piece_for (conn number serial) event ≡ []
-piece-unspoken q (Accept listener real) said number serial says other = refl
 piece-unspoken q (Piece id bytes) said number serial old other =
     let differs : is_conn number serial id ≡ false = rw old.speaks at other in
     rw differs refl
-piece-unspoken q (Connected id) said number serial says other = refl
-piece-unspoken q (ConnectFailed id) said number serial says other = refl
-piece-unspoken q (Close id why) said number serial says other = refl
-piece-unspoken q (Expire id) said number serial says other = refl
-piece-unspoken q (Reload text) said number serial says other = refl
-piece-unspoken q (Mark backend n health) said number serial says other = refl
+piece-unspoken q event said number serial says other = refl
 
 joined-unspoken : (p : Plain) (h : List Entry) (number serial : ℕ) → IsLegal p h → is_spoken_to number h serial ≡ false → joined (conn number serial) h ≡ []
 joined-unspoken p [] number serial legal none = refl
@@ -241,12 +234,7 @@ new_rows p well h moment (Accept listener real) reply number own there legal ans
     let none : joined (conn number new.id.serial) h ≡ [] = joined-unspoken p h number new.id.serial legal fresh in
     rw none (new-held (plan_of (after p h) [] version) listener real reply.said (speaks_to number new.id.serial reply.said)))
 new_rows p well h moment (Piece id bytes) reply number own there legal answer version clock = tt
-new_rows p well h moment (Connected id) reply number own there legal answer version clock = tt
-new_rows p well h moment (ConnectFailed id) reply number own there legal answer version clock = tt
-new_rows p well h moment (Close id why) reply number own there legal answer version clock = tt
-new_rows p well h moment (Expire id) reply number own there legal answer version clock = tt
-new_rows p well h moment (Reload text) reply number own there legal answer version clock = tt
-new_rows p well h moment (Mark backend n health) reply number own there legal answer version clock = tt
+new_rows p well h moment event reply number own there legal answer version clock = tt
 
 -- Along a history.
 

@@ -7,7 +7,7 @@ use Rattle.std.proofs.lemmas.Bool.{false≢true, eqb-true, eq-eqb}
 use Rattle.std.proofs.lemmas.Bool.Decides.{nat_tests}
 use Rattle.plan_types.specs.declared.plan.Plan.{Plan}
 use Rattle.conn_model.specs.declared.event.OwnedEvent.{OwnedEvent}
-use Rattle.conn_model.specs.declared.event.OwnedEvent.TheVariants.{Accept, Piece, Connected, ConnectFailed, Close, Expire, Reload, Mark}
+use Rattle.conn_model.specs.declared.event.OwnedEvent.TheVariants.{Reload}
 use Rattle.conn_model.specs.declared.reply.Said.{Said}
 use Rattle.conn_model.specs.declared.reply.Said.TheVariants.{Reloaded}
 use Rattle.conn_model.specs.declared.plain.Row.{Row}
@@ -95,17 +95,11 @@ brought-number n None r is = absurd (let wrong : None ≡ Some r = is in cc)
 brought-number n (Some plan) r is = let same : (n, plan) ≡ r = let it : Some (n, plan) ≡ Some r = is in cc in ap (λ pair. pair.0) (sym same)
 
 brought-next : (q : Plain) (event : OwnedEvent) (said : Said) → Says q event said → (r : ℕ × Plan) → brought event said ≡ Some r → r.0 ≡ newest_number q + 1
-brought-next q (Accept listener real) said says r is = absurd (brought-none (number_said said) r is)
-brought-next q (Piece id bytes) said says r is = absurd (brought-none (number_said said) r is)
-brought-next q (Connected id) said says r is = absurd (brought-none (number_said said) r is)
-brought-next q (ConnectFailed id) said says r is = absurd (brought-none (number_said said) r is)
-brought-next q (Close id why) said says r is = absurd (brought-none (number_said said) r is)
-brought-next q (Expire id) said says r is = absurd (brought-none (number_said said) r is)
-brought-next q (Mark backend n health) said says r is = absurd (brought-none (number_said said) r is)
 brought-next q (Reload text) said says r is =
     let it : brought (Reload text) (Reloaded (says.version.number + 1)) ≡ Some r = ap (brought (Reload text)) (sym says.says) ∙ is in
     let newest_is : newest_number q ≡ says.version.number = ap (λ o. option_map_or (λ version. version.number) o 0) says.newest_is in
     brought-number (says.version.number + 1) (plan_with (Reload text)) r it ∙ ap (λ n. n + 1) (sym newest_is)
+brought-next q event said says r is = absurd (brought-none (number_said said) r is)
 
 -- the number in force after one more entry, by whether it brings a version
 pub data Turn (p : Plain) (e : Entry) (h : List Entry) : Type 0 where

@@ -28,13 +28,12 @@ use Rattle.conn_model.specs.declared.event.ConnId.{ConnId}
 use Rattle.conn_model.specs.declared.event.OwnedEvent.{OwnedEvent}
 use Rattle.conn_model.specs.declared.event.OwnedEvent.TheVariants.{Accept, Piece, Connected, ConnectFailed, Close, Expire, Reload, Mark}
 use Rattle.conn_model.specs.declared.event.Why.{Why}
-use Rattle.conn_model.specs.declared.event.Why.TheVariants.{Failed}
 use Rattle.conn_model.specs.declared.reply.Cause.{Cause}
 use Rattle.conn_model.specs.declared.reply.Cause.TheVariants.{Line, NoBackend, NoServer}
 use Rattle.conn_model.specs.declared.reply.Reply.{Reply}
 use Rattle.conn_model.specs.declared.reply.Said.{Said}
 use Rattle.conn_model.specs.declared.reply.Said.TheVariants as saids
-use Rattle.conn_model.specs.declared.reply.Said.TheVariants.{Offer, Closed, Reloaded, Marked}
+use Rattle.conn_model.specs.declared.reply.Said.TheVariants.{Offer, Closed}
 use Rattle.conn_model.specs.declared.reply.StepFault.TheVariants.{NoSuch}
 use Rattle.conn_model.specs.declared.plain.Assignment.{Assignment}
 use Rattle.conn_model.specs.declared.plain.Phase.{Phase}
@@ -175,13 +174,8 @@ server_picked v given is =
 
 -- where it offers a server, that one may be offered
 abbrev pub OffersWell : (ServerIdentity → ℕ) → (Backend → Server → Bool) → Plan → Said → Type 0
-OffersWell served barred plan (saids.Wait id used) = Unit {0}
 OffersWell served barred plan (Offer id used line server to judged send) = MayOffer served barred plan line server to
-OffersWell served barred plan (saids.Refuse id used cause) = Unit {0}
-OffersWell served barred plan (saids.Up id) = Unit {0}
-OffersWell served barred plan (Closed id why) = Unit {0}
-OffersWell served barred plan (Reloaded version) = Unit {0}
-OffersWell served barred plan (Marked line health) = Unit {0}
+OffersWell served barred plan said = Unit {0}
 
 said-offers : (v : RuleView) (id : ConnId) (used : ℕ) (judged : PairValue) (line : Option ℕ) (result : Result NumberedServer Cause) → server_unless v line ≡ result →
     OffersWell v.served v.barred v.version.plan (said_of id used judged result)

@@ -10,7 +10,7 @@ use Rattle.config_core.proofs.BindLemmas.{both_ways}
 use Rattle.config_core.specs.Meaning.{meaning}
 use Rattle.conn_model.specs.declared.event.ConnId.{ConnId}
 use Rattle.conn_model.specs.declared.event.OwnedEvent.{OwnedEvent}
-use Rattle.conn_model.specs.declared.event.OwnedEvent.TheVariants.{Accept, Piece, Connected, ConnectFailed, Close, Expire, Reload, Mark}
+use Rattle.conn_model.specs.declared.event.OwnedEvent.TheVariants.{Reload}
 use Rattle.conn_model.specs.declared.reply.Reply.{Reply}
 use Rattle.conn_model.specs.declared.reply.Said.{Said}
 use Rattle.conn_model.specs.declared.reply.Said.TheVariants.{Reloaded}
@@ -55,24 +55,18 @@ same_both a b c one two bind = ((λ is. (two bind).0 ((one bind).0 is)), (λ is.
 -- the plan that an answered event brings
 brought_binds : (q : Plain) (first : Plan) (event : OwnedEvent) (said : Said) → Says q event said → AllByRecursion (λ version. SameBinds first version.plan) q.versions → (plan : Plan) →
     plan_with event ≡ Some plan → SameBinds first plan
-brought_binds q first (Accept listener real) said says all plan is = absurd (let wrong : None ≡ Some plan = is in cc)
-brought_binds q first (Piece id bytes) said says all plan is = absurd (let wrong : None ≡ Some plan = is in cc)
-brought_binds q first (Connected id) said says all plan is = absurd (let wrong : None ≡ Some plan = is in cc)
-brought_binds q first (ConnectFailed id) said says all plan is = absurd (let wrong : None ≡ Some plan = is in cc)
-brought_binds q first (Close id why) said says all plan is = absurd (let wrong : None ≡ Some plan = is in cc)
-brought_binds q first (Expire id) said says all plan is = absurd (let wrong : None ≡ Some plan = is in cc)
-brought_binds q first (Mark backend n health) said says all plan is = absurd (let wrong : None ≡ Some plan = is in cc)
 brought_binds q first (Reload text) said says all plan is =
     let it : Some says.plan ≡ Some plan = ap plan_in (sym says.meant) ∙ is in
     let same : says.plan ≡ plan = cc in
     let before : SameBinds first says.version.plan = newest-all (λ version. SameBinds first version.plan) q.versions says.version all says.newest_is in
     let after' : SameBinds says.version.plan says.plan = (both_ways says.version.plan says.plan (same_binds says.version.plan says.plan) refl).0 says.binds in
     subst (SameBinds first) same (same_both first says.version.plan says.plan before after')
+brought_binds q first event said says all plan is = absurd (let wrong : None ≡ Some plan = is in cc)
 
-abbrev numbered : ℕ → Plan → ℕ × Plan
+abbrev pub numbered : ℕ → Plan → ℕ × Plan
 numbered n plan = (n, plan)
 
-with_plan : (event : OwnedEvent) (number : Option ℕ) (n : ℕ) (plan : Plan) → option_and_then (λ m. option_map (numbered m) (plan_with event)) number ≡ Some (numbered n plan) → plan_with event ≡ Some plan
+pub with_plan : (event : OwnedEvent) (number : Option ℕ) (n : ℕ) (plan : Plan) → option_and_then (λ m. option_map (numbered m) (plan_with event)) number ≡ Some (numbered n plan) → plan_with event ≡ Some plan
 with_plan event None n plan is = absurd (let wrong : None ≡ Some (numbered n plan) = is in cc)
 with_plan event (Some m) n plan is = by (plan_with event) refl is
   where

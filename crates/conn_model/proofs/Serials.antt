@@ -62,12 +62,7 @@ arrival-one number clock version (Accept listener real) said = by (id_of said)
     by None = inl refl
     by (Some id) = one id (leaves_open said && (id.frontend == number))
 arrival-one number clock version (Piece id bytes) said = inl refl
-arrival-one number clock version (Connected id) said = inl refl
-arrival-one number clock version (ConnectFailed id) said = inl refl
-arrival-one number clock version (Close id why) said = inl refl
-arrival-one number clock version (Expire id) said = inl refl
-arrival-one number clock version (Reload text) said = inl refl
-arrival-one number clock version (Mark backend n health) said = inl refl
+arrival-one number clock version event said = inl refl
 
 arrival-rise : (number clock version : ℕ) (event : OwnedEvent) (said : Said) → Rise (λ row. row.serial) (arrival number clock version event said)
 arrival-rise number clock version event said = elim (arrival-one number clock version event said) [

@@ -20,7 +20,6 @@ use Rattle.conn_model.specs.declared.event.ConnId.{ConnId}
 use Rattle.conn_model.specs.declared.event.OwnedEvent.{OwnedEvent}
 use Rattle.conn_model.specs.declared.event.OwnedEvent.TheVariants.{Accept, Piece, Connected, ConnectFailed, Close, Expire, Reload, Mark}
 use Rattle.conn_model.specs.declared.reply.Said.{Said}
-use Rattle.conn_model.specs.declared.event.Why.TheVariants.{Failed}
 use Rattle.conn_model.specs.declared.reply.Said.TheVariants as saids
 use Rattle.conn_model.specs.declared.reply.Said.TheVariants.{Closed}
 use Rattle.conn_model.specs.declared.reply.Reply.{Reply}
@@ -140,14 +139,12 @@ tracks_with q clock number real own version frontend there =
 
 -- the number of the version by which an event is judged
 abbrev pub judging : Plain → OwnedEvent → ℕ
-judging q (Accept listener real) = newest_number q
 judging q (Piece id bytes) = option_map_or (λ row. row.version) (row_at q.frontends id) 0
 judging q (Connected id) = option_map_or (λ row. row.version) (row_at q.frontends id) 0
 judging q (ConnectFailed id) = option_map_or (λ row. row.version) (row_at q.frontends id) 0
 judging q (Close id why) = option_map_or (λ row. row.version) (row_at q.frontends id) 0
 judging q (Expire id) = option_map_or (λ row. row.version) (row_at q.frontends id) 0
-judging q (Reload text) = newest_number q
-judging q (Mark backend n health) = newest_number q
+judging q event = newest_number q
 
 -- all that a reply tracks is of one source
 abbrev pub HasSource : Plain → ℕ → Reply → Type 0

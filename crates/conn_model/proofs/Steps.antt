@@ -15,11 +15,11 @@ use Rattle.plan_types.specs.declared.track.Track.{Track}
 use Rattle.config_core.specs.Meaning.{meaning}
 use Rattle.conn_model.specs.declared.event.ConnId.{ConnId}
 use Rattle.conn_model.specs.declared.event.OwnedEvent.{OwnedEvent}
-use Rattle.conn_model.specs.declared.event.OwnedEvent.TheVariants.{Accept, Piece, Connected, ConnectFailed, Close, Expire, Reload, Mark}
+use Rattle.conn_model.specs.declared.event.OwnedEvent.TheVariants.{Accept, Reload, Mark}
 use Rattle.conn_model.specs.declared.reply.Reply.{Reply}
 use Rattle.conn_model.specs.declared.reply.Said.{Said}
 use Rattle.conn_model.specs.declared.reply.Said.TheVariants as saids
-use Rattle.conn_model.specs.declared.reply.Said.TheVariants.{Wait, Offer, Refuse, Closed, Reloaded, Marked}
+use Rattle.conn_model.specs.declared.reply.Said.TheVariants.{Wait, Offer, Refuse, Reloaded, Marked}
 use Rattle.conn_model.specs.declared.plain.Phase.TheVariants.{Offered}
 use Rattle.conn_model.specs.declared.plain.Row.{Row}
 use Rattle.conn_model.specs.declared.plain.FrontendRows.{FrontendRows}
@@ -37,7 +37,7 @@ pub use Rattle.conn_model.proofs.Versions.{is_offer, last_no_offer, versions_kep
 use Rattle.conn_model.proofs.Versions.{newest-at}
 pub use Rattle.conn_model.proofs.VersionSteps.{judging-old}
 use Rattle.conn_model.proofs.VersionSteps.{judging-new, versions_quiet, versions_said, versions_step}
-use Rattle.conn_model.proofs.TableSteps.{tables_quiet, tables_said, tables_step-by, table_kept}
+use Rattle.conn_model.proofs.TableSteps.{tables_quiet, tables_said, tables_step-by}
 use Rattle.proxy_types.specs.declared.server.ServerIdentity.{ServerIdentity}
 use Rattle.conn_model.specs.declared.event.Health.{Health}
 use Rattle.conn_model.proofs.Trackings.{tables_kept}
@@ -156,8 +156,8 @@ needed-set frontends force number n own own' there on is = elim (or_true (n == f
 ]
 
 -- an event with no plan brings no version
-brings_none : (e : Entry) → plan_with e.event ≡ None → version_of e ≡ None
-brings_none e none = ap (λ o. brought (number_said e.reply.said) o) none ∙ by (number_said e.reply.said)
+pub no_version : (e : Entry) → plan_with e.event ≡ None → version_of e ≡ None
+no_version e none = ap (λ o. brought (number_said e.reply.said) o) none ∙ by (number_said e.reply.said)
   where
     brought : Option ℕ → Option Plan → Option (ℕ × Plan)
     brought number plan = option_and_then {U = ℕ × Plan} (λ n. option_map (λ plan. (n, plan)) plan) number
@@ -180,11 +180,7 @@ rows_left p clock real tracks (Offer id used line server to judged send) =
       tracks = by_counter tracks;
     } ∷ []
 rows_left p clock real tracks (Wait id used) = record (new_row id.serial (newest_number p) real clock) { tracks = by_counter tracks } ∷ []
-rows_left p clock real tracks (Refuse id used cause) = []
-rows_left p clock real tracks (saids.Up id) = []
-rows_left p clock real tracks (Closed id why) = []
-rows_left p clock real tracks (Reloaded version) = []
-rows_left p clock real tracks (Marked line health) = []
+rows_left p clock real tracks said = []
 
 same_number : (n : ℕ) → (n == n) ≡ true
 same_number n = eq-eqb n n refl
@@ -203,10 +199,7 @@ new_rows_left p moment listener real (Wait id' used) tracks id whom =
     let front : id'.frontend ≡ id.frontend = ap (λ i. i.frontend) same in
     rw (front, same_number id.frontend, same_number id'.serial, same_number id.frontend) refl
 new_rows_left p moment listener real (Refuse id' used cause) tracks id whom = refl
-new_rows_left p moment listener real (saids.Up id') tracks id whom = refl
-new_rows_left p moment listener real (Closed id' why) tracks id whom = refl
-new_rows_left p moment listener real (Reloaded version) tracks id whom = refl
-new_rows_left p moment listener real (Marked line health) tracks id whom = refl
+new_rows_left p moment listener real said tracks id whom = refl
 
 accept-here : (p : Plain) (moment listener : ℕ) (real : PairValue) (reply : Reply) (id : ConnId) (own : FrontendRows) → IsFrontendWell p.versions own → id_of reply.said ≡ Some id → id.serial ≡ own.serial + 1 →
     frontend_after p (entry moment (Accept listener real) reply ∷ []) id.frontend own
@@ -259,7 +252,7 @@ after-accept p well moment listener real reply id own there whom next =
     let on : (n : ℕ) → is_needed p.frontends (newest_number p) n ≡ true → is_needed (frontends_after p (e ∷ [])) (newest_number p) n ≡ true = λ n is.
     ap (λ fs. is_needed fs (newest_number p) n) frontends
     ∙ needed-set p.frontends (newest_number p) id.frontend n own own' there (λ has. list_any-append (λ row. row.version == n) own.rows left ∙ or_left (has_version n own) (list_any (λ row. row.version == n) left) has) is in
-    let none : version_of e ≡ None = brings_none e refl in
+    let none : version_of e ≡ None = no_version e refl in
     let said : versions_after p (e ∷ []) ≡ with_said (judging_version p.frontends (newest_number p) reply.said) reply.said p.versions = versions_said p well e none on in
     let versions : versions_after p (e ∷ []) ≡ with_said (newest_number p) reply.said p.versions =
     said ∙ ap (λ n. with_said n reply.said p.versions) (judging-new p.frontends (newest_number p) reply.said id own whom there fine.given next) in
@@ -270,23 +263,13 @@ after-accept p well moment listener real reply id own there whom next =
 -- the event is no accept
 abbrev pub IsOfOpen : OwnedEvent → Type 0
 IsOfOpen (Accept listener real) = ⊥
-IsOfOpen (Piece id bytes) = Unit {0}
-IsOfOpen (Connected id) = Unit {0}
-IsOfOpen (ConnectFailed id) = Unit {0}
-IsOfOpen (Close id why) = Unit {0}
-IsOfOpen (Expire id) = Unit {0}
 IsOfOpen (Reload text) = ⊥
 IsOfOpen (Mark backend n health) = ⊥
+IsOfOpen event = Unit {0}
 
 no_arrival : (number clock version : ℕ) (event : OwnedEvent) (said : Said) → IsOfOpen event → (arrival number clock version event said ≡ []) × (is_accept_at number event said ≡ false)
 no_arrival number clock version (Accept listener real) said old = absurd old
-no_arrival number clock version (Piece id bytes) said old = (refl, refl)
-no_arrival number clock version (Connected id) said old = (refl, refl)
-no_arrival number clock version (ConnectFailed id) said old = (refl, refl)
-no_arrival number clock version (Close id why) said old = (refl, refl)
-no_arrival number clock version (Expire id) said old = (refl, refl)
-no_arrival number clock version (Reload text) said old = (refl, refl)
-no_arrival number clock version (Mark backend n health) said old = (refl, refl)
+no_arrival number clock version event said old = (refl, refl)
 
 -- the frontend of which the rows become these
 old-here : (p : Plain) (e : Entry) (number : ℕ) (own : FrontendRows) (rows : List Row) → IsOfOpen e.event →
@@ -308,25 +291,13 @@ old-elsewhere p e id number own well old whom differs =
 
 -- the event comes with no plan
 no_plan : (event : OwnedEvent) → IsOfOpen event → plan_with event ≡ None
-no_plan (Accept listener real) old = refl
-no_plan (Piece id bytes) old = refl
-no_plan (Connected id) old = refl
-no_plan (ConnectFailed id) old = refl
-no_plan (Close id why) old = refl
-no_plan (Expire id) old = refl
 no_plan (Reload text) old = absurd old
-no_plan (Mark backend n health) old = refl
+no_plan event old = refl
 
 -- and reports of no server
 no_mark : (versions : List Version) (event : OwnedEvent) → IsOfOpen event → mark_of versions event ≡ None
-no_mark versions (Accept listener real) old = refl
-no_mark versions (Piece id bytes) old = refl
-no_mark versions (Connected id) old = refl
-no_mark versions (ConnectFailed id) old = refl
-no_mark versions (Close id why) old = refl
-no_mark versions (Expire id) old = refl
-no_mark versions (Reload text) old = refl
 no_mark versions (Mark backend n health) old = absurd old
+no_mark versions event old = refl
 
 down-old : (p : Plain) (e : Entry) → IsOfOpen e.event → down_after p (e ∷ []) ≡ p.down
 down-old p e old = ap (λ o. marked_by o p.down) (no_mark p.versions e.event old)
@@ -371,7 +342,7 @@ after-end p well e id own there old whom last =
     let fine : IsFrontendWell p.versions own = all-at (IsFrontendWell p.versions) p.frontends id.frontend own well.frontends there in
     let left : List FrontendRows = slice_set p.frontends id.frontend (record own { rows = filter (λ row. not (row.serial == id.serial)) own.rows }) in
     let frontends : frontends_after p (e ∷ []) ≡ left = frontends-old p well e id own _ there old whom (ended-rows p e id own fine whom last) in
-    let none : version_of e ≡ None = brings_none e (no_plan e.event old) in
+    let none : version_of e ≡ None = no_version e (no_plan e.event old) in
     let kept : with_said (judging_version p.frontends (newest_number p) e.reply.said) e.reply.said p.versions ≡ p.versions =
     versions_kept (judging_version p.frontends (newest_number p) e.reply.said) e.reply.said p.versions (last_no_offer e.reply.said last) in
     let versions : versions_after p (e ∷ []) ≡ needed_versions left (newest_number p) p.versions =
@@ -433,7 +404,7 @@ after-change p well e id own there old whom last =
     let on : (n : ℕ) → is_needed p.frontends (newest_number p) n ≡ true → is_needed (frontends_after p (e ∷ [])) (newest_number p) n ≡ true = λ n is.
     ap (λ fs. is_needed fs (newest_number p) n) frontends
     ∙ needed-set p.frontends (newest_number p) id.frontend n own own' there (λ has. changed-versions p e.event e.reply id.serial n own.rows ∙ has) is in
-    let none : version_of e ≡ None = brings_none e (no_plan e.event old) in
+    let none : version_of e ≡ None = no_version e (no_plan e.event old) in
     let versions : versions_after p (e ∷ []) ≡ with_said (judging_version p.frontends (newest_number p) e.reply.said) e.reply.said p.versions = versions_said p well e none on in
     state_is p (max p.clock e.moment) _ _ _ _ _ _ _ _ (tables_said p well e none versions) versions frontends (down-old p e old)
 

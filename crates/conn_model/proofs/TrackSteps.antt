@@ -145,12 +145,7 @@ arrivals_judged : (q : Plain) (number clock : ℕ) (event : OwnedEvent) (said : 
 arrivals_judged q number clock (Accept listener real) said says =
     arrival-all (IsArrival q (Accept listener real)) q number clock (newest_number q) (Accept listener real) said says (λ new real' here accepting. (refl, refl))
 arrivals_judged q number clock (Piece id bytes) said says = tt
-arrivals_judged q number clock (Connected id) said says = tt
-arrivals_judged q number clock (ConnectFailed id) said says = tt
-arrivals_judged q number clock (Close id why) said says = tt
-arrivals_judged q number clock (Expire id) said says = tt
-arrivals_judged q number clock (Reload text) said says = tt
-arrivals_judged q number clock (Mark backend n health) said says = tt
+arrivals_judged q number clock event said says = tt
 
 -- One step.
 

@@ -1,5 +1,5 @@
 -- The newest version, and versions of which the cursors move.
-use Rattle.std.specs.Prelude.{ℕ, zero, suc, Bool, true, false, List, [], length, map, filter, position, slice_get, slice_set, Option, Some, None, IsSome, option_map, option_to_list, refl, ◌≤◌, ◌<◌, ◌≡◌, ◌==◌, ◌∷◌, ◌++◌}
+use Rattle.std.specs.Prelude.{ℕ, Bool, true, false, List, [], length, map, filter, position, slice_get, Option, Some, None, IsSome, option_map, option_to_list, refl, ◌≤◌, ◌<◌, ◌≡◌, ◌==◌, ◌∷◌, ◌++◌}
 use Rattle.std.specs.List.{AllByRecursion}
 use Rattle.std.specs.Option.{option_map_or}
 use Rattle.std.proofs.Common.{sym, ap, ◌∙◌, arith, append-nil}
@@ -14,7 +14,7 @@ use Rattle.plan_types.specs.Lines.{has_line}
 use Rattle.conn_model.specs.declared.plain.Version.{Version}
 use Rattle.conn_model.specs.declared.reply.Said.{Said}
 use Rattle.conn_model.specs.declared.reply.Said.TheVariants as saids
-use Rattle.conn_model.specs.declared.reply.Said.TheVariants.{Wait, Offer, Refuse, Closed, Reloaded, Marked}
+use Rattle.conn_model.specs.declared.reply.Said.TheVariants.{Wait, Offer}
 use Rattle.conn_model.specs.Words.{newest, Rise}
 use Rattle.conn_model.specs.Answer.{version_at}
 use Rattle.conn_model.specs.Servers.{cursors_after, with_cursor}
@@ -95,22 +95,12 @@ plan_pairs-map f same (version ∷ versions) = let this : plan_pair (f version) 
 
 -- a version once that is said to a connection that the version of that number judges
 abbrev pub version_said : ℕ → Said → Version → Version
-version_said number (Wait id used) version = version
 version_said number (Offer id used line server to judged send) version = with_offer number line server version
-version_said number (Refuse id used cause) version = version
-version_said number (saids.Up id) version = version
-version_said number (Closed id why) version = version
-version_said number (Reloaded next) version = version
-version_said number (Marked line health) version = version
+version_said number said version = version
 
 pub with_said-each : (number : ℕ) (said : Said) (versions : List Version) → with_said number said versions ≡ map (version_said number said) versions
-with_said-each number (Wait id used) versions = sym (map-id versions)
 with_said-each number (Offer id used line server to judged send) versions = refl
-with_said-each number (Refuse id used cause) versions = sym (map-id versions)
-with_said-each number (saids.Up id) versions = sym (map-id versions)
-with_said-each number (Closed id why) versions = sym (map-id versions)
-with_said-each number (Reloaded next) versions = sym (map-id versions)
-with_said-each number (Marked line health) versions = sym (map-id versions)
+with_said-each number said versions = sym (map-id versions)
 
 with_offer-cursors : (number line server : ℕ) → CursorsChange (with_offer number line server)
 with_offer-cursors number line server version = by (version.number == number) refl
@@ -120,43 +110,25 @@ with_offer-cursors number line server version = by (version.number == number) re
     by false e = rw e refl
 
 pub version_said-cursors : (number : ℕ) (said : Said) → CursorsChange (version_said number said)
-version_said-cursors number (Wait id used) version = refl
 version_said-cursors number (Offer id used line server to judged send) version = with_offer-cursors number line server version
-version_said-cursors number (Refuse id used cause) version = refl
-version_said-cursors number (saids.Up id) version = refl
-version_said-cursors number (Closed id why) version = refl
-version_said-cursors number (Reloaded next) version = refl
-version_said-cursors number (Marked line health) version = refl
+version_said-cursors number said version = refl
 
 -- the reply offers a server
 abbrev pub is_offer : Said → Bool
-is_offer (Wait id used) = false
 is_offer (Offer id used line server to judged send) = true
-is_offer (Refuse id used cause) = false
-is_offer (saids.Up id) = false
-is_offer (Closed id why) = false
-is_offer (Reloaded next) = false
-is_offer (Marked line health) = false
+is_offer said = false
 
 -- the versions are as they were after another reply
 pub versions_kept : (number : ℕ) (said : Said) (versions : List Version) → is_offer said ≡ false → with_said number said versions ≡ versions
-versions_kept number (Wait id used) versions other = refl
 versions_kept number (Offer id used line server to judged send) versions other = absurd (false≢true (sym other))
-versions_kept number (Refuse id used cause) versions other = refl
-versions_kept number (saids.Up id) versions other = refl
-versions_kept number (Closed id why) versions other = refl
-versions_kept number (Reloaded next) versions other = refl
-versions_kept number (Marked line health) versions other = refl
+versions_kept number said versions other = refl
 
 -- and so after a last one
 pub last_no_offer : (said : Said) → is_last said ≡ true → is_offer said ≡ false
 last_no_offer (Wait id used) last = absurd (false≢true last)
 last_no_offer (Offer id used line server to judged send) last = absurd (false≢true last)
-last_no_offer (Refuse id used cause) last = refl
 last_no_offer (saids.Up id) last = absurd (false≢true last)
-last_no_offer (Closed id why) last = refl
-last_no_offer (Reloaded next) last = refl
-last_no_offer (Marked line health) last = refl
+last_no_offer said last = refl
 
 -- There are as many cursors as before.
 
@@ -175,17 +147,12 @@ cursors-length plan line server cursors = by (position (has_line line) plan.back
     by (Some number) e = rw e (cursor-length plan.backends number server cursors)
 
 pub version_said-length : (number : ℕ) (said : Said) (version : Version) → length (version_said number said version).cursors ≡ length version.cursors
-version_said-length number (Wait id used) version = refl
 version_said-length number (Offer id used line server to judged send) version = by (version.number == number) refl
   where
     by : (b : Bool) → (version.number == number) ≡ b → length (with_offer number line server version).cursors ≡ length version.cursors
     by true e = rw e (cursors-length version.plan line server version.cursors)
     by false e = rw e refl
-version_said-length number (Refuse id used cause) version = refl
-version_said-length number (saids.Up id) version = refl
-version_said-length number (Closed id why) version = refl
-version_said-length number (Reloaded next) version = refl
-version_said-length number (Marked line health) version = refl
+version_said-length number said version = refl
 
 -- A version that comes.
 

@@ -11,14 +11,8 @@ use Rattle.conn_model.specs.History.{Entry}
 
 -- an event that is a piece has at most `PIECE_LIMIT` bytes
 abbrev pub HasPieceInLimit : OwnedEvent → Type 0
-HasPieceInLimit (Accept listener real) = Unit {0}
 HasPieceInLimit (Piece id bytes) = length bytes ≤ PIECE_LIMIT
-HasPieceInLimit (Connected id) = Unit {0}
-HasPieceInLimit (ConnectFailed id) = Unit {0}
-HasPieceInLimit (Close id why) = Unit {0}
-HasPieceInLimit (Expire id) = Unit {0}
-HasPieceInLimit (Reload text) = Unit {0}
-HasPieceInLimit (Mark backend n health) = Unit {0}
+HasPieceInLimit event = Unit {0}
 
 abbrev pub IsId : ConnId → Type 0
 IsId id = (id.frontend < 2 ^ 16) × (id.serial < 2 ^ 64)

@@ -81,13 +81,8 @@ speaks_to number serial said = option_map_or (is_conn number serial) (id_of said
 
 -- the number that a reply gives to a configuration
 abbrev pub number_said : Said → Option ℕ
-number_said (Wait id used) = None
-number_said (Offer id used line server to judged send) = None
-number_said (Refuse id used cause) = None
-number_said (saids.Up id) = None
-number_said (Closed id why) = None
 number_said (Reloaded version) = Some version
-number_said (Marked line health) = None
+number_said said = None
 
 -- the plan that a text means, if it means one
 abbrev pub plan_in : Result Plan OpenFault → Option Plan
@@ -96,14 +91,8 @@ plan_in (Err fault) = None
 
 -- the plan that comes with an event
 abbrev pub plan_with : OwnedEvent → Option Plan
-plan_with (Accept listener real) = None
-plan_with (Piece id bytes) = None
-plan_with (Connected id) = None
-plan_with (ConnectFailed id) = None
-plan_with (Close id why) = None
-plan_with (Expire id) = None
 plan_with (Reload text) = plan_in (meaning text)
-plan_with (Mark number n health) = None
+plan_with event = None
 
 -- the version that an entry brings into force: its number, with its plan
 abbrev pub version_of : Entry → Option (ℕ × Plan)
@@ -139,14 +128,8 @@ identity_of plan line n to = option_map_or (identity_at n to) (option_and_then (
 
 -- the bytes that came with an event
 abbrev pub piece_of : OwnedEvent → List ℕ
-piece_of (Accept listener real) = []
 piece_of (Piece id bytes) = bytes
-piece_of (Connected id) = []
-piece_of (ConnectFailed id) = []
-piece_of (Close id why) = []
-piece_of (Expire id) = []
-piece_of (Reload text) = []
-piece_of (Mark number n health) = []
+piece_of event = []
 
 -- a connection that waits, and waits on once a piece came
 abbrev pub phase_on : List ℕ → Phase → Phase
@@ -218,13 +201,7 @@ arrival_of number clock version real said (Some id) = if leaves_open said && (id
 -- the row that an event opens in the frontend, as it is at its accept
 abbrev pub arrival : ℕ → ℕ → ℕ → OwnedEvent → Said → List Row
 arrival number clock version (Accept listener real) said = arrival_of number clock version real said (id_of said)
-arrival number clock version (Piece id bytes) said = []
-arrival number clock version (Connected id) said = []
-arrival number clock version (ConnectFailed id) said = []
-arrival number clock version (Close id why) said = []
-arrival number clock version (Expire id) said = []
-arrival number clock version (Reload text) said = []
-arrival number clock version (Mark backend n health) said = []
+arrival number clock version event said = []
 
 -- all that were opened in a frontend, the oldest first, each as it was at its accept
 abbrev pub arrivals : Plain → ℕ → List Entry → List Row
@@ -237,13 +214,7 @@ has_ended number h serial = list_any (λ e. is_last e.reply.said && speaks_to nu
 
 abbrev pub is_accept_at : ℕ → OwnedEvent → Said → Bool
 is_accept_at number (Accept listener real) said = option_map_or (λ id. id.frontend == number) (id_of said) false
-is_accept_at number (Piece id bytes) said = false
-is_accept_at number (Connected id) said = false
-is_accept_at number (ConnectFailed id) said = false
-is_accept_at number (Close id why) said = false
-is_accept_at number (Expire id) said = false
-is_accept_at number (Reload text) said = false
-is_accept_at number (Mark backend n health) said = false
+is_accept_at number event said = false
 
 -- the accepts of the frontend that were answered
 abbrev pub accepts : ℕ → List Entry → ℕ
@@ -300,13 +271,8 @@ with_offer number line server version =
 
 -- the versions once that is said to a connection that the version of that number judges
 abbrev pub with_said : ℕ → Said → List Version → List Version
-with_said number (Wait id used) versions = versions
 with_said number (Offer id used line server to judged send) versions = map (with_offer number line server) versions
-with_said number (Refuse id used cause) versions = versions
-with_said number (saids.Up id) versions = versions
-with_said number (Closed id why) versions = versions
-with_said number (Reloaded version) versions = versions
-with_said number (Marked line health) versions = versions
+with_said number said versions = versions
 
 -- the versions after an entry, where those were the rows, the number in force and the versions before it
 abbrev pub versions_by : List FrontendRows → ℕ → List Version → Entry → List Version
@@ -369,14 +335,8 @@ without_down server down = filter (λ other. not (same_server server other)) dow
 
 -- the server that an event reports, with how it is, by the versions before it
 abbrev pub mark_of : List Version → OwnedEvent → Option (ServerIdentity × Health)
-mark_of versions (Accept listener real) = None
-mark_of versions (Piece id bytes) = None
-mark_of versions (Connected id) = None
-mark_of versions (ConnectFailed id) = None
-mark_of versions (Close id why) = None
-mark_of versions (Expire id) = None
-mark_of versions (Reload text) = None
 mark_of versions (Mark number n health) = option_map (λ found. (identity_in found.0 found.1, health)) (checked_server versions number n)
+mark_of versions event = None
 
 -- the servers that are down after a report, if there is one
 abbrev pub marked_by : Option (ServerIdentity × Health) → List ServerIdentity → List ServerIdentity
@@ -426,15 +386,10 @@ counts p h ask = counts_in (after p h) ask
 
 -- how many more open connections count for a server once that is said
 abbrev pub served_more : Plain → Said → ServerIdentity → ℕ
-served_more p (Wait id used) server = 0
 served_more p (Offer id used line n to judged send) server =
     let plan = option_map (λ version. version.plan) (version_for p (Offer id used line n to judged send)) in
     if same_server server (identity_of plan line n to) then 1 else 0
-served_more p (Refuse id used cause) server = 0
-served_more p (saids.Up id) server = 0
-served_more p (Closed id why) server = 0
-served_more p (Reloaded version) server = 0
-served_more p (Marked line health) server = 0
+served_more p said server = 0
 
 -- the connection does not count any longer for the server that it had: it ends, or is offered another one
 abbrev pub leaves_server : Said → Bool
@@ -453,14 +408,8 @@ served_less p said server =
     if leaves_server said && option_map_or (λ row. is_served_by server row.phase) row false then 1 else 0
 
 abbrev pub is_reload : OwnedEvent → Bool
-is_reload (Accept listener real) = false
-is_reload (Piece id bytes) = false
-is_reload (Connected id) = false
-is_reload (ConnectFailed id) = false
-is_reload (Close id why) = false
-is_reload (Expire id) = false
 is_reload (Reload text) = true
-is_reload (Mark number n health) = false
+is_reload event = false
 
 -- a step may end in that fault: it is the answer, or there was no memory for a reply, or to read a new configuration
 abbrev pub IsFault : OwnedEvent → Result Reply StepFault → StepFault → Type 0
@@ -468,14 +417,8 @@ IsFault event answer fault = (answer ≡ Err fault) ⊎ ((fault ≡ NoMemory) ×
 
 -- the bytes of an event, if it is a piece of that connection
 abbrev pub piece_for : ConnId → OwnedEvent → List ℕ
-piece_for id (Accept listener real) = []
 piece_for id (Piece other bytes) = if is_conn id.frontend id.serial other then bytes else []
-piece_for id (Connected other) = []
-piece_for id (ConnectFailed other) = []
-piece_for id (Close other why) = []
-piece_for id (Expire other) = []
-piece_for id (Reload text) = []
-piece_for id (Mark number n health) = []
+piece_for id event = []
 
 -- all the bytes that came of a connection, joined
 abbrev pub joined : ConnId → List Entry → List ℕ

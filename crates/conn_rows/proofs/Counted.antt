@@ -28,19 +28,29 @@ use Rattle.conn_model.proofs.Trackers.{trackers-append}
 use Rattle.conn_tables.proofs.CounterLemmas.{counter_few, trackers_on, tracks_trackers}
 use Rattle.conn_tables.proofs.PlaceLemmas.{all_set}
 
--- a frontend is changed, and its rows track what they did
-pub still_rows : (frontends : List StoredFrontend) (tables : List StoredTable) (n : ℕ) (own next : StoredFrontend) → slice_get frontends n ≡ Some own → IsFew (length next.rows) →
-    ((id : TableId) (key : Addr) → total (row_on id key) next.rows ≡ total (row_on id key) own.rows) → AreRows frontends tables → AreRows (set frontends n next) tables
-still_rows frontends tables n own next there small same known = record {
+-- a frontend is changed, and its rows and the tables have so many trackings more
+grown_rows : (frontends : List StoredFrontend) (tables rest : List StoredTable) (n : ℕ) (own next : StoredFrontend) (more : TableId → Addr → ℕ) → slice_get frontends n ≡ Some own → IsFew (length next.rows) →
+    ((id : TableId) (key : Addr) → total (row_on id key) next.rows ≡ total (row_on id key) own.rows + more id key) →
+    ((id : TableId) (key : Addr) → cur_in id key rest ≡ cur_in id key tables + more id key) → AreRows frontends tables → AreRows (set frontends n next) rest
+grown_rows frontends tables rest n own next more there small rows counts known = record {
   few = rw (length-set frontends n next) known.few;
   small = all_set (λ own. IsFew (length own.rows)) frontends n next known.small small;
   counted = λ id key.
       let all : rows_total (row_on id key) (set frontends n next) + total (row_on id key) own.rows ≡ rows_total (row_on id key) frontends + total (row_on id key) next.rows =
       total-set (λ own. total (row_on id key) own.rows) frontends n own next there in
       let before = known.counted id key in
-      let is = same id key in
-      omega (arith, all, before, is);
+      let grown = rows id key in
+      let count = counts id key in
+      omega (arith, all, before, grown, count);
 }
+
+-- its rows track what they did
+pub still_rows : (frontends : List StoredFrontend) (tables : List StoredTable) (n : ℕ) (own next : StoredFrontend) → slice_get frontends n ≡ Some own → IsFew (length next.rows) →
+    ((id : TableId) (key : Addr) → total (row_on id key) next.rows ≡ total (row_on id key) own.rows) → AreRows frontends tables → AreRows (set frontends n next) tables
+still_rows frontends tables n own next there small same =
+    grown_rows frontends tables tables n own next (λ id key. 0) there small
+    (λ id key. let is = same id key in omega (arith, is))
+    (λ id key. omega arith)
 
 -- rows of which one is changed, which tracks what it did
 pub total-with : (worth : StoredRow → ℕ) (serial : ℕ) (change : StoredRow → StoredRow) (rows : List StoredRow) → ((row : StoredRow) → worth (change row) ≡ worth row) →
@@ -166,17 +176,8 @@ counts_few versions frontends tables addr (Some table) known = by (key_in table.
 pub more_rows : (frontends : List StoredFrontend) (tables rest : List StoredTable) (n : ℕ) (own next : StoredFrontend) (tracking : Tracking) → slice_get frontends n ≡ Some own → IsFew (length next.rows) →
     ((id : TableId) (key : Addr) → total (row_on id key) next.rows ≡ total (row_on id key) own.rows + counter_on id key (Some tracking)) →
     ((id : TableId) (key : Addr) → cur_in id key rest ≡ cur_in id key tables + counter_on id key (Some tracking)) → AreRows frontends tables → AreRows (set frontends n next) rest
-more_rows frontends tables rest n own next tracking there small rows counts known = record {
-  few = rw (length-set frontends n next) known.few;
-  small = all_set (λ own. IsFew (length own.rows)) frontends n next known.small small;
-  counted = λ id key.
-      let all : rows_total (row_on id key) (set frontends n next) + total (row_on id key) own.rows ≡ rows_total (row_on id key) frontends + total (row_on id key) next.rows =
-      total-set (λ own. total (row_on id key) own.rows) frontends n own next there in
-      let before = known.counted id key in
-      let more = rows id key in
-      let count = counts id key in
-      omega (arith, all, before, more, count);
-}
+more_rows frontends tables rest n own next tracking there small rows counts =
+    grown_rows frontends tables rest n own next (λ id key. counter_on id key (Some tracking)) there small rows counts
 
 -- as many track each key of a table as with one track more
 pub trackers_more : (versions : List Version) (frontends : List StoredFrontend) (n : ℕ) (own next : StoredFrontend) (track : Track) → slice_get frontends n ≡ Some own →

@@ -418,44 +418,45 @@ frontends_alike versions others same (own ∷ frontends) =
     let more = frontends_alike versions others same frontends in
     cc (here, more)
 
--- a connection is offered a server, which moves what was last used of its backend
+-- a row is changed, and what was last used of the backend of its server moves
+seated_value : {down : List ServerIdentity} (frontends : List StoredFrontend) (versions others : List Version) (tables : StoredTables) (value : RowsValue) (n : ℕ) (id : ConnId) (own : StoredFrontend) (version : ℕ) (seat : ServerChoice)
+    (change : StoredRow → StoredRow) (plain : List Version → Row → Row) →
+    value_of frontends versions tables down ≡ value → n ≡ id.frontend → slice_get frontends id.frontend ≡ Some own → others ≡ map (with_offer version seat.line seat.server) versions →
+    plain_frontend versions (record own { rows = with_stored id.serial change own.rows }) ≡ with_row id.serial (plain versions) (plain_frontend versions own) →
+    value_of (set frontends n (record own { rows = with_stored id.serial change own.rows })) others tables down ≡
+    record value { frontends = with_conn id (plain value.versions) value.frontends; versions = map (with_offer version seat.line seat.server) value.versions }
+seated_value {down} frontends versions others tables value n id own version seat change plain value_is n_is there others_are plain_is =
+    let next : StoredFrontend = record own { rows = with_stored id.serial change own.rows } in
+    let moved : value_of (set frontends n next) versions tables down ≡ record value { frontends = with_conn id (plain value.versions) value.frontends } =
+    changed frontends versions tables value n id.frontend own next (λ versions. with_row id.serial (plain versions)) value_is n_is there plain_is in
+    let alike : map (plain_frontend others) (set frontends n next) ≡ map (plain_frontend versions) (set frontends n next) =
+    frontends_alike versions others (λ m. ap (λ vs. plan_at vs m) others_are ∙ version-offer version seat.line seat.server versions m) (set frontends n next) in
+    let named : others ≡ map (with_offer version seat.line seat.server) value.versions = others_are ∙ ap (λ v. map (with_offer version seat.line seat.server) v.versions) value_is in
+    let first : value_of (set frontends n next) others tables down ≡ record (value_of (set frontends n next) versions tables down) { versions = others } =
+    ap {B = RowsValue} (λ fs. record { frontends = fs; versions = others; tables = map (plain_table tables.clock) tables.tables; clock = tables.clock; spare = tables.spare; down = down }) alike in
+    let second : record (value_of (set frontends n next) versions tables down) { versions = others } ≡ record (value_of (set frontends n next) versions tables down) { versions = map (with_offer version seat.line seat.server) value.versions } =
+    ap (λ vs. record (value_of (set frontends n next) versions tables down) { versions = vs }) named in
+    let third : record (value_of (set frontends n next) versions tables down) { versions = map (with_offer version seat.line seat.server) value.versions } ≡ record value { frontends = with_item id.frontend (with_row id.serial (plain value.versions)) value.frontends; versions = map (with_offer version seat.line seat.server) value.versions } =
+    ap (λ (v : RowsValue). record v { versions = map (with_offer version seat.line seat.server) value.versions }) moved in
+    first ∙ second ∙ third
+
+-- a connection is offered a server
 pub offered_value : {down : List ServerIdentity} (frontends : List StoredFrontend) (versions others : List Version) (tables : StoredTables) (value : RowsValue) (n : ℕ) (id : ConnId) (own : StoredFrontend) (version : ℕ) (seat : ServerChoice) (slot : SlotIx) →
     value_of frontends versions tables down ≡ value → n ≡ id.frontend → slice_get frontends id.frontend ≡ Some own → others ≡ map (with_offer version seat.line seat.server) versions →
     value_of (set frontends n (record own { rows = with_stored id.serial (at_stage (stage_offered seat slot)) own.rows })) others tables down ≡
     record value { frontends = with_conn id (row_offered value.versions seat) value.frontends; versions = map (with_offer version seat.line seat.server) value.versions }
-offered_value {down} frontends versions others tables value n id own version seat slot value_is n_is there others_are =
-    let next : StoredFrontend = record own { rows = with_stored id.serial (at_stage (stage_offered seat slot)) own.rows } in
-    let moved : value_of (set frontends n next) versions tables down ≡ record value { frontends = with_conn id (row_offered value.versions seat) value.frontends } =
-    changed frontends versions tables value n id.frontend own next (λ versions. with_row id.serial (row_offered versions seat)) value_is n_is there (offered_plain versions own id.serial seat slot) in
-    let alike : map (plain_frontend others) (set frontends n next) ≡ map (plain_frontend versions) (set frontends n next) =
-    frontends_alike versions others (λ m. ap (λ vs. plan_at vs m) others_are ∙ version-offer version seat.line seat.server versions m) (set frontends n next) in
-    let named : others ≡ map (with_offer version seat.line seat.server) value.versions = others_are ∙ ap (λ v. map (with_offer version seat.line seat.server) v.versions) value_is in
-    let first : value_of (set frontends n next) others tables down ≡ record (value_of (set frontends n next) versions tables down) { versions = others } =
-    ap {B = RowsValue} (λ fs. record { frontends = fs; versions = others; tables = map (plain_table tables.clock) tables.tables; clock = tables.clock; spare = tables.spare; down = down }) alike in
-    let second : record (value_of (set frontends n next) versions tables down) { versions = others } ≡ record (value_of (set frontends n next) versions tables down) { versions = map (with_offer version seat.line seat.server) value.versions } =
-    ap (λ vs. record (value_of (set frontends n next) versions tables down) { versions = vs }) named in
-    let third : record (value_of (set frontends n next) versions tables down) { versions = map (with_offer version seat.line seat.server) value.versions } ≡ record value { frontends = with_item id.frontend (with_row id.serial (row_offered value.versions seat)) value.frontends; versions = map (with_offer version seat.line seat.server) value.versions } =
-    ap (λ (v : RowsValue). record v { versions = map (with_offer version seat.line seat.server) value.versions }) moved in
-    first ∙ second ∙ third
+offered_value frontends versions others tables value n id own version seat slot value_is n_is there others_are =
+    seated_value frontends versions others tables value n id own version seat (at_stage (stage_offered seat slot)) (λ versions. row_offered versions seat) value_is n_is there others_are
+    (offered_plain versions own id.serial seat slot)
 
+-- it is moved to another one
 pub moved_value : {down : List ServerIdentity} (frontends : List StoredFrontend) (versions others : List Version) (tables : StoredTables) (value : RowsValue) (n : ℕ) (id : ConnId) (own : StoredFrontend) (version : ℕ) (seat : ServerChoice) (slot : SlotIx) →
     value_of frontends versions tables down ≡ value → n ≡ id.frontend → slice_get frontends id.frontend ≡ Some own → others ≡ map (with_offer version seat.line seat.server) versions →
     value_of (set frontends n (record own { rows = with_stored id.serial (stored_moved seat slot) own.rows })) others tables down ≡
     record value { frontends = with_conn id (row_moved value.versions seat) value.frontends; versions = map (with_offer version seat.line seat.server) value.versions }
-moved_value {down} frontends versions others tables value n id own version seat slot value_is n_is there others_are =
-    let next : StoredFrontend = record own { rows = with_stored id.serial (stored_moved seat slot) own.rows } in
-    let moved : value_of (set frontends n next) versions tables down ≡ record value { frontends = with_conn id (row_moved value.versions seat) value.frontends } =
-    changed frontends versions tables value n id.frontend own next (λ versions. with_row id.serial (row_moved versions seat)) value_is n_is there (moved_plain versions own id.serial seat slot) in
-    let alike : map (plain_frontend others) (set frontends n next) ≡ map (plain_frontend versions) (set frontends n next) =
-    frontends_alike versions others (λ m. ap (λ vs. plan_at vs m) others_are ∙ version-offer version seat.line seat.server versions m) (set frontends n next) in
-    let named : others ≡ map (with_offer version seat.line seat.server) value.versions = others_are ∙ ap (λ v. map (with_offer version seat.line seat.server) v.versions) value_is in
-    let first : value_of (set frontends n next) others tables down ≡ record (value_of (set frontends n next) versions tables down) { versions = others } =
-    ap {B = RowsValue} (λ fs. record { frontends = fs; versions = others; tables = map (plain_table tables.clock) tables.tables; clock = tables.clock; spare = tables.spare; down = down }) alike in
-    let second : record (value_of (set frontends n next) versions tables down) { versions = others } ≡ record (value_of (set frontends n next) versions tables down) { versions = map (with_offer version seat.line seat.server) value.versions } =
-    ap (λ vs. record (value_of (set frontends n next) versions tables down) { versions = vs }) named in
-    let third : record (value_of (set frontends n next) versions tables down) { versions = map (with_offer version seat.line seat.server) value.versions } ≡ record value { frontends = with_item id.frontend (with_row id.serial (row_moved value.versions seat)) value.frontends; versions = map (with_offer version seat.line seat.server) value.versions } =
-    ap (λ (v : RowsValue). record v { versions = map (with_offer version seat.line seat.server) value.versions }) moved in
-    first ∙ second ∙ third
+moved_value frontends versions others tables value n id own version seat slot value_is n_is there others_are =
+    seated_value frontends versions others tables value n id own version seat (stored_moved seat slot) (λ versions. row_moved versions seat) value_is n_is there others_are
+    (moved_plain versions own id.serial seat slot)
 
 -- a connection that can be moved is a row that can be
 pub moving_there : {down : List ServerIdentity} (frontends : List StoredFrontend) (versions : List Version) (tables : StoredTables) (state : RowsValue) (id : ConnId) (own : StoredFrontend) →

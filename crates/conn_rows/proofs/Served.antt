@@ -201,6 +201,27 @@ still_there number line server versions n some =
     below None some = absurd (cc)
     below (Some version) some = refl
 
+-- the rows of a frontend have other slots, and so many connections fewer and more are open at each place
+seated : (frontends : List StoredFrontend) (kept rest : VersionsValue) (n : ℕ) (own next : StoredFrontend) (fewer more : ℕ → ℕ) → slice_get frontends n ≡ Some own →
+    ((place : ℕ) → total (row_slots place) next.rows + fewer place ≡ total (row_slots place) own.rows + more place) →
+    ((place : ℕ) → open_at place rest.counts + fewer place ≡ open_at place kept.counts + more place) →
+    ((number : ℕ) → total (row_judged number) next.rows ≡ total (row_judged number) own.rows) →
+    ((number : ℕ) → IsSome (version_at rest.versions number) → IsSome (version_at kept.versions number)) → ((number : ℕ) → judged_of rest number ≡ judged_of kept number) →
+    (AllByRecursion (HasSlot rest) own.rows → AllByRecursion (HasSlot rest) next.rows) → AllRows (HasSlot rest) frontends →
+    AreServed frontends kept → AreServed (set frontends n next) rest
+seated frontends kept rest n own next fewer more there rows counts own_judged kept_before judged each slots known = record {
+  counted = λ place.
+      let all : rows_total (row_slots place) (set frontends n next) + total (row_slots place) own.rows ≡ rows_total (row_slots place) frontends + total (row_slots place) next.rows =
+      total-set (λ own. total (row_slots place) own.rows) frontends n own next there in
+      let before = known.counted place in
+      let change = rows place in
+      let count = counts place in
+      omega (arith, all, before, change, count);
+  judged = λ number some.
+      judged number ∙ known.judged number (kept_before number some) ∙ sym (worth_same (row_judged number) frontends n own next there (own_judged number));
+  slots = all_set (λ own. AllByRecursion (HasSlot rest) own.rows) frontends n next slots (each (all-at (λ own. AllByRecursion (HasSlot rest) own.rows) frontends n own slots there));
+}
+
 -- a slot is taken: one connection more is open to its server
 pub more_served : (frontends : List StoredFrontend) (kept rest : VersionsValue) (n : ℕ) (own next : StoredFrontend) (slot : SlotIx) → slice_get frontends n ≡ Some own →
     ((place : ℕ) → total (row_slots place) next.rows ≡ total (row_slots place) own.rows + slots_at place slot) →
@@ -209,18 +230,10 @@ pub more_served : (frontends : List StoredFrontend) (kept rest : VersionsValue) 
     ((number : ℕ) → IsSome (version_at rest.versions number) → IsSome (version_at kept.versions number)) → ((number : ℕ) → judged_of rest number ≡ judged_of kept number) →
     (AllByRecursion (HasSlot rest) own.rows → AllByRecursion (HasSlot rest) next.rows) → AllRows (HasSlot rest) frontends →
     AreServed frontends kept → AreServed (set frontends n next) rest
-more_served frontends kept rest n own next slot there rows counts own_judged kept_before judged each slots known = record {
-  counted = λ place.
-      let all : rows_total (row_slots place) (set frontends n next) + total (row_slots place) own.rows ≡ rows_total (row_slots place) frontends + total (row_slots place) next.rows =
-      total-set (λ own. total (row_slots place) own.rows) frontends n own next there in
-      let before = known.counted place in
-      let more = rows place in
-      let count = counts place in
-      omega (arith, all, before, more, count);
-  judged = λ number some.
-      judged number ∙ known.judged number (kept_before number some) ∙ sym (worth_same (row_judged number) frontends n own next there (own_judged number));
-  slots = all_set (λ own. AllByRecursion (HasSlot rest) own.rows) frontends n next slots (each (all-at (λ own. AllByRecursion (HasSlot rest) own.rows) frontends n own slots there));
-}
+more_served frontends kept rest n own next slot there rows counts =
+    seated frontends kept rest n own next (λ place. 0) (λ place. slots_at place slot) there
+    (λ place. let is = rows place in omega (arith, is))
+    (λ place. let is = counts place in omega (arith, is))
 
 -- the others count for their servers as before
 pub slots-offer : (frontends : List StoredFrontend) (kept rest : VersionsValue) (number line server : ℕ) → rest.versions ≡ map (with_offer number line server) kept.versions →
@@ -336,18 +349,8 @@ pub moved_served : (frontends : List StoredFrontend) (kept rest : VersionsValue)
     ((number : ℕ) → IsSome (version_at rest.versions number) → IsSome (version_at kept.versions number)) → ((number : ℕ) → judged_of rest number ≡ judged_of kept number) →
     (AllByRecursion (HasSlot rest) own.rows → AllByRecursion (HasSlot rest) next.rows) → AllRows (HasSlot rest) frontends →
     AreServed frontends kept → AreServed (set frontends n next) rest
-moved_served frontends kept rest n own next slot left there rows counts own_judged kept_before judged each slots known = record {
-  counted = λ place.
-      let all : rows_total (row_slots place) (set frontends n next) + total (row_slots place) own.rows ≡ rows_total (row_slots place) frontends + total (row_slots place) next.rows =
-      total-set (λ own. total (row_slots place) own.rows) frontends n own next there in
-      let before = known.counted place in
-      let more = rows place in
-      let count = counts place in
-      omega (arith, all, before, more, count);
-  judged = λ number some.
-      judged number ∙ known.judged number (kept_before number some) ∙ sym (worth_same (row_judged number) frontends n own next there (own_judged number));
-  slots = all_set (λ own. AllByRecursion (HasSlot rest) own.rows) frontends n next slots (each (all-at (λ own. AllByRecursion (HasSlot rest) own.rows) frontends n own slots there));
-}
+moved_served frontends kept rest n own next slot left there rows counts =
+    seated frontends kept rest n own next (λ place. slots_at place left) (λ place. slots_at place slot) there rows counts
 
 -- the slot that is given back is of an open connection
 pub left_counted : (frontends : List StoredFrontend) (kept rest : VersionsValue) (n : ℕ) (own next : StoredFrontend) (slot left : SlotIx) → slice_get frontends n ≡ Some own →

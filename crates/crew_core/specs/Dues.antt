@@ -12,10 +12,8 @@ use Rattle.crew_core.specs.declared.idle.WaitedFor.{WaitedFor}
 
 -- The time of a dial begins where it is under way.
 abbrev pub dial_begun : Stage → Times → ℕ → Times
-dial_begun stages.Header times now = times
 dial_begun (stages.Server to) times now = record times { server = now }
-dial_begun (stages.Retry to) times now = times
-dial_begun stages.Bytes times now = times
+dial_begun stage times now = times
 
 -- the server while it is dialled, and in the pause before it is dialled again
 abbrev pub dialled_side : Times → ℕ → Side
@@ -38,7 +36,5 @@ due_in stages.Bytes settings times waited_for now = option_map dues.End (overdue
 -- When a connection of which nothing is due is to be looked at again: once there is a link to the server, when the first of the
 -- sides may be overdue, and before that at any time.
 abbrev pub next_look_in : Stage → Settings → Times → WaitedFor → ℕ → ℕ
-next_look_in stages.Header settings times waited_for now = 0
-next_look_in (stages.Server to) settings times waited_for now = 0
-next_look_in (stages.Retry to) settings times waited_for now = 0
 next_look_in stages.Bytes settings times waited_for now = min (first_end now (client_side settings times waited_for)) (first_end now (server_side settings times waited_for))
+next_look_in stage settings times waited_for now = 0

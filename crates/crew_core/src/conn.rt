@@ -67,13 +67,6 @@ pub(crate) enum Due {
     End(Why),
 }
 
-/// Whether both directions are over.
-fn is_over(relay: &Relay) -> bool
-    ensures { IsTrue result ↔ AreOver relay.now }
-{
-    relay.forth_done() && relay.back_done()
-}
-
 impl<K: Link> Conn<K> {
     pub(crate) fn new(client: K) -> Conn<K> {
         Conn {
@@ -382,7 +375,7 @@ impl<K: Link> Conn<K> {
             IsRelayed K.left K.held self.old.client server (Some relay) self.new.client new_server result self.new.relay) }
     {
         let progress = self.pump_both(&mut relay, buffer);
-        if is_over(&relay) {
+        if relay.is_over() {
             spares.give_back(relay);
             return None;
         }

@@ -25,11 +25,7 @@ fn open_connection(said: &Said) -> Option<ConnId>
 {
     match *said {
         Said::Wait { id, .. } | Said::Offer { id, .. } => Some(id),
-        Said::Refuse { .. }
-        | Said::Up { .. }
-        | Said::Closed { .. }
-        | Said::Reloaded { .. }
-        | Said::Marked { .. } => None,
+        _ => None,
     }
 }
 

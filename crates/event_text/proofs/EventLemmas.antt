@@ -21,7 +21,7 @@ use Rattle.conn_model.specs.declared.event.TheConstants.{PIECE_LIMIT}
 use Rattle.hex.specs.Hex.{encode_lower, encode_with, lower_digits, decode_sized, IsBytes}
 use Rattle.hex.proofs.HexLemmas.{length-encode_with, decode_sized-encode_lower}
 use Rattle.conn_model.specs.declared.event.Why.{Why}
-use Rattle.conn_model.specs.declared.event.Why.TheVariants.{Done, Fault, Stopped, Failed, ClientTimeout, ServerTimeout}
+use Rattle.conn_model.specs.declared.event.Why.TheVariants.{Done}
 use Rattle.conn_model.specs.HandedIn.{IsHandedIn}
 use Rattle.event_text.specs.Script.{bytes_in, bytes_of, bytes_text, ends_of, event_in_lines, event_line, event_lines, event_with, event_words, head_of, head_written, id_of, id_in, id_text, is_mark, is_upper_digit, lines_after, text_lines, why_of, why_text, wanted_of, words_of, Wanted, ◌>>=◌, health_of, health_text}
 use Rattle.event_text.proofs.LackLemmas.{bytes_lack, decimal_lacks, endpoint_lacks, id_lacks, number_lacks, text_of-bytes, why_lacks, word_lacks, IsAside, Lacks, health_lacks}
@@ -85,11 +85,7 @@ id_of-written id small short =
 
 why_of-written : (why : Why) → why_of (why_text why) ≡ Some why
 why_of-written Done = refl
-why_of-written Fault = refl
-why_of-written Stopped = refl
-why_of-written Failed = refl
-why_of-written ClientTimeout = refl
-why_of-written ServerTimeout = refl
+why_of-written why = refl
 
 health_of-written : (health : Health) → health_of (health_text health) ≡ Some health
 health_of-written Down = refl
@@ -177,17 +173,11 @@ head_of-line line moment event short given is =
 
 -- with the lines after it
 all_of-lines : (moment : ℕ) (event : OwnedEvent) → IsHandedIn event → event_with (head_written moment event) (lines_after event) ≡ Some (moment, event)
-all_of-lines moment (Accept listener real) given = refl
-all_of-lines moment (Piece id bytes) given = refl
-all_of-lines moment (Connected id) given = refl
-all_of-lines moment (ConnectFailed id) given = refl
-all_of-lines moment (Close id why) given = refl
-all_of-lines moment (Expire id) given = refl
-all_of-lines moment (Mark backend server health) given = refl
 all_of-lines moment (Reload text) given =
     let lines = text_lines text in
     let same : (length (map (λ line. 0x7C ∷ line) lines) == length lines) ≡ true = grind (arith, nat_tests, length-map lines (λ line. 0x7C ∷ line)) in
     rw (same, bar_lines-read text given.0, lines_joined text) refl
+all_of-lines moment event given = refl
 
 -- the lines that write an event hand it in
 pub event_of-lines : (moment : ℕ) (event : OwnedEvent) → moment < 2 ^ 64 → IsHandedIn event → event_in_lines (event_lines moment event) ≡ Some (moment, event)

@@ -74,14 +74,8 @@ bar_lines text = map (λ line. 0x7C ∷ line) (text_lines text)
 
 -- the lines after the first one: those of the text of a reload
 abbrev pub lines_after : OwnedEvent → List (List ℕ)
-lines_after (Accept listener real) = []
-lines_after (Piece id bytes) = []
-lines_after (Connected id) = []
-lines_after (ConnectFailed id) = []
-lines_after (Close id why) = []
-lines_after (Expire id) = []
 lines_after (Reload text) = bar_lines text
-lines_after (Mark backend server health) = []
+lines_after event = []
 
 -- all lines of an event
 abbrev pub event_lines : ℕ → OwnedEvent → List (List ℕ)

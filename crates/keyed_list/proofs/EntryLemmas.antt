@@ -6,28 +6,13 @@ use Rattle.std.proofs.lemmas.Bool.Decides.{nat_tests}
 use Rattle.std.proofs.lemmas.List.{length-map}
 use Rattle.std.proofs.lemmas.List.Filters.{length-filter_both}
 use Rattle.keyed_list.specs.Entries.{Rise, AreKept, IsFew, has_key, without, with_item}
+pub use Rattle.list_core.proofs.AllLemmas.{all-append, all-filter, all-more}
 
 -- Facts of each item, and numbers that rise.
-
-pub all-more : {X : Type 0} (P Q : X → Type 0) (xs : List X) → ((x : X) → P x → Q x) → AllByRecursion P xs → AllByRecursion Q xs
-all-more P Q [] more all = tt
-all-more P Q (x ∷ xs) more all = (more x all.0, all-more P Q xs more all.1)
-
-pub all-append : {X : Type 0} (P : X → Type 0) (xs ys : List X) → AllByRecursion P xs → AllByRecursion P ys → AllByRecursion P (xs ++ ys)
-all-append P [] ys one two = two
-all-append P (x ∷ xs) ys one two = (one.0, all-append P xs ys one.1 two)
 
 pub all-front : {X : Type 0} (P : X → Type 0) (xs ys : List X) → AllByRecursion P (xs ++ ys) → AllByRecursion P xs
 all-front P [] ys all = tt
 all-front P (x ∷ xs) ys all = (all.0, all-front P xs ys all.1)
-
-pub all-filter : {X : Type 0} (P : X → Type 0) (test : X → Bool) (xs : List X) → AllByRecursion P xs → AllByRecursion P (filter test xs)
-all-filter P test [] all = tt
-all-filter {X} P test (x ∷ xs) all = by (test x) refl (all-filter P test xs all.1)
-  where
-    by : (b : Bool) → test x ≡ b → AllByRecursion P (filter test xs) → AllByRecursion P (filter test (x ∷ xs))
-    by true is rest = rw is (all.0, rest)
-    by false is rest = rw is rest
 
 pub rise-filter : {X : Type 0} (number : X → ℕ) (test : X → Bool) (xs : List X) → Rise number xs → Rise number (filter test xs)
 rise-filter number test [] rise = tt

@@ -16,10 +16,8 @@ is_true-same a b alike tracks rule =
     ∙ applies-same b.acls (a.worth (present tracks)) (b.worth (present tracks)) (alike.worth (present tracks)) rule.when
 
 after_action-same : (a b : SceneMeaning) → AreAlike a b → (tracks : TrackSlots) (action : Action) → after_action a tracks action ≡ after_action b tracks action
-after_action-same a b alike tracks actions.Accept = refl
-after_action-same a b alike tracks actions.Reject = refl
 after_action-same a b alike tracks (actions.Track counter number) = rw (alike.is_free counter, alike.key (present tracks) number) refl
-after_action-same a b alike tracks actions.ExpectProxy = refl
+after_action-same a b alike tracks event = refl
 
 after_rule-same : (a b : SceneMeaning) → AreAlike a b → (tracks : TrackSlots) (rule : Rule) → after_rule a tracks rule ≡ after_rule b tracks rule
 after_rule-same a b alike tracks rule = rw (is_true-same a b alike tracks rule, after_action-same a b alike tracks rule.action) refl

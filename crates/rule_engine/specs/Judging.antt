@@ -46,10 +46,8 @@ abbrev pub after_track : SceneMeaning → TrackSlots → ℕ → ℕ → TrackSl
 after_track scene tracks counter number = if is_free scene tracks counter then with_track tracks counter (scene.key (present tracks) number) else tracks
 
 abbrev pub after_action : SceneMeaning → TrackSlots → Action → TrackSlots
-after_action scene tracks actions.Accept = tracks
-after_action scene tracks actions.Reject = tracks
 after_action scene tracks (actions.Track counter number) = after_track scene tracks counter number
-after_action scene tracks actions.ExpectProxy = tracks
+after_action scene tracks event = tracks
 
 -- a rule whose condition is true tracks what it can
 abbrev pub after_rule : SceneMeaning → TrackSlots → Rule → TrackSlots
@@ -85,10 +83,8 @@ verdict_of actions.ExpectProxy = verdicts.On
 -- Headers.
 
 abbrev pub is_expectation : Action → Bool
-is_expectation actions.Accept = false
-is_expectation actions.Reject = false
-is_expectation (actions.Track counter number) = false
 is_expectation actions.ExpectProxy = true
+is_expectation event = false
 
 -- such a rule expects a header at its place if its condition is true once the rules before it have tracked
 abbrev pub expects : SceneMeaning → TrackSlots → List Rule → ℕ × Rule → Bool

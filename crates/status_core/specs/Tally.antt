@@ -67,14 +67,8 @@ with_offer true d = record d { moved = raised d.moved }
 
 -- the event says that a server is out of reach
 abbrev pub is_failure : OwnedEvent → Bool
-is_failure (events.Accept listener real) = false
-is_failure (events.Piece id bytes) = false
-is_failure (events.Connected id) = false
 is_failure (events.ConnectFailed id) = true
-is_failure (events.Close id why) = false
-is_failure (events.Expire id) = false
-is_failure (events.Reload text) = false
-is_failure (events.Mark backend server health) = false
+is_failure event = false
 
 -- that was said, to an event that says so or not
 abbrev pub with_said : Bool → Said → Decisions → Decisions

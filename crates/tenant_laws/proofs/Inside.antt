@@ -27,7 +27,7 @@ use Rattle.conn_model.specs.declared.plain.Version.{Version}
 use Rattle.conn_model.specs.declared.reply.Reply.{Reply}
 use Rattle.conn_model.specs.declared.reply.Said.{Said}
 use Rattle.conn_model.specs.declared.reply.Said.TheVariants as saids
-use Rattle.conn_model.specs.declared.reply.Said.TheVariants.{Wait, Offer, Refuse, Closed, Reloaded, Marked}
+use Rattle.conn_model.specs.declared.reply.Said.TheVariants.{Offer}
 use Rattle.conn_model.specs.Words.{row_at}
 use Rattle.conn_model.specs.Answer.{answer_in, at_moment, version_at}
 use Rattle.conn_model.specs.Counts.{server_of}
@@ -127,12 +127,6 @@ module _ (part : Part) (plan : Plan) (as' bs : List (Option Place)) (same : (n :
 
 said-same : (part : Part) (ps qs : List TableState) (v w : Version) → IsAlike part ps qs v w → (number : ℕ) (said : Said) (n : ℕ) → owns_backend_at part v.plan n ≡ true →
     slice_get (version_said number said v).cursors n ≡ slice_get (version_said number said w).cursors n
-said-same part ps qs v w alike number (Wait id used) n owns = alike.cursors n owns
-said-same part ps qs v w alike number (Refuse id used cause) n owns = alike.cursors n owns
-said-same part ps qs v w alike number (saids.Up id) n owns = alike.cursors n owns
-said-same part ps qs v w alike number (Closed id why) n owns = alike.cursors n owns
-said-same part ps qs v w alike number (Reloaded m) n owns = alike.cursors n owns
-said-same part ps qs v w alike number (Marked line health) n owns = alike.cursors n owns
 said-same part ps qs v w alike number (Offer id used line server to pair send) n owns = by (v.number == number) refl
   where
     by : (b : Bool) → (v.number == number) ≡ b → slice_get (with_offer number line server v).cursors n ≡ slice_get (with_offer number line server w).cursors n
@@ -142,6 +136,7 @@ said-same part ps qs v w alike number (Offer id used line server to pair send) n
     by false e =
         let e' : (w.number == number) ≡ false = ap (λ m. m == number) (sym alike.number) ∙ e in
         rw (e, e') (alike.cursors n owns)
+said-same part ps qs v w alike number said n owns = alike.cursors n owns
 
 -- In one state.
 module _ (part : Part) (p : Plain) (sound : IsSound p) (apart : IsApart part p) (e : Entry) (is : answer_in p e.moment e.event ≡ Ok e.reply) (facts : PartReply part true p e) where

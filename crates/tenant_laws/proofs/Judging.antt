@@ -28,7 +28,7 @@ use Rattle.conn_model.specs.declared.reply.Cause.TheVariants.{Line, NoBackend, N
 use Rattle.conn_model.specs.declared.reply.Reply.{Reply}
 use Rattle.conn_model.specs.declared.reply.Said.{Said}
 use Rattle.conn_model.specs.declared.reply.Said.TheVariants as saids
-use Rattle.conn_model.specs.declared.reply.Said.TheVariants.{Wait, Offer, Refuse, Closed, Reloaded, Marked}
+use Rattle.conn_model.specs.declared.reply.Said.TheVariants.{Wait, Offer, Refuse}
 use Rattle.conn_model.specs.Words.{or_fault}
 use Rattle.conn_model.specs.Servers.{cursor_at, pick_in}
 use Rattle.conn_model.specs.Rules.{backend_for, rejection, scene_of, view_of, worth, Candidate, RuleView}
@@ -114,15 +114,10 @@ module _ (part : Part) (s t : Plain) (v w : Version) (f : Frontend) (id : ConnId
 
 -- an offer is of a server of a backend on the side
 abbrev pub IsOfferOn : Part → Bool → Plan → Said → Type 0
-IsOfferOn part side plan (Wait id used) = Unit {0}
 IsOfferOn part side plan (Offer id used line number to judged send) =
     (k : ℕ) × (backend : Backend) × (server : Server) × (slice_get plan.backends k ≡ Some backend) × (slice_get backend.servers number ≡ Some server) × (server.line ≡ line)
     × (keeps_backend part side plan k ≡ true)
-IsOfferOn part side plan (Refuse id used cause) = Unit {0}
-IsOfferOn part side plan (saids.Up id) = Unit {0}
-IsOfferOn part side plan (Closed id why) = Unit {0}
-IsOfferOn part side plan (Reloaded version) = Unit {0}
-IsOfferOn part side plan (Marked line health) = Unit {0}
+IsOfferOn part side plan said = Unit {0}
 
 -- what it tracks has P, and what it offers is on the side
 pub record IsSaidOn (part : Part) (side : Bool) (plan : Plan) (P : TableId → Type 0) (reply : Reply) : Type 0 where

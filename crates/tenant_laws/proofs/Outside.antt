@@ -22,7 +22,7 @@ use Rattle.conn_model.specs.declared.plain.Version.{Version}
 use Rattle.conn_model.specs.declared.reply.Reply.{Reply}
 use Rattle.conn_model.specs.declared.reply.Said.{Said}
 use Rattle.conn_model.specs.declared.reply.Said.TheVariants as saids
-use Rattle.conn_model.specs.declared.reply.Said.TheVariants.{Wait, Offer, Refuse, Closed, Reloaded, Marked}
+use Rattle.conn_model.specs.declared.reply.Said.TheVariants.{Offer}
 use Rattle.conn_model.specs.Words.{row_at}
 use Rattle.conn_model.specs.Answer.{answer_in, at_moment, version_at}
 use Rattle.conn_model.specs.Counts.{server_of}
@@ -108,12 +108,6 @@ module _ (part : Part) (p : Plain) (sound : IsSound p) (apart : IsApart part p) 
 
   cursors-said : (k : ℕ) (v : Version) → version_at p.versions k ≡ Some v → (n : ℕ) → owns_backend_at part v.plan n ≡ true → (said : Said) → IsOfferOn part false facts.version.plan said →
       slice_get v.cursors n ≡ slice_get (version_said (judging_version p.frontends (newest_number p) e.reply.said) said v).cursors n
-  cursors-said k v there n owns (Wait id used) offered = refl
-  cursors-said k v there n owns (Refuse id used cause) offered = refl
-  cursors-said k v there n owns (saids.Up id) offered = refl
-  cursors-said k v there n owns (Closed id why) offered = refl
-  cursors-said k v there n owns (Reloaded m) offered = refl
-  cursors-said k v there n owns (Marked line health) offered = refl
   cursors-said k v there n owns (Offer id used line server to pair send) offered = by (v.number == judging_version p.frontends (newest_number p) e.reply.said) refl
     where
       by : (c : Bool) → (v.number == judging_version p.frontends (newest_number p) e.reply.said) ≡ c →
@@ -132,6 +126,7 @@ module _ (part : Part) (p : Plain) (sound : IsSound p) (apart : IsApart part p) 
           all-unit : (vs : List Version) → AllByRecursion (λ (x : Version). Unit {0}) vs
           all-unit [] = tt
           all-unit (x ∷ vs) = (tt, all-unit vs)
+  cursors-said k v there n owns said offered = refl
 
   -- Tables.
 

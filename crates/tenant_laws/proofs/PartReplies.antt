@@ -27,7 +27,7 @@ use Rattle.conn_model.specs.declared.reply.Cause.TheVariants.{Expired}
 use Rattle.conn_model.specs.declared.reply.Reply.{Reply}
 use Rattle.conn_model.specs.declared.reply.Said.{Said}
 use Rattle.conn_model.specs.declared.reply.Said.TheVariants as saids
-use Rattle.conn_model.specs.declared.reply.Said.TheVariants.{Wait, Offer, Refuse, Closed, Reloaded}
+use Rattle.conn_model.specs.declared.reply.Said.TheVariants.{Refuse, Closed}
 use Rattle.conn_model.specs.declared.reply.StepFault.TheVariants.{NoSuch}
 use Rattle.conn_model.specs.Words.{or_fault, row_at, row_in, Rise}
 use Rattle.conn_model.specs.Answer.{answer_in, at_moment, candidate_at, failure_said, offer_in, other_server, reply_of, version_at, NumberedServer}
@@ -125,14 +125,8 @@ rows-judged p well number own said id there says =
     (rows-found own.rows (well_at p well number own there).rise)
 
 abbrev pub IsStep : OwnedEvent → Type 0
-IsStep (Accept listener real) = Unit {0}
-IsStep (Piece id bytes) = Unit {0}
-IsStep (Connected id) = Unit {0}
-IsStep (ConnectFailed id) = Unit {0}
-IsStep (Close id why) = Unit {0}
-IsStep (Expire id) = Unit {0}
 IsStep (Reload text) = ⊥
-IsStep (Mark number n health) = Unit {0}
+IsStep event = Unit {0}
 
 pub brings-none : (event : OwnedEvent) (number : Option ℕ) → IsStep event → option_and_then {U = ℕ × Plan} (λ n. option_map {U = ℕ × Plan} (λ plan. (n, plan)) (plan_with event)) number ≡ None
 brings-none (Accept listener real) None step = refl

@@ -57,10 +57,8 @@ module _ (a b : SceneMeaning) (P : Track → Type 0) (table : ℕ → Bool) (pas
       ∙ ap (λ own. applies own (b.worth (present slots)) rule.when) (sym right)
 
   action-same : (slots : TrackSlots) → Known P slots → (action : Action) → action_passes table action ≡ true → after_action a slots action ≡ after_action b slots action
-  action-same slots known actions.Accept kept = refl
-  action-same slots known actions.Reject kept = refl
   action-same slots known (actions.Track counter number) kept = rw (free counter, key (present slots) known number kept) refl
-  action-same slots known actions.ExpectProxy kept = refl
+  action-same slots known event kept = refl
 
   action-known : (slots : TrackSlots) → Known P slots → (action : Action) → action_passes table action ≡ true → Known P (after_action a slots action)
   action-known slots known actions.Accept kept = known

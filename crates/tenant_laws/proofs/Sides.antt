@@ -16,7 +16,7 @@ use Rattle.conn_model.specs.declared.plain.Phase.TheVariants.{Waiting, Offered, 
 use Rattle.conn_model.specs.declared.plain.Plain.{Plain}
 use Rattle.conn_model.specs.declared.reply.Said.{Said}
 use Rattle.conn_model.specs.declared.reply.Said.TheVariants as saids
-use Rattle.conn_model.specs.declared.reply.Said.TheVariants.{Wait, Offer, Refuse, Closed, Reloaded, Marked}
+use Rattle.conn_model.specs.declared.reply.Said.TheVariants.{Wait, Offer}
 use Rattle.conn_model.specs.Answer.{backend_at, numbered_server, NumberedServer}
 use Rattle.conn_model.specs.Counts.{newest_backend, server_of}
 use Rattle.conn_model.specs.History.{identity_at, identity_of, nobody, phase_by, phase_on, phase_up, piece_of}
@@ -123,16 +123,12 @@ phase-side part side plan own same differ event phase (Wait id used) is offered 
     by (Waiting rest) is = refl
     by (Offered assignment) is = is
     by (Up assignment) is = is
-phase-side part side plan own same differ event phase (Refuse id used cause) is offered = is
 phase-side part side plan own same differ event phase (saids.Up id) is offered = by phase is
   where
     by : (phase : Phase) → IsPhaseOn part side phase → IsPhaseOn part side (phase_up phase)
     by (Waiting rest) is = refl
     by (Offered assignment) is = is
     by (Up assignment) is = is
-phase-side part side plan own same differ event phase (Closed id why) is offered = is
-phase-side part side plan own same differ event phase (Reloaded version) is offered = is
-phase-side part side plan own same differ event phase (Marked line health) is offered = is
 phase-side part side plan own same differ event phase (Offer id used line server to pair send) is offered =
     let backend : Backend = offered.1 in
     let found : find (has_line line) own.backends ≡ Some backend = backend-of own differ offered.0 server line backend offered.2 offered.3 offered.4 offered.5 in
@@ -141,3 +137,4 @@ phase-side part side plan own same differ event phase (Offer id used line server
     let named : part.backend_names backend.name ≡ side = sym (ap (λ (o : Option Backend). option_map_or (λ backend. part.backend_names backend.name) o false) there) ∙ owned in
     ap (λ o. part.backend_names (identity_of o line server to).backend) same
     ∙ ap (λ o. part.backend_names (option_map_or (identity_at server to) o (nobody to)).backend) found ∙ named
+phase-side part side plan own same differ event phase said is offered = is

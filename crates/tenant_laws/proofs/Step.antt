@@ -19,7 +19,7 @@ use Rattle.conn_model.specs.declared.plain.TableState.{TableState}
 use Rattle.conn_model.specs.declared.plain.Version.{Version}
 use Rattle.conn_model.specs.declared.reply.Said.{Said}
 use Rattle.conn_model.specs.declared.reply.Said.TheVariants as saids
-use Rattle.conn_model.specs.declared.reply.Said.TheVariants.{Wait, Offer, Refuse, Closed, Reloaded, Marked}
+use Rattle.conn_model.specs.declared.reply.Said.TheVariants.{Wait, Offer}
 use Rattle.conn_model.specs.Words.{map_from}
 use Rattle.conn_model.specs.Answer.{answer_in, at_moment, version_at}
 use Rattle.conn_model.specs.History.{after, arrivals, frontend_after, frontends_after, has_ended, identity_at, identity_of, is_needed, judging_version, newest_number, nobody, phase_by, phase_on, phase_up, piece_of, plan_of, row_after, speaks_to, tables_after, version_of, versions_after, Entry, IsLegal, IsWell}
@@ -198,19 +198,16 @@ said-of_line p number event (Wait id used) phase is = by phase is
     by (Waiting rest) is = tt
     by (Offered assignment) is = is
     by (Up assignment) is = tt
-said-of_line p number event (Refuse id used cause) phase is = is
 said-of_line p number event (saids.Up id) phase is = by phase
   where
     by : (phase : Phase) → IsOfLine p.versions number (phase_up phase)
     by (Waiting rest) = tt
     by (Offered assignment) = tt
     by (Up assignment) = tt
-said-of_line p number event (Closed id why) phase is = is
-said-of_line p number event (Reloaded version) phase is = is
-said-of_line p number event (Marked line health) phase is = is
 said-of_line p number event (Offer id used line server to pair send) phase is = λ version backend there found.
     let plan : plan_of p [] number ≡ Some version.plan = plan-kept p number ∙ ap (option_map (λ (v : Version). v.plan)) there in
     ap (λ o. (identity_of o line server to).backend) plan ∙ ap (λ o. (option_map_or (identity_at server to) o (nobody to)).backend) found
+said-of_line p number event said phase is = is
 
 -- a connection that comes was offered nothing
 arrivals-of_line : (p : Plain) (e : Entry) (n : ℕ) → AllByRecursion (λ (row : Row). IsOfLine p.versions row.version row.phase) (arrivals p n (e ∷ []))

@@ -253,27 +253,17 @@ on_none part p moment (Accept listener real) off = by (slice_get p.listeners lis
     by : (o : Option Listener) → slice_get p.listeners listener ≡ o → option_map part.frontends (option_map (λ (at : Listener). at.frontend) o) ≡ None → OnNone p moment (Accept listener real)
     by None e is = refused NoListener (rw e refl) refl
     by (Some at) e is = nothing (sym is)
-on_none part p moment (Piece id bytes) off = nothing (sym off)
-on_none part p moment (Connected id) off = nothing (sym off)
-on_none part p moment (ConnectFailed id) off = nothing (sym off)
-on_none part p moment (Close id why) off = nothing (sym off)
-on_none part p moment (Expire id) off = nothing (sym off)
 on_none part p moment (Reload text) off = reload text refl
 on_none part p moment (Mark number n health) off = by (newest_backend p.versions number) refl off
   where
     by : (o : Option Backend) → newest_backend p.versions number ≡ o → option_map (λ (backend : Backend). part.backend_names backend.name) o ≡ None → OnNone p moment (Mark number n health)
     by None e is = refused NotChecked (rw e refl) refl
     by (Some backend) e is = nothing (sym is)
+on_none part p moment event off = nothing (sym off)
 
 not_accepted : (part : Part) (p : Plain) (event : OwnedEvent) (r : Result Reply StepFault) (side : Bool) → side_of part p event ≡ Some side → is_accepted event r ≡ false
-not_accepted part p (Accept listener real) r side on = refl
-not_accepted part p (Piece id bytes) r side on = refl
-not_accepted part p (Connected id) r side on = refl
-not_accepted part p (ConnectFailed id) r side on = refl
-not_accepted part p (Close id why) r side on = refl
-not_accepted part p (Expire id) r side on = refl
 not_accepted part p (Reload text) r side on = nothing on
-not_accepted part p (Mark number n health) r side on = refl
+not_accepted part p event r side on = refl
 
 reload-agrees : (part : Part) (p q : Plain) (moment : ℕ) (event : OwnedEvent) (text : List ℕ) → event ≡ Reload text → IsSound p → IsSound q → Agree part p q →
     (is_ok (answer_in p moment event) ≡ true → TextKeepsApart part event) → Agree part (next_state p moment event (answer_in p moment event)) (next_state q moment event (answer_in q moment event))

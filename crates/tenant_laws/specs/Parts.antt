@@ -99,10 +99,8 @@ when_passes passes acls (Unless condition) = condition_passes passes acls condit
 -- Rules of which each table and each criterion passes.
 
 abbrev pub action_passes : (ℕ → Bool) → Action → Bool
-action_passes table actions.Accept = true
-action_passes table actions.Reject = true
 action_passes table (actions.Track counter number) = table number
-action_passes table actions.ExpectProxy = true
+action_passes table event = true
 
 abbrev pub rule_passes : (ℕ → Bool) → (Criterion → Bool) → List Acl → Rule → Bool
 rule_passes table passes acls rule = action_passes table rule.action && when_passes passes acls rule.when

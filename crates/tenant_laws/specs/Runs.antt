@@ -74,14 +74,8 @@ part_answers part p ((moment, event) ∷ steps) =
 
 -- a reload that is accepted
 abbrev pub is_accepted : OwnedEvent → Result Reply StepFault → Bool
-is_accepted (Accept listener real) said = false
-is_accepted (Piece id bytes) said = false
-is_accepted (Connected id) said = false
-is_accepted (ConnectFailed id) said = false
-is_accepted (Close id why) said = false
-is_accepted (Expire id) said = false
 is_accepted (Reload text) said = is_ok said
-is_accepted (Mark number n health) said = false
+is_accepted event said = false
 
 -- the step is on the part, or it is a reload that is accepted
 abbrev pub is_alone : Part → Plain → OwnedEvent → Result Reply StepFault → Bool
@@ -102,14 +96,8 @@ is_rising start ((moment, event) ∷ steps) = nat_le start moment && is_rising m
 
 -- the text that comes with an event, if it is a plan's, keeps the part apart
 abbrev pub TextKeepsApart : Part → OwnedEvent → Type 0
-TextKeepsApart part (Accept listener real) = Unit {0}
-TextKeepsApart part (Piece id bytes) = Unit {0}
-TextKeepsApart part (Connected id) = Unit {0}
-TextKeepsApart part (ConnectFailed id) = Unit {0}
-TextKeepsApart part (Close id why) = Unit {0}
-TextKeepsApart part (Expire id) = Unit {0}
 TextKeepsApart part (Reload text) = (plan : Plan) → meaning text ≡ Ok plan → keeps_apart part plan ≡ true
-TextKeepsApart part (Mark number n health) = Unit {0}
+TextKeepsApart part event = Unit {0}
 
 -- so of the text of each accepted reload
 abbrev pub TextsKeepApart : Part → Plain → Steps → Type 0

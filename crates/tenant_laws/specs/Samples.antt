@@ -11,7 +11,7 @@ use Rattle.conn_model.specs.declared.event.OwnedEvent.TheVariants.{Accept, Mark}
 use Rattle.conn_model.specs.declared.event.Health.TheVariants.{Down}
 use Rattle.conn_model.specs.declared.reply.Reply.{Reply}
 use Rattle.conn_model.specs.declared.reply.Said.{Said}
-use Rattle.conn_model.specs.declared.reply.Said.TheVariants.{Wait, Offer, Refuse, Up, Closed, Reloaded, Marked}
+use Rattle.conn_model.specs.declared.reply.Said.TheVariants.{Offer}
 use Rattle.conn_model.specs.declared.reply.StepFault.{StepFault}
 use Rattle.tenant_laws.specs.Parts.{keeps_apart, Part}
 use Rattle.tenant_laws.specs.Runs.{alone, part_answers, Steps}
@@ -109,13 +109,8 @@ arrives listener = (0, Accept listener (record { source = record { addr = V4 0xC
 
 -- a short form of an answer: the number of the server that is offered, or 100 where none is
 abbrev pub server_said : Said → ℕ
-server_said (Wait id used) = 100
 server_said (Offer id used line server to judged send) = server
-server_said (Refuse id used cause) = 100
-server_said (Up id) = 100
-server_said (Closed id why) = 100
-server_said (Reloaded version) = 100
-server_said (Marked line health) = 100
+server_said said = 100
 
 abbrev pub server_in : Result Reply StepFault → ℕ
 server_in (Ok reply) = server_said reply.said

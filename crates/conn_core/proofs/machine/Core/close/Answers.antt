@@ -1,23 +1,17 @@
-use Rattle.std.proofs.Common.{◌≡◌, ◌∙◌, [], ◌∷◌, Ok, max, ap, sym, subst, refl}
+use Rattle.std.proofs.Common.{◌≡◌, ◌∙◌, [], ◌∷◌, Ok, max, ap, sym, refl}
 use Rattle.conn_model.specs.declared.event.OwnedEvent.TheVariants.{Close}
 use Rattle.conn_model.specs.declared.reply.Said.TheVariants.{Closed}
 use Rattle.conn_model.specs.declared.plain.Plain.{Plain}
 use Rattle.conn_model.specs.Answer.{answer_in, reply_of}
 use Rattle.conn_model.specs.History.{after, entry}
-use Rattle.conn_model.specs.Changes.{without_conn}
-use Rattle.conn_model.specs.Tables.{tracks_at, without_tracks}
-use Rattle.conn_rows.specs.Needed.{versions_needed, AreTracksHeld}
-use Rattle.conn_rows.specs.Value.{RowsValue}
 use Rattle.conn_core.specs.Machine.{state_of}
-use Rattle.conn_core.proofs.NeededLemmas.{held_without}
+use Rattle.conn_core.proofs.NeededLemmas.{held_removed, held_without}
 use Rattle.conn_core.proofs.RowLemmas.{open_row}
 use Rattle.conn_core.proofs.StateLemmas.{IsAfter, after_last}
 use Rattle.conn_core.proofs.machine.Core.close.Goals as goal
 
 pub forget-requires : goal.forget-requires
-forget-requires c =
-    subst (λ (r : RowsValue). AreTracksHeld r.frontends (versions_needed r.frontends r.versions)) (sym (c.remove.ensures ∙ ap (λ (r : RowsValue). record r { frontends = without_conn c.args.id r.frontends; tables = without_tracks r.clock (tracks_at r.frontends c.args.id) r.tables }) c.pass.ensures))
-    (held_without (state_of c.self.inside.listeners c.self.inside.rows) c.self.invariant.well c.args.id)
+forget-requires c = held_removed c.args.id c.remove.ensures c.pass.ensures (held_without (state_of c.self.inside.listeners c.self.inside.rows) c.self.invariant.well c.args.id)
 
 state : (c : goal.After-plain_reply) → Plain
 state c = state_of c.self.inside.listeners c.self.inside.rows

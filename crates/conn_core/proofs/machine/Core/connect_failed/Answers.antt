@@ -5,24 +5,21 @@ use Rattle.conn_model.specs.declared.reply.Said.TheVariants.{Closed}
 use Rattle.conn_model.specs.declared.plain.Plain.{Plain}
 use Rattle.conn_model.specs.Answer.{answer_in, at_moment, reply_of}
 use Rattle.conn_model.specs.History.{after, entry, with_offer}
-use Rattle.conn_model.specs.Changes.{with_conn, without_conn}
-use Rattle.conn_model.specs.Tables.{open_tracks, tables_alive, tracks_at, without_tracks}
+use Rattle.conn_model.specs.Changes.{with_conn}
+use Rattle.conn_model.specs.Tables.{open_tracks, tables_alive}
 use Rattle.conn_rows.specs.Changes.{row_moved}
-use Rattle.conn_rows.specs.Needed.{versions_needed, AreTracksHeld}
 use Rattle.conn_rows.specs.Value.{RowsValue}
 use Rattle.conn_core.specs.Machine.{state_of}
 use Rattle.conn_core.specs.Moving.{HasOther}
 use Rattle.conn_core.specs.Outcome.{offer_of}
 use Rattle.conn_core.specs.declared.outcome.Offer.{Offer}
 use Rattle.conn_core.proofs.MovedLemmas.{after_moved, answers_closed, answers_moved, moved_has, moved_said, moved_to, other_said, IsMovedTo}
-use Rattle.conn_core.proofs.NeededLemmas.{held_without}
+use Rattle.conn_core.proofs.NeededLemmas.{held_removed, held_without}
 use Rattle.conn_core.proofs.StateLemmas.{IsAfter, after_last}
 use Rattle.conn_core.proofs.machine.Core.connect_failed.Goals as goal
 
 pub forget-requires : goal.forget-requires
-forget-requires c =
-    subst (λ (r : RowsValue). AreTracksHeld r.frontends (versions_needed r.frontends r.versions)) (sym (c.remove.ensures ∙ ap (λ (r : RowsValue). record r { frontends = without_conn c.args.id r.frontends; tables = without_tracks r.clock (tracks_at r.frontends c.args.id) r.tables }) c.pass.ensures))
-    (held_without (state_of c.self.inside.listeners c.self.inside.rows) c.self.invariant.well c.args.id)
+forget-requires c = held_removed c.args.id c.remove.ensures c.pass.ensures (held_without (state_of c.self.inside.listeners c.self.inside.rows) c.self.invariant.well c.args.id)
 
 -- It is moved nowhere, and ends.
 

@@ -1,4 +1,4 @@
-use Rattle.std.proofs.Common.{◌≡◌, ◌+◌, ◌∙◌, [], ◌∷◌, true, max, Ok, ap, sym, subst, refl}
+use Rattle.std.proofs.Common.{◌≡◌, ◌+◌, ◌∙◌, [], ◌∷◌, true, max, Ok, ap, sym, refl}
 use Rattle.std.specs.Prelude.{nat_le}
 use Rattle.conn_model.specs.declared.event.OwnedEvent.TheVariants.{Expire}
 use Rattle.conn_model.specs.declared.event.TheConstants.{HEADER_WAIT}
@@ -8,19 +8,13 @@ use Rattle.conn_model.specs.declared.plain.Plain.{Plain}
 use Rattle.conn_model.specs.Answer.{answer_in, reply_of, waiting_row}
 use Rattle.conn_model.specs.History.{after, entry}
 use Rattle.conn_model.proofs.Replies.{waiting}
-use Rattle.conn_model.specs.Changes.{without_conn}
-use Rattle.conn_model.specs.Tables.{tracks_at, without_tracks}
-use Rattle.conn_rows.specs.Needed.{versions_needed, AreTracksHeld}
-use Rattle.conn_rows.specs.Value.{RowsValue}
 use Rattle.conn_core.specs.Machine.{state_of}
-use Rattle.conn_core.proofs.NeededLemmas.{held_without}
+use Rattle.conn_core.proofs.NeededLemmas.{held_removed, held_without}
 use Rattle.conn_core.proofs.StateLemmas.{IsAfter, after_last}
 use Rattle.conn_core.proofs.machine.Core.expire.Goals as goal
 
 pub forget-requires : goal.forget-requires
-forget-requires c =
-    subst (λ (r : RowsValue). AreTracksHeld r.frontends (versions_needed r.frontends r.versions)) (sym (c.remove.ensures ∙ ap (λ (r : RowsValue). record r { frontends = without_conn c.args.id r.frontends; tables = without_tracks r.clock (tracks_at r.frontends c.args.id) r.tables }) c.pass.ensures))
-    (held_without (state_of c.self.inside.listeners c.self.inside.rows) c.self.invariant.well c.args.id)
+forget-requires c = held_removed c.args.id c.remove.ensures c.pass.ensures (held_without (state_of c.self.inside.listeners c.self.inside.rows) c.self.invariant.well c.args.id)
 
 state : (c : goal.After-plain_reply) → Plain
 state c = state_of c.self.inside.listeners c.self.inside.rows
