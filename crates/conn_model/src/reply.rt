@@ -24,7 +24,7 @@ pub enum Cause {
 }
 
 /// What is said to a connection, or of a new configuration or a server.
-#[derive(Debug, Drop, PartialEq, Eq)]
+#[derive(Debug, Drop)]
 pub enum Said {
     /// It has to wait for its PROXY header, or for the rest of it.
     Wait {
@@ -86,7 +86,7 @@ impl Said {
 }
 
 /// An answer to an event.
-#[derive(Debug, Drop, PartialEq, Eq)]
+#[derive(Debug, Drop)]
 pub struct Reply {
     pub said: Said,
     /// The keys that are tracked from this step on, in the order of counters.
