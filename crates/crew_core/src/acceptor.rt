@@ -63,6 +63,7 @@ impl<'a, M: Ledger, K: Link, D: Door<Link = K>> Acceptor<'a, M, K, D> {
         ensures unbegun { result.began ≡ false → result.accepted ≡ 0 }
     {
         if !have_begun(context, self.lanes.len() as u64) {
+            self.give_up_lanes();
             return Came {
                 began: false,
                 accepted: 0,
@@ -80,10 +81,27 @@ impl<'a, M: Ledger, K: Link, D: Door<Link = K>> Acceptor<'a, M, K, D> {
                 break;
             }
         }
+        let Reception {
+            acceptor,
+            accepted,
+            held,
+            ..
+        } = reception;
+        acceptor.give_up_lanes();
         Came {
             began: true,
-            accepted: reception.accepted,
-            held: u64::from(reception.held.is_some()),
+            accepted,
+            held: u64::from(held.is_some()),
+        }
+    }
+
+    /// Gives up the lanes, and then wakes the workers, so that each finds its lane given up.
+    fn give_up_lanes(self) {
+        let Acceptor { door, lanes, .. } = self;
+        let workers = lanes.len();
+        drop(lanes);
+        for worker in 0..workers {
+            door.wake(worker);
         }
     }
 }

@@ -326,6 +326,7 @@ impl<M: Ledger, O: Ledger, K: Link, L: Dial<Link = K>> Worker<M, O, K, L> {
             if self.state.table.is_to_look(key, now) {
                 self.look(rt, context, key, now);
             }
+            self.state.table.end_look(key);
         }
     }
 

@@ -14,6 +14,9 @@ use std::collections::VecDeque;
 /// at within 100 ms, and all of 100,000 within a second.
 const LOOKS: u64 = 100;
 
+/// How long the worker waits at the most, in ms, while something may be due of a connection that is not looked at yet.
+const LOOK_WAIT: u64 = 100;
+
 /// A connection by its key.
 #[derive(Drop)]
 pub(crate) enum Entry<K: Link> {
@@ -55,6 +58,10 @@ pub(crate) struct Table<K: Link> {
     /// From which moment on something may be due of the connection of each key, in ms. These lie close together, so that a
     /// look at a connection that is silent takes eight bytes and not its place.
     next_looks: Vec<u64>,
+    /// Before this moment nothing is due of any connection except its header, in ms.
+    quiet_until: u64,
+    /// The same of the connections that were looked at, and of new ones, since the hand was last at the first place.
+    round_quiet_until: u64,
     /// The place that is looked at next.
     hand: usize,
     /// When places were last looked at, in ms.
@@ -70,6 +77,8 @@ impl<K: Link> Table<K> {
             ended: 0,
             serial: 0,
             next_looks: Vec::new(alloc),
+            quiet_until: u64::MAX,
+            round_quiet_until: u64::MAX,
             hand: 0,
             looked: 0,
         }
@@ -225,13 +234,32 @@ impl<K: Link> Table<K> {
 
     /// The place of so many that is looked at next.
     pub(crate) fn next_place(&mut self, places: usize) -> usize {
-        let place = if self.hand < places { self.hand } else { 0 };
+        if self.hand >= places {
+            self.begin_round();
+        }
+        let place = self.hand;
         self.hand = place.saturating_add(1);
         place
     }
 
+    /// All places were looked at.
+    fn begin_round(&mut self) {
+        self.hand = 0;
+        self.quiet_until = self.round_quiet_until;
+        self.round_quiet_until = u64::MAX;
+    }
+
+    /// The place of a key was looked at.
+    pub(crate) fn end_look(&mut self, key: usize) {
+        if let Some(next_look) = self.next_looks.get(key) {
+            self.round_quiet_until = self.round_quiet_until.min(*next_look);
+        }
+    }
+
     /// The connection of a key is new: it is looked at.
     fn look_soon(&mut self, key: usize) {
+        self.quiet_until = 0;
+        self.round_quiet_until = 0;
         match self.next_looks.get_mut(key) {
             Some(next_look) => *next_look = 0,
             None => {
@@ -260,15 +288,17 @@ impl<K: Link> Table<K> {
     }
 
     /// How long the worker may wait, in ms: not at all where something is to be served, and otherwise until the first wait for a
-    /// header is over.
+    /// header is over, or something else may be due.
     pub(crate) fn limit(&self, now: u64, most: u64) -> u64 {
         if self.queue.len() > self.ended {
             return 0;
         }
+        let quiet = self.quiet_until.saturating_sub(now).max(LOOK_WAIT);
         let limit = match self.waits.front() {
-            Some(wait) => wait.due.saturating_sub(now).min(most),
-            None => most,
+            Some(wait) => wait.due.saturating_sub(now).min(quiet),
+            None => quiet,
         };
+        let limit = limit.min(most);
         if self.ended > 0 { limit.min(1) } else { limit }
     }
 

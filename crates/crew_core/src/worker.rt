@@ -25,8 +25,8 @@ const ASKED: u32 = 64;
 /// after what was reported meanwhile.
 pub(crate) const SERVED: usize = 128;
 
-/// How long a worker waits at the most, in ms, if nothing is due.
-const LONGEST_WAIT: u64 = 100;
+/// How long a worker waits at the most, in ms, if nothing is due. What comes ends the wait.
+const LONGEST_WAIT: u64 = 10_000;
 
 /// A connection that the acceptor hands to a worker.
 #[derive(Drop)]

@@ -55,7 +55,7 @@ pub trait Door {
     /// What came next.
     fn next(&mut self) -> DoorEvent<Self::Link>;
 
-    /// Wakes that worker, counted from 0: the connection that was last handed out is with it.
+    /// Wakes that worker, counted from 0: the connection that was last handed out is with it, or none will come any more.
     fn wake(&mut self, worker: usize);
 
     /// What became of the reload or of the mark that was last handed out.

@@ -22,8 +22,9 @@ use std::time::Duration;
 /// How many events a wait takes from the system at most. Those that are left come with the next one.
 const MOST_EVENTS: usize = 256;
 
-/// How many orders are taken at a time.
-const MOST_ORDERS: usize = 4;
+/// How many orders may be on their way to the checker, which takes all of them at a time. The newest one waits at the door for
+/// room.
+pub const MOST_ORDERS: usize = 4;
 
 /// How long a wait for the next check is at least, in ms. Those that become due meanwhile are begun together.
 const LEAST_WAIT: u64 = 5;

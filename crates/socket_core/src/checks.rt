@@ -1,7 +1,7 @@
 //! What the door knows of the checks of servers. The checker, in another thread, makes them.
 use crate::WAKE;
 use crate::check_plan::{CheckList, CheckPlan};
-use crate::checker::{Checker, HealthReport, ReportLine, WatchOrder};
+use crate::checker::{Checker, HealthReport, MOST_ORDERS, ReportLine, WatchOrder};
 use crate::listeners::ListenFault;
 use crate::probe::CheckFailure;
 use conn_model::event::Health;
@@ -13,9 +13,6 @@ use status_core::ServerHealth;
 use std::alloc::{AllocError, Global};
 use std::net::Net;
 use std::sync::Arc;
-
-/// How many orders may be on their way to the checker. The newest one waits at the door for room.
-const MOST_ORDERS: usize = 4;
 
 /// How many reports may be on their way to the door. What finds no room is reported after the next check.
 const MOST_REPORTS: usize = 1_024;

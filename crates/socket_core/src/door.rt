@@ -22,12 +22,14 @@ use std::net::Net;
 use std::sync::Arc;
 use std::{io, str};
 
-/// How long the door waits for a next_event, and how long it accepts nothing after the system refused to give a connection,
-/// in ms.
-const WAIT: u64 = 100;
+/// How long the door waits at most, in ms. What comes ends the wait: only a record that does not go out is looked for.
+const LONGEST_WAIT: u64 = 1_000;
 
-/// How long the door waits where nothing is accepted after the system refused to give a connection, in ms.
-const PAUSE: u64 = 10;
+/// How long the door accepts nothing after the system refused to give a connection, in ms.
+const PAUSE: u64 = 100;
+
+/// How long the door waits at a time meanwhile, in ms.
+const PAUSED_WAIT: u64 = 10;
 
 /// Where connections come in, and commands.
 #[derive(Drop)]
@@ -120,15 +122,9 @@ impl<'a, R: Log + Net, C: Clock> SocketDoor<'a, R, C> {
 }
 
 impl<'a, R: Log + Net, C: Clock> SocketDoor<'a, R, C> {
-    /// Has the door wake the next worker when a connection is with it. The workers are added in their order.
+    /// Has the door wake the next worker by that alarm. The workers are added in their order.
     pub fn add_worker(&mut self, alarm: Arc<Alarm, Global>) -> Result<(), AllocError> {
         Ok(self.workers.push(alarm)?)
-    }
-
-    fn wake_all(&self) {
-        for worker in self.workers.iter() {
-            worker.set_off();
-        }
     }
 
     /// The next word, if one came. Where none will come any more, that is `Quit`.
@@ -159,7 +155,7 @@ impl<'a, R: Log + Net, C: Clock> SocketDoor<'a, R, C> {
         if self.refused.allows(now) {
             warn!(self.rt; "no connection can be accepted: {error}");
         }
-        self.resumes = Some(now.saturating_add(WAIT));
+        self.resumes = Some(now.saturating_add(PAUSE));
     }
 
     /// A permit for the next connection. If there is none, nothing is accepted until a connection ends, which wakes the
@@ -216,7 +212,6 @@ impl<'a, R: Log + Net, C: Clock> SocketDoor<'a, R, C> {
             }
             Some(Command::Quit) => {
                 self.is_closed = true;
-                self.wake_all();
                 Some(DoorEvent::Closed)
             }
             None => self.next_report_or_conn(),
@@ -226,11 +221,11 @@ impl<'a, R: Log + Net, C: Clock> SocketDoor<'a, R, C> {
     /// How long nothing may come, in ms.
     fn limit(&mut self) -> u64 {
         if self.is_paused() {
-            PAUSE
+            PAUSED_WAIT
         } else if self.ports.may_accept() && !self.is_full {
             0
         } else {
-            WAIT
+            LONGEST_WAIT
         }
     }
 
@@ -346,7 +341,6 @@ impl<'a, R: Log + Net, C: Clock> Door for SocketDoor<'a, R, C> {
 
     fn next(&mut self) -> DoorEvent<SocketLink> {
         if self.is_closed {
-            self.wake_all();
             return DoorEvent::Closed;
         }
         if let Some(next_event) = self.next_event() {
