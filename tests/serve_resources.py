@@ -137,16 +137,22 @@ def case_memory_comes_back(case):
 
 
 def case_thread_refused(case):
-    """Each thread that it starts is refused in turn, that of the record too: it ends before it is ready, and says why."""
-    library, note, refused = shared_object(case.room, 'threads'), pathlib.Path(case.room, 'refused'), 0
+    """Each thread that it starts is refused in turn, that of the record too: it ends before it is ready, and says why. A client
+    that waits meanwhile is not taken."""
+    library, note, refused, waiting = shared_object(case.room, 'threads'), pathlib.Path(case.room, 'refused'), 0, []
     config, port = plain(case, Server(echo))
     while refused < 50:
         number = refused + 1
         variables = {'LD_PRELOAD': str(library), 'REFUSED_THREAD': str(number), 'REFUSED_NOTE': str(note)}
         with case.start(config, '--workers', '2', env=variables, waits=False) as proxy:
+            until(lambda: proxy.said or proxy.child.poll() is not None, 'it listens, or ends')
+            with contextlib.suppress(OSError):
+                waiting.append(Client(port))
+                waiting[-1].put(b'hello')
             until(lambda: 'l4proxy: ready' in proxy.said or proxy.child.poll() is not None, 'it is ready, or ends')
             if not note.exists():
                 case.check('with all threads', exchange(port, b'hello')[0], b'hello')
+                case.check('the client that waited', waiting[-1].exactly(5), b'hello')
                 proxy.ended()
                 break
             note.unlink()
@@ -155,6 +161,8 @@ def case_thread_refused(case):
             case.check(f'thread {number}: the status', proxy.wait(), 3, proxy.said)
             case.check(f'thread {number}: what is said', proxy.said[-1], 'l4proxy: a thread cannot be started')
             case.check(f'thread {number}: the record', proxy.record.read_bytes(), b'')
+    for client in waiting:
+        client.close()
     # The reader of standard input, the recorder and two workers are four of them.
     case.holds('how many threads there are', 4 <= refused < 50, refused)
 
@@ -169,15 +177,16 @@ def switches(proxy):
 
 
 def case_workers(case):
-    """1, 4 and 64 workers: as many threads, all of which have connections, and one record."""
+    """1, 4 and 64 workers: as many threads, over which connections that last are spread, and one record."""
     for workers in (1, 4, 64):
         config, port = plain(case, Server(echo))
         with case.start(config, '--workers', str(workers)) as proxy:
             until(lambda count=workers: len(switches(proxy)) > count, f'{workers} workers are threads')
-            clients = [Client(port) for _ in range(2 * workers)]
-            for client in clients:
-                client.put(b'x')
-                client.exactly(1)
+            clients = []
+            for _ in range(2 * workers):
+                clients.append(Client(port))
+                clients[-1].put(b'x')
+                clients[-1].exactly(1)
             before = switches(proxy)
             for _ in range(30):
                 for client in clients:
@@ -185,7 +194,7 @@ def case_workers(case):
                 for client in clients:
                     client.exactly(1)
             busy = [task for task, count in switches(proxy).items() if count - before.get(task, 0) >= 10]
-            case.holds(f'{workers} workers all work', len(busy) >= workers, f'{len(busy)} threads did')
+            case.holds(f'{workers} workers: most of them work', 4 * len(busy) >= 3 * workers, f'{len(busy)} threads did')
             got = many(40, lambda number: exchange(port, b'%d' % number * 1000))
             case.holds(f'{workers} workers: bytes', all(answer == b'%d' % number * 1000 for number, (answer, _) in enumerate(got)))
             for client in clients:
@@ -195,8 +204,8 @@ def case_workers(case):
 
 
 def case_stuck_worker(case):
-    """One of two workers is stuck. The other one goes on getting connections, all but those that already wait for the first;
-    and these are served once it goes on."""
+    """One of two workers is stuck. The other one goes on getting connections, all except the few that the first one has; and
+    these are served once it goes on."""
     hold = pathlib.Path(case.room, 'hold')
     variables = {'LD_PRELOAD': str(shared_object(case.room, 'stop')), 'HOLD_AT_READ': str(hold)}
     config, port = plain(case, Server(echo))
@@ -209,7 +218,7 @@ def case_stuck_worker(case):
 
         def answered():
             return select.select(clients, [], [], 0)[0]
-        until(lambda: len(answered()) >= 250, 'most clients are served beside a worker that is stuck')
+        until(lambda: len(answered()) >= 390, 'all except a few clients are served beside a worker that is stuck')
         time.sleep(0.5)
         case.holds('some wait for the one that is stuck', len(answered()) < 400, len(answered()))
         hold.with_suffix('.done').touch()

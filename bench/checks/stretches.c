@@ -1,4 +1,4 @@
-/* Measures how long the thread that accepts connections goes on without a look at whether clients wait, for LD_PRELOAD: the time
+/* Measures how long a thread that accepts connections goes on without a look at whether clients wait, for LD_PRELOAD: the time
  * of a processor that it uses from one return of accept4 or epoll_wait to the next call of either. The file STRETCHES has the
  * longest so far, in ns, how many took more than a millisecond, and how many there were, to the last 1,024.
  */
@@ -18,7 +18,7 @@ typedef int wait_function(int, struct epoll_event *, int, int);
 static accept_function *next_accept;
 static wait_function *next_wait;
 static int file = -1;
-static long long longest, late, count;
+static _Atomic long long longest, late, count;
 static __thread long long since;
 static __thread int accepts;
 

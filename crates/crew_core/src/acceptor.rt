@@ -1,4 +1,4 @@
-//! The acceptor: what comes to the door goes to the workers in turn, and reloads and marks to the desk.
+//! The acceptor: connections that come to the door go to the workers in turn, and reloads and marks to the desk.
 ghost use Rattle.std.specs.Prelude.{◌≡◌, false, Err, IfErr, IfOk, Ok};
 
 use crate::calls::WorkerContext;
@@ -31,6 +31,23 @@ pub(crate) struct Came {
     pub(crate) held: u64,
 }
 
+impl Came {
+    /// The same with so many connections that workers took from their dials, which they do only once all threads began.
+    pub(crate) fn with_taken(self, taken: u64) -> Came
+        requires { self.began ≡ false → self.accepted ≡ 0 }
+        ensures { result.began ≡ false → result.accepted ≡ 0 }
+    {
+        if taken == 0 {
+            return self;
+        }
+        Came {
+            began: true,
+            accepted: self.accepted.saturating_add(taken),
+            held: self.held,
+        }
+    }
+}
+
 /// What the acceptor works with.
 #[derive(Drop)]
 pub(crate) struct Acceptor<'a, M: Ledger, K: Link, D: Door<Link = K>> {
@@ -53,8 +70,8 @@ fn reply_to(answer: Result<Receipt, StepFault>) -> Result<Reply, StepFault>
 
 impl<'a, M: Ledger, K: Link, D: Door<Link = K>> Acceptor<'a, M, K, D> {
     /// Takes what comes until the door is closed or the turns are used up. The lanes are given up then, by which the
-    /// workers learn of it. The door is asked once all workers began, and the recorder; if one does not within some seconds,
-    /// the system has no thread for it, and nothing is taken.
+    /// workers learn of it. The door is asked once all workers began, and the recorder, and so are their dials for clients;
+    /// if one does not within some seconds, the system has no thread for it, and nothing is taken.
     pub(crate) fn accept_all<O: Ledger, B: Opening, G: Gate, C: Clock, R: Wait>(
         self,
         rt: &R,
@@ -70,8 +87,11 @@ impl<'a, M: Ledger, K: Link, D: Door<Link = K>> Acceptor<'a, M, K, D> {
                 held: 0,
             };
         }
+        context.alert.open();
+        let mut acceptor = self;
+        acceptor.wake_all();
         let mut reception = Reception {
-            acceptor: self,
+            acceptor,
             accepted: 0,
             held: None,
             reloads: Reloads::NONE,
@@ -92,6 +112,13 @@ impl<'a, M: Ledger, K: Link, D: Door<Link = K>> Acceptor<'a, M, K, D> {
             began: true,
             accepted,
             held: u64::from(held.is_some()),
+        }
+    }
+
+    /// Wakes the workers.
+    fn wake_all(&mut self) {
+        for worker in 0..self.lanes.len() {
+            self.door.wake(worker);
         }
     }
 

@@ -53,7 +53,7 @@ pub struct Setup {
 /// What a crew did.
 #[derive(Clone, Copy, Debug, PartialEq, Eq)]
 pub struct Summary {
-    /// The connections that the door gave.
+    /// The connections that the door gave, and those that workers took from their dials.
     pub accepted: u64,
     /// Those of them that a worker took.
     pub taken: u64,
@@ -216,8 +216,19 @@ struct Team<'a, M: Ledger, O: Ledger, K: Link, L: Dial<Link = K>, D: Door<Link =
     acceptor: Acceptor<'a, M, K, D>,
 }
 
+/// How many clients the workers took from their dials.
+fn taken_from_dials<M: Ledger, O: Ledger, K: Link, L: Dial<Link = K>>(
+    workers: &[Worker<M, O, K, L>],
+) -> u64 {
+    let mut taken = 0u64;
+    for worker in workers {
+        taken = taken.saturating_add(worker.came);
+    }
+    taken
+}
+
 /// The workers, and the acceptor beside them in the caller's thread. When all of them have ended, so does the recorder. It
-/// says what came of the acceptor's work.
+/// says what came of the acceptor's work, and to the dials of the workers.
 fn work_beside<
     M: Ledger + Send + Sync,
     O: Ledger + Send + Sync,
@@ -240,10 +251,10 @@ fn work_beside<
         move || acceptor.accept_all(rt, context),
     );
     context.alert.end();
-    came
+    came.with_taken(taken_from_dials(workers))
 }
 
-/// All threads: the team, and the recorder beside it. What the acceptor says, and what is left of the outlet with how many
+/// All threads: the team, and the recorder beside it. What the team says, and what is left of the outlet with how many
 /// segments its sink refused.
 fn work_and_record<
     M: Ledger + Send + Sync,
@@ -352,7 +363,12 @@ fn take_apart<M: Ledger, O: Ledger, K: Link, L: Dial<Link = K>>(
     let mut closed = 0u64;
     let mut waiting = 0u64;
     while let Some(worker) = workers.pop() {
-        let Worker { calls, state, dial } = worker;
+        let Worker {
+            calls,
+            state,
+            dial,
+            came: _,
+        } = worker;
         let WorkerState { mut arrivals, .. } = state;
         let (pass, leases, replies) = calls.into_parts();
         closed = closed.saturating_add(replies);

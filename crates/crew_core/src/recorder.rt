@@ -19,7 +19,7 @@ const LONGEST: u64 = 1_000;
 /// A record whose number is a multiple of this one ends a segment.
 const SEGMENT: u64 = 256;
 
-/// What wakes the recorder, what ends it, what it has to report, and how many threads began.
+/// What wakes the recorder, what ends it, what it has to report, how many threads began, and whether all did.
 #[derive(Drop)]
 pub(crate) struct Alert {
     parker: Parker,
@@ -33,6 +33,8 @@ pub(crate) struct Alert {
     waiting: AtomicU64,
     /// How many workers began their work, and the recorder.
     began: AtomicU64,
+    /// Whether all of them began, so that connections may be taken.
+    is_open: AtomicBool,
 }
 
 impl Alert {
@@ -44,6 +46,7 @@ impl Alert {
             is_cutting: AtomicBool::new(false),
             waiting: AtomicU64::new(0),
             began: AtomicU64::new(0),
+            is_open: AtomicBool::new(false),
         }
     }
 
@@ -55,6 +58,16 @@ impl Alert {
     /// How many workers began their work, and the recorder.
     pub(crate) fn began(&self) -> u64 {
         self.began.load(Ordering::SeqCst)
+    }
+
+    /// All workers began, and the recorder.
+    pub(crate) fn open(&self) {
+        self.is_open.store(true, Ordering::SeqCst);
+    }
+
+    /// Whether connections may be taken.
+    pub(crate) fn is_open(&self) -> bool {
+        self.is_open.load(Ordering::SeqCst)
     }
 
     /// The crew's work is over.

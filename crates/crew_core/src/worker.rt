@@ -25,6 +25,10 @@ const ASKED: u32 = 64;
 /// after what was reported meanwhile.
 pub(crate) const SERVED: usize = 128;
 
+/// How many clients a worker takes from its dial in one turn at the most. Those that are left wait for its next turn, or for
+/// another worker.
+const TAKEN: usize = 4;
+
 /// How long a worker waits at the most, in ms, if nothing is due. What comes ends the wait.
 const LONGEST_WAIT: u64 = 10_000;
 
@@ -51,6 +55,8 @@ pub(crate) struct Worker<M: Ledger, O: Ledger, K: Link, L: Dial<Link = K>> {
     pub(crate) calls: Calls<M, O>,
     pub(crate) state: WorkerState<K>,
     pub(crate) dial: L,
+    /// How many clients it took from its dial.
+    pub(crate) came: u64,
 }
 
 impl<M: Ledger, O: Ledger, K: Link, L: Dial<Link = K>> Worker<M, O, K, L> {
@@ -67,6 +73,7 @@ impl<M: Ledger, O: Ledger, K: Link, L: Dial<Link = K>> Worker<M, O, K, L> {
             calls: Calls::new(alloc, number, pass),
             state,
             dial,
+            came: 0,
         }
     }
 
@@ -98,6 +105,7 @@ impl<M: Ledger, O: Ledger, K: Link, L: Dial<Link = K>> Worker<M, O, K, L> {
         self.gather(limit);
         let now = context.clock.now();
         self.take_arrivals(rt, context);
+        self.take_clients(rt, context);
         self.serve_queue(rt, context);
         self.expire(rt, context, now);
         self.do_due(rt, context, now);
@@ -132,6 +140,35 @@ impl<M: Ledger, O: Ledger, K: Link, L: Dial<Link = K>> Worker<M, O, K, L> {
             if let Ok(arrival) = self.state.arrivals.pop() {
                 self.accept(rt, context, arrival);
             }
+        }
+    }
+
+    /// Takes clients that wait at the listeners of its dial, once all threads began.
+    fn take_clients<B: Opening, G: Gate, C: Clock, R: Wait>(
+        &mut self,
+        rt: &R,
+        context: &WorkerContext<'_, M, O, B, G, C>,
+    ) {
+        if !context.alert.is_open() {
+            return;
+        }
+        for _client in 0..TAKEN {
+            if self.calls.is_stopped {
+                return;
+            }
+            let Some((listener, real, link)) = self.dial.accept() else {
+                return;
+            };
+            self.came = self.came.saturating_add(1);
+            self.accept(
+                rt,
+                context,
+                NewConn {
+                    listener,
+                    real,
+                    link,
+                },
+            );
         }
     }
 

@@ -17,7 +17,7 @@ use log::Log;
 use record_core::Segment;
 use rtrb::Consumer;
 use socket_core::{
-    Checker, CommandSender, DialFault, DoorPlan, Listeners, SocketDial, SocketDoor, SocketLink,
+    Checker, CommandSender, DoorPlan, Listeners, SetupFault, SocketDial, SocketDoor, SocketLink,
     StatusAsker, SystemClock, listen, make_dials,
 };
 use status_core::{CrewStatus, Outline};
@@ -190,7 +190,7 @@ fn make_watch<'a, R: Net + Log + rt::Clock>(
 /// Binds the book's listeners, all of them before any connection is taken.
 fn bind<R: Net + AllocGlobal + Eprint>(rt: &R, book: &Book) -> Result<Listeners, u8> {
     let Ok(addresses) = addresses(rt.alloc(), book) else {
-        return Err(fail(rt, &DialFault::NoMemory));
+        return Err(fail(rt, &SetupFault::NoMemory));
     };
     match listen(rt, rt.alloc(), addresses.as_slice()) {
         Ok(listeners) => {
@@ -207,11 +207,11 @@ fn open_plan<R: AllocGlobal + Eprint>(
     book: &Book,
 ) -> Result<(DoorPlan, Arc<Outline, Global>), u8> {
     let Ok(plan) = door_plan(rt.alloc(), book) else {
-        return Err(fail(rt, &DialFault::NoMemory));
+        return Err(fail(rt, &SetupFault::NoMemory));
     };
     match Arc::try_clone(&plan.outline) {
         Ok(first) => Ok((plan, first)),
-        Err(_) => Err(fail(rt, &DialFault::NoMemory)),
+        Err(_) => Err(fail(rt, &SetupFault::NoMemory)),
     }
 }
 
@@ -228,16 +228,14 @@ fn open_sockets<'a, R: Files + Net + Log + rt::Clock + AllocGlobal + Eprint>(
     let listeners = bind(rt, book)?;
     let (plan, first) = open_plan(rt, book)?;
     let most = most_connections(rt, listeners.len(), plan.checks.len(), words);
-    let (mut door, commands, checker) = match SocketDoor::new(
-        rt, alloc, clock, listeners, plan, most,
-    ) {
+    let (mut door, commands, checker) = match SocketDoor::new(rt, alloc, clock, plan) {
         Ok(opened) => opened,
         Err(fault) => return Err(fail(rt, &fault)),
     };
     let Ok(watch) = make_watch(&mut door, first) else {
-        return Err(fail(rt, &DialFault::NoMemory));
+        return Err(fail(rt, &SetupFault::NoMemory));
     };
-    match make_dials(rt, alloc, &mut door, words.workers) {
+    match make_dials(rt, alloc, clock, &mut door, listeners, most, words.workers) {
         Ok(dials) => Ok(ServeSockets {
             door,
             commands,

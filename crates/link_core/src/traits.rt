@@ -55,7 +55,8 @@ pub trait Door {
     /// What came next.
     fn next(&mut self) -> DoorEvent<Self::Link>;
 
-    /// Wakes that worker, counted from 0: the connection that was last handed out is with it, or none will come any more.
+    /// Wakes that worker, counted from 0: the connection that was last handed out is with it, all threads began, or nothing
+    /// will come any more.
     fn wake(&mut self, worker: usize);
 
     /// What became of the reload or of the mark that was last handed out.
@@ -105,10 +106,17 @@ pub trait Dial {
     /// What was begun for the key is not asked for any more.
     fn forget(&mut self, key: usize);
 
+    /// A client that waits at a listener which this dial has too, if one does: the number of the listener, the pair of the
+    /// client and of its local end, and its link, which is not watched yet. It does not wait for one.
+    fn accept(&mut self) -> Option<(u16, Pair, Self::Link)> {
+        None
+    }
+
     /// Watches the link of a client under its key; whether that went well.
     fn watch(&mut self, key: usize, link: &mut Self::Link) -> bool;
 
-    /// Waits until something is ready, for `limit` ms at the most, and adds what is ready to the list as far as it has room.
+    /// Waits until something is ready or a client may wait, for `limit` ms at the most, and adds what is ready to the list as
+    /// far as it has room.
     /// It may end sooner. A key that is not in use any more may be among what is ready.
     fn wait(&mut self, limit: u64, ready: &mut Vec<Ready>);
 }

@@ -39,6 +39,11 @@ impl Alarm {
         self.rings.load(Ordering::SeqCst)
     }
 
+    /// Whether the worker waits, or is about to. One that was woken does so until it runs.
+    pub fn is_waiting(&self) -> bool {
+        self.is_waiting.load(Ordering::SeqCst)
+    }
+
     /// The worker does not wait any more.
     pub fn end(&self) {
         self.is_waiting.store(false, Ordering::SeqCst);

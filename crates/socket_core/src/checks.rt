@@ -2,7 +2,7 @@
 use crate::WAKE;
 use crate::check_plan::{CheckList, CheckPlan};
 use crate::checker::{Checker, HealthReport, MOST_ORDERS, ReportLine, WatchOrder};
-use crate::listeners::ListenFault;
+use crate::dials::SetupFault;
 use crate::probe::CheckFailure;
 use conn_model::event::Health;
 use list_core::Duplicate;
@@ -61,10 +61,10 @@ pub fn make_checks(
     rt: &impl Net,
     alloc: Global,
     door: Arc<Waker, Global>,
-) -> Result<(Checks, Checker), ListenFault> {
-    let poll = Poll::new(rt).map_err(ListenFault::Watch)?;
-    let waker = Waker::new(poll.registry(), WAKE).map_err(ListenFault::Watch)?;
-    let waker = Arc::new(alloc, waker).map_err(|_| ListenFault::NoMemory)?;
+) -> Result<(Checks, Checker), SetupFault> {
+    let poll = Poll::new(rt).map_err(SetupFault::System)?;
+    let waker = Waker::new(poll.registry(), WAKE).map_err(SetupFault::System)?;
+    let waker = Arc::new(alloc, waker).map_err(|_| SetupFault::NoMemory)?;
     let (orders, to_follow) = RingBuffer::new(alloc, MOST_ORDERS)?;
     let (to_door, reports) = RingBuffer::new(alloc, MOST_REPORTS)?;
     let CheckPlan { checked, unchecked } = CheckPlan::none(alloc)?;

@@ -1,17 +1,20 @@
-//! A worker's connections to servers, and its watch over all its sockets.
+//! A worker's clients and connections to servers, and its watch over all its sockets.
 use crate::WAKE;
 use crate::addresses::socket_address;
 use crate::alarm::Alarm;
 use crate::link::{DialProgress, SocketLink};
-use addr_core::Endpoint;
+use crate::listener_share::ListenerShare;
+use crate::listeners::listener_of;
+use addr_core::{Endpoint, Pair};
 use link_core::{Dial, Dialled, Ready};
+use log::Log;
 use mio::event::Event;
 use mio::net::TcpStream;
-use mio::{Events, Poll, Token, Waker};
-use std::alloc::Global;
+use mio::{Events, Poll, Token};
+use std::alloc::{AllocError, Global};
 use std::collections::HashMap;
-use std::io;
 use std::net::Net;
+use std::rt;
 use std::sync::Arc;
 use std::time::Duration;
 
@@ -19,9 +22,9 @@ use std::time::Duration;
 const MOST_EVENTS: usize = 256;
 
 /// The poll of a worker, and its connections that are under way. Each socket is registered once, for reading and for
-/// writing, under a token that has its key; the system reports only what changed.
+/// writing, under a token that has its key; the system reports only what changed. The listeners are registered too.
 #[derive(Drop)]
-pub struct SocketDial<'a, R: Net> {
+pub struct SocketDial<'a, R: Net + Log + rt::Clock> {
     rt: &'a R,
     poll: Poll,
     events: Events,
@@ -32,6 +35,7 @@ pub struct SocketDial<'a, R: Net> {
     /// How many times the alarm was set off until the last wait.
     rings: u64,
     under_way: HashMap<usize, SocketLink>,
+    listeners: ListenerShare<'a, R>,
 }
 
 /// The token of a socket of the connection of that key.
@@ -39,7 +43,7 @@ fn token_of(key: usize, of_server: bool) -> Token {
     Token(key.wrapping_mul(2) | usize::from(of_server))
 }
 
-/// What an event says, if it is one of a socket.
+/// What an event says, if it is one of a connection.
 fn ready_of(event: &Event) -> Option<Ready> {
     let token = event.token();
     if token == WAKE {
@@ -55,11 +59,15 @@ fn ready_of(event: &Event) -> Option<Ready> {
     })
 }
 
-impl<'a, R: Net> SocketDial<'a, R> {
-    /// Fails where the system or memory has no room for one more poll.
-    pub fn new(rt: &'a R, alloc: Global) -> io::Result<SocketDial<'a, R>> {
-        let poll = Poll::new(rt)?;
-        let alarm = Arc::new(alloc, Alarm::new(Waker::new(poll.registry(), WAKE)?))?;
+impl<'a, R: Net + Log + rt::Clock> SocketDial<'a, R> {
+    /// A dial with that poll, to which the alarm and the listeners are registered.
+    pub fn new(
+        rt: &'a R,
+        alloc: Global,
+        poll: Poll,
+        alarm: Arc<Alarm, Global>,
+        listeners: ListenerShare<'a, R>,
+    ) -> Result<SocketDial<'a, R>, AllocError> {
         Ok(SocketDial {
             rt,
             poll,
@@ -68,17 +76,14 @@ impl<'a, R: Net> SocketDial<'a, R> {
             alarm,
             rings: 0,
             under_way: HashMap::new(alloc),
+            listeners,
         })
     }
 
-    /// What ends a wait of this dial from another thread. The dial keeps it too.
-    pub fn alarm(&self) -> io::Result<Arc<Alarm, Global>> {
-        Ok(Arc::try_clone(&self.alarm)?)
-    }
-
-    /// Asks the system for what is ready, and waits for it for `limit` ms at the most, unless the alarm was set off since
-    /// it was last asked.
+    /// Asks the system for what is ready, and waits for it for `limit` ms at the most, unless a client is known to wait or
+    /// the alarm was set off since it was last asked.
     fn ask(&mut self, limit: u64) {
+        let limit = self.listeners.limit(limit);
         let rings = self.alarm.begin(limit > 0);
         let limit = if rings == self.rings { limit } else { 0 };
         self.rings = rings;
@@ -99,7 +104,7 @@ impl<'a, R: Net> SocketDial<'a, R> {
     }
 }
 
-impl<'a, R: Net> Dial for SocketDial<'a, R> {
+impl<'a, R: Net + Log + rt::Clock> Dial for SocketDial<'a, R> {
     type Link = SocketLink;
 
     fn poll(&mut self, key: usize, to: &Endpoint) -> Dialled<SocketLink> {
@@ -130,6 +135,10 @@ impl<'a, R: Net> Dial for SocketDial<'a, R> {
         let _link = self.under_way.remove(&key);
     }
 
+    fn accept(&mut self) -> Option<(u16, Pair, SocketLink)> {
+        self.listeners.accept()
+    }
+
     fn watch(&mut self, key: usize, link: &mut SocketLink) -> bool {
         link.watch(self.poll.registry(), token_of(key, false))
     }
@@ -144,7 +153,9 @@ impl<'a, R: Net> Dial for SocketDial<'a, R> {
         };
         // The system reports a change once, so what finds no room now is kept for the next wait.
         for (place, event) in self.events.iter().enumerate().skip(from) {
-            if let Some(one) = ready_of(&event) {
+            if let Some(listener) = listener_of(event.token()) {
+                self.listeners.note_ready(listener);
+            } else if let Some(one) = ready_of(&event) {
                 if ready.push(one).is_err() {
                     self.handed_out = Some(place);
                     return;

@@ -1,57 +1,47 @@
-//! The door: connections of the listeners, the commands of an operator, and questions for the state.
+//! The door: the commands of an operator, changes of servers, and questions for the state.
+use crate::WAKE;
 use crate::alarm::Alarm;
 use crate::checker::Checker;
 use crate::checks::{Checks, HealthChange, make_checks};
 use crate::commands::{Command, CommandSender, MOST_COMMANDS};
+use crate::dials::SetupFault;
 use crate::door_plan::DoorPlan;
-use crate::fd_budget::{FdBudget, FdPermit};
 use crate::link::SocketLink;
-use crate::listeners::{ListenFault, Listeners};
 use crate::pace::Pace;
-use crate::ports::{AcceptResult, Ports};
 use crate::status_line::{StatusAnswer, StatusAsker, StatusEnd, status_line};
 use conn_model::event::Health;
 use conn_model::reply::{Reply, Said, StepFault};
 use link_core::{Backlog, Clock, Door, DoorEvent};
 use log::{Log, info, warn};
-use mio::Waker;
+use mio::{Events, Poll, Waker};
 use rtrb::{Consumer, RingBuffer};
 use status_core::{CrewStatus, Outline, ProxyStatus, Question};
 use std::alloc::{AllocError, Global};
 use std::net::Net;
+use std::str;
 use std::sync::Arc;
-use std::{io, str};
+use std::time::Duration;
 
 /// How long the door waits at most, in ms. What comes ends the wait: only a record that does not go out is looked for.
 const LONGEST_WAIT: u64 = 1_000;
 
-/// How long the door accepts nothing after the system refused to give a connection, in ms.
-const PAUSE: u64 = 100;
+/// How many events a wait takes from the system at most. Only the waker has some.
+const MOST_EVENTS: usize = 4;
 
-/// How long the door waits at a time meanwhile, in ms.
-const PAUSED_WAIT: u64 = 10;
-
-/// Where connections come in, and commands.
+/// Where all comes in that is no connection: those the workers take from the listeners themselves.
 #[derive(Drop)]
 pub struct SocketDoor<'a, R: Log, C: Clock> {
     rt: &'a R,
     alloc: Global,
     clock: &'a C,
-    ports: Ports,
+    poll: Poll,
+    events: Events,
     commands: Consumer<Command>,
-    // Kept for as long as the ports: a wake is lost if its waker is dropped first.
+    // Kept for as long as the poll: a wake is lost if its waker is dropped first.
     waker: Arc<Waker, Global>,
     /// What wakes the workers.
     workers: Vec<Arc<Alarm, Global>>,
-    /// Until when nothing is accepted.
-    resumes: Option<u64>,
     is_closed: bool,
-    /// Whether as many connections are open as may be.
-    is_full: bool,
-    budget: Arc<FdBudget, Global>,
-    full: Pace,
-    refused: Pace,
-    lost: Pace,
     slow: Pace,
     unwritten: Pace,
     unmarked: Pace,
@@ -70,21 +60,19 @@ pub struct SocketDoor<'a, R: Log, C: Clock> {
 }
 
 impl<'a, R: Log + Net, C: Clock> SocketDoor<'a, R, C> {
-    /// A door over these listeners for the first configuration, of which it knows that, the sender by which commands come to
-    /// it, and what checks servers for it in another thread. No more than `most` connections are open at one time.
+    /// A door for the first configuration, of which it knows that, the sender by which commands come to it, and what checks
+    /// servers for it in another thread.
     pub fn new(
         rt: &'a R,
         alloc: Global,
         clock: &'a C,
-        listeners: Listeners,
         plan: DoorPlan,
-        most: u64,
-    ) -> Result<(SocketDoor<'a, R, C>, CommandSender, Checker), ListenFault> {
-        let ports = Ports::new(rt, alloc, listeners)?;
-        let waker = ports.waker(alloc)?;
+    ) -> Result<(SocketDoor<'a, R, C>, CommandSender, Checker), SetupFault> {
+        let poll = Poll::new(rt).map_err(SetupFault::System)?;
+        let waker = Waker::new(poll.registry(), WAKE).map_err(SetupFault::System)?;
+        let waker = Arc::new(alloc, waker).map_err(|_| SetupFault::NoMemory)?;
         let (to_door, commands) = RingBuffer::new(alloc, MOST_COMMANDS)?;
         let sender = CommandSender::new(to_door, Arc::try_clone(&waker)?);
-        let budget = FdBudget::new(most, Arc::try_clone(&waker)?);
         let DoorPlan {
             checks: checked,
             outline,
@@ -94,17 +82,12 @@ impl<'a, R: Log + Net, C: Clock> SocketDoor<'a, R, C> {
             rt,
             alloc,
             clock,
-            ports,
+            poll,
+            events: Events::with_capacity(alloc, MOST_EVENTS)?,
             commands,
             waker,
             workers: Vec::new(alloc),
-            resumes: None,
             is_closed: false,
-            is_full: false,
-            budget: Arc::new(alloc, budget).map_err(|_| ListenFault::NoMemory)?,
-            full: Pace::new(),
-            refused: Pace::new(),
-            lost: Pace::new(),
             slow: Pace::new(),
             unwritten: Pace::new(),
             unmarked: Pace::new(),
@@ -138,72 +121,16 @@ impl<'a, R: Log + Net, C: Clock> SocketDoor<'a, R, C> {
         }
     }
 
-    fn is_paused(&mut self) -> bool {
-        match self.resumes {
-            None => false,
-            Some(moment) if self.clock.now() < moment => true,
-            Some(_) => {
-                self.resumes = None;
-                false
-            }
-        }
-    }
-
-    /// Nothing is accepted for a moment. What waits stays with the system.
-    fn pause(&mut self, error: &io::Error) {
-        let now = self.clock.now();
-        if self.refused.allows(now) {
-            warn!(self.rt; "no connection can be accepted: {error}");
-        }
-        self.resumes = Some(now.saturating_add(PAUSE));
-    }
-
-    /// A permit for the next connection. If there is none, nothing is accepted until a connection ends, which wakes the
-    /// door. What waits stays with the system.
-    fn permit(&mut self) -> Option<FdPermit> {
-        let permit = FdPermit::ask(&self.budget);
-        self.is_full = permit.is_none();
-        if self.is_full && self.full.allows(self.clock.now()) {
-            warn!(self.rt; "no connection is accepted: as many are open as the limit of open files allows");
-        }
-        permit
-    }
-
-    fn accept(&mut self) -> Option<DoorEvent<SocketLink>> {
-        if self.is_paused() {
-            return None;
-        }
-        let permit = self.permit()?;
-        match self.ports.accept() {
-            AcceptResult::Conn(listener, pair, link) => {
-                Some(DoorEvent::Conn(listener, pair, link.with_permit(permit)))
-            }
-            AcceptResult::Lost => {
-                if self.lost.allows(self.clock.now()) {
-                    warn!(self.rt; "a connection was dropped: it ended early, or its ends are not of one family");
-                }
-                None
-            }
-            AcceptResult::Refused(error) => {
-                self.pause(&error);
-                None
-            }
-            AcceptResult::Nothing => None,
-        }
-    }
-
-    /// A change of a server, a question for the state, or a connection, in this order.
-    fn next_report_or_conn(&mut self) -> Option<DoorEvent<SocketLink>> {
+    /// A change of a server or a question for the state, in this order.
+    fn next_report_or_question(&mut self) -> Option<DoorEvent<SocketLink>> {
         if let Some((backend, server, health)) = self.checks.next_report() {
             return Some(DoorEvent::Mark(backend, server, health));
         }
-        match self.next_question() {
-            Some(asks) => Some(DoorEvent::Status(asks)),
-            None => self.accept(),
-        }
+        let asks = self.next_question()?;
+        Some(DoorEvent::Status(asks))
     }
 
-    /// What came, if anything did. Words come first, so that connections cannot keep them waiting.
+    /// What came, if anything did. Words come first.
     fn next_event(&mut self) -> Option<DoorEvent<SocketLink>> {
         match self.next_command() {
             Some(Command::Reload(text, plan)) => {
@@ -214,18 +141,7 @@ impl<'a, R: Log + Net, C: Clock> SocketDoor<'a, R, C> {
                 self.is_closed = true;
                 Some(DoorEvent::Closed)
             }
-            None => self.next_report_or_conn(),
-        }
-    }
-
-    /// How long nothing may come, in ms.
-    fn limit(&mut self) -> u64 {
-        if self.is_paused() {
-            PAUSED_WAIT
-        } else if self.ports.may_accept() && !self.is_full {
-            0
-        } else {
-            LONGEST_WAIT
+            None => self.next_report_or_question(),
         }
     }
 
@@ -346,8 +262,8 @@ impl<'a, R: Log + Net, C: Clock> Door for SocketDoor<'a, R, C> {
         if let Some(next_event) = self.next_event() {
             return next_event;
         }
-        let limit = self.limit();
-        self.ports.wait(limit);
+        let limit = Duration::from_millis(LONGEST_WAIT);
+        let _waited = self.poll.poll(&mut self.events, Some(limit));
         self.next_event().unwrap_or(DoorEvent::Idle)
     }
 

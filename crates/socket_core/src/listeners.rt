@@ -1,7 +1,9 @@
 //! Sockets that listen.
+use crate::WAKE;
 use crate::addresses::{endpoint_of, is_wildcard, socket_address};
 use addr_core::{Endpoint, write_endpoint};
 use mio::net::TcpListener;
+use mio::{Interest, Registry, Token};
 use std::alloc::{AllocError, Global};
 use std::io;
 use std::net::Net;
@@ -18,9 +20,6 @@ pub enum ListenFault {
         at: Endpoint,
         reason: io::Error,
     },
-    /// The system has no room for the watch over the listeners.
-    #[error("{0}")]
-    Watch(io::Error),
     #[error("no memory")]
     NoMemory,
 }
@@ -37,8 +36,16 @@ pub struct BoundListener {
     pub socket: TcpListener,
     /// The local end of its connections, where they all have the same.
     pub local: Option<Endpoint>,
-    /// Whether a connection may wait here.
-    pub may_accept: bool,
+}
+
+/// The token of the listener of that number. No key of a connection has it, nor a waker.
+fn token_of(number: usize) -> Token {
+    Token(WAKE.0.wrapping_sub(1).wrapping_sub(number))
+}
+
+/// The number of the listener that has that token, if one has.
+pub fn listener_of(token: Token) -> Option<u16> {
+    u16::try_from(WAKE.0.wrapping_sub(1).wrapping_sub(token.0)).ok()
 }
 
 /// Sockets that listen, by their numbers.
@@ -64,6 +71,14 @@ impl Listeners {
         Some(endpoint_of(&address))
     }
 
+    /// Has one poll more report when a client comes to any of them.
+    pub fn watch(&mut self, registry: &Registry) -> io::Result<()> {
+        for (number, listener) in self.all.iter_mut().enumerate() {
+            registry.register(&mut listener.socket, token_of(number), Interest::READABLE)?;
+        }
+        Ok(())
+    }
+
     pub(crate) fn into_vec(self) -> Vec<BoundListener> {
         let Listeners { all } = self;
         all
@@ -78,11 +93,7 @@ fn listen_at(rt: &impl Net, at: &Endpoint) -> io::Result<BoundListener> {
     } else {
         Some(endpoint_of(&socket.local_addr()?))
     };
-    Ok(BoundListener {
-        socket,
-        local,
-        may_accept: true,
-    })
+    Ok(BoundListener { socket, local })
 }
 
 /// Listens on each of these addresses, in this order. Where one of them cannot be bound, none stays bound.

@@ -1,6 +1,8 @@
 //! How often the log speaks of a cause.
 ghost use Rattle.std.specs.Prelude.{◌≡◌, ◌↔◌, ◌≤◌, ◌+◌, IsTrue, IfSome, Some};
 
+use std::sync::atomic::{AtomicU64, Ordering};
+
 /// How long a cause is not spoken of again, in ms.
 pub const SILENCE: u64 = 1000;
 
@@ -31,5 +33,31 @@ impl Pace {
             self.last = Some(now);
         }
         is_due
+    }
+}
+
+/// The same of a cause that several threads speak of.
+#[derive(Drop)]
+pub struct SharedPace {
+    /// From when on a line may be written, in ms.
+    next: AtomicU64,
+}
+
+impl SharedPace {
+    /// Of a cause that was not spoken of yet.
+    pub fn new() -> SharedPace {
+        SharedPace {
+            next: AtomicU64::new(0),
+        }
+    }
+
+    /// Whether a line may be written at that moment, in ms. Of several threads that ask at one time only one may.
+    pub fn allows(&self, now: u64) -> bool {
+        let next = self.next.load(Ordering::SeqCst);
+        next <= now
+            && self
+                .next
+                .fetch_max(now.saturating_add(SILENCE), Ordering::SeqCst)
+                == next
     }
 }

@@ -2,7 +2,7 @@
 ghost use Rattle.std.specs.Prelude.{None};
 
 use crate::tests::stage::{Mark, Stage, sleep};
-use addr_core::Endpoint;
+use addr_core::{Endpoint, Pair};
 use crew_core::{Dial, Dialled, Link, Ready};
 use device_core::{Failed, Got, Input, Output, Put};
 use std::sync::Arc;
@@ -170,7 +170,7 @@ impl Drop for FakeLink {
 /// How many keys a dial watches at the most.
 const KEYS: usize = 4;
 
-/// A dial that reaches a server of that script, if there is one. The first dials fail.
+/// A dial that reaches a server of that script, if there is one. The first dials fail. Clients may wait at its listener.
 #[derive(Drop)]
 pub struct FakeDial<H: Clock> {
     sleeper: H,
@@ -178,6 +178,8 @@ pub struct FakeDial<H: Clock> {
     server: Script,
     fails: u32,
     is_late: bool,
+    /// The clients that wait, the last one first, each with its pair.
+    waiting: Vec<(Pair, FakeLink)>,
     clients: [bool; 4],
     servers: [bool; 4],
 }
@@ -190,6 +192,7 @@ impl<H: Clock> FakeDial<H> {
         server: Script,
         fails: u32,
         is_late: bool,
+        waiting: Vec<(Pair, FakeLink)>,
     ) -> FakeDial<H> {
         FakeDial {
             sleeper,
@@ -197,6 +200,7 @@ impl<H: Clock> FakeDial<H> {
             server,
             fails,
             is_late,
+            waiting,
             clients: [false; 4],
             servers: [false; 4],
         }
@@ -243,6 +247,11 @@ impl<H: Clock> Dial for FakeDial<H> {
             self.clients[key] = false;
             self.servers[key] = false;
         }
+    }
+
+    fn accept(&mut self) -> Option<(u16, Pair, FakeLink)> {
+        let (real, link) = self.waiting.pop()?;
+        Some((0, real, link))
     }
 
     fn watch(&mut self, key: usize, _link: &mut FakeLink) -> bool {

@@ -59,6 +59,8 @@ pub struct Play<'a> {
     pub text: &'a str,
     pub reload: Option<&'a str>,
     pub clients: &'a [Script],
+    /// Those that wait at the dial of the first worker, the last one first, and not at the door.
+    pub at_dial: &'a [Script],
     pub server: Script,
     /// How many dials of a worker fail, and whether each worker has to ask twice for the first.
     pub fails: u32,
@@ -166,6 +168,19 @@ fn knocks(alloc: Global, stage: &Arc<Stage>, play: &Play<'_>) -> Option<Vec<Door
     Some(knocks)
 }
 
+/// The clients that wait at a dial.
+fn waiting(alloc: Global, stage: &Arc<Stage>, scripts: &[Script]) -> Option<Vec<(Pair, FakeLink)>> {
+    let real = real_pair()?;
+    let mut waiting = Vec::new(alloc);
+    for script in scripts {
+        let link = FakeLink::new(Arc::try_clone(stage).ok()?, *script);
+        if waiting.push((real, link)).is_err() {
+            return None;
+        }
+    }
+    Some(waiting)
+}
+
 /// A dial for each worker.
 fn dials<H: Clock + Copy + Drop>(
     alloc: Global,
@@ -177,9 +192,18 @@ fn dials<H: Clock + Copy + Drop>(
     ensures { IfSome result (λ dials. vec_len dials ≡ workers) }
 {
     let mut dials = Vec::new(alloc);
-    for _worker in 0..workers {
+    for worker in 0..workers {
+        let scripts = if worker == 0 { play.at_dial } else { &[] };
+        let waiting = waiting(alloc, stage, scripts)?;
         let stage = Arc::try_clone(stage).ok()?;
-        let dial = FakeDial::new(sleeper, stage, play.server, play.fails, play.is_late);
+        let dial = FakeDial::new(
+            sleeper,
+            stage,
+            play.server,
+            play.fails,
+            play.is_late,
+            waiting,
+        );
         if dials.push(dial).is_err() {
             return None;
         }

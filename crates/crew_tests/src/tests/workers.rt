@@ -36,6 +36,7 @@ pub const PLAIN: Play<'static> = Play {
     text: TABLE,
     reload: None,
     clients: &[CLIENT],
+    at_dial: &[],
     server: SERVER,
     fails: 0,
     is_late: false,
@@ -61,6 +62,20 @@ static DONE: [Word; 4] = [("wait", 1), ("offer", 12), ("up", 1), ("done", 1)];
 fn bytes_after_a_header_come_to_the_server_and_its_answer_back(rt: HostRuntime) {
     let wanted = made(4).with_bytes(true, true);
     assert_eq!(rt; fault_of(&rt, rt.alloc(), &rt, &LATE, &DONE, &wanted), None);
+}
+
+/// The client waits at the dial of the only worker.
+const AT_DIAL: Play<'static> = Play {
+    clients: &[],
+    at_dial: &[CLIENT],
+    ..PLAIN
+};
+
+#[test]
+fn worker_takes_a_client_from_its_dial(rt: HostRuntime) {
+    let wanted = counted(4, 1, 1).with_bytes(true, true);
+    let fault = fault_of(&rt, rt.alloc(), &rt, &AT_DIAL, &DONE, &wanted);
+    assert_eq!(rt; fault, None);
 }
 
 /// The first client and its server stay until the second client is gone, which begins when the server has all bytes.
