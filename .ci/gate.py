@@ -1,8 +1,11 @@
 """The gate, which `.ci/run` starts: `rt ci` at the top of the repository, and then whole runs of the program that it built.
 
-It stops at the first part that fails. The wall time and the time of processors of each part, the most expensive first, are
-written to `out/costs.txt`. The last line is `N passed, M failed`, and the exit status is that of the part that failed.
+It stops at the first part that fails. At its end it lists the wrong bodies that one clause refuses together, of which all
+except one may be too many, and those that something else than a clause of a function refuses. The wall time and the time of
+processors of each part, the most expensive first, are written to `out/costs.txt`. The last line is `N passed, M failed`, and
+the exit status is that of the part that failed.
 """
+import collections
 import pathlib
 import re
 import resource
@@ -14,6 +17,8 @@ ROOT = pathlib.Path(__file__).resolve().parent.parent
 COSTS = ROOT / 'out' / 'costs.txt'
 PARTS = ('rt ci', 'tests/texts', 'tests/names', 'must-not-compile/run', 'tests/run', 'tests/pipe/run', 'tests/serve',
          'tests/health', 'tests/memory', 'tests/terminal', 'tests/hostile --random 1000')
+REFUSED = re.compile(r'rt: must-fail (\w+)/(\w+)\.edit: refused, as it must be: (.*)')
+CLAUSE = 'it is not proved that what the function ensures holds'
 
 
 def processor_seconds():
@@ -22,17 +27,31 @@ def processor_seconds():
     return used.ru_utime + used.ru_stime
 
 
-def run_part(part):
-    """Runs a command that ends in 'N passed, M failed': how many passed and failed, and its status."""
+def run_part(part, refused):
+    """Runs a command that ends in 'N passed, M failed': how many passed and failed, and its status. The wrong bodies that it
+    tried are added to `refused`, by crate and reason."""
     last = ''
     with subprocess.Popen(part.split(), cwd=ROOT, stdout=subprocess.PIPE, text=True, errors='replace') as process:
         for line in process.stdout:
             print(line, end='', flush=True)
             last = line.strip() or last
+            if wrong := REFUSED.match(line):
+                crate, name, reason = wrong.groups()
+                refused[crate, reason].append(name)
     counted = re.match(r'(\d+) passed, (\d+) failed', last)
     passed, failed = map(int, counted.groups()) if counted else (0, 0)
     is_well = counted and process.returncode == 0 and failed == 0
     return passed, 0 if is_well else failed or 1, process.returncode
+
+
+def show_refused(refused):
+    """Prints which wrong bodies one clause refuses together, and which are refused by no clause of a function."""
+    print(f'{sum(map(len, refused.values()))} wrong bodies were tried, and {len(refused)} clauses refused them')
+    for (crate, reason), names in sorted(refused.items()):
+        if CLAUSE not in reason:
+            print(f'by no clause of a function: {crate}: {", ".join(names)}: {reason[:120]}')
+        elif len(names) > 1:
+            print(f'by one clause: {crate}: {", ".join(names)}')
 
 
 def show_costs(costs):
@@ -46,15 +65,16 @@ def show_costs(costs):
 
 
 def main():
-    passed, costs = 0, {}
+    passed, costs, refused = 0, {}, collections.defaultdict(list)
     for part in PARTS:
         begun, before = time.monotonic(), processor_seconds()
-        count, failed, status = run_part(part)
+        count, failed, status = run_part(part, refused)
         costs[part] = time.monotonic() - begun, processor_seconds() - before
         passed += count
         if failed:
             print(f'{part} failed')
             break
+    show_refused(refused)
     show_costs(costs)
     print(f'{passed} passed, {failed} failed')
     return (status or 1) if failed else 0
