@@ -1,17 +1,20 @@
-//! Callers of the commands `check`, `replay`, `audit` and `pipe`.
+//! Callers of the commands `check`, `replay`, `audit`, `whatif`, `explain` and `pipe`.
 ghost use Rattle.std.specs.Prelude.{◌≡◌, ◌++◌, ℕ, List, Some, Err, IfOk, OnOk};
 ghost use Rattle.conn_core.specs.Meaning.{meaning};
 ghost use Rattle.replay_core.specs.Check.{check_output};
 ghost use Rattle.audit_core.specs.Verdict.{IsChecked};
+ghost use Rattle.whatif_core.specs.Whatif.{IsComparison};
 ghost use Rattle.pipe_core.specs.Pipe.{IsPiped};
 
 use addr_core::Pair;
 use audit_core::{CheckFault, Checked, check_record};
 use conn_core::OpenFault;
 use device_core::{Input, Output};
+use explain_core::{ExplainFault, explain};
 use pipe_core::{PipeEnd, PipeFault, run_pipe};
 use replay_core::{PrintFault, ReplayFault, Replayed, run_check, run_replay};
 use std::alloc::Global;
+use whatif_core::{Comparison, run_whatif};
 
 /// Writes the line of a configuration; whether it is one. The writer may fail. If memory is lacking, nothing was
 /// written.
@@ -46,6 +49,37 @@ pub fn audit<I: Input>(alloc: Global, text: &str, reader: &mut I) -> Result<Chec
         IsChecked text.now read counts) }
 {
     check_record(alloc, text, reader)
+}
+
+/// Plays a record against another configuration, and writes what that decides otherwise. The record may be wrong, and the
+/// other configuration refused: that is what was found. The readers, which give the same record, or the writer may fail.
+pub fn compare<I: Input, J: Input, O: Output>(
+    alloc: Global,
+    text: &str,
+    other: &str,
+    reader: &mut I,
+    again: &mut J,
+    writer: &mut O,
+) -> Result<Comparison, PrintFault>
+    ensures { IfOk result (λ found. (read : List ℕ) → I.left reader.old ≡ Some read →
+        IsComparison text.now other.now read found) }
+{
+    run_whatif(alloc, false, text, other, reader, again, writer)
+}
+
+/// Why a frontend lets a client in or refuses it, as lines, for a client that sends no PROXY header. The configuration may
+/// be refused, no frontend may have that name, and there may be no memory.
+pub fn explain_client(
+    alloc: Global,
+    text: &str,
+    frontend: &[u8],
+    real: Pair,
+) -> Result<Vec<u8>, ExplainFault>
+    ensures refused { (fault : OpenFault) → result ≡ Err (ExplainFault.Config fault) →
+        meaning text.now ≡ Err fault }
+{
+    let explained = explain(alloc, text, frontend, real, None)?;
+    Ok(explained.text)
 }
 
 /// Judges one client by a frontend, and writes what its server would get. The fault says whether the configuration is
