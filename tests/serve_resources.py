@@ -71,7 +71,7 @@ def served_within(case, what, clients, seconds):
     case.holds(f'{what}: they are soon there', time.monotonic() - begun < seconds, time.monotonic() - begun)
 
 
-def case_descriptors_are_freed(case):
+def free_descriptors(case, workers):
     """All places are taken, and later all descriptors: nobody is accepted, and nobody is lost. Within a second of places or
     descriptors that are free those who waited are served."""
     config, port = plain(case, Server(echo))
@@ -81,9 +81,9 @@ def case_descriptors_are_freed(case):
         for client in clients:
             client.put(b'hello')
         return clients
-    # Of 100 the listener has one, two workers, the door and the checker two each, and 12 are for all else.
-    places = (100 - 1 - 4 * 2 - 12) // 2
-    with case.start(config, descriptors=100) as proxy:
+    # Of 100 the listener has one, each worker, the door and the checker two, and 12 are for all else.
+    places = (100 - 1 - (workers + 2) * 2 - 12) // 2
+    with case.start(config, '--workers', str(workers), descriptors=100) as proxy:
         alone = proxy.descriptors()
         held = come(places)
         served_within(case, 'as many as there are places', held, PATIENCE)
@@ -104,6 +104,16 @@ def case_descriptors_are_freed(case):
         for client in late:
             client.close()
         case.check('how they ended', proxy.ended().ends(), {'closed done': places + 40})
+
+
+def case_descriptors_are_freed(case):
+    """Places and descriptors that are free are used at once, by workers that take clients themselves."""
+    free_descriptors(case, 2)
+
+
+def case_descriptors_are_freed_at_the_door(case):
+    """The same if the door takes the clients."""
+    free_descriptors(case, 9)
 
 
 def case_memory_comes_back(case):

@@ -4,7 +4,7 @@ ghost use Rattle.crew_core.specs.Pieces.{IsPiece, IsShort};
 
 use crate::calls::{CallOutcome, WorkerContext};
 use crate::conn::{Due, Stage};
-use crate::worker::{SERVED, Worker, WorkerState};
+use crate::worker::{BETWEEN_CLIENTS, SERVED, Worker, WorkerState};
 use addr_core::Endpoint;
 use conn_model::event::Why;
 use conn_model::reply::{Said, StepFault};
@@ -48,13 +48,17 @@ fn read_piece<K: Link>(link: &mut K, buffer: &mut [u8]) -> Result<Got, Failed>
 }
 
 impl<M: Ledger, O: Ledger, K: Link, L: Dial<Link = K>> Worker<M, O, K, L> {
-    /// The connections of the queue have their turns: `SERVED` of them at the most.
+    /// The connections of the queue have their turns: `SERVED` of them at the most. Clients are taken in between, so that they
+    /// do not wait for all of them.
     pub(crate) fn serve_queue<B: Opening, G: Gate, C: Clock, R: Wait>(
         &mut self,
         rt: &R,
         context: &WorkerContext<'_, M, O, B, G, C>,
     ) {
-        for _turn in 0..self.state.table.queued().min(SERVED) {
+        for turn in 0..self.state.table.queued().min(SERVED) {
+            if turn % BETWEEN_CLIENTS == BETWEEN_CLIENTS - 1 {
+                self.take_clients(rt, context);
+            }
             if self.calls.is_stopped {
                 return;
             }

@@ -25,9 +25,12 @@ const ASKED: u32 = 64;
 /// after what was reported meanwhile.
 pub(crate) const SERVED: usize = 128;
 
-/// How many clients a worker takes from its dial in one turn at the most. Those that are left wait for its next turn, or for
-/// another worker.
+/// How many clients a worker takes from its dial at a time. Those that are left wait until it has served some connections,
+/// or for another worker.
 const TAKEN: usize = 4;
+
+/// After how many connections that were served it takes clients again.
+pub(crate) const BETWEEN_CLIENTS: usize = 16;
 
 /// How long a worker waits at the most, in ms, if nothing is due. What comes ends the wait.
 const LONGEST_WAIT: u64 = 10_000;
@@ -143,13 +146,13 @@ impl<M: Ledger, O: Ledger, K: Link, L: Dial<Link = K>> Worker<M, O, K, L> {
         }
     }
 
-    /// Takes clients that wait at the listeners of its dial, once all threads began.
-    fn take_clients<B: Opening, G: Gate, C: Clock, R: Wait>(
+    /// Takes clients that wait at the listeners of its dial, once all threads began and until the door is closed.
+    pub(crate) fn take_clients<B: Opening, G: Gate, C: Clock, R: Wait>(
         &mut self,
         rt: &R,
         context: &WorkerContext<'_, M, O, B, G, C>,
     ) {
-        if !context.alert.is_open() {
+        if !context.alert.is_open() || self.state.arrivals.is_abandoned() {
             return;
         }
         for _client in 0..TAKEN {

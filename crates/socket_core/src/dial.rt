@@ -2,6 +2,7 @@
 use crate::WAKE;
 use crate::addresses::socket_address;
 use crate::alarm::Alarm;
+use crate::clock::SystemClock;
 use crate::link::{DialProgress, SocketLink};
 use crate::listener_share::ListenerShare;
 use crate::listeners::listener_of;
@@ -18,11 +19,13 @@ use std::rt;
 use std::sync::Arc;
 use std::time::Duration;
 
-/// How many events a wait takes from the system at most.
-const MOST_EVENTS: usize = 256;
+/// How many events a wait takes from the system at most: more than a worker takes reports at a time, since some are of
+/// listeners.
+const MOST_EVENTS: usize = 320;
 
 /// The poll of a worker, and its connections that are under way. Each socket is registered once, for reading and for
-/// writing, under a token that has its key; the system reports only what changed. The listeners are registered too.
+/// writing, under a token that has its key; the system reports only what changed. The listeners are registered too, where
+/// the worker takes clients itself.
 #[derive(Drop)]
 pub struct SocketDial<'a, R: Net + Log + rt::Clock> {
     rt: &'a R,
@@ -35,7 +38,8 @@ pub struct SocketDial<'a, R: Net + Log + rt::Clock> {
     /// How many times the alarm was set off until the last wait.
     rings: u64,
     under_way: HashMap<usize, SocketLink>,
-    listeners: ListenerShare<'a, R>,
+    /// The clients that it takes itself, if it takes some.
+    share: Option<ListenerShare<'a, R, SystemClock<'a, R>>>,
 }
 
 /// The token of a socket of the connection of that key.
@@ -60,13 +64,13 @@ fn ready_of(event: &Event) -> Option<Ready> {
 }
 
 impl<'a, R: Net + Log + rt::Clock> SocketDial<'a, R> {
-    /// A dial with that poll, to which the alarm and the listeners are registered.
+    /// A dial with that poll, to which the alarm is registered, and the listeners where it has a share of them.
     pub fn new(
         rt: &'a R,
         alloc: Global,
         poll: Poll,
         alarm: Arc<Alarm, Global>,
-        listeners: ListenerShare<'a, R>,
+        share: Option<ListenerShare<'a, R, SystemClock<'a, R>>>,
     ) -> Result<SocketDial<'a, R>, AllocError> {
         Ok(SocketDial {
             rt,
@@ -76,14 +80,17 @@ impl<'a, R: Net + Log + rt::Clock> SocketDial<'a, R> {
             alarm,
             rings: 0,
             under_way: HashMap::new(alloc),
-            listeners,
+            share,
         })
     }
 
     /// Asks the system for what is ready, and waits for it for `limit` ms at the most, unless a client is known to wait or
     /// the alarm was set off since it was last asked.
     fn ask(&mut self, limit: u64) {
-        let limit = self.listeners.limit(limit);
+        let limit = match &mut self.share {
+            Some(share) => share.limit(limit),
+            None => limit,
+        };
         let rings = self.alarm.begin(limit > 0);
         let limit = if rings == self.rings { limit } else { 0 };
         self.rings = rings;
@@ -136,7 +143,7 @@ impl<'a, R: Net + Log + rt::Clock> Dial for SocketDial<'a, R> {
     }
 
     fn accept(&mut self) -> Option<(u16, Pair, SocketLink)> {
-        self.listeners.accept()
+        self.share.as_mut()?.accept()
     }
 
     fn watch(&mut self, key: usize, link: &mut SocketLink) -> bool {
@@ -154,7 +161,9 @@ impl<'a, R: Net + Log + rt::Clock> Dial for SocketDial<'a, R> {
         // The system reports a change once, so what finds no room now is kept for the next wait.
         for (place, event) in self.events.iter().enumerate().skip(from) {
             if let Some(listener) = listener_of(event.token()) {
-                self.listeners.note_ready(listener);
+                if let Some(share) = &mut self.share {
+                    share.note_ready(listener);
+                }
             } else if let Some(one) = ready_of(&event) {
                 if ready.push(one).is_err() {
                     self.handed_out = Some(place);

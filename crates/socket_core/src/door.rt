@@ -1,4 +1,5 @@
-//! The door: the commands of an operator, changes of servers, and questions for the state.
+//! The door: the commands of an operator, changes of servers, questions for the state, and clients that no worker takes
+//! itself.
 use crate::WAKE;
 use crate::alarm::Alarm;
 use crate::checker::Checker;
@@ -7,6 +8,8 @@ use crate::commands::{Command, CommandSender, MOST_COMMANDS};
 use crate::dials::SetupFault;
 use crate::door_plan::DoorPlan;
 use crate::link::SocketLink;
+use crate::listener_share::ListenerShare;
+use crate::listeners::{Listeners, listener_of};
 use crate::pace::Pace;
 use crate::status_line::{StatusAnswer, StatusAsker, StatusEnd, status_line};
 use conn_model::event::Health;
@@ -25,10 +28,14 @@ use std::time::Duration;
 /// How long the door waits at most, in ms. What comes ends the wait: only a record that does not go out is looked for.
 const LONGEST_WAIT: u64 = 1_000;
 
-/// How many events a wait takes from the system at most. Only the waker has some.
-const MOST_EVENTS: usize = 4;
+/// How many events a wait takes from the system at most. The waker has some, and the listeners where it takes clients.
+const MOST_EVENTS: usize = 64;
 
-/// Where all comes in that is no connection: those the workers take from the listeners themselves.
+/// How many clients the door hands out before it asks the system at which other listeners clients wait.
+const BETWEEN_LOOKS: u32 = 16;
+
+/// Where all comes in that is no connection, and the connections if the workers do not take them from the listeners
+/// themselves.
 #[derive(Drop)]
 pub struct SocketDoor<'a, R: Log, C: Clock> {
     rt: &'a R,
@@ -57,6 +64,9 @@ pub struct SocketDoor<'a, R: Log, C: Clock> {
     askers: Vec<StatusEnd>,
     /// The place of the asker whose question was handed out last, and the number of that question.
     asked: Option<(usize, u64)>,
+    /// The clients that it takes, if it takes some, and how many it handed out since it last asked the system for more.
+    share: Option<ListenerShare<'a, R, C>>,
+    handed_out: u32,
 }
 
 impl<'a, R: Log + Net, C: Clock> SocketDoor<'a, R, C> {
@@ -98,6 +108,8 @@ impl<'a, R: Log + Net, C: Clock> SocketDoor<'a, R, C> {
             version: 1,
             askers: Vec::new(alloc),
             asked: None,
+            share: None,
+            handed_out: 0,
         };
         door.checks.put_in_force(checked)?;
         Ok((door, sender, checker))
@@ -121,13 +133,29 @@ impl<'a, R: Log + Net, C: Clock> SocketDoor<'a, R, C> {
         }
     }
 
-    /// A change of a server or a question for the state, in this order.
-    fn next_report_or_question(&mut self) -> Option<DoorEvent<SocketLink>> {
+    /// Reports when a client comes to one of the listeners.
+    pub fn watch(&mut self, listeners: &mut Listeners) -> Result<(), SetupFault> {
+        listeners
+            .watch(self.poll.registry())
+            .map_err(SetupFault::System)
+    }
+
+    /// Hands out the clients of that share of the listeners, which it watches.
+    pub fn take_clients(&mut self, share: ListenerShare<'a, R, C>) {
+        self.share = Some(share);
+    }
+
+    /// A change of a server, a question for the state or a client, in this order.
+    fn next_other(&mut self) -> Option<DoorEvent<SocketLink>> {
         if let Some((backend, server, health)) = self.checks.next_report() {
             return Some(DoorEvent::Mark(backend, server, health));
         }
-        let asks = self.next_question()?;
-        Some(DoorEvent::Status(asks))
+        if let Some(asks) = self.next_question() {
+            return Some(DoorEvent::Status(asks));
+        }
+        let (listener, real, link) = self.share.as_mut()?.accept()?;
+        self.handed_out = self.handed_out.saturating_add(1);
+        Some(DoorEvent::Conn(listener, real, link))
     }
 
     /// What came, if anything did. Words come first.
@@ -141,7 +169,26 @@ impl<'a, R: Log + Net, C: Clock> SocketDoor<'a, R, C> {
                 self.is_closed = true;
                 Some(DoorEvent::Closed)
             }
-            None => self.next_report_or_question(),
+            None => self.next_other(),
+        }
+    }
+
+    /// Waits until something comes, for `limit` ms at the most, unless a client is known to wait.
+    fn wait(&mut self, limit: u64) {
+        self.handed_out = 0;
+        let limit = match &mut self.share {
+            Some(share) => share.limit(limit),
+            None => limit,
+        };
+        let limit = Duration::from_millis(limit);
+        let _waited = self.poll.poll(&mut self.events, Some(limit));
+        let Some(share) = &mut self.share else {
+            return;
+        };
+        for event in self.events.iter() {
+            if let Some(listener) = listener_of(event.token()) {
+                share.note_ready(listener);
+            }
         }
     }
 
@@ -259,11 +306,13 @@ impl<'a, R: Log + Net, C: Clock> Door for SocketDoor<'a, R, C> {
         if self.is_closed {
             return DoorEvent::Closed;
         }
+        if self.handed_out >= BETWEEN_LOOKS {
+            self.wait(0);
+        }
         if let Some(next_event) = self.next_event() {
             return next_event;
         }
-        let limit = Duration::from_millis(LONGEST_WAIT);
-        let _waited = self.poll.poll(&mut self.events, Some(limit));
+        self.wait(LONGEST_WAIT);
         self.next_event().unwrap_or(DoorEvent::Idle)
     }
 

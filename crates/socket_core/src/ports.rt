@@ -1,4 +1,4 @@
-//! The listeners of a crew, which all its workers take clients from.
+//! The listeners of a crew, which its workers take clients from, or the door.
 use crate::addresses::{endpoint_of, pair_of};
 use crate::alarm::Alarm;
 use crate::fd_budget::FdBudget;
@@ -63,6 +63,9 @@ impl Ports {
     /// Whether another worker has nothing to do, and fewer connections than the one of that number.
     pub fn has_better(&self, worker: usize) -> bool {
         let own = self.budget.permits_of(worker);
+        if own == 0 {
+            return false;
+        }
         for (other, alarm) in self.alarms.iter().enumerate() {
             if alarm.is_waiting() && self.budget.permits_of(other) < own {
                 return true;
