@@ -18,7 +18,9 @@ COSTS = ROOT / 'out' / 'costs.txt'
 PARTS = ('rt ci', 'tests/texts', 'tests/names', 'must-not-compile/run', 'tests/run', 'tests/pipe/run', 'tests/serve',
          'tests/health', 'tests/memory', 'tests/terminal', 'tests/hostile --random 1000')
 REFUSED = re.compile(r'rt: must-fail (\w+)/(\w+)\.edit: refused, as it must be: (.*)')
-CLAUSE = 'it is not proved that what the function ensures holds'
+# Where a reason is that a clause is not proved: the function by its place or by the folder of its answers, and the clause
+CLAUSE = re.compile(r'note: (src/\S+?:\d+):\d+: it is not proved that what the function ensures .*?\(`([^`]*)`\)'
+                    r'|\./proofs/(\S+)/Answers\.antt:\d+:\d+: error: `([^`]*)`')
 
 
 def processor_seconds():
@@ -29,7 +31,7 @@ def processor_seconds():
 
 def run_part(part, refused):
     """Runs a command that ends in 'N passed, M failed': how many passed and failed, and its status. The wrong bodies that it
-    tried are added to `refused`, by crate and reason."""
+    tried are added to `refused`, by crate and by what refused them."""
     last = ''
     with subprocess.Popen(part.split(), cwd=ROOT, stdout=subprocess.PIPE, text=True, errors='replace') as process:
         for line in process.stdout:
@@ -37,19 +39,27 @@ def run_part(part, refused):
             last = line.strip() or last
             if wrong := REFUSED.match(line):
                 crate, name, reason = wrong.groups()
-                refused[crate, reason].append(name)
+                refused[crate, refused_by(reason)].append(name)
     counted = re.match(r'(\d+) passed, (\d+) failed', last)
     passed, failed = map(int, counted.groups()) if counted else (0, 0)
     is_well = counted and process.returncode == 0 and failed == 0
     return passed, 0 if is_well else failed or 1, process.returncode
 
 
+def refused_by(reason):
+    """The function whose clause is not proved, and the clause if it has a name; or else the reason."""
+    if not (found := CLAUSE.search(reason)):
+        return reason, None
+    place, clause = [it for it in found.groups() if it is not None]
+    return place, clause.rpartition('clause-')[2] if 'clause-' in clause else ''
+
+
 def show_refused(refused):
     """Prints which wrong bodies one clause refuses together, and which are refused by no clause of a function."""
     print(f'{sum(map(len, refused.values()))} wrong bodies were tried, and {len(refused)} clauses refused them')
-    for (crate, reason), names in sorted(refused.items()):
-        if CLAUSE not in reason:
-            print(f'by no clause of a function: {crate}: {", ".join(names)}: {reason[:120]}')
+    for (crate, (place, clause)), names in sorted(refused.items(), key=str):
+        if clause is None:
+            print(f'by no clause of a function: {crate}: {", ".join(names)}: {place[:120]}')
         elif len(names) > 1:
             print(f'by one clause: {crate}: {", ".join(names)}')
 
