@@ -24,9 +24,17 @@ use conn_model::reply::StepFault;
 use record_core::Segment;
 use rtrb::Consumer;
 use std::alloc::Global;
+use std::hint::spin_loop;
 use std::marker::PhantomData;
 use std::sync::ledger::{Blank, Ledger, Share};
-use std::sync::{Mutex, Wait, ledger};
+use std::sync::{Mutex, MutexGuard, Wait, ledger};
+
+/// How often a thread asks for the lock before it sleeps until it is free, and how long it waits in between, in hints to the
+/// processor: for some tens of microseconds in all. What is done under the lock takes one or two, and to sleep and to be
+/// woken takes longer.
+const TRIES: u32 = 100;
+
+const HINTS: u32 = 10;
 
 /// The part of a desk that threads share: a book in a lock. Each call is one entry of the history of that book, or
 /// none.
@@ -40,6 +48,19 @@ impl<M: Ledger, O: Ledger, B: Opening> SharedDesk<M, O, B> {
     fn into_state(self) -> DeskState<M, O, B> {
         let SharedDesk { desk_state } = self;
         desk_state.into_inner()
+    }
+
+    /// What the lock guards, once it is free.
+    fn lock<R: Wait>(&self, rt: &R) -> MutexGuard<'_, DeskState<M, O, B>> {
+        for _try in 0..TRIES {
+            if let Some(guard) = self.desk_state.try_lock() {
+                return guard;
+            }
+            for _hint in 0..HINTS {
+                spin_loop();
+            }
+        }
+        self.desk_state.lock(rt)
     }
 
     /// A connection came to a listener, by its number; the pair is its peer and its local end. There is a lease where
@@ -57,9 +78,7 @@ impl<M: Ledger, O: Ledger, B: Opening> SharedDesk<M, O, B> {
         ensures fault { IfErr result (IsRefused B.opening moment (owned.Accept listener real.now)) }
         ensures err { OnErr result (pass.new ≡ pass.old) }
     {
-        self.desk_state
-            .lock(rt)
-            .accept(pass, moment, listener, real)
+        self.lock(rt).accept(pass, moment, listener, real)
     }
 
     /// Something is driven on the connection of the lease.
@@ -74,7 +93,7 @@ impl<M: Ledger, O: Ledger, B: Opening> SharedDesk<M, O, B> {
         requires piece { HasPieceInLimit (driven_event lease.id drive.now) }
         ensures { IsDriven B.opening pass.old pass.new moment (driven_event lease.id drive.now) lease.id result }
     {
-        self.desk_state.lock(rt).drive(pass, moment, lease, drive)
+        self.lock(rt).drive(pass, moment, lease, drive)
     }
 
     /// The connection of the lease ended. Without memory for the record the lease comes back.
@@ -91,7 +110,7 @@ impl<M: Ledger, O: Ledger, B: Opening> SharedDesk<M, O, B> {
         ensures fault { IfErr result (λ failed. IsRefused B.opening moment (owned.Close lease.id why) failed.0) }
         ensures err { IfErr result (λ failed. (pass.new ≡ pass.old) × (failed.1.id ≡ lease.id)) }
     {
-        self.desk_state.lock(rt).close(pass, moment, lease, why)
+        self.lock(rt).close(pass, moment, lease, why)
     }
 
     /// A new configuration is to come into force: its text. Connections that are open keep theirs.
@@ -107,7 +126,7 @@ impl<M: Ledger, O: Ledger, B: Opening> SharedDesk<M, O, B> {
         ensures fault { IfErr result (IsRefused B.opening moment (owned.Reload text.now)) }
         ensures err { OnErr result (pass.new ≡ pass.old) }
     {
-        self.desk_state.lock(rt).reload(pass, moment, text)
+        self.lock(rt).reload(pass, moment, text)
     }
 
     /// A server is reported down or up: the numbers of its backend in the newest configuration and of it in its backend.
@@ -126,9 +145,7 @@ impl<M: Ledger, O: Ledger, B: Opening> SharedDesk<M, O, B> {
         ensures fault { IfErr result (IsRefused B.opening moment (owned.Mark backend server health)) }
         ensures err { OnErr result (pass.new ≡ pass.old) }
     {
-        self.desk_state
-            .lock(rt)
-            .mark(pass, moment, backend, server, health)
+        self.lock(rt).mark(pass, moment, backend, server, health)
     }
 
     /// Hands the records that are in memory over as one segment. It takes no memory.
@@ -136,28 +153,28 @@ impl<M: Ledger, O: Ledger, B: Opening> SharedDesk<M, O, B> {
         ensures cut { OnOk result (IsCut B.opening) }
         ensures fault { IfErr result (IsNotCut B.opening) }
     {
-        self.desk_state.lock(rt).cut()
+        self.lock(rt).cut()
     }
 
     /// What is open of that which is asked for, if there is such a thing.
     pub fn ask<R: Wait>(&self, rt: &R, ask: &Ask) -> Option<Counts>
         ensures { IsCounted B.opening ask.now result }
     {
-        self.desk_state.lock(rt).counts(ask)
+        self.lock(rt).counts(ask)
     }
 
     /// How many entries of the stick table of that number in the newest version are in memory, if there is such a table.
     pub fn entries<R: Wait>(&self, rt: &R, number: u16) -> Option<u64>
         ensures { HasEntries B.opening number result }
     {
-        self.desk_state.lock(rt).entries(number)
+        self.lock(rt).entries(number)
     }
 
     /// How many versions are kept: the newest, and each that judges an open connection.
     pub fn versions<R: Wait>(&self, rt: &R) -> u64
         ensures { HasVersions B.opening result }
     {
-        self.desk_state.lock(rt).versions()
+        self.lock(rt).versions()
     }
 }
 
