@@ -1,9 +1,9 @@
 """The gate, which `.ci/run` starts: `rt ci` at the top of the repository, and then whole runs of the program that it built.
 
 It stops at the first part that fails. At its end it lists the wrong bodies that one clause refuses together, of which all
-except one may be too many, and those that something else than a clause of a function refuses. The wall time and the time of
-processors of each part, the most expensive first, are written to `out/costs.txt`. The last line is `N passed, M failed`, and
-the exit status is that of the part that failed.
+except one may be too many, and those that neither a clause of a function nor an invariant refuses. The wall time and the time
+of processors of each part, the most expensive first, are written to `out/costs.txt`. The last line is `N passed, M failed`,
+and the exit status is that of the part that failed.
 """
 import collections
 import pathlib
@@ -18,8 +18,9 @@ COSTS = ROOT / 'out' / 'costs.txt'
 PARTS = ('rt ci', 'tests/texts', 'tests/names', 'must-not-compile/run', 'tests/run', 'tests/pipe/run', 'tests/serve',
          'tests/health', 'tests/memory', 'tests/terminal', 'tests/hostile --random 1000')
 REFUSED = re.compile(r'rt: must-fail (\w+)/(\w+)\.edit: refused, as it must be: (.*)')
-# Where a reason is that a clause is not proved: the function by its place or by the folder of its answers, and the clause
+# Where a reason is that a clause or an invariant is not proved: the place, or the folder of the answers, and its name
 CLAUSE = re.compile(r'note: (src/\S+?:\d+):\d+: it is not proved that what the function ensures .*?\(`([^`]*)`\)'
+                    r'|note: (src/\S+?:\d+):\d+: .*?\(`(invariant[^`]*)`\)'
                     r'|\./proofs/(\S+)/Answers\.antt:\d+:\d+: error: `([^`]*)`')
 
 
@@ -47,7 +48,7 @@ def run_part(part, refused):
 
 
 def refused_by(reason):
-    """The function whose clause is not proved, and the clause if it has a name; or else the reason."""
+    """The place of the clause or invariant that is not proved, and the clause if it has a name; or else the reason."""
     if not (found := CLAUSE.search(reason)):
         return reason, None
     place, clause = [it for it in found.groups() if it is not None]
@@ -55,11 +56,11 @@ def refused_by(reason):
 
 
 def show_refused(refused):
-    """Prints which wrong bodies one clause refuses together, and which are refused by no clause of a function."""
+    """Prints which wrong bodies one clause refuses together, and which neither a clause nor an invariant refuses."""
     print(f'{sum(map(len, refused.values()))} wrong bodies were tried, and {len(refused)} clauses refused them')
     for (crate, (place, clause)), names in sorted(refused.items(), key=str):
         if clause is None:
-            print(f'by no clause of a function: {crate}: {", ".join(names)}: {place[:120]}')
+            print(f'by neither a clause nor an invariant: {crate}: {", ".join(names)}: {place[:120]}')
         elif len(names) > 1:
             print(f'by one clause: {crate}: {", ".join(names)}')
 
