@@ -17,10 +17,11 @@ ROOT = pathlib.Path(__file__).resolve().parent.parent
 COSTS = ROOT / 'out' / 'costs.txt'
 PARTS = ('rt ci', 'tests/texts', 'tests/names', 'must-not-compile/run', 'tests/run', 'tests/pipe/run', 'tests/serve',
          'tests/health', 'tests/memory', 'tests/terminal', 'tests/hostile --random 1000')
-REFUSED = re.compile(r'rt: must-fail (\w+)/(\w+)\.edit: refused, as it must be: (.*)')
-# Where a reason is that a clause or an invariant is not proved: the place, or the folder of the answers, and its name
-CLAUSE = re.compile(r'note: (src/\S+?:\d+):\d+: it is not proved that what the function ensures .*?\(`([^`]*)`\)'
-                    r'|note: (src/\S+?:\d+):\d+: .*?\(`(invariant[^`]*)`\)'
+REFUSED = re.compile(r'rt: must-fail (\w+)/(\w+)\.edit: refused, as it must be(?:: )?(.*)')
+# Where a reason is that a clause or an invariant is not proved: the place, or the folder of the answers, and its name. A long
+# reason is cut off
+CLAUSE = re.compile(r'note: (src/\S+?:\d+):\d+: it is not proved that what the function ensures .*?\(`([^`]*)'
+                    r'|note: (src/\S+?:\d+):\d+: .*?\(`((?:invariant|loop)[^`]*)'
                     r'|\./proofs/(\S+)/Answers\.antt:\d+:\d+: error: `([^`]*)`')
 
 
@@ -60,7 +61,7 @@ def show_refused(refused):
     print(f'{sum(map(len, refused.values()))} wrong bodies were tried, and {len(refused)} clauses refused them')
     for (crate, (place, clause)), names in sorted(refused.items(), key=str):
         if clause is None:
-            print(f'by neither a clause nor an invariant: {crate}: {", ".join(names)}: {place[:120]}')
+            print(f'by neither a clause nor an invariant: {crate}: {", ".join(names)}: {place[:120] or "no reason is printed"}')
         elif len(names) > 1:
             print(f'by one clause: {crate}: {", ".join(names)}')
 
