@@ -49,11 +49,13 @@ def run_part(part, refused):
 
 
 def refused_by(reason):
-    """The place of the clause or invariant that is not proved, and the clause if it has a name; or else the reason."""
+    """The place of what is not proved, and its name: none of a clause that has none. Or else the reason."""
     if not (found := CLAUSE.search(reason)):
         return reason, None
     place, clause = [it for it in found.groups() if it is not None]
-    return place, clause.rpartition('clause-')[2] if 'clause-' in clause else ''
+    if 'clause-' in clause:
+        return place, clause.rpartition('clause-')[2]
+    return place, '' if clause.startswith('returns') else re.sub(r'-\d+$', '', clause)
 
 
 def show_refused(refused):
