@@ -1,4 +1,4 @@
-//! Addresses, endpoints and pairs in fewer bytes, for what keeps many of them.
+//! Numbers, addresses, endpoints and pairs in fewer bytes, for what keeps many of them.
 ghost use Rattle.std.specs.Prelude.{◌≡◌, ◌/◌, ◌%◌, ◌^◌, true};
 ghost use Rattle.addr_core.specs.Family.{same_family};
 ghost use Rattle.addr_core.specs.Packed.{IsPacked, addr_of, joined};
@@ -7,13 +7,45 @@ use crate::addr::{Addr, Endpoint};
 use crate::pair::Pair;
 use std::marker::Model;
 
-/// An address in 24 bytes, where an `Addr` takes 32.
+/// A number of 64 bits as bytes, which need no alignment: no room is lost before it.
+#[derive(Debug, Drop)]
+pub struct PackedNumber {
+    /// The lowest comes first.
+    bytes: [u8; 8],
+}
+
+impl Model for PackedNumber {
+    ghost use Rattle.std.specs.Prelude.{ℕ};
+    ghost use Rattle.std.specs.Int.{from_le_bytes, w64};
+
+    ghost Value = { ℕ };
+
+    ghost view = { λ p. from_le_bytes w64 p.bytes };
+}
+
+impl PackedNumber {
+    pub fn of(number: u64) -> PackedNumber
+        ensures { result ≡ number }
+    {
+        PackedNumber {
+            bytes: number.to_le_bytes(),
+        }
+    }
+
+    pub fn number(&self) -> u64
+        ensures { result ≡ self.now }
+    {
+        u64::from_le_bytes(self.bytes)
+    }
+}
+
+/// An address in 17 bytes, where an `Addr` takes 32.
 #[derive(Debug, Drop)]
 pub struct PackedAddr {
     /// Of an address of IPv6 the upper 64 bits.
-    high: u64,
+    high: PackedNumber,
     /// Of an address of IPv6 the lower 64 bits, and of one of IPv4 its number.
-    low: u64,
+    low: PackedNumber,
     is_six: bool,
 }
 
@@ -33,23 +65,27 @@ impl PackedAddr {
         ensures { result ≡ addr.now }
     {
         let (high, low, is_six) = halves(addr);
-        PackedAddr { high, low, is_six }
+        PackedAddr {
+            high: PackedNumber::of(high),
+            low: PackedNumber::of(low),
+            is_six,
+        }
     }
 
     pub fn addr(&self) -> Addr
         ensures { result ≡ self.now }
     {
-        whole(self.high, self.low, self.is_six)
+        whole(self.high.number(), self.low.number(), self.is_six)
     }
 }
 
-/// An endpoint in 24 bytes, where an `Endpoint` takes 48.
+/// An endpoint in 20 bytes, where an `Endpoint` takes 48.
 #[derive(Debug, Drop)]
 pub struct PackedEndpoint {
     /// Of an address of IPv6 the upper 64 bits.
-    high: u64,
+    high: PackedNumber,
     /// Of an address of IPv6 the lower 64 bits, and of one of IPv4 its number.
-    low: u64,
+    low: PackedNumber,
     port: u16,
     is_six: bool,
 }
@@ -71,8 +107,8 @@ impl PackedEndpoint {
     {
         let (high, low, is_six) = halves(&endpoint.addr);
         PackedEndpoint {
-            high,
-            low,
+            high: PackedNumber::of(high),
+            low: PackedNumber::of(low),
             port: endpoint.port,
             is_six,
         }
@@ -82,13 +118,13 @@ impl PackedEndpoint {
         ensures { result ≡ self.now }
     {
         Endpoint {
-            addr: whole(self.high, self.low, self.is_six),
+            addr: whole(self.high.number(), self.low.number(), self.is_six),
             port: self.port,
         }
     }
 }
 
-/// The source and the destination of a connection in 48 bytes.
+/// The source and the destination of a connection in 40 bytes.
 #[derive(Debug, Drop)]
 pub struct PackedPair {
     source: PackedEndpoint,

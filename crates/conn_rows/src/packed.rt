@@ -5,7 +5,7 @@ use crate::row::ServerChoice;
 use addr_core::{PackedEndpoint, PackedPair};
 use std::marker::Model;
 
-/// The server that a connection was offered, in 80 bytes.
+/// The server that a connection was offered, in 68 bytes.
 #[derive(Debug, Drop)]
 pub(crate) struct PackedChoice {
     server: u16,

@@ -2,7 +2,7 @@
 #![tactic(auto)]
 
 pub use tables::Tables;
-pub use tracking::{Tracking, Trackings};
+pub use tracking::{PackedTracking, Tracking, Trackings};
 
 mod tables;
 mod tracking;

@@ -15,7 +15,7 @@ ghost use Rattle.conn_model.specs.Tables.{entry_counts, is_listed_by, new_table,
 ghost use Rattle.conn_tables.specs.Tables.{AreCounted, AreGrown, AreNextIds, IsGrown, IsStored, TablesDiffer, begun_table, cur_in, is_begun, is_id_listed, is_listed_in, is_table, key_at, plain_table, table_key};
 ghost use Rattle.conn_tables.specs.Tracks.{counter_on, plain_tracks, track_on, tracks_on};
 
-use crate::tracking::{Tracking, Trackings};
+use crate::tracking::{PackedTracking, Tracking, Trackings};
 use addr_core::Addr;
 use conn_model::ask::Counts;
 use conn_model::plain::{TableState, Version};
@@ -331,7 +331,7 @@ impl Tables {
     }
 
     /// Ends what a counter tracks, if it tracks something.
-    fn release_one(&mut self, tracking: Option<Tracking>)
+    fn release_one(&mut self, tracking: Option<PackedTracking>)
         requires { (id : TableId) (key : Addr) → counter_on id key tracking ≤ cur_in id key self.old.tables }
         ensures counts { (id : TableId) (key : Addr) → cur_in id key self.new.tables + counter_on id key tracking ≡ cur_in id key self.old.tables }
         ensures plain { (counter : ℕ) →
@@ -342,7 +342,7 @@ impl Tables {
         let Some(tracking) = tracking else {
             return;
         };
-        let Tracking { table, token } = tracking;
+        let Tracking { table, token } = tracking.into_tracking();
         match place_of(self.tables.as_slice(), table) {
             Some(place) => self.tables[place].entries.release(token, self.clock),
             None => unreachable!(),

@@ -4,10 +4,12 @@ ghost use Rattle.proxy_types.specs.declared.limits.TheConstants.{COUNTERS};
 ghost use Rattle.rule_engine.specs.Meaning.{present};
 ghost use Rattle.conn_tables.specs.Tracks.{at_counter, no_trackings, on_counter, plain_tracks, slots_of, track_by, track_on};
 
+use addr_core::PackedNumber;
 use list_core::Seq;
 use plan_types::{TableId, Track};
 use rule_engine::Tracks;
 use std::alloc::{AllocError, Global};
+use std::marker::Model;
 use std::mem;
 use stick_core::TrackToken;
 
@@ -17,14 +19,62 @@ pub struct Tracking {
     pub token: TrackToken,
 }
 
-impl Tracking {
+/// A tracking in 28 bytes, where a `Tracking` takes 40, for what keeps many of them.
+pub struct PackedTracking {
+    version: PackedNumber,
+    position: u16,
+    token: TrackToken,
+}
+
+impl Model for PackedTracking {
+    ghost use Rattle.conn_tables.specs.declared.tracking.Tracking.{Tracking};
+
+    ghost Value = { Tracking };
+
+    ghost view = { λ p. record { table = record { version = p.version; position = p.position }; token = p.token } };
+}
+
+impl PackedTracking {
+    fn of(tracking: Tracking) -> PackedTracking
+        ensures { result ≡ tracking }
+    {
+        let Tracking { table, token } = tracking;
+        PackedTracking {
+            version: PackedNumber::of(table.version),
+            position: table.position,
+            token,
+        }
+    }
+
+    /// The tracking, as its table takes it back.
+    pub fn into_tracking(self) -> Tracking
+        ensures { result ≡ self }
+    {
+        let table = self.table();
+        let PackedTracking {
+            version: _version,
+            position: _,
+            token,
+        } = self;
+        Tracking { table, token }
+    }
+
+    fn table(&self) -> TableId
+        ensures { result ≡ self.now.table }
+    {
+        TableId {
+            version: self.version.number(),
+            position: self.position,
+        }
+    }
+
     /// The same as plain data, by a counter.
     fn track(&self, counter: u8) -> Track
         ensures { result ≡ track_by counter self.now }
     {
         Track {
             counter,
-            table: self.table,
+            table: self.table(),
             key: self.token.key(),
         }
     }
@@ -32,9 +82,9 @@ impl Tracking {
 
 /// What a connection tracks, by counter.
 pub struct Trackings {
-    pub sc0: Option<Tracking>,
-    pub sc1: Option<Tracking>,
-    pub sc2: Option<Tracking>,
+    pub sc0: Option<PackedTracking>,
+    pub sc1: Option<PackedTracking>,
+    pub sc2: Option<PackedTracking>,
 }
 
 impl Trackings {
@@ -67,12 +117,13 @@ impl Trackings {
         requires free { on_counter counter self.old ≡ None }
         ensures { self.new ≡ at_counter counter tracking self.old }
     {
+        let packed = PackedTracking::of(tracking);
         if counter == 0 {
-            fill(&mut self.sc0, tracking);
+            fill(&mut self.sc0, packed);
         } else if counter == 1 {
-            fill(&mut self.sc1, tracking);
+            fill(&mut self.sc1, packed);
         } else {
-            fill(&mut self.sc2, tracking);
+            fill(&mut self.sc2, packed);
         }
     }
 
@@ -89,7 +140,7 @@ impl Trackings {
 }
 
 /// What a counter tracks.
-fn track_on(counter: u8, tracking: &Option<Tracking>) -> Option<Track>
+fn track_on(counter: u8, tracking: &Option<PackedTracking>) -> Option<Track>
     ensures { result ≡ option_map (track_by counter) tracking.now }
 {
     match tracking {
@@ -98,7 +149,7 @@ fn track_on(counter: u8, tracking: &Option<Tracking>) -> Option<Track>
     }
 }
 
-fn fill(place: &mut Option<Tracking>, tracking: Tracking)
+fn fill(place: &mut Option<PackedTracking>, tracking: PackedTracking)
     requires { place.old ≡ None }
     ensures { place.new ≡ Some tracking }
 {
@@ -112,7 +163,7 @@ fn fill(place: &mut Option<Tracking>, tracking: Tracking)
 fn push_track(
     tracks: &mut Seq<Track>,
     counter: u8,
-    tracking: &Option<Tracking>,
+    tracking: &Option<PackedTracking>,
 ) -> Result<(), AllocError>
     ensures { OnOk result (tracks.new ≡ tracks.old ++ track_on counter tracking.now) }
 {

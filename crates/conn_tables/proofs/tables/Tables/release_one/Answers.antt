@@ -11,35 +11,35 @@ use Rattle.conn_tables.proofs.tables.Tables.release_one.Goals as goal
 pub place_of-requires : goal.place_of-requires
 place_of-requires c = subst TablesDiffer (sym c.as_slice.ensures.value) c.self.invariant.differ
 
-found : (c : goal.After-release-arg-1) → Found c.in-Some.tracking.table c.self.inside.tables.items c.in-Some-place_of.place c.index_mut.result.now
+found : (c : goal.After-release-arg-1) → Found c.into_tracking-token.result.table c.self.inside.tables.items c.in-Some-place_of.place c.index_mut.result.now
 found c =
-    found_table c.in-Some.tracking.table c.self.inside.tables.items c.in-Some-place_of.place c.index_mut.result.now
-    (ap (λ xs. position (is_table c.in-Some.tracking.table) xs) (sym c.as_slice.ensures.value) ∙ sym c.place_of.ensures ∙ c.in-Some-place_of.is) c.index_mut.ensures.value
+    found_table c.into_tracking-token.result.table c.self.inside.tables.items c.in-Some-place_of.place c.index_mut.result.now
+    (ap (λ xs. position (is_table c.into_tracking-token.result.table) xs) (sym c.as_slice.ensures.value) ∙ sym c.place_of.ensures ∙ c.in-Some-place_of.is) c.index_mut.ensures.value
 
-found_then : (c : goal.After-self-1) → Found c.in-Some.tracking.table c.self.inside.tables.items c.in-Some-place_of.place c.index_mut.result.now
+found_then : (c : goal.After-self-1) → Found c.into_tracking-token.result.table c.self.inside.tables.items c.in-Some-place_of.place c.index_mut.result.now
 found_then c =
-    found_table c.in-Some.tracking.table c.self.inside.tables.items c.in-Some-place_of.place c.index_mut.result.now
-    (ap (λ xs. position (is_table c.in-Some.tracking.table) xs) (sym c.as_slice.ensures.value) ∙ sym c.place_of.ensures ∙ c.in-Some-place_of.is) c.index_mut.ensures.value
+    found_table c.into_tracking-token.result.table c.self.inside.tables.items c.in-Some-place_of.place c.index_mut.result.now
+    (ap (λ xs. position (is_table c.into_tracking-token.result.table) xs) (sym c.as_slice.ensures.value) ∙ sym c.place_of.ensures ∙ c.in-Some-place_of.is) c.index_mut.ensures.value
 
 pub release-requires : goal.release-requires
 release-requires c =
-    let one : 1 ≤ cur_in c.in-Some.tracking.table c.in-Some.tracking.token c.args.self.now.tables =
-    rw (c.in-Some.is, on_itself c.in-Some.tracking) at (c.requires c.in-Some.tracking.table c.in-Some.tracking.token) in
-    let same = ap (λ t. cur_in c.in-Some.tracking.table c.in-Some.tracking.token t.tables) c.self.view_is in
-    let was = cur_found c.in-Some.tracking.table c.in-Some.tracking.token c.self.inside.tables.items c.index_mut.result.now (found c).found in
+    let one : 1 ≤ cur_in c.into_tracking-token.result.table c.into_tracking-token.result.token c.args.self.now.tables =
+    rw (c.in-Some.is, ← c.into_tracking-token.ensures, on_itself c.into_tracking-token.result) at (c.requires c.into_tracking-token.result.table c.into_tracking-token.result.token) in
+    let same = ap (λ t. cur_in c.into_tracking-token.result.table c.into_tracking-token.result.token t.tables) c.self.view_is in
+    let was = cur_found c.into_tracking-token.result.table c.into_tracking-token.result.token c.self.inside.tables.items c.index_mut.result.now (found c).found in
     let stored : IsStored c.self.inside.clock c.self.inside.spare c.index_mut.result.now =
     all-at (IsStored c.self.inside.clock c.self.inside.spare) c.self.inside.tables.items c.in-Some-place_of.place c.index_mut.result.now c.self.invariant.each (found c).there in
     record { clock = stored.past; tracked = omega (arith, one, same, was) }
 
 pub unreachable-requires : goal.unreachable-requires
 unreachable-requires c =
-    let none : find (is_table c.in-Some.tracking.table) c.self.inside.tables.items ≡ None =
-    nowhere (is_table c.in-Some.tracking.table) c.self.inside.tables.items
-    (ap (λ xs. position (is_table c.in-Some.tracking.table) xs) (sym c.as_slice.ensures.value) ∙ sym c.place_of.ensures ∙ c.in-None.is) in
-    let one : 1 ≤ cur_in c.in-Some.tracking.table c.in-Some.tracking.token c.args.self.now.tables =
-    rw (c.in-Some.is, on_itself c.in-Some.tracking) at (c.requires c.in-Some.tracking.table c.in-Some.tracking.token) in
-    let same = ap (λ t. cur_in c.in-Some.tracking.table c.in-Some.tracking.token t.tables) c.self.view_is in
-    let zero = cur_nowhere c.in-Some.tracking.table c.in-Some.tracking.token c.self.inside.tables.items none in
+    let none : find (is_table c.into_tracking-token.result.table) c.self.inside.tables.items ≡ None =
+    nowhere (is_table c.into_tracking-token.result.table) c.self.inside.tables.items
+    (ap (λ xs. position (is_table c.into_tracking-token.result.table) xs) (sym c.as_slice.ensures.value) ∙ sym c.place_of.ensures ∙ c.in-None.is) in
+    let one : 1 ≤ cur_in c.into_tracking-token.result.table c.into_tracking-token.result.token c.args.self.now.tables =
+    rw (c.in-Some.is, ← c.into_tracking-token.ensures, on_itself c.into_tracking-token.result) at (c.requires c.into_tracking-token.result.table c.into_tracking-token.result.token) in
+    let same = ap (λ t. cur_in c.into_tracking-token.result.table c.into_tracking-token.result.token t.tables) c.self.view_is in
+    let zero = cur_nowhere c.into_tracking-token.result.table c.into_tracking-token.result.token c.self.inside.tables.items none in
     omega (arith, one, same, zero)
 
 pub invariant_of-self : goal.invariant_of-self
@@ -64,14 +64,14 @@ pub returns-clause-counts : goal.returns-clause-counts
 returns-clause-counts c =
     let stored = c.index_mut.result.now in
     let next : StoredTable = record { id = stored.id; table = stored.table; entries = c.release.new.self } in
-    rw (c.in-Some.is, ← c.self.view_is)
-    (counts_left c.in-Some.tracking c.self.inside.tables.items c.in-Some-place_of.place stored next (found_then c) refl c.release.ensures.counts)
+    rw (c.in-Some.is, ← c.into_tracking-token.ensures, ← c.self.view_is)
+    (counts_left c.into_tracking-token.result c.self.inside.tables.items c.in-Some-place_of.place stored next (found_then c) refl c.release.ensures.counts)
 
 pub returns-clause-plain : goal.returns-clause-plain
 returns-clause-plain c =
     let stored = c.index_mut.result.now in
     let next : StoredTable = record { id = stored.id; table = stored.table; entries = c.release.new.self } in
-    rw (c.in-Some.is, ← c.self.view_is)
-    (λ counter. plain_left c.self.inside.clock (record { counter = counter; table = c.in-Some.tracking.table; key = c.in-Some.tracking.token }) c.self.inside.tables.items c.in-Some-place_of.place stored next
+    rw (c.in-Some.is, ← c.into_tracking-token.ensures, ← c.self.view_is)
+    (λ counter. plain_left c.self.inside.clock (record { counter = counter; table = c.into_tracking-token.result.table; key = c.into_tracking-token.result.token }) c.self.inside.tables.items c.in-Some-place_of.place stored next
     c.self.invariant.differ (found_then c).there (found_then c).is refl refl
     (ap plain (shown_same c.self.inside.clock c.release.new.self c.release.ensures.shown (ap (λ t. t.clock) c.release.ensures.value)) ∙ c.release.ensures.plain_entries))
