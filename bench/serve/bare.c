@@ -30,7 +30,7 @@ struct frontend {
 struct side {
     struct conn *conn;
     int socket;
-    char reads, is_closed, is_over;
+    char reads, is_closed, is_over, sends;
 };
 
 struct conn {
@@ -92,6 +92,8 @@ static int pump(struct worker *worker, struct side *from, struct side *to) {
             from->is_over = 1;
             return to->is_over || shutdown(to->socket, SHUT_WR) == 0;
         }
+        if (to->sends < 2 && ++to->sends == 2)
+            set_nodelay(to->socket);
         if (send(to->socket, worker->buffer, count, MSG_NOSIGNAL) != count)
             return 0;
         from->reads = count == READ || from->is_closed;
@@ -122,11 +124,9 @@ static void begin(struct worker *worker, int client, int port) {
     ioctl(server, FIONBIO, &on);
     conn->client = (struct side){.conn = conn, .socket = client, .reads = 1};
     conn->server = (struct side){.conn = conn, .socket = server};
-    set_nodelay(client);
     watch(worker->poll, client, &conn->client, events);
     if (connect(server, (struct sockaddr *)&to, sizeof to) < 0 && errno != EINPROGRESS)
         return end(worker, conn);
-    set_nodelay(server);
     watch(worker->poll, server, &conn->server, events);
     serve(worker, conn);
 }

@@ -14,6 +14,19 @@ use std::net::Shutdown;
 #[derive(Drop)]
 pub struct Socket {
     stream: TcpStream,
+    sending: Sending,
+}
+
+/// How far a socket has come with sending. A small message waits for the answer to the one before it (RFC 896), unless
+/// the socket is told not to. The first message has none before it, so a short connection need not be told.
+#[derive(Clone, Copy, Debug, PartialEq, Eq)]
+enum Sending {
+    /// Nothing was sent.
+    First,
+    /// Something was sent.
+    Second,
+    /// No message waits for another, where the system does that.
+    AtOnce,
 }
 
 impl Read for Socket {
@@ -24,6 +37,14 @@ impl Read for Socket {
 
 impl Write for Socket {
     fn write(&mut self, buf: &[u8]) -> io::Result<usize> {
+        self.sending = match self.sending {
+            Sending::First => Sending::Second,
+            Sending::Second => {
+                let _is_set = self.stream.set_nodelay(true);
+                Sending::AtOnce
+            }
+            Sending::AtOnce => Sending::AtOnce,
+        };
         self.stream.write(buf)
     }
 
@@ -43,9 +64,12 @@ pub struct SocketLink {
 impl SocketLink {
     /// The link of a stream. Small messages are sent without delay, where the system does that.
     pub fn of(stream: TcpStream) -> SocketLink {
-        let _is_set = stream.set_nodelay(true);
+        let socket = Socket {
+            stream,
+            sending: Sending::First,
+        };
         SocketLink {
-            device: StdDevice::of(Socket { stream }),
+            device: StdDevice::of(socket),
             permit: None,
         }
     }
