@@ -18,7 +18,7 @@ pub struct Socket {
 }
 
 /// How far a socket has come with sending. A small message waits for the answer to the one before it (RFC 896), unless
-/// the socket is told not to. The first message has none before it, so a short connection need not be told.
+/// `TCP_NODELAY` is set. The first message has none before it, so a short connection does without.
 #[derive(Clone, Copy, Debug, PartialEq, Eq)]
 enum Sending {
     /// Nothing was sent.
