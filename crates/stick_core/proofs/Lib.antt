@@ -6,5 +6,3 @@ pub mod LivingLemmas
 pub mod KeptLemmas
 pub mod RingLemmas
 pub mod PlaceLemmas
-pub mod ChainLemmas
-pub mod IndexLemmas

@@ -1,7 +1,5 @@
-pub mod Chains
-pub mod Entries
-pub mod Index
 pub mod Key
+pub mod Entries
 pub mod Links
 pub mod Listing
 pub mod Places
