@@ -6,3 +6,5 @@ pub mod LivingLemmas
 pub mod KeptLemmas
 pub mod RingLemmas
 pub mod PlaceLemmas
+pub mod ChainLemmas
+pub mod IndexLemmas

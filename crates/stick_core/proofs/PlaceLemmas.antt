@@ -1,33 +1,25 @@
 -- Entries by their places, and the orders of places.
-use Rattle.std.proofs.Common.{◌≡◌, ◌≢◌, ◌<◌, ◌+◌, ◌-◌, ◌⊎◌, ℕ, zero, suc, Bool, true, false, not, cond, eqb, ltb, List, [], ◌∷◌, ◌++◌, length, map, get_or, set, take, Option, Some, None, inl, inr, refl, sym, ap, subst, ◌∙◌, arith, length-append}
-use Rattle.std.specs.Prelude.{filter, find, option_map, option_to_list, position, slice_get, IfSome}
-use Rattle.std.specs.List.{IsDistinct, list_any, swap_remove}
+use Rattle.std.proofs.Common.{◌≡◌, ◌≢◌, ◌<◌, ◌+◌, ◌⊎◌, ℕ, zero, suc, Bool, true, false, not, cond, eqb, List, [], ◌∷◌, ◌++◌, length, map, get_or, set, take, Some, None, inl, inr, refl, sym, ap, subst, ◌∙◌, arith, length-append}
+use Rattle.std.specs.Prelude.{filter, find, option_map, option_to_list, slice_get}
+use Rattle.std.specs.List.{list_any}
 use Rattle.std.specs.Option.{is_some}
-use Rattle.std.specs.Map.{keys_of, lookup}
-use Rattle.std.proofs.lemmas.List.{get_or-map, append-nil, get_or_append_left}
+use Rattle.std.proofs.lemmas.List.{append-nil, get_or_append_left}
 use Rattle.std.proofs.lemmas.List.Elements.{filter-append}
-use Rattle.std.proofs.lemmas.List.Quantifiers.{position-Some}
 use Rattle.std.proofs.lemmas.Option.{slice_get-get_or}
-use Rattle.std.proofs.lemmas.Map.Keys.{apart_from_distinct}
-use Rattle.std.proofs.lemmas.Bool.Decides.{nat_tests}
 use Rattle.addr_core.specs.declared.addr.Addr.{Addr}
-use Rattle.addr_core.specs.declared.addr.Addr.TheVariants.{V4, V6}
-use Rattle.addr_core.specs.Same.{same_addr}
-use Rattle.addr_core.specs.contracts.addr.AddrPartialEq.TheImpl.{eq-value}
-use Rattle.addr_core.proofs.SameLemmas.{same_addr-is, same_addr-sym}
-use Rattle.indexmap.specs.IndexMap.{set_value_at, insert_entry}
-use Rattle.indexmap.proofs.MapLemmas.{absent_from_lookup, insert_entry-absent, some_index}
-use Rattle.indexmap.specs.Layout.{length-set_value_at}
+use Rattle.addr_core.proofs.SameLemmas.{same_addr-is}
 use Rattle.stick_core.specs.declared.entries.StickEntry.{StickEntry}
-use Rattle.stick_core.specs.declared.touch_list.Counts.{Counts}
+use Rattle.stick_core.specs.declared.index.Counts.{Counts}
 use Rattle.stick_core.specs.Entries.{is_of, is_free, is_gone, living, others, touched, without_first_free}
-use Rattle.stick_core.specs.Places.{entry_at, entry_of_pair, free_at, nothing, ranked, IsKept}
-use Rattle.stick_core.specs.Ring.{Ranking, Has, Lacks, Distinct, Below, without, first_of, next_of}
+use Rattle.stick_core.specs.Index.{key_at, nothing, with_counts, IsNoPlaceOf, IsPlaceOf}
+use Rattle.stick_core.specs.Places.{entry_at, entry_of_pair, free_at, ranked, IsKept}
+use Rattle.stick_core.specs.Ring.{Ranking, Has, Lacks, Distinct, Below, without, next_of}
 use Rattle.stick_core.specs.PlainEntries.{plain}
-use Rattle.stick_core.proofs.EntryLemmas.{is_some-position}
+use Rattle.stick_core.proofs.ChainLemmas.{get-set, get-set-apart}
+use Rattle.stick_core.proofs.IndexLemmas.{length-put}
 use Rattle.stick_core.proofs.PlainLemmas.{plain-append}
 use Rattle.stick_core.proofs.TouchLemmas.{gone-here, gone-past, key-found}
-use Rattle.stick_core.proofs.RingLemmas.{eqb-self, eqb-is, eqb-apart, eqb-differ, lacks-itself, without-lacks, length-without, below-lacks, below-push, below-more, below-without, has-before, has-below, has-moved, has-push, once-push, once-without}
+use Rattle.stick_core.proofs.RingLemmas.{has-at, next-at, eqb-self, eqb-is, eqb-apart, eqb-differ, lacks-itself, without-lacks, length-without, below-lacks, below-push, below-more, below-without, has-before, has-below, has-moved, has-push, once-push, once-without}
 
 -- by what places are told apart
 abbrev pub IsAt : (ℕ → Bool) → ℕ → ℕ → Type 0
@@ -112,82 +104,12 @@ map-push f (x ∷ xs) p = ap (λ l. f x ∷ l) (map-push f xs p)
 
 -- Places by the keys of an index.
 
--- an equality of keys that is theirs
-abbrev pub IsKeyEq : (Addr → Addr → Bool) → Type 0
-IsKeyEq eq = (a b : Addr) → eq a b ≡ same_addr b a
+pub found-entry : (es : List (Addr × Counts)) (touched free : Ranking) (key : Addr) (p : ℕ) → IsKept es touched free → IsPlaceOf key es p → find (is_of key) (ranked es touched.order) ≡ Some (entry_at es p)
+found-entry es touched free key p kept its =
+    find-map (entry_at es) key (length es) p its.each touched.order kept.below (kept.each p its.within) (λ x e. eqb-is x p e) (λ x e. eqb-differ x p e)
 
-key-at : (es : List (Addr × Counts)) (q : ℕ) → q < length es → get_or (keys_of es) q (V4 0) ≡ (entry_at es q).key
-key-at es q less = get_or-map (λ e. e.0) es q nothing (V4 0) less
-
-length-keys : (es : List (Addr × Counts)) → length (keys_of es) ≡ length es
-length-keys [] = refl
-length-keys (e ∷ es) = ap suc (length-keys es)
-
-pub is_at : (eq : Addr → Addr → Bool) → IsKeyEq eq → (es : List (Addr × Counts)) (key : Addr) (p : ℕ) → IsDistinct eq (keys_of es) → position (eq key) (keys_of es) ≡ Some p
-    → (p < length es) × IsAt (λ q. is_of key (entry_at es q)) (length es) p × (is_of key (entry_at es p) ≡ true)
-is_at eq tied es key p once found = (within, at, own)
-  where
-    place : (p < length (keys_of es)) × (eq key (get_or (keys_of es) p (V4 0)) ≡ true) × ((k : ℕ) → k < p → eq key (get_or (keys_of es) k (V4 0)) ≡ false)
-    place = position-Some (eq key) (keys_of es) p (V4 0) found
-
-    within : p < length es
-    within = omega (arith, place.0, length-keys es)
-
-    own : is_of key (entry_at es p) ≡ true
-    own = ap (λ k. same_addr k key) (sym (key-at es p within)) ∙ sym (tied key (get_or (keys_of es) p (V4 0))) ∙ place.1
-
-    its : (entry_at es p).key ≡ key
-    its = same_addr-is (entry_at es p).key key own
-
-    differ : (i j : ℕ) → i < j → j < length es → same_addr (entry_at es j).key (entry_at es i).key ≡ false
-    differ i j less in_es =
-        let i_in : i < length es = omega (arith, less, in_es) in
-        let j_in : j < length (keys_of es) = omega (arith, in_es, length-keys es) in
-        ap (λ k. same_addr k (entry_at es i).key) (sym (key-at es j in_es)) ∙ ap (λ k. same_addr (get_or (keys_of es) j (V4 0)) k) (sym (key-at es i i_in))
-        ∙ sym (tied (get_or (keys_of es) i (V4 0)) (get_or (keys_of es) j (V4 0))) ∙ apart_from_distinct eq (keys_of es) i j (V4 0) once less j_in
-
-    at : (q : ℕ) → q < length es → is_of key (entry_at es q) ≡ eqb q p
-    at q less = by (eqb q p) refl
-      where
-        by : (t : Bool) → eqb q p ≡ t → is_of key (entry_at es q) ≡ eqb q p
-        by true is = ap (λ k. is_of key (entry_at es k)) (eqb-is q p is) ∙ own ∙ sym is
-        by false is = ap (λ k. same_addr (entry_at es q).key k) (sym its) ∙ side (ltb q p) refl ∙ sym is
-          where
-            side : (u : Bool) → ltb q p ≡ u → same_addr (entry_at es q).key (entry_at es p).key ≡ false
-            side true lt = same_addr-sym (entry_at es p).key (entry_at es q).key (differ q p (grind (arith, nat_tests)) within)
-            side false ge = let apart : q ≢ p = eqb-differ q p is in differ p q (grind (arith, nat_tests)) less
-
-pub found-entry : (eq : Addr → Addr → Bool) → IsKeyEq eq → (es : List (Addr × Counts)) (touched free : Ranking) (key : Addr) (p : ℕ) → IsKept es touched free
-    → IsDistinct eq (keys_of es) → position (eq key) (keys_of es) ≡ Some p → find (is_of key) (ranked es touched.order) ≡ Some (entry_at es p)
-found-entry eq tied es touched free key p kept once found =
-    let at : (p < length es) × IsAt (λ q. is_of key (entry_at es q)) (length es) p × (is_of key (entry_at es p) ≡ true) = is_at eq tied es key p once found in
-    find-map (entry_at es) key (length es) p at.1 touched.order kept.below (kept.each p at.0) (λ x e. eqb-is x p e) (λ x e. eqb-differ x p e)
-
-any-none : {X : Type 0} (p : X → Bool) (xs : List X) (k : ℕ) (d : X) → list_any p xs ≡ false → k < length xs → p (get_or xs k d) ≡ false
-any-none p [] k d none less = absurd (omega (arith, less))
-any-none {X} p (x ∷ xs) k d none less = by (p x) refl none (λ j rest in_xs. any-none p xs j d rest in_xs)
-  where
-    by : (t : Bool) → p x ≡ t → list_any p (x ∷ xs) ≡ false → ((j : ℕ) → list_any p xs ≡ false → j < length xs → p (get_or xs j d) ≡ false) → p (get_or (x ∷ xs) k d) ≡ false
-    by true is none more = absurd (let wrong : true ≡ false = rw is at none in cc)
-    by false is none more = at k less
-      where
-        at : (j : ℕ) → j < length (x ∷ xs) → p (get_or (x ∷ xs) j d) ≡ false
-        at zero less = is
-        at (suc j) less = more j (rw is at none) (omega (arith, less))
-
-pub missing-entry : (eq : Addr → Addr → Bool) → IsKeyEq eq → (es : List (Addr × Counts)) (touched free : Ranking) (key : Addr) → IsKept es touched free
-    → position (eq key) (keys_of es) ≡ None → find (is_of key) (ranked es touched.order) ≡ None
-missing-entry eq tied es touched free key kept missing =
-    let none : list_any (eq key) (keys_of es) ≡ false = sym (is_some-position (eq key) (keys_of es)) ∙ ap (λ o. is_some o) missing in
-    find-none (entry_at es) key (length es)
-    (λ q less. ap (λ k. same_addr k key) (sym (key-at es q less)) ∙ sym (tied key (get_or (keys_of es) q (V4 0))) ∙ any-none (eq key) (keys_of es) q (V4 0) none (omega (arith, less, length-keys es)))
-    touched.order kept.below
-
-pub tied : IsKeyEq eq-value.it
-tied (V4 a) (V4 b) = grind (arith, nat_tests)
-tied (V4 a) (V6 b) = refl
-tied (V6 a) (V4 b) = refl
-tied (V6 a) (V6 b) = grind (arith, nat_tests)
+pub missing-entry : (es : List (Addr × Counts)) (touched free : Ranking) (key : Addr) → IsKept es touched free → IsNoPlaceOf key es → find (is_of key) (ranked es touched.order) ≡ None
+missing-entry es touched free key kept none = find-none (entry_at es) key (length es) none touched.order kept.below
 
 -- what is not found has no place
 none-has : (f : ℕ → StickEntry) (key : Addr) (xs : List ℕ) (q : ℕ) → find (is_of key) (map f xs) ≡ None → Has q xs → is_of key (f q) ≡ false
@@ -199,31 +121,8 @@ none-has f key (x ∷ xs) q none has = by (is_of key (f x)) refl none has (none-
     by false is none (inl here) more = ap (λ k. is_of key (f k)) here ∙ is
     by false is none (inr there) more = more (rw is at none) there
 
-no-place : (es : List (Addr × Counts)) (touched free : Ranking) (key : Addr) → IsKept es touched free
-    → find (is_of key) (ranked es touched.order) ≡ None → position (eq-value.it key) (keys_of es) ≡ None
-no-place es touched free key kept none = by (position (eq-value.it key) (keys_of es)) refl
-  where
-    by : (o : Option ℕ) → position (eq-value.it key) (keys_of es) ≡ o → o ≡ None
-    by None is = refl
-    by (Some p) is =
-        let place : (p < length (keys_of es)) × (eq-value.it key (get_or (keys_of es) p (V4 0)) ≡ true) × ((k : ℕ) → k < p → eq-value.it key (get_or (keys_of es) k (V4 0)) ≡ false) =
-        position-Some (eq-value.it key) (keys_of es) p (V4 0) is in
-        let within : p < length es = omega (arith, place.0, length-keys es) in
-        let own : is_of key (entry_at es p) ≡ true =
-        ap (λ k. same_addr k key) (sym (key-at es p within)) ∙ sym (tied key (get_or (keys_of es) p (V4 0))) ∙ place.1 in
-        absurd (let wrong : true ≡ false = sym own ∙ none-has (entry_at es) key touched.order p none (kept.each p within) in cc)
-
--- a key that is not found goes last into the index
-pub inserted : (es : List (Addr × Counts)) (touched free : Ranking) (key : Addr) (counts : Counts) → IsKept es touched free
-    → find (is_of key) (ranked es touched.order) ≡ None → insert_entry eq-value.it es key counts ≡ es ++ (key, counts) ∷ []
-inserted es touched free key counts kept none =
-    let no_index : position (eq-value.it key) (keys_of es) ≡ None = no-place es touched free key kept none in
-    let gone : is_some (lookup (eq-value.it key) es) ≡ false = sym (some_index (eq-value.it key) es) ∙ ap (λ o. is_some o) no_index in
-    insert_entry-absent eq-value.it key counts es (absent_from_lookup (eq-value.it key) es (no-value (lookup (eq-value.it key) es) gone))
-  where
-    no-value : (o : Option Counts) → is_some o ≡ false → o ≡ None
-    no-value None is = refl
-    no-value (Some counts) is = absurd (cc)
+pub no-place : (es : List (Addr × Counts)) (touched free : Ranking) (key : Addr) → IsKept es touched free → find (is_of key) (ranked es touched.order) ≡ None → IsNoPlaceOf key es
+no-place es touched free key kept none = λ q less. none-has (entry_at es) key touched.order q none (kept.each q less)
 
 -- more room changes nothing else
 pub kept-same : (es es' : List (Addr × Counts)) (t t' f f' : Ranking) → IsKept es t f → es' ≡ es → t' ≡ record t { spare = t'.spare } → f' ≡ record f { spare = f'.spare }
@@ -242,27 +141,16 @@ kept-same es es' t t' f f' kept same to fo =
     }
 
 -- Writes at a place.
-pub at-set : (es : List (Addr × Counts)) (p : ℕ) (counts : Counts) → p < length es → get_or (set_value_at es p counts) p nothing ≡ ((get_or es p nothing).0, counts)
-at-set [] p counts less = absurd (omega (arith, less))
-at-set (e ∷ es) zero counts less = refl
-at-set (e ∷ es) (suc p) counts less = at-set es p counts (omega (arith, less))
-
-pub at-set-apart : (es : List (Addr × Counts)) (p : ℕ) (counts : Counts) (q : ℕ) → q ≢ p → get_or (set_value_at es p counts) q nothing ≡ get_or es q nothing
-at-set-apart [] p counts q apart = refl
-at-set-apart (e ∷ es) zero counts zero apart = absurd (apart refl)
-at-set-apart (e ∷ es) zero counts (suc q) apart = refl
-at-set-apart (e ∷ es) (suc p) counts zero apart = refl
-at-set-apart (e ∷ es) (suc p) counts (suc q) apart = at-set-apart es p counts q (λ is. apart (ap suc is))
 
 length-map : (f : ℕ → StickEntry) (xs : List ℕ) → length (map f xs) ≡ length xs
 length-map f [] = refl
 length-map f (x ∷ xs) = ap suc (length-map f xs)
 
-pub set-entry : (es : List (Addr × Counts)) (p : ℕ) (counts : Counts) (e : StickEntry) → p < length es → e.key ≡ (entry_at es p).key → counts.cur ≡ e.cur → counts.cnt ≡ e.cnt → counts.last_touch ≡ e.last_touch → entry_at (set_value_at es p counts) p ≡ e
-set-entry es p counts e less key cur cnt last = ap entry_of_pair (at-set es p counts less) ∙ rw (← key, cur, cnt, last) refl
+pub set-entry : (es : List (Addr × Counts)) (p : ℕ) (counts : Counts) (e : StickEntry) → p < length es → e.key ≡ (entry_at es p).key → counts.cur ≡ e.cur → counts.cnt ≡ e.cnt → counts.last_touch ≡ e.last_touch → entry_at (with_counts es p counts) p ≡ e
+set-entry es p counts e less key cur cnt last = ap entry_of_pair (get-set es p (key_at es p, counts) nothing less) ∙ rw (← key, cur, cnt, last) refl
 
-pub set-entry-apart : (es : List (Addr × Counts)) (p : ℕ) (counts : Counts) (q : ℕ) → q ≢ p → entry_at (set_value_at es p counts) q ≡ entry_at es q
-set-entry-apart es p counts q apart = ap entry_of_pair (at-set-apart es p counts q apart)
+pub set-entry-apart : (es : List (Addr × Counts)) (p : ℕ) (counts : Counts) (q : ℕ) → q ≢ p → entry_at (with_counts es p counts) q ≡ entry_at es q
+set-entry-apart es p counts q apart = ap entry_of_pair (get-set-apart es p (key_at es p, counts) nothing q apart)
 
 -- the free places once a place is moved to the end
 pub free-moved : (es es' : List (Addr × Counts)) (p : ℕ) (xs : List ℕ) → ((q : ℕ) → q ≢ p → entry_at es' q ≡ entry_at es q)
@@ -318,25 +206,24 @@ pub record IsPut (es es' : List (Addr × Counts)) (t t' f f' : Ranking) (key : A
   pub len : length (ranked es' t'.order) ≡ length (ranked es t.order)
 
 pub put : (es es' : List (Addr × Counts)) (t t' f f' : Ranking) (key : Addr) (e : StickEntry) (counts : Counts) (p : ℕ) → IsKept es t f
-    → IsDistinct eq-value.it (keys_of es) → position (eq-value.it key) (keys_of es) ≡ Some p → e.key ≡ key
-    → counts.cur ≡ e.cur → counts.cnt ≡ e.cnt → counts.last_touch ≡ e.last_touch → es' ≡ set_value_at es p counts
+    → IsPlaceOf key es p → e.key ≡ key
+    → counts.cur ≡ e.cur → counts.cnt ≡ e.cnt → counts.last_touch ≡ e.last_touch → es' ≡ with_counts es p counts
     → t' ≡ record t { order = without p t.order ++ p ∷ [] }
     → f' ≡ record f { order = without p f.order ++ cond (is_free e) (p ∷ []) [] }
     → IsPut es es' t t' f f' key e
-put es es' t t' f f' key e counts p kept once found own cur cnt last written moved freed =
-    let at : (p < length es) × IsAt (λ q. is_of key (entry_at es q)) (length es) p × (is_of key (entry_at es p) ≡ true) = is_at eq-value.it tied es key p once found in
-    let its_key : e.key ≡ (entry_at es p).key = own ∙ sym (same_addr-is (entry_at es p).key key at.2) in
-    let here : entry_at es' p ≡ e = ap (λ l. entry_at l p) written ∙ set-entry es p counts e at.0 its_key cur cnt last in
+put es es' t t' f f' key e counts p kept its own cur cnt last written moved freed =
+    let its_key : e.key ≡ (entry_at es p).key = own ∙ sym (same_addr-is (entry_at es p).key key (its.each p its.within ∙ eqb-self p)) in
+    let here : entry_at es' p ≡ e = ap (λ l. entry_at l p) written ∙ set-entry es p counts e its.within its_key cur cnt last in
     let apart : (q : ℕ) → q ≢ p → entry_at es' q ≡ entry_at es q = λ q differ. ap (λ l. entry_at l q) written ∙ set-entry-apart es p counts q differ in
-    let len : length es' ≡ length es = ap length written ∙ length-set_value_at es p counts in
+    let len : length es' ≡ length es = ap length written ∙ length-put es p (key_at es p, counts) in
     let is_kept : IsKept es' t' f' =
-    kept-moved es es' p t t' f f' kept at.0 len apart moved (ap (λ r. r.places) freed)
+    kept-moved es es' p t t' f f' kept its.within len apart moved (ap (λ r. r.places) freed)
     (ap (λ r. r.order) freed ∙ ap (λ x. without p f.order ++ cond (is_free x) (p ∷ []) []) (sym here)) in
     record {
       kept = is_kept;
       entries =
           ap (λ r. ranked es' r.order) moved ∙ ranked-moved es es' p t.order apart
-          ∙ ap (λ l. l ++ entry_at es' p ∷ []) (sym (others-map (entry_at es) key (length es) p at.1 t.order kept.below))
+          ∙ ap (λ l. l ++ entry_at es' p ∷ []) (sym (others-map (entry_at es) key (length es) p its.each t.order kept.below))
           ∙ ap (λ x. others key (ranked es t.order) ++ x ∷ []) here;
       len = length-kept es' t' f' is_kept ∙ len ∙ sym (length-kept es t f kept);
     }
@@ -348,15 +235,15 @@ pub record IsChanged (change : StickEntry → StickEntry) (es es' : List (Addr �
   pub len : length (ranked es' t'.order) ≡ length (ranked es t.order)
 
 pub change-put : (change : StickEntry → StickEntry) → ((e : StickEntry) → (change e).key ≡ e.key) → (es es' : List (Addr × Counts)) (t t' f f' : Ranking) (key : Addr) (e : StickEntry) (p : ℕ)
-    → IsKept es t f → IsDistinct eq-value.it (keys_of es) → position (eq-value.it key) (keys_of es) ≡ Some p → e ≡ change (entry_at es p)
-    → es' ≡ set_value_at es p (record { cur = e.cur; cnt = e.cnt; last_touch = e.last_touch })
+    → IsKept es t f → IsPlaceOf key es p → e ≡ change (entry_at es p)
+    → es' ≡ with_counts es p (record { cur = e.cur; cnt = e.cnt; last_touch = e.last_touch })
     → t' ≡ record t { order = without p t.order ++ p ∷ [] }
     → f' ≡ record f { order = without p f.order ++ cond (is_free e) (p ∷ []) [] }
     → IsChanged change es es' t t' f' key
-change-put change keeps es es' t t' f f' key e p kept once found is written moved freed =
-    let there : find (is_of key) (ranked es t.order) ≡ Some (entry_at es p) = found-entry eq-value.it tied es t f key p kept once found in
+change-put change keeps es es' t t' f f' key e p kept its is written moved freed =
+    let there : find (is_of key) (ranked es t.order) ≡ Some (entry_at es p) = found-entry es t f key p kept its in
     let own : e.key ≡ key = ap (λ x. x.key) is ∙ keeps (entry_at es p) ∙ key-found key (ranked es t.order) (entry_at es p) there in
-    let all : IsPut es es' t t' f f' key e = put es es' t t' f f' key e (record { cur = e.cur; cnt = e.cnt; last_touch = e.last_touch }) p kept once found own refl refl refl written moved freed in
+    let all : IsPut es es' t t' f f' key e = put es es' t t' f f' key e (record { cur = e.cur; cnt = e.cnt; last_touch = e.last_touch }) p kept its own refl refl refl written moved freed in
     record {
       kept = all.kept;
       entries =
@@ -491,58 +378,6 @@ gone-first es (x ∷ xs) p once first = by (free_at es x) refl first (gone-first
         let apart : eqb x p ≡ false = eqb-apart x p (λ same. let wrong : true ≡ false = sym passes ∙ ap (free_at es) (sym same) ∙ is in absurd (cc)) in
         gone-past is_free (entry_at es x) (ranked es xs) is ∙ ap (λ l. entry_at es x ∷ l) (more (simp is at first)) ∙ rw apart refl
 
-set-push : {X : Type 0} (xs : List X) (x : X) (p : ℕ) → p < length xs → set (xs ++ x ∷ []) p x ≡ set xs p x ++ x ∷ []
-set-push [] x p less = absurd (omega (arith, less))
-set-push (y ∷ ys) x zero less = refl
-set-push (y ∷ ys) x (suc p) less = ap (λ l. y ∷ l) (set-push ys x p (omega (arith, less)))
-
-take-push : {X : Type 0} (xs : List X) (x : X) → take (length xs) (xs ++ x ∷ []) ≡ xs
-take-push [] x = refl
-take-push (y ∷ ys) x = ap (λ l. y ∷ l) (take-push ys x)
-
-last-push : {X : Type 0} (xs : List X) (x d : X) → get_or (xs ++ x ∷ []) (length xs) d ≡ x
-last-push [] x d = refl
-last-push (y ∷ ys) x d = last-push ys x d
-
-length-set-same : {X : Type 0} (xs : List X) (x : X) (p : ℕ) → length (set xs p x) ≡ length xs
-length-set-same [] x p = refl
-length-set-same (y ∷ ys) x zero = refl
-length-set-same (y ∷ ys) x (suc p) = ap suc (length-set-same ys x p)
-
--- the last one takes the place
-swapped : {X : Type 0} (xs : List X) (x d : X) (p : ℕ) → p < length xs → swap_remove (xs ++ x ∷ []) p d ≡ set xs p x
-swapped xs x d p less =
-    let count : length (xs ++ x ∷ []) - 1 ≡ length xs = omega (arith, length-append xs (x ∷ [])) in
-    let same : length (set xs p x) ≡ length xs = length-set-same xs x p in
-    ap (λ n. take n (set (xs ++ x ∷ []) p (get_or (xs ++ x ∷ []) n d))) count
-    ∙ ap (λ y. take (length xs) (set (xs ++ x ∷ []) p y)) (last-push xs x d)
-    ∙ ap (take (length xs)) (set-push xs x p less)
-    ∙ ap (λ n. take n (set xs p x ++ x ∷ [])) (sym same)
-    ∙ take-push (set xs p x) x
-
--- what the index has after its last entry took the place of one
-pub taken-over : (es mid new : List (Addr × Counts)) (x : Addr × Counts) (p : ℕ) (result : Option (Addr × Counts)) → p < length es → mid ≡ es ++ x ∷ []
-    → result ≡ slice_get mid p → IfSome result (λ d. new ≡ swap_remove mid p d) → new ≡ set es p x
-taken-over es mid new x p result less pushed answer left = by result answer left
-  where
-    by : (o : Option (Addr × Counts)) → o ≡ slice_get mid p → IfSome o (λ d. new ≡ swap_remove mid p d) → new ≡ set es p x
-    by None is left =
-        let within : p < length mid = omega (arith, less, ap length pushed ∙ length-append es (x ∷ [])) in
-        absurd (let wrong : None ≡ Some (get_or mid p x) = is ∙ slice_get-get_or mid p x within in cc)
-    by (Some d) is left = left ∙ ap (λ l. swap_remove l p d) pushed ∙ swapped es x d p less
-
-at-replaced : (es : List (Addr × Counts)) (p : ℕ) (x : Addr × Counts) → p < length es → get_or (set es p x) p nothing ≡ x
-at-replaced [] p x less = absurd (omega (arith, less))
-at-replaced (e ∷ es) zero x less = refl
-at-replaced (e ∷ es) (suc p) x less = at-replaced es p x (omega (arith, less))
-
-at-replaced-apart : (es : List (Addr × Counts)) (p : ℕ) (x : Addr × Counts) (q : ℕ) → q ≢ p → get_or (set es p x) q nothing ≡ get_or es q nothing
-at-replaced-apart [] p x q apart = refl
-at-replaced-apart (e ∷ es) zero x zero apart = absurd (apart refl)
-at-replaced-apart (e ∷ es) zero x (suc q) apart = refl
-at-replaced-apart (e ∷ es) (suc p) x zero apart = refl
-at-replaced-apart (e ∷ es) (suc p) x (suc q) apart = at-replaced-apart es p x q (λ is. apart (ap suc is))
-
 has-first : (f : ℕ → Bool) (xs : List ℕ) (p : ℕ) → slice_get (filter f xs) 0 ≡ Some p → Has p (filter f xs)
 has-first f xs p first = by (filter f xs) first
   where
@@ -579,9 +414,9 @@ pub replace : (es es' : List (Addr × Counts)) (t t' f f' : Ranking) (x : Addr �
     → IsReplaced es es' t t' f' (entry_of_pair x)
 replace es es' t t' f f' x p kept busy first written moved freed =
     let less : p < length es = free-below es t f p kept first in
-    let here : entry_at es' p ≡ entry_of_pair x = ap (λ l. entry_at l p) written ∙ ap entry_of_pair (at-replaced es p x less) in
-    let apart : (q : ℕ) → q ≢ p → entry_at es' q ≡ entry_at es q = λ q differ. ap (λ l. entry_at l q) written ∙ ap entry_of_pair (at-replaced-apart es p x q differ) in
-    let len : length es' ≡ length es = ap length written ∙ length-set-same es x p in
+    let here : entry_at es' p ≡ entry_of_pair x = ap (λ l. entry_at l p) written ∙ ap entry_of_pair (get-set es p x nothing less) in
+    let apart : (q : ℕ) → q ≢ p → entry_at es' q ≡ entry_at es q = λ q differ. ap (λ l. entry_at l q) written ∙ ap entry_of_pair (get-set-apart es p x nothing q differ) in
+    let len : length es' ≡ length es = ap length written ∙ length-put es p x in
     let not_free : free_at es' p ≡ false = ap is_free here ∙ busy in
     let is_kept : IsKept es' t' f' =
     kept-moved es es' p t t' f f' kept less len apart moved (ap (λ r. r.places) freed)
@@ -595,31 +430,6 @@ replace es es' t t' f f' x p kept busy first written moved freed =
     }
 
 -- A walk along the order.
-
-lacks-has : (x : ℕ) (xs : List ℕ) → Lacks x xs → Has x xs → ⊥
-lacks-has x [] lacks has = has
-lacks-has x (y ∷ ys) lacks (inl is) = lacks.0 is
-lacks-has x (y ∷ ys) lacks (inr more) = lacks-has x ys lacks.1 more
-
-pub has-at : (xs : List ℕ) (n p : ℕ) → slice_get xs n ≡ Some p → Has p xs
-has-at [] n p at = absurd (cc)
-has-at (x ∷ xs) zero p at = inl (let found : Some x ≡ Some p = at in cc)
-has-at (x ∷ xs) (suc n) p at = inr (has-at xs n p at)
-
-first-is : (xs : List ℕ) → first_of xs ≡ slice_get xs 0
-first-is [] = refl
-first-is (x ∷ xs) = refl
-
-next-at : (xs : List ℕ) (n p : ℕ) → Distinct xs → slice_get xs n ≡ Some p → next_of p xs ≡ slice_get xs (suc n)
-next-at [] n p once at = absurd (cc)
-next-at (x ∷ xs) zero p once at =
-    let found : Some x ≡ Some p = at in
-    let same : x ≡ p = cc in
-    let here : eqb x p ≡ true = ap (eqb x) (sym same) ∙ eqb-self x in
-    rw here (first-is xs)
-next-at (x ∷ xs) (suc n) p once at =
-    let apart : eqb x p ≡ false = eqb-apart x p (λ same. lacks-has x xs once.0 (subst (λ y. Has y xs) (sym same) (has-at xs n p at))) in
-    rw apart (next-at xs n p once.1 at)
 
 take-at : (xs : List ℕ) (n p : ℕ) → slice_get xs n ≡ Some p → take (suc n) xs ≡ take n xs ++ p ∷ []
 take-at [] n p at = absurd (cc)

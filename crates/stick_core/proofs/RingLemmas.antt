@@ -1,5 +1,6 @@
 -- Taking a place out of a ring, putting one at its end, and walking it.
 use Rattle.std.proofs.Common.{◌≡◌, ◌≢◌, ◌<◌, ◌≤◌, ◌+◌, ◌⊎◌, ℕ, zero, suc, Bool, true, false, cond, eqb, List, [], ◌∷◌, ◌++◌, length, Some, None, inl, inr, refl, sym, ap, subst, ◌∙◌, arith}
+use Rattle.std.specs.Prelude.{slice_get}
 use Rattle.std.specs.List.{IsDistinct, AllByRecursion, list_any}
 use Rattle.std.proofs.lemmas.Map.Steps.{length-le_from_distinct_below}
 use Rattle.std.proofs.lemmas.Bool.Decides.{nat_tests}
@@ -168,7 +169,7 @@ below-without n p (x ∷ xs) below = by (eqb x p) refl (below-without n p xs bel
     by true is more = rw is more
     by false is more = rw is (below.0, more)
 
-lacks-push : (q p : ℕ) (xs : List ℕ) → Lacks q xs → q ≢ p → Lacks q (xs ++ p ∷ [])
+pub lacks-push : (q p : ℕ) (xs : List ℕ) → Lacks q xs → q ≢ p → Lacks q (xs ++ p ∷ [])
 lacks-push q p [] lacks differ = (differ, tt)
 lacks-push q p (x ∷ xs) lacks differ = (lacks.0, lacks-push q p xs lacks.1 differ)
 
@@ -389,3 +390,58 @@ has-moved q p xs has = by (eqb q p) refl
     by : (t : Bool) → eqb q p ≡ t → Has q (without p xs ++ p ∷ [])
     by true is = let P : ℕ → Type 0 = λ y. Has y (without p xs ++ p ∷ []) in subst P (sym (eqb-is q p is)) (has-push p (without p xs))
     by false is = has-before q p (without p xs) (has-without q p xs (eqb-differ q p is) has)
+
+-- what a list with one place more lacks
+pub lacks-split : (q p : ℕ) (xs : List ℕ) → Lacks q (xs ++ p ∷ []) → (q ≢ p) × Lacks q xs
+lacks-split q p [] lacks = (lacks.0, tt)
+lacks-split q p (x ∷ xs) lacks = let rest : (q ≢ p) × Lacks q xs = lacks-split q p xs lacks.1 in (rest.0, (lacks.0, rest.1))
+
+-- A place that is not in a ring is next to none of it.
+
+pub not_its_before : (a b : ℕ → ℕ) (n e p q : ℕ) (xs : List ℕ) → IsRing a b n e xs → Has p xs → q ≢ e → Lacks q xs → q ≢ b p
+not_its_before a b n e p q xs ring has apart lacks = not_before a b e xs e p q ring.chain has apart lacks
+
+pub not_its_after : (a b : ℕ → ℕ) (n e p q : ℕ) (xs : List ℕ) → IsRing a b n e xs → Has p xs → q ≢ e → Lacks q xs → q ≢ a p
+not_its_after a b n e p q xs ring has apart lacks = not_after a b e xs e p q ring.chain has apart lacks
+
+pub not_its_end : (a b : ℕ → ℕ) (n e q : ℕ) (xs : List ℕ) → IsRing a b n e xs → q ≢ e → Lacks q xs → q ≢ b e
+not_its_end a b n e q xs ring apart lacks = not_last a b e xs e q ring.chain apart lacks
+
+agree-all : (f g : ℕ → ℕ) (xs : List ℕ) → ((q : ℕ) → Has q xs → g q ≡ f q) → Agree f g xs
+agree-all f g [] same = tt
+agree-all f g (x ∷ xs) same = (same x (inl refl), agree-all f g xs (λ q has. same q (inr has)))
+
+-- links that agree on a ring and at its end
+pub ring-apart : (a b a' b' : ℕ → ℕ) (n e : ℕ) (xs : List ℕ) → IsRing a b n e xs → ((q : ℕ) → Has q xs → a' q ≡ a q) → ((q : ℕ) → Has q xs → b' q ≡ b q) → a' e ≡ a e → b' e ≡ b e → IsRing a' b' n e xs
+ring-apart a b a' b' n e xs ring sa sb ea eb = record {
+  chain = frame a b a' b' e xs e ring.chain ea (agree-all a a' xs sa) (agree-all b b' xs sb) eb;
+  once = ring.once;
+  below = ring.below;
+}
+
+-- Places of a list by their number.
+
+lacks-has : (x : ℕ) (xs : List ℕ) → Lacks x xs → Has x xs → ⊥
+lacks-has x [] lacks has = has
+lacks-has x (y ∷ ys) lacks (inl is) = lacks.0 is
+lacks-has x (y ∷ ys) lacks (inr more) = lacks-has x ys lacks.1 more
+
+pub has-at : (xs : List ℕ) (n p : ℕ) → slice_get xs n ≡ Some p → Has p xs
+has-at [] n p at = absurd (cc)
+has-at (x ∷ xs) zero p at = inl (let found : Some x ≡ Some p = at in cc)
+has-at (x ∷ xs) (suc n) p at = inr (has-at xs n p at)
+
+pub first-is : (xs : List ℕ) → first_of xs ≡ slice_get xs 0
+first-is [] = refl
+first-is (x ∷ xs) = refl
+
+pub next-at : (xs : List ℕ) (n p : ℕ) → Distinct xs → slice_get xs n ≡ Some p → next_of p xs ≡ slice_get xs (suc n)
+next-at [] n p once at = absurd (cc)
+next-at (x ∷ xs) zero p once at =
+    let found : Some x ≡ Some p = at in
+    let same : x ≡ p = cc in
+    let here : eqb x p ≡ true = ap (eqb x) (sym same) ∙ eqb-self x in
+    rw here (first-is xs)
+next-at (x ∷ xs) (suc n) p once at =
+    let apart : eqb x p ≡ false = eqb-apart x p (λ same. lacks-has x xs once.0 (subst (λ y. Has y xs) (sym same) (has-at xs n p at))) in
+    rw apart (next-at xs n p once.1 at)

@@ -1,5 +1,7 @@
-pub mod Key
+pub mod Chains
 pub mod Entries
+pub mod Index
+pub mod Key
 pub mod Links
 pub mod Listing
 pub mod Places

@@ -1,9 +1,9 @@
 -- Entries by their places in an index, and the order in which the places were touched.
 use Rattle.std.specs.Prelude.{◌≡◌, ◌<◌, ℕ, Bool, List, map, length, get_or, filter}
 use Rattle.addr_core.specs.declared.addr.Addr.{Addr}
-use Rattle.addr_core.specs.declared.addr.Addr.TheVariants.{V4}
 use Rattle.stick_core.specs.declared.entries.StickEntry.{StickEntry}
-use Rattle.stick_core.specs.declared.touch_list.Counts.{Counts}
+use Rattle.stick_core.specs.declared.index.Counts.{Counts}
+use Rattle.stick_core.specs.Index.{nothing}
 use Rattle.stick_core.specs.Entries.{is_free}
 use Rattle.stick_core.specs.Ring.{Ranking, Has, Distinct, Below}
 
@@ -16,9 +16,6 @@ pub record Touches : Type 0 where
 
 abbrev pub entry_of_pair : Addr × Counts → StickEntry
 entry_of_pair pair = record { key = pair.0; cur = pair.1.cur; cnt = pair.1.cnt; last_touch = pair.1.last_touch }
-
-abbrev pub nothing : Addr × Counts
-nothing = (V4 0, record { cur = 0; cnt = 0; last_touch = 0 })
 
 -- of a key that is tracked for the first time
 abbrev pub first_counts : ℕ → Counts

@@ -7,7 +7,9 @@ pub use key::key_of;
 pub use proxy_types::{KeyType, Stores};
 pub use table::{KeyCounts, StickTable, TrackToken};
 
+mod chains;
 mod entries;
+mod index;
 mod key;
 mod links;
 mod order;

@@ -1,6 +1,6 @@
 //! The links of a ring of places.
 ghost use Rattle.std.specs.Prelude.{◌≡◌, ◌≢◌, ◌<◌, ◌≤◌, ◌++◌, ◌∷◌, [], ℕ, length};
-ghost use Rattle.stick_core.specs.Links.{link_at, after_of, before_of, IsPlace, IsLinked, end, ordered};
+ghost use Rattle.stick_core.specs.Links.{link_at, after_of, before_of, IsPlace, IsLinked, KeepsOthers, end, ordered};
 ghost use Rattle.stick_core.specs.Ring.{Has, Lacks, without};
 
 /// The places before and after a place. They have 32 bits, since there are two links for each entry of a table.
@@ -59,6 +59,7 @@ pub(crate) fn unlink(links: &mut [Link], ends: &mut Link, place: u32)
     requires has { Has place (ordered ends.old links.old) }
     ensures linked { IsLinked ends.new links.new }
     ensures order { ordered ends.new links.new ≡ without place (ordered ends.old links.old) }
+    ensures others { KeepsOthers ends.old links.old ends.new links.new }
     ensures len { length links.new ≡ length links.old }
 {
     let link = link_at_place(links, ends, place);
@@ -74,6 +75,7 @@ pub(crate) fn link_last(links: &mut [Link], ends: &mut Link, place: u32)
     requires lacks { Lacks place (ordered ends.old links.old) }
     ensures linked { IsLinked ends.new links.new }
     ensures order { ordered ends.new links.new ≡ ordered ends.old links.old ++ place ∷ [] }
+    ensures others { KeepsOthers ends.old links.old ends.new links.new }
     ensures len { length links.new ≡ length links.old }
 {
     let last = ends.before;

@@ -15,9 +15,8 @@ use proxy_types::{KeyType, Stores};
 use std::alloc::{AllocError, Global};
 use std::marker::Model;
 
-/// From so many entries on a table has room for three times as many as it may have. Room that grows step by step moves all
-/// entries in some of its steps. To move this many takes some ms. An index that is at most a third full hardly ever has to
-/// be made again, however many keys come in place of others.
+/// From so many entries on a table has room for as many as it may have. Room that grows step by step moves all entries in
+/// some of its steps. To move this many takes some ms.
 const MANY: usize = 65_536;
 
 /// One tracking of a key. It is spent by `release` on the table that gave it.
@@ -242,19 +241,15 @@ impl StickTable {
     }
 
     /// Makes room so that the next so many trackings do not lack memory. It may have made some also where it lacks
-    /// memory for all. A table with 65,536 entries makes room for three times as many as it may have, where there is memory
-    /// for so much.
+    /// memory for all. A table with 65,536 entries makes room for as many as it may have, where there is memory for so many.
     pub fn reserve(&mut self, more: usize) -> Result<(), AllocError>
         ensures room { OnOk result (more ≤ self.new.spare) }
         ensures same { self.new ≡ record self.old { spare = self.new.spare } }
         ensures spare { self.old.spare ≤ self.new.spare }
     {
         if self.touched.len() >= MANY {
-            let thrice = self
-                .left()
-                .saturating_add(self.whole().saturating_mul(2))
-                .saturating_add(more);
-            let _refused = self.touched.reserve(thrice);
+            let all = self.left().saturating_add(more);
+            let _refused = self.touched.reserve(all);
         }
         self.touched.reserve(more)
     }
@@ -322,7 +317,7 @@ impl StickTable {
         if !self.touched.raise(&key, self.expire, self.clock) {
             if has_place(&self.touched, self.size, self.expire, self.clock) {
                 self.touched.add(key, self.clock)?;
-            } else if !self.touched.replace_first_free(key, self.clock)? {
+            } else if !self.touched.replace_first_free(key, self.clock) {
                 return Ok(None);
             }
         }

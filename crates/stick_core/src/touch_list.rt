@@ -1,27 +1,19 @@
 //! Entries found by their keys, in the order of their last touch.
 ghost use Rattle.std.specs.Prelude.{◌≡◌, ◌+◌, ◌-◌, ◌^◌, ◌<◌, ◌≤◌, ◌++◌, ◌∷◌, [], true, false, cond, find, length, IfOk, OnOk, OnErr, IsOk, None};
 ghost use Rattle.std.specs.List.{list_any};
-ghost use Rattle.indexmap.specs.IndexMap.{index_map_len, with_value_at};
 ghost use Rattle.stick_core.specs.Entries.{is_of, is_free, is_listed, cur_of, added, entry_with, living, released, touched, without_first_free};
+ghost use Rattle.stick_core.specs.Index.{with_counts};
 ghost use Rattle.stick_core.specs.Places.{entry_at, first_counts, IsKept};
 ghost use Rattle.stick_core.specs.PlainEntries.{plain};
 ghost use Rattle.stick_core.specs.Ring.{Has, Lacks, Distinct, without};
 
 use crate::entries::{PlainEntry, StickEntry};
+use crate::index::{AddrIndex, Counts};
 use crate::order::Order;
 use addr_core::Addr;
-use indexmap::IndexMap;
 use list_core::Seq;
 use std::alloc::{AllocError, Global};
 use std::marker::Model;
-
-/// What is counted of a key.
-#[derive(Clone, Copy, Debug, PartialEq, Eq)]
-pub(crate) struct Counts {
-    pub(crate) cur: u64,
-    pub(crate) cnt: u64,
-    pub(crate) last_touch: u64,
-}
 
 fn counts_of(entry: StickEntry) -> Counts
     ensures cur { result.cur ≡ entry.cur }
@@ -47,28 +39,16 @@ fn first_counts(moment: u64) -> Counts
 }
 
 /// The entry at a place.
-fn entry_at_place(index: &IndexMap<Addr, Counts>, place: usize) -> StickEntry
-    requires { place < index_map_len index.now }
+fn entry_at_place(index: &AddrIndex, place: usize) -> StickEntry
+    requires { place < length index.now.entries }
     ensures { result ≡ entry_at index.now.entries place }
 {
-    match index.get_index(place) {
-        Some((key, counts)) => StickEntry {
-            key: *key,
-            cur: counts.cur,
-            cnt: counts.cnt,
-            last_touch: counts.last_touch,
-        },
-        None => unreachable!(),
-    }
-}
-
-/// Puts other counts at a place.
-fn set_counts(index: &mut IndexMap<Addr, Counts>, place: usize, counts: Counts)
-    requires { place < index_map_len index.old }
-    ensures { index.new ≡ with_value_at index.old place counts }
-{
-    if let Some(held) = index.get_index_mut(place) {
-        *held = counts;
+    let counts = index.counts(place);
+    StickEntry {
+        key: index.key(place),
+        cur: counts.cur,
+        cnt: counts.cnt,
+        last_touch: counts.last_touch,
     }
 }
 
@@ -107,21 +87,21 @@ fn join(order: &mut Order, place: usize, belongs: bool)
 
 /// Puts an entry at a place, as the last one touched.
 fn put_last(
-    index: &mut IndexMap<Addr, Counts>,
+    index: &mut AddrIndex,
     touched: &mut Order,
     free: &mut Order,
     place: usize,
     entry: StickEntry,
 )
     requires kept { IsKept index.old.entries touched.old free.old }
-    requires place { place < index_map_len index.old }
-    ensures index { index.new ≡ with_value_at index.old place (record { cur = entry.cur; cnt = entry.cnt; last_touch = entry.last_touch }) }
+    requires place { place < length index.old.entries }
+    ensures index { index.new ≡ record index.old { entries = with_counts index.old.entries place (record { cur = entry.cur; cnt = entry.cnt; last_touch = entry.last_touch }) } }
     ensures touched { touched.new ≡ record touched.old { order = without place touched.old.order ++ place ∷ [] } }
     ensures free { free.new ≡ record free.old { order = without place free.old.order ++ cond (is_free entry) (place ∷ []) [] } }
 {
     let was_free = entry_at_place(index, place).cur == 0;
     leave(free, place, was_free);
-    set_counts(index, place, counts_of(entry));
+    index.set_counts(place, counts_of(entry));
     move_last(touched, place);
     join(free, place, entry.cur == 0);
 }
@@ -146,19 +126,18 @@ fn push_living(
 /// their number; only `listed` goes through them.
 #[derive(Debug, Drop)]
 pub(crate) struct TouchList {
-    index: IndexMap<Addr, Counts>,
+    index: AddrIndex,
     touched: Order,
     free: Order,
 }
 
 impl Model for TouchList {
     ghost use Rattle.std.specs.Prelude.{min};
-    ghost use Rattle.indexmap.specs.IndexMap.{spare};
     ghost use Rattle.stick_core.specs.Places.{ranked, Touches, IsKept};
 
     ghost Value = { Touches };
 
-    ghost view = { λ t. record { entries = ranked t.index.entries t.touched.order; spare = min (spare t.index) (min t.touched.spare t.free.spare) } };
+    ghost view = { λ t. record { entries = ranked t.index.entries t.touched.order; spare = min t.index.spare (min t.touched.spare t.free.spare) } };
 
     ghost invariant = { λ t. IsKept t.index.entries t.touched t.free };
 }
@@ -169,7 +148,7 @@ impl TouchList {
         ensures { result.entries ≡ [] }
     {
         TouchList {
-            index: IndexMap::new(alloc),
+            index: AddrIndex::new(alloc),
             touched: Order::new(alloc),
             free: Order::new(alloc),
         }
@@ -186,7 +165,7 @@ impl TouchList {
     pub(crate) fn entry(&self, key: &Addr) -> Option<StickEntry>
         ensures { result ≡ find (is_of key.now) self.now.entries }
     {
-        match self.index.get_index_of(key) {
+        match self.index.place_of(key) {
             Some(place) => Some(entry_at_place(&self.index, place)),
             None => None,
         }
@@ -224,7 +203,7 @@ impl TouchList {
         ensures spare { self.new.spare ≡ self.old.spare }
         ensures len { length self.new.entries ≡ length self.old.entries }
     {
-        let Some(place) = self.index.get_index_of(key) else {
+        let Some(place) = self.index.place_of(key) else {
             return false;
         };
         let entry = entry_at_place(&self.index, place);
@@ -245,7 +224,7 @@ impl TouchList {
         ensures spare { self.new.spare ≡ self.old.spare }
         ensures len { length self.new.entries ≡ length self.old.entries }
     {
-        let Some(place) = self.index.get_index_of(key) else {
+        let Some(place) = self.index.place_of(key) else {
             return;
         };
         let entry = entry_at_place(&self.index, place);
@@ -267,7 +246,7 @@ impl TouchList {
         ensures err { OnErr result ((self.new.entries ≡ self.old.entries) × (self.old.spare ≤ self.new.spare)) }
     {
         self.reserve(1)?;
-        self.index.insert(key, first_counts(moment))?;
+        self.index.push(&key, first_counts(moment));
         let place = self.touched.add_place();
         self.touched.push_back(place);
         self.free.add_place();
@@ -276,23 +255,22 @@ impl TouchList {
 
     /// Puts a key that is tracked for the first time, as the last one touched, in place of the entry that was
     /// touched longest ago of those without trackers. Without such an entry it changes nothing.
-    pub(crate) fn replace_first_free(&mut self, key: Addr, moment: u64) -> Result<bool, AllocError>
+    pub(crate) fn replace_first_free(&mut self, key: Addr, moment: u64) -> bool
         requires { find (is_of key) self.old.entries ≡ None }
-        ensures answer { IfOk result (λ is. is ≡ list_any is_free self.old.entries) }
-        ensures entries { IfOk result (λ is. is ≡ true → self.new.entries ≡ added moment key (without_first_free self.old.entries)) }
-        ensures same { IfOk result (λ is. is ≡ false → self.new.entries ≡ self.old.entries) }
-        ensures spare { self.old.spare ≤ self.new.spare + 1 }
-        ensures reserved { 0 < self.old.spare → IsOk result }
-        ensures err { OnErr result ((self.new.entries ≡ self.old.entries) × (self.old.spare ≤ self.new.spare)) }
+        ensures answer { result ≡ list_any is_free self.old.entries }
+        ensures entries { result ≡ true → self.new.entries ≡ added moment key (without_first_free self.old.entries) }
+        ensures same { result ≡ false → self.new.entries ≡ self.old.entries }
+        ensures spare { self.new.spare ≡ self.old.spare }
     {
-        let Some(place) = self.free.first() else {
-            return Ok(false);
-        };
-        self.index.insert(key, first_counts(moment))?;
-        self.index.swap_remove_index(place);
-        self.free.remove(place);
-        move_last(&mut self.touched, place);
-        Ok(true)
+        match self.free.first() {
+            Some(place) => {
+                self.index.replace(place, &key, first_counts(moment));
+                self.free.remove(place);
+                move_last(&mut self.touched, place);
+                true
+            }
+            None => false,
+        }
     }
 
     /// The entries that are not gone.

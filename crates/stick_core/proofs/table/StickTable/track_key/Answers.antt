@@ -6,7 +6,7 @@ use Rattle.stick_core.specs.Listing.{cur_at, entries_after, key_taken, Listing}
 use Rattle.stick_core.proofs.KeptLemmas.{after-refused, after-taken, is-fresh-after, is-raised, is-replaced-after, refused-after, refused-is, taken-is}
 use Rattle.stick_core.proofs.LivingLemmas.{cur_of-living}
 use Rattle.stick_core.proofs.table.StickTable.track_key.Goals as goal
-use Rattle.stick_core.proofs.table.StickTable.track_key.Goals.{then-not-raise+then-has_place+in_ok-add, then-not-raise+else-has_place+in_ok-replace_first_free+else-not-branch, else-not-raise}
+use Rattle.stick_core.proofs.table.StickTable.track_key.Goals.{then-not-raise+then-has_place+in_ok-add, then-not-raise+else-has_place+else-not-replace_first_free, else-not-raise}
 
 pub raise-requires : goal.raise-requires
 raise-requires c =
@@ -35,16 +35,16 @@ invariant_of-self c =
     (sym c.has_place.ensures ∙ c.if-has_place.true) c.in_ok-add.ensures.entries in
     (done.sound, done.turn)
 
-pub invariant_of-self-else-not-branch : goal.invariant_of-self-else-not-branch
-invariant_of-self-else-not-branch c =
+pub invariant_of-self-else-not-replace_first_free : goal.invariant_of-self-else-not-replace_first_free
+invariant_of-self-else-not-replace_first_free c =
     let done = is-replaced-after c.self.inside.size c.self.inside.expire c.self.inside.clock c.self.inside.touched.entries c.raise.new.self.entries c.replace_first_free.new.self.entries c.in-Some.key
     (ap (λ t. t.entries) (c.raise.ensures.same c.if-not-raise.true)) c.self.invariant.0 c.self.invariant.1 (sym c.raise.ensures.answer ∙ c.if-not-raise.true)
-    (sym c.has_place.ensures ∙ c.if-has_place.false) (sym c.in_ok-replace_first_free.ensures.answer ∙ c.if-not-branch.false)
-    (c.in_ok-replace_first_free.ensures.entries c.if-not-branch.false) in
+    (sym c.has_place.ensures ∙ c.if-has_place.false) (sym c.replace_first_free.ensures.answer ∙ c.if-not-replace_first_free.false)
+    (c.replace_first_free.ensures.entries c.if-not-replace_first_free.false) in
     (done.sound, done.turn)
 
-pub returns-then-not-branch-clause-tracked : goal.returns-then-not-branch-clause-tracked
-returns-then-not-branch-clause-tracked c =
+pub returns-then-not-replace_first_free-clause-tracked : goal.returns-then-not-replace_first_free-clause-tracked
+returns-then-not-replace_first_free-clause-tracked c =
     let kept = c.self.inside.touched.entries in
     let table : Listing = record {
       kind = c.self.inside.kind;
@@ -58,11 +58,11 @@ returns-then-not-branch-clause-tracked c =
     let in_table : key_in table.kind c.args.addr.now ≡ Some c.in-Some.key = sym c.key_of.ensures ∙ c.in-Some.is in
     sym (refused-is table c.args.addr.now c.in-Some.key in_table
     (refused-after c.self.inside.size c.self.inside.expire c.self.inside.clock kept c.raise.new.self.entries c.in-Some.key (ap (λ t. t.entries) (c.raise.ensures.same c.if-not-raise.true)) c.self.invariant.0
-    (sym c.raise.ensures.answer ∙ c.if-not-raise.true) (sym c.has_place.ensures ∙ c.if-has_place.false) (sym c.in_ok-replace_first_free.ensures.answer ∙ c.if-not-branch.true)))
+    (sym c.raise.ensures.answer ∙ c.if-not-raise.true) (sym c.has_place.ensures ∙ c.if-has_place.false) (sym c.replace_first_free.ensures.answer ∙ c.if-not-replace_first_free.true)))
     ∙ ap (λ t. key_taken t c.args.addr.now) c.self.view_is
 
-pub returns-then-not-branch-clause-entries : goal.returns-then-not-branch-clause-entries
-returns-then-not-branch-clause-entries c =
+pub returns-then-not-replace_first_free-clause-entries : goal.returns-then-not-replace_first_free-clause-entries
+returns-then-not-replace_first_free-clause-entries c =
     let kept = c.self.inside.touched.entries in
     let table : Listing = record {
       kind = c.self.inside.kind;
@@ -78,8 +78,8 @@ returns-then-not-branch-clause-entries c =
     let none =
     refused-is table c.args.addr.now c.in-Some.key in_table
     (refused-after c.self.inside.size c.self.inside.expire c.self.inside.clock kept c.raise.new.self.entries c.in-Some.key same c.self.invariant.0
-    (sym c.raise.ensures.answer ∙ c.if-not-raise.true) (sym c.has_place.ensures ∙ c.if-has_place.false) (sym c.in_ok-replace_first_free.ensures.answer ∙ c.if-not-branch.true)) in
-    ap (living c.self.inside.expire c.self.inside.clock) (c.in_ok-replace_first_free.ensures.same c.if-not-branch.true ∙ same)
+    (sym c.raise.ensures.answer ∙ c.if-not-raise.true) (sym c.has_place.ensures ∙ c.if-has_place.false) (sym c.replace_first_free.ensures.answer ∙ c.if-not-replace_first_free.true)) in
+    ap (living c.self.inside.expire c.self.inside.clock) (c.replace_first_free.ensures.same c.if-not-replace_first_free.true ∙ same)
     ∙ sym (after-refused table c.args.addr.now none)
     ∙ ap (λ t. entries_after t c.args.addr.now) c.self.view_is
 
@@ -104,11 +104,11 @@ returns-clause-tracked c =
           (ap (λ t. t.entries) (c.raise.ensures.same w.if-not-raise.true)) c.self.invariant.0 c.self.invariant.1 (sym c.raise.ensures.answer ∙ w.if-not-raise.true)
           (sym w.has_place.ensures ∙ w.if-has_place.true) w.in_ok-add.ensures.entries in
           token ∙ sym (taken-is table c.args.addr.now c.in-Some.key in_table done.can) ∙ rest
-      | then-not-raise+else-has_place+in_ok-replace_first_free+else-not-branch w ↦
+      | then-not-raise+else-has_place+else-not-replace_first_free w ↦
           let done = is-replaced-after c.self.inside.size c.self.inside.expire c.self.inside.clock kept c.raise.new.self.entries w.replace_first_free.new.self.entries c.in-Some.key
           (ap (λ t. t.entries) (c.raise.ensures.same w.if-not-raise.true)) c.self.invariant.0 c.self.invariant.1 (sym c.raise.ensures.answer ∙ w.if-not-raise.true)
-          (sym w.has_place.ensures ∙ w.if-has_place.false) (sym w.in_ok-replace_first_free.ensures.answer ∙ w.if-not-branch.false)
-          (w.in_ok-replace_first_free.ensures.entries w.if-not-branch.false) in
+          (sym w.has_place.ensures ∙ w.if-has_place.false) (sym w.replace_first_free.ensures.answer ∙ w.if-not-replace_first_free.false)
+          (w.replace_first_free.ensures.entries w.if-not-replace_first_free.false) in
           token ∙ sym (taken-is table c.args.addr.now c.in-Some.key in_table done.can) ∙ rest
       | else-not-raise w ↦
           let done = is-raised c.self.inside.size c.self.inside.expire c.self.inside.clock kept c.raise.new.self.entries c.in-Some.key
@@ -136,11 +136,11 @@ returns-clause-entries c =
           (ap (λ t. t.entries) (c.raise.ensures.same w.if-not-raise.true)) c.self.invariant.0 c.self.invariant.1 (sym c.raise.ensures.answer ∙ w.if-not-raise.true)
           (sym w.has_place.ensures ∙ w.if-has_place.true) w.in_ok-add.ensures.entries in
           ap (λ t. t.entries) w.self-is ∙ done.entries ∙ sym (after-taken table c.args.addr.now c.in-Some.key (taken-is table c.args.addr.now c.in-Some.key in_table done.can)) ∙ rest
-      | then-not-raise+else-has_place+in_ok-replace_first_free+else-not-branch w ↦
+      | then-not-raise+else-has_place+else-not-replace_first_free w ↦
           let done = is-replaced-after c.self.inside.size c.self.inside.expire c.self.inside.clock kept c.raise.new.self.entries w.replace_first_free.new.self.entries c.in-Some.key
           (ap (λ t. t.entries) (c.raise.ensures.same w.if-not-raise.true)) c.self.invariant.0 c.self.invariant.1 (sym c.raise.ensures.answer ∙ w.if-not-raise.true)
-          (sym w.has_place.ensures ∙ w.if-has_place.false) (sym w.in_ok-replace_first_free.ensures.answer ∙ w.if-not-branch.false)
-          (w.in_ok-replace_first_free.ensures.entries w.if-not-branch.false) in
+          (sym w.has_place.ensures ∙ w.if-has_place.false) (sym w.replace_first_free.ensures.answer ∙ w.if-not-replace_first_free.false)
+          (w.replace_first_free.ensures.entries w.if-not-replace_first_free.false) in
           ap (λ t. t.entries) w.self-is ∙ done.entries ∙ sym (after-taken table c.args.addr.now c.in-Some.key (taken-is table c.args.addr.now c.in-Some.key in_table done.can)) ∙ rest
       | else-not-raise w ↦
           let done = is-raised c.self.inside.size c.self.inside.expire c.self.inside.clock kept c.raise.new.self.entries c.in-Some.key

@@ -3,7 +3,8 @@ use Rattle.std.specs.Prelude.{slice_get}
 use Rattle.stick_core.specs.Entries.{living}
 use Rattle.stick_core.specs.Places.{ranked}
 use Rattle.stick_core.specs.PlainEntries.{plain}
-use Rattle.stick_core.proofs.PlaceLemmas.{has-at, step-below, step-list, step-missing, step-next}
+use Rattle.stick_core.proofs.PlaceLemmas.{step-below, step-list, step-missing, step-next}
+use Rattle.stick_core.proofs.RingLemmas.{has-at}
 use Rattle.stick_core.proofs.touch_list.TouchList.listed.Goals as goal
 use Rattle.stick_core.proofs.touch_list.TouchList.listed.Goals.{in-Some+in_ok-push_living, in_default}
 
@@ -29,6 +30,6 @@ loop-preserved c =
           )
       | in_default w ↦
           absurd (step-missing c.self.inside.index.entries c.self.inside.touched c.self.inside.free c.loop.counter c.self.invariant
-          (omega (arith, c.loop-test.true, c.len-end.ensures.len))
+          (omega (arith, c.loop-test.true, c.len-end.ensures))
           (sym c.loop.invariant.1 ∙ w.in_default.is))
     ]
