@@ -3,13 +3,14 @@ them that take turns.
 
 The processor time of a replay is read whenever it waits for more. So neither what it opens first nor its end, which ends all
 that is open, is in the times of its steps. Since a machine's speed may change by half from one second to the next, replays
-that are compared are there at the same time, and take turns of some milliseconds: of each turn one is put beside the first,
-and the median of these ratios is what is said of it.
+that are compared are there at the same time, on one processor, and take turns of some milliseconds: of each turn one is put
+beside the first, and the median of these ratios is what is said of it.
 """
 import array
 import collections
 import fcntl
 import io
+import os
 import pathlib
 import re
 import statistics
@@ -51,6 +52,7 @@ class Replay:
     def __init__(self, config):
         words = [str(PROGRAM), 'replay', str(config), '/dev/stdin']
         self.child = subprocess.Popen(words, stdin=subprocess.PIPE, stdout=subprocess.DEVNULL)
+        os.sched_setaffinity(self.child.pid, [max(os.sched_getaffinity(0))])
 
     def feed(self, text):
         """Hands on a part of the script, and waits until all of it was answered."""
