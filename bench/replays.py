@@ -97,7 +97,7 @@ def compare(subjects, round_of, turns):
     """What a round takes in each of some replays, which take turns. A subject is a replay and its script."""
     rounds = [[turn(replay, script, round_of) for replay, script in subjects] for _ in range(turns)]
     for times in zip(*rounds):
-        ratios = [time / first for time, (first, *_) in zip(times, rounds)]
+        ratios = [taken / first for taken, (first, *_) in zip(times, rounds)]
         yield Taken(statistics.median(times), min(times), max(times), statistics.median(ratios), min(ratios), max(ratios))
 
 
