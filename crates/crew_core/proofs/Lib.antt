@@ -1,6 +1,4 @@
 pub mod ConnLemmas
-pub mod IdleLemmas
-pub mod EndLemmas
 pub mod RecordLemmas
 pub mod OutletLemmas
 pub mod SinkLemmas

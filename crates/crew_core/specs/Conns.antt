@@ -1,8 +1,7 @@
 -- What a connection passes on.
-use Rattle.std.specs.Prelude.{◌≡◌, ◌⊎◌, ℕ, ◌<◌, Bool, false, IsTrue, List, [], Option, Some, None}
-use Rattle.crew_core.specs.declared.idle.WaitedFor.{WaitedFor}
+use Rattle.std.specs.Prelude.{◌≡◌, ℕ, Bool, false, List, [], Option, Some, None}
+use Rattle.link_core.specs.Idle.{AreOver}
 use Rattle.link_core.specs.declared.stream.Progress.{Progress}
-use Rattle.relay_core.specs.Flow.{IsDone}
 use Rattle.relay_core.specs.Law.{HasCarried, Stream}
 use Rattle.relay_core.specs.Relay.{Ways}
 
@@ -40,14 +39,6 @@ pub record HasFlows (old : Option Ways) (relay : Ways) : Type 0 where
   pub back : relay.back.bytes ≡ back_bytes old
   pub forth_end : relay.forth.ended ≡ forth_ended old
   pub back_end : relay.back.ended ≡ back_ended old
-
--- Both ends came, and all that came before them was written.
-abbrev pub AreOver : Ways → Type 0
-AreOver relay = IsDone relay.forth × IsDone relay.back
-
--- Something is expected of a side at least, where both flows have room at all, unless both directions are over.
-abbrev pub SomeoneIsWaitedFor : Ways → WaitedFor → Type 0
-SomeoneIsWaitedFor relay waited_for = 0 < relay.forth.capacity → 0 < relay.back.capacity → IsTrue waited_for.client ⊎ (IsTrue waited_for.server ⊎ AreOver relay)
 
 -- The relay is kept with its flows, unless both directions are over, which is answered.
 abbrev pub IsKept : Option Progress → Ways → Option Ways → Type 0

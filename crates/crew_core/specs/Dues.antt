@@ -1,14 +1,14 @@
 -- What is due of a connection.
 use Rattle.std.specs.Prelude.{ℕ, min, true, Option, Some, None, option_map, if◌then◌else◌}
 use Rattle.conn_model.specs.declared.settings.Settings.{Settings}
-use Rattle.crew_core.specs.Idle.{first_end, is_overdue, overdue, retry_pause}
+use Rattle.link_core.specs.Idle.{first_end, is_overdue, overdue, retry_pause}
 use Rattle.crew_core.specs.declared.conn.Due.{Due}
 use Rattle.crew_core.specs.declared.conn.Due.TheVariants as dues
 use Rattle.crew_core.specs.declared.conn.Stage.{Stage}
 use Rattle.crew_core.specs.declared.conn.Stage.TheVariants as stages
-use Rattle.crew_core.specs.declared.idle.Side.{Side}
-use Rattle.crew_core.specs.declared.idle.Times.{Times}
-use Rattle.crew_core.specs.declared.idle.WaitedFor.{WaitedFor}
+use Rattle.link_core.specs.declared.idle.Side.{Side}
+use Rattle.link_core.specs.declared.idle.Times.{Times}
+use Rattle.link_core.specs.declared.idle.WaitedFor.{WaitedFor}
 
 -- The time of a dial begins where it is under way.
 abbrev pub dial_begun : Stage → Times → ℕ → Times

@@ -3,7 +3,6 @@ pub mod Leases
 pub mod Conns
 pub mod Outlets
 pub mod Writers
-pub mod Idle
 pub mod Dues
 pub mod Places
 pub mod Pieces

@@ -1,18 +1,17 @@
 //! A connection of a worker.
 ghost use Rattle.std.specs.Prelude.{◌≡◌, ◌++◌, ◌↔◌, Some, None, IsTrue, IfOk, OnOk, OnErr, IsSomeAnd, drop};
 ghost use Rattle.relay_core.specs.Relay.{IsBegun, Ways};
-ghost use Rattle.crew_core.specs.Conns.{AreOver, HasFlows, IsRelayed, PassesOn};
+ghost use Rattle.crew_core.specs.Conns.{HasFlows, IsRelayed, PassesOn};
 ghost use Rattle.crew_core.specs.Dues.{client_side, dial_begun, dialled_side, due_in, next_look_in, server_side};
-ghost use Rattle.crew_core.specs.Idle.{time_begun, waited_for};
+ghost use Rattle.link_core.specs.Idle.{time_begun, waited_for};
 
-use crate::idle::{
-    Side, Times, WaitedFor, first_end_of_both, is_overdue, overdue, retry_pause, time_begun,
-    waited_for_by,
-};
 use addr_core::Endpoint;
 use conn_model::event::Why;
 use conn_model::settings::Settings;
-use link_core::{Flags, Link, Progress, Ready, Spares, pump};
+use link_core::{
+    Flags, Link, Progress, Ready, Side, Spares, Times, WaitedFor, first_end_of_both, is_overdue,
+    overdue, pump, retry_pause, time_begun, waited_for_by,
+};
 use plan_types::Redispatch;
 use relay_core::{Relay, Way};
 use status_core::Sent;

@@ -11,7 +11,6 @@ mod calls;
 mod conn;
 mod crew;
 mod engine;
-mod idle;
 mod leases;
 mod meters;
 mod outlet;

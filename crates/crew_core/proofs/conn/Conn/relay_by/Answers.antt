@@ -1,5 +1,5 @@
 use Rattle.std.proofs.Common.{◌∙◌, refl, rules, None, Some}
-use Rattle.crew_core.specs.Conns.{AreOver}
+use Rattle.link_core.specs.Idle.{AreOver}
 use Rattle.crew_core.proofs.ConnLemmas.{relayed_kept}
 use Rattle.crew_core.proofs.conn.Conn.relay_by.Goals as goal
 

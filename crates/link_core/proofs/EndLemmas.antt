@@ -2,8 +2,8 @@
 use Rattle.std.proofs.Common.{inl, inr, ℕ, ◌≡◌, ◌<◌, ◌≤◌, ◌+◌, ◌⊎◌, ◌∙◌, ap, sym, subst, Bool, true, false, refl, arith}
 use Rattle.std.specs.Prelude.{IsTrue, nat_le, min, ◌==◌, ◌&&◌, not, None, if◌then◌else◌}
 use Rattle.std.proofs.lemmas.Bool.Decides.{nat_tests}
-use Rattle.crew_core.specs.declared.idle.Side.{Side}
-use Rattle.crew_core.specs.Idle.{GoesOn, due_of, is_overdue, overdue, first_end}
+use Rattle.link_core.specs.declared.idle.Side.{Side}
+use Rattle.link_core.specs.Idle.{GoesOn, due_of, is_overdue, overdue, first_end}
 
 last_fails : (a b c : Bool) → c ≡ false → (a && b && c) ≡ false
 last_fails true true c is = is

@@ -2,32 +2,31 @@
 //! client`, `timeout server`), and the pause before a server is dialled again (`retries`).
 ghost use Rattle.std.specs.Prelude.{◌≡◌, ℕ, ◌<◌, min, None};
 ghost use Rattle.relay_core.specs.Relay.{flow_of};
-ghost use Rattle.crew_core.specs.Conns.{SomeoneIsWaitedFor};
-ghost use Rattle.crew_core.specs.Idle.{GoesOn, due_of, first_end, is_overdue, is_waited_for, overdue, retry_pause, time_begun, waited_for_by};
+ghost use Rattle.link_core.specs.Idle.{GoesOn, SomeoneIsWaitedFor, due_of, first_end, is_overdue, is_waited_for, overdue, retry_pause, time_begun, waited_for_by};
 
 use conn_model::event::Why;
 use relay_core::{Relay, Way};
 
 /// Of which sides something is expected.
 #[derive(Clone, Copy, Debug, PartialEq, Eq)]
-pub(crate) struct WaitedFor {
-    pub(crate) client: bool,
-    pub(crate) server: bool,
+pub struct WaitedFor {
+    pub client: bool,
+    pub server: bool,
 }
 
 /// When the time of each side began, in ms.
 #[derive(Clone, Copy, Debug, PartialEq, Eq)]
-pub(crate) struct Times {
-    pub(crate) client: u64,
-    pub(crate) server: u64,
+pub struct Times {
+    pub client: u64,
+    pub server: u64,
 }
 
 /// A side whose time began at a moment, and how long it may be silent, both in ms; a limit of 0 is none.
 #[derive(Clone, Copy, Debug)]
-pub(crate) struct Side {
-    pub(crate) is_waited_for: bool,
-    pub(crate) since: u64,
-    pub(crate) limit: u64,
+pub struct Side {
+    pub is_waited_for: bool,
+    pub since: u64,
+    pub limit: u64,
 }
 
 /// Whether something is expected of the side whose bytes go the one way, and which gets those of the other way.
@@ -38,7 +37,7 @@ fn is_waited_for(relay: &Relay, sends: Way, takes: Way) -> bool
 }
 
 /// Of which sides something is expected, by the relay between them.
-pub(crate) fn waited_for_by(relay: &Relay) -> WaitedFor
+pub fn waited_for_by(relay: &Relay) -> WaitedFor
     ensures sides { result ≡ waited_for_by relay.now }
     ensures some { SomeoneIsWaitedFor relay.now result }
 {
@@ -49,7 +48,7 @@ pub(crate) fn waited_for_by(relay: &Relay) -> WaitedFor
 }
 
 /// When the time of a side that had begun before begins, by what is noted now.
-pub(crate) fn time_begun(before: u64, was_waited_for: bool, is_active: bool, now: u64) -> u64
+pub fn time_begun(before: u64, was_waited_for: bool, is_active: bool, now: u64) -> u64
     ensures { result ≡ time_begun before was_waited_for is_active now }
 {
     if is_active || !was_waited_for {
@@ -65,14 +64,14 @@ fn due_of(side: Side) -> u64
     side.since.saturating_add(side.limit)
 }
 
-pub(crate) fn is_overdue(now: u64, side: Side) -> bool
+pub fn is_overdue(now: u64, side: Side) -> bool
     ensures { result ≡ is_overdue now side }
 {
     side.is_waited_for && side.limit != 0 && due_of(side) <= now
 }
 
 /// Which side was silent for too long. Of two the one that was overdue first, and the client if both are level.
-pub(crate) fn overdue(now: u64, client: Side, server: Side) -> Option<Why>
+pub fn overdue(now: u64, client: Side, server: Side) -> Option<Why>
     ensures { result ≡ overdue now client server }
 {
     let by_server = is_overdue(now, server);
@@ -101,7 +100,7 @@ fn first_end(now: u64, side: Side) -> u64
 }
 
 /// The first moment at which one of both sides may be overdue, whatever is noted of them from now on.
-pub(crate) fn first_end_of_both(now: u64, client: Side, server: Side) -> u64
+pub fn first_end_of_both(now: u64, client: Side, server: Side) -> u64
     ensures first { result ≡ min (first_end now client) (first_end now server) }
     ensures quiet { (moment : ℕ) (later_client later_server : Side) → moment < result →
         GoesOn now client later_client → GoesOn now server later_server →
@@ -114,7 +113,7 @@ pub(crate) fn first_end_of_both(now: u64, client: Side, server: Side) -> u64
 const LONGEST_PAUSE: u64 = 1_000;
 
 /// The pause before a server is dialled again that has so long to accept a connection, in ms.
-pub(crate) fn retry_pause(connect: u64) -> u64
+pub fn retry_pause(connect: u64) -> u64
     ensures { result ≡ retry_pause connect }
 {
     if connect == 0 {

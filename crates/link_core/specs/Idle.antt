@@ -1,12 +1,12 @@
 -- Which sides of a connection are waited for, when one of them has been silent for too long, and the pause before a server is
 -- dialled again.
-use Rattle.std.specs.Prelude.{◌≡◌, ◌⊎◌, ℕ, ◌+◌, ◌≤◌, ◌==◌, ◌&&◌, ◌||◌, not, nat_le, min, Bool, true, false, IsTrue, List, [], ◌∷◌, Option, Some, None, if◌then◌else◌}
+use Rattle.std.specs.Prelude.{◌≡◌, ◌⊎◌, ℕ, ◌+◌, ◌≤◌, ◌<◌, ◌==◌, ◌&&◌, ◌||◌, not, nat_le, min, Bool, true, false, IsTrue, List, [], ◌∷◌, Option, Some, None, if◌then◌else◌}
 use Rattle.conn_model.specs.declared.event.Why.{Why}
 use Rattle.conn_model.specs.declared.event.Why.TheVariants.{ClientTimeout, ServerTimeout}
-use Rattle.relay_core.specs.Flow.{Held, asks_reader}
+use Rattle.relay_core.specs.Flow.{Held, IsDone, asks_reader}
 use Rattle.relay_core.specs.Relay.{Ways}
-use Rattle.crew_core.specs.declared.idle.Side.{Side}
-use Rattle.crew_core.specs.declared.idle.WaitedFor.{WaitedFor}
+use Rattle.link_core.specs.declared.idle.Side.{Side}
+use Rattle.link_core.specs.declared.idle.WaitedFor.{WaitedFor}
 
 -- bytes wait to be written
 abbrev pub are_held : List ℕ → Bool
@@ -26,6 +26,14 @@ waited_for_by ways = record { client = is_waited_for ways.forth ways.back; serve
 abbrev pub waited_for : Option Ways → WaitedFor
 waited_for None = record { client = true; server = true }
 waited_for (Some ways) = waited_for_by ways
+
+-- Both ends came, and all that came before them was written.
+abbrev pub AreOver : Ways → Type 0
+AreOver relay = IsDone relay.forth × IsDone relay.back
+
+-- Something is expected of a side at least, where both flows have room at all, unless both directions are over.
+abbrev pub SomeoneIsWaitedFor : Ways → WaitedFor → Type 0
+SomeoneIsWaitedFor relay waited_for = 0 < relay.forth.capacity → 0 < relay.back.capacity → IsTrue waited_for.client ⊎ (IsTrue waited_for.server ⊎ AreOver relay)
 
 -- The time of a side begins with each byte that it sends or takes, and when something comes to be expected of it.
 abbrev pub time_begun : ℕ → Bool → Bool → ℕ → ℕ

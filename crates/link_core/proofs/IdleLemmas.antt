@@ -3,8 +3,7 @@ use Rattle.std.proofs.Common.{inl, inr, ℕ, ◌<◌, Bool, true, false, List, [
 use Rattle.std.specs.Prelude.{IsTrue, nat_lt, ◌-◌}
 use Rattle.std.proofs.lemmas.Grind.{common_steps}
 use Rattle.relay_core.specs.Relay.{Ways}
-use Rattle.crew_core.specs.Conns.{SomeoneIsWaitedFor}
-use Rattle.crew_core.specs.Idle.{waited_for_by}
+use Rattle.link_core.specs.Idle.{SomeoneIsWaitedFor, waited_for_by}
 
 or_true : (b : Bool) → IsTrue (b || true)
 or_true true = search rules
