@@ -1,4 +1,3 @@
-pub mod ConnLemmas
 pub mod RecordLemmas
 pub mod OutletLemmas
 pub mod SinkLemmas

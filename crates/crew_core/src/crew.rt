@@ -17,7 +17,6 @@ use crate::calls::WorkerContext;
 use crate::meters::Meters;
 use crate::outlet::{Outlet, Sink, empty};
 use crate::recorder::Alert;
-use crate::table::Table;
 use crate::worker::{NewConn, REPORTS, Worker, WorkerState};
 use book_core::Book;
 use desk_core::{ClosedDesk, Desk, Lease, LeaseList, Opening, Pass};
@@ -29,6 +28,7 @@ use std::sync::ledger::{Blank, Ledger};
 use std::thread;
 use std::thread::Threads;
 use thiserror::Error;
+use worker_conns::ConnTable;
 
 /// Why a crew did nothing.
 #[derive(Clone, Copy, Debug, PartialEq, Eq, Error)]
@@ -98,7 +98,7 @@ fn make_state<K: Link>(
     let (lane, arrivals) = RingBuffer::new(alloc, LANE)?;
     let state = WorkerState {
         arrivals,
-        table: Table::new(alloc),
+        table: ConnTable::new(alloc),
         buffer: Vec::from_elem(alloc, 0u8, FLOW)?,
         spares: Spares::new(alloc)?,
         ready: Vec::with_capacity(alloc, REPORTS)?,

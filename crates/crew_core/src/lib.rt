@@ -8,15 +8,12 @@ pub use outlet::{Outlet, RING, Sink, SinkFault};
 
 mod acceptor;
 mod calls;
-mod conn;
 mod crew;
 mod engine;
 mod leases;
 mod meters;
 mod outlet;
-mod queue;
 mod record_sink;
 mod recorder;
 mod serving;
-mod table;
 mod worker;

@@ -3,7 +3,6 @@ ghost use Rattle.std.specs.Prelude.{◌≡◌, ◌≤◌, length, take, drop, If
 ghost use Rattle.crew_core.specs.Pieces.{IsPiece, IsShort};
 
 use crate::calls::{CallOutcome, WorkerContext};
-use crate::conn::{Due, Stage};
 use crate::worker::{BETWEEN_CLIENTS, SERVED, Worker, WorkerState};
 use addr_core::Endpoint;
 use conn_model::event::Why;
@@ -13,6 +12,7 @@ use device_core::{Failed, Got, PIECE_BYTES};
 use link_core::{Clock, Dial, Dialled, Gate, Link, Progress};
 use std::sync::Wait;
 use std::sync::ledger::Ledger;
+use worker_conns::{ConnStage, DueAction};
 
 /// How many pieces of a header are read before other connections have their turn. The longest header, of 65,551 bytes
 /// (proxy-protocol.txt, section 2.2), takes five: so one that came whole is read whole in one turn.
@@ -82,13 +82,13 @@ impl<M: Ledger, O: Ledger, K: Link, L: Dial<Link = K>> Worker<M, O, K, L> {
             return;
         };
         match conn.stage {
-            Stage::Header => self.receive(rt, context, key),
-            Stage::Server(_) | Stage::Retry(_) if conn.client_flags.is_reset => {
+            ConnStage::Header => self.receive(rt, context, key),
+            ConnStage::Server(_) | ConnStage::Retry(_) if conn.client_flags.is_reset => {
                 self.close(rt, context, key, Why::Fault);
             }
-            Stage::Server(to) => self.dial_server(rt, context, key, &to),
-            Stage::Retry(_) => self.end_if_left(rt, context, key),
-            Stage::Bytes => self.relay(rt, context, key),
+            ConnStage::Server(to) => self.dial_server(rt, context, key, &to),
+            ConnStage::Retry(_) => self.end_if_left(rt, context, key),
+            ConnStage::Bytes => self.relay(rt, context, key),
         }
     }
 
@@ -310,7 +310,7 @@ impl<M: Ledger, O: Ledger, K: Link, L: Dial<Link = K>> Worker<M, O, K, L> {
     }
 
     /// What is due of a connection at a moment.
-    fn due(&mut self, key: usize, now: u64) -> Option<Due> {
+    fn due(&mut self, key: usize, now: u64) -> Option<DueAction> {
         self.state.table.conn(key)?.due(now)
     }
 
@@ -344,9 +344,9 @@ impl<M: Ledger, O: Ledger, K: Link, L: Dial<Link = K>> Worker<M, O, K, L> {
     ) {
         match self.due(key, now) {
             None => self.state.table.look_later(key, now),
-            Some(Due::DialTimeout(to)) => self.end_dial(rt, context, key, &to, now),
-            Some(Due::Retry(to)) => self.dial_again(rt, context, key, &to),
-            Some(Due::End(_)) => self.end_silent(rt, context, key, now),
+            Some(DueAction::DialTimeout(to)) => self.end_dial(rt, context, key, &to, now),
+            Some(DueAction::Retry(to)) => self.dial_again(rt, context, key, &to),
+            Some(DueAction::End(_)) => self.end_silent(rt, context, key, now),
         }
     }
 
@@ -361,7 +361,7 @@ impl<M: Ledger, O: Ledger, K: Link, L: Dial<Link = K>> Worker<M, O, K, L> {
         now: u64,
     ) {
         self.dial_server(rt, context, key, to);
-        if let Some(Due::DialTimeout(_)) = self.due(key, now) {
+        if let Some(DueAction::DialTimeout(_)) = self.due(key, now) {
             self.try_again(rt, context, key);
         }
     }
@@ -379,7 +379,7 @@ impl<M: Ledger, O: Ledger, K: Link, L: Dial<Link = K>> Worker<M, O, K, L> {
             conn.expect_bytes();
         }
         self.relay(rt, context, key);
-        if let Some(Due::End(why)) = self.due(key, now) {
+        if let Some(DueAction::End(why)) = self.due(key, now) {
             self.close(rt, context, key, why);
         }
     }

@@ -3,8 +3,6 @@
 ghost use Rattle.std.specs.Prelude.{◌≡◌};
 
 use crate::calls::{CallOutcome, Calls, WorkerContext};
-use crate::conn::Conn;
-use crate::table::Table;
 use addr_core::Pair;
 use conn_model::event::{HEADER_WAIT, Why};
 use conn_model::reply::Said;
@@ -14,6 +12,7 @@ use rtrb::Consumer;
 use std::alloc::Global;
 use std::sync::Wait;
 use std::sync::ledger::Ledger;
+use worker_conns::{Conn, ConnTable};
 
 /// How many links a dial reports at a time at the most.
 pub(crate) const REPORTS: usize = 256;
@@ -47,7 +46,7 @@ pub(crate) struct NewConn<K: Link> {
 #[derive(Drop)]
 pub(crate) struct WorkerState<K: Link> {
     pub(crate) arrivals: Consumer<NewConn<K>>,
-    pub(crate) table: Table<K>,
+    pub(crate) table: ConnTable<K>,
     pub(crate) buffer: Vec<u8>,
     pub(crate) spares: Spares,
     pub(crate) ready: Vec<Ready>,

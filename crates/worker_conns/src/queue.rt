@@ -5,10 +5,10 @@ use std::collections::VecDeque;
 
 /// A connection that is to be served.
 #[derive(Clone, Copy, Debug)]
-pub(crate) struct Queued {
-    pub(crate) key: usize,
+pub struct Queued {
+    pub key: usize,
     /// The serial of the connection. Once that has ended, its key may be another one's.
-    pub(crate) serial: u64,
+    pub serial: u64,
 }
 
 /// The connections of one listener that are to be served, in the order in which they came. Some may have ended since.

@@ -1,8 +1,8 @@
 //! A connection of a worker.
 ghost use Rattle.std.specs.Prelude.{◌≡◌, ◌++◌, ◌↔◌, Some, None, IsTrue, IfOk, OnOk, OnErr, IsSomeAnd, drop};
 ghost use Rattle.relay_core.specs.Relay.{IsBegun, Ways};
-ghost use Rattle.crew_core.specs.Conns.{HasFlows, IsRelayed, PassesOn};
-ghost use Rattle.crew_core.specs.Dues.{client_side, dial_begun, dialled_side, due_in, next_look_in, server_side};
+ghost use Rattle.worker_conns.specs.Conns.{HasFlows, IsRelayed, PassesOn};
+ghost use Rattle.worker_conns.specs.Dues.{client_side, dial_begun, dialled_side, due_in, next_look_in, server_side};
 ghost use Rattle.link_core.specs.Idle.{time_begun, waited_for};
 
 use addr_core::Endpoint;
@@ -19,7 +19,7 @@ use std::alloc::AllocError;
 
 /// What a connection waits for.
 #[derive(Clone, Copy, Debug)]
-pub(crate) enum Stage {
+pub enum ConnStage {
     /// For its PROXY header.
     Header,
     /// For a link to its server.
@@ -32,14 +32,14 @@ pub(crate) enum Stage {
 
 /// A connection that is open.
 #[derive(Drop)]
-pub(crate) struct Conn<K: Link> {
+pub struct Conn<K: Link> {
     // It is dropped before the client, whose end makes room for another connection.
     server: Option<K>,
-    pub(crate) client: K,
+    pub client: K,
     /// None while no byte is held and neither end has come.
     relay: Option<Relay>,
-    pub(crate) stage: Stage,
-    pub(crate) client_flags: Flags,
+    pub stage: ConnStage,
+    pub client_flags: Flags,
     server_flags: Flags,
     /// Whether the client sent bytes after its header before there was a link to its server.
     has_sent: bool,
@@ -57,7 +57,7 @@ pub(crate) struct Conn<K: Link> {
 
 /// What is due of a connection.
 #[derive(Clone, Copy, Debug)]
-pub(crate) enum Due {
+pub enum DueAction {
     /// Its server did not accept it in time.
     DialTimeout(Endpoint),
     /// Its server is dialled again.
@@ -67,12 +67,16 @@ pub(crate) enum Due {
 }
 
 impl<K: Link> Conn<K> {
-    pub(crate) fn new(client: K) -> Conn<K> {
+    /// Of a client whose header is awaited.
+    pub fn new(client: K) -> Conn<K>
+        ensures stage { result.stage ≡ ConnStage.Header }
+        ensures relay { result.relay ≡ None }
+    {
         Conn {
             server: None,
             client,
             relay: None,
-            stage: Stage::Header,
+            stage: ConnStage::Header,
             client_flags: Flags::of_client(),
             server_flags: Flags::of_server(),
             has_sent: false,
@@ -97,33 +101,33 @@ impl<K: Link> Conn<K> {
     }
 
     /// How it is served from now on.
-    pub(crate) fn set_settings(&mut self, settings: Settings)
+    pub fn set_settings(&mut self, settings: Settings)
         ensures { self.new ≡ record self.old { settings = settings } }
     {
         self.settings = settings;
     }
 
     /// Its server was dialled. The time of the dial begins, unless it is over already.
-    pub(crate) fn begin_dial(&mut self, now: u64)
+    pub fn begin_dial(&mut self, now: u64)
         ensures { self.new.times ≡ dial_begun self.old.stage self.old.times now }
     {
-        if let Stage::Server(_) = self.stage {
+        if let ConnStage::Server(_) = self.stage {
             self.times.server = now;
         }
     }
 
     /// Begins the pause before its server is dialled again; whether it may be, and another one is not to be asked for.
-    pub(crate) fn begin_pause(&mut self, now: u64) -> bool
+    pub fn begin_pause(&mut self, now: u64) -> bool
         ensures { IsTrue result → self.new.times.server ≡ now }
     {
         match self.stage {
-            Stage::Server(to) if self.retries < self.settings.retries => {
+            ConnStage::Server(to) if self.retries < self.settings.retries => {
                 self.retries += 1;
                 if self.is_to_move() {
                     return false;
                 }
                 self.times.server = now;
-                self.stage = Stage::Retry(to);
+                self.stage = ConnStage::Retry(to);
                 true
             }
             _ => false,
@@ -141,15 +145,15 @@ impl<K: Link> Conn<K> {
     }
 
     /// The pause is over, and its server is dialled again.
-    pub(crate) fn end_pause(&mut self, to: Endpoint)
-        ensures { self.new.stage ≡ Stage.Server to }
+    pub fn end_pause(&mut self, to: Endpoint)
+        ensures { self.new.stage ≡ ConnStage.Server to }
     {
-        self.stage = Stage::Server(to);
+        self.stage = ConnStage::Server(to);
         self.server_flags = Flags::of_server();
     }
 
     /// Both links are read and written at the next turn, whether they were reported or not.
-    pub(crate) fn expect_bytes(&mut self) {
+    pub fn expect_bytes(&mut self) {
         self.client_flags.reads = true;
         self.client_flags.writes = true;
         self.server_flags.reads = true;
@@ -170,7 +174,7 @@ impl<K: Link> Conn<K> {
     }
 
     /// Notes which of the links moved bytes, and of which sides something is expected now.
-    pub(crate) fn note_activity(&mut self, now: u64)
+    pub fn note_activity(&mut self, now: u64)
         ensures client { self.new.times.client ≡ time_begun self.old.times.client self.old.waited_for.client self.old.client_flags.is_active now }
         ensures server { self.new.times.server ≡ time_begun self.old.times.server self.old.waited_for.server self.old.server_flags.is_active now }
         ensures waited_for { self.new.waited_for ≡ waited_for self.old.relay }
@@ -187,7 +191,7 @@ impl<K: Link> Conn<K> {
     }
 
     /// How many bytes were written to its links since it was asked last.
-    pub(crate) fn take_sent(&mut self) -> Sent {
+    pub fn take_sent(&mut self) -> Sent {
         Sent {
             to_servers: self.server_flags.take_sent(),
             to_clients: self.client_flags.take_sent(),
@@ -195,20 +199,22 @@ impl<K: Link> Conn<K> {
     }
 
     /// What is due, if anything is.
-    pub(crate) fn due(&self, now: u64) -> Option<Due>
+    pub fn due(&self, now: u64) -> Option<DueAction>
         ensures { result ≡ due_in self.now.stage self.now.settings self.now.times (waited_for self.now.relay) now }
     {
         match self.stage {
-            Stage::Header => None,
-            Stage::Server(to) => {
+            ConnStage::Header => None,
+            ConnStage::Server(to) => {
                 let connect = self.settings.connect;
-                is_overdue(now, self.dialled_side(connect)).then_some(Due::DialTimeout(to))
+                is_overdue(now, self.dialled_side(connect)).then_some(DueAction::DialTimeout(to))
             }
-            Stage::Retry(to) => {
+            ConnStage::Retry(to) => {
                 let pause = retry_pause(self.settings.connect);
-                is_overdue(now, self.dialled_side(pause)).then_some(Due::Retry(to))
+                is_overdue(now, self.dialled_side(pause)).then_some(DueAction::Retry(to))
             }
-            Stage::Bytes => overdue(now, self.client_side(), self.server_side()).map(Due::End),
+            ConnStage::Bytes => overdue(now, self.client_side(), self.server_side()).map(
+                DueAction::End,
+            ),
         }
     }
 
@@ -219,8 +225,8 @@ impl<K: Link> Conn<K> {
             (waited_for self.now.relay) now }
     {
         match self.stage {
-            Stage::Header | Stage::Server(_) | Stage::Retry(_) => 0,
-            Stage::Bytes => first_end_of_both(now, self.client_side(), self.server_side()),
+            ConnStage::Header | ConnStage::Server(_) | ConnStage::Retry(_) => 0,
+            ConnStage::Bytes => first_end_of_both(now, self.client_side(), self.server_side()),
         }
     }
 
@@ -256,7 +262,7 @@ impl<K: Link> Conn<K> {
     }
 
     /// Whether the client has left before there was a link to its server, and nothing that it sent is to be passed on.
-    pub(crate) fn has_left(&mut self) -> bool {
+    pub fn has_left(&mut self) -> bool {
         self.client_flags.is_closed && !self.has_sent && self.client.has_left()
     }
 
@@ -269,13 +275,13 @@ impl<K: Link> Conn<K> {
     }
 
     /// Whether one of its links failed, as far as the dial reported it.
-    pub(crate) fn is_reset(&self) -> bool {
+    pub fn is_reset(&self) -> bool {
         self.client_flags.is_reset || self.server_flags.is_reset
     }
 
     /// It was offered a server, which is sent `send` before the stream; `rest` is what the client sent after its own
     /// header.
-    pub(crate) fn offer(
+    pub fn offer(
         &mut self,
         spares: &mut Spares,
         to: Endpoint,
@@ -283,19 +289,19 @@ impl<K: Link> Conn<K> {
         rest: &[u8],
     ) -> Result<(), AllocError>
         ensures lent { OnOk result (IsSomeAnd self.new.relay (λ relay. IsBegun relay (send.now ++ rest.now))) }
-        ensures stage { OnOk result (self.new.stage ≡ Stage.Server to) }
+        ensures stage { OnOk result (self.new.stage ≡ ConnStage.Server to) }
     {
         self.relay = Some(spares.take(send, rest)?);
         self.has_sent = !rest.is_empty();
         self.header = send.len();
-        self.stage = Stage::Server(to);
+        self.stage = ConnStage::Server(to);
         Ok(())
     }
 
     /// It was offered another server, which is sent `send` before the stream, in place of the header for the one before.
     /// What the client sent follows. Whether there is room for it.
-    pub(crate) fn offer_again(&mut self, to: Endpoint, send: &[u8]) -> bool
-        ensures stage { IsTrue result → self.new.stage ≡ Stage.Server to }
+    pub fn offer_again(&mut self, to: Endpoint, send: &[u8]) -> bool
+        ensures stage { IsTrue result → self.new.stage ≡ ConnStage.Server to }
         ensures lent { IsTrue result → (relay : Ways) → self.old.relay ≡ Some relay →
             IsSomeAnd self.new.relay (λ next. next.forth.bytes ≡ send.now ++ drop self.old.header relay.forth.bytes) }
     {
@@ -306,19 +312,19 @@ impl<K: Link> Conn<K> {
             return false;
         }
         self.header = send.len();
-        self.stage = Stage::Server(to);
+        self.stage = ConnStage::Server(to);
         self.server_flags = Flags::of_server();
         true
     }
 
     /// There is a link to its server. The times of both sides begin.
-    pub(crate) fn connect(&mut self, server: K, now: u64)
-        ensures stage { self.new.stage ≡ Stage.Bytes }
+    pub fn connect(&mut self, server: K, now: u64)
+        ensures stage { self.new.stage ≡ ConnStage.Bytes }
         ensures times { self.new.times ≡ record { client = now; server = now } }
         ensures waited_for { self.new.waited_for ≡ waited_for self.old.relay }
     {
         self.server = Some(server);
-        self.stage = Stage::Bytes;
+        self.stage = ConnStage::Bytes;
         self.times = Times {
             client: now,
             server: now,
@@ -353,7 +359,7 @@ impl<K: Link> Conn<K> {
     }
 
     /// Passes bytes on in both directions, as far as its links are ready. `None` says that both directions are over.
-    pub(crate) fn relay(&mut self, spares: &mut Spares, buffer: &mut [u8]) -> Option<Progress>
+    pub fn relay(&mut self, spares: &mut Spares, buffer: &mut [u8]) -> Option<Progress>
         ensures { (server : K) → self.old.server ≡ Some server → IsSomeAnd self.new.server (λ new_server.
             IsRelayed K.left K.held self.old.client server self.old.relay self.new.client new_server result self.new.relay) }
     {

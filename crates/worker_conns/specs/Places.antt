@@ -1,7 +1,7 @@
 -- The places of a worker's connections.
 use Rattle.std.specs.Prelude.{◌≡◌, ℕ, IsSomeAnd}
 use Rattle.slab.specs.Slab.{Slab, get}
-use Rattle.crew_core.specs.declared.table.Place.{Place}
+use Rattle.worker_conns.specs.declared.table.Place.{Place}
 
 -- the connection of that key is the one of that serial
 abbrev pub HasSerial : {K : Type 0} → Slab (Place K) → ℕ → ℕ → Type 0

@@ -1,7 +1,7 @@
 use Rattle.std.proofs.Common.{◌∙◌, refl, rules, None, Some}
 use Rattle.link_core.specs.Idle.{AreOver}
-use Rattle.crew_core.proofs.ConnLemmas.{relayed_kept}
-use Rattle.crew_core.proofs.conn.Conn.relay_by.Goals as goal
+use Rattle.worker_conns.proofs.ConnLemmas.{relayed_kept}
+use Rattle.worker_conns.proofs.conn.Conn.relay_by.Goals as goal
 
 pub returns-then-is_over : goal.returns-then-is_over
 returns-then-is_over g c = λ server is.

@@ -1,7 +1,7 @@
 use Rattle.std.proofs.Common.{◌∙◌, ap}
 use Rattle.link_core.specs.declared.stream.Progress.TheVariants.{Fault}
-use Rattle.crew_core.proofs.ConnLemmas.{relayed_none, relayed_taken}
-use Rattle.crew_core.proofs.conn.Conn.relay.Goals as goal
+use Rattle.worker_conns.proofs.ConnLemmas.{relayed_none, relayed_taken}
+use Rattle.worker_conns.proofs.conn.Conn.relay.Goals as goal
 
 pub returns-in-Ok : goal.returns-in-Ok
 returns-in-Ok g c = λ server is.

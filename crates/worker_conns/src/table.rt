@@ -1,8 +1,8 @@
 //! The connections of one worker.
 ghost use Rattle.std.specs.Prelude.{IfSome};
-ghost use Rattle.crew_core.specs.Places.{HasSerial};
+ghost use Rattle.worker_conns.specs.Places.{HasSerial};
 
-use crate::conn::{Conn, Stage};
+use crate::conn::{Conn, ConnStage};
 use crate::queue::{Queue, Queued};
 use conn_model::event::Why;
 use link_core::{Link, Ready};
@@ -19,7 +19,7 @@ const LOOK_WAIT: u64 = 100;
 
 /// A connection by its key.
 #[derive(Drop)]
-pub(crate) enum Entry<K: Link> {
+enum Entry<K: Link> {
     Open(Conn<K>),
     /// It ended, and there was no memory to record that. It is tried again.
     Ended(Why),
@@ -37,16 +37,16 @@ struct Place<K: Link> {
 
 /// A connection that waits for its header.
 #[derive(Clone, Copy, Debug)]
-pub(crate) struct HeaderWait {
+pub struct HeaderWait {
     /// In ms.
     due: u64,
-    pub(crate) key: usize,
+    pub key: usize,
     serial: u64,
 }
 
 /// The connections of a worker, and which of them are to be served next.
 #[derive(Drop)]
-pub(crate) struct Table<K: Link> {
+pub struct ConnTable<K: Link> {
     places: Slab<Place<K>>,
     /// Each open connection once at the most.
     queue: Queue,
@@ -68,9 +68,9 @@ pub(crate) struct Table<K: Link> {
     looked: u64,
 }
 
-impl<K: Link> Table<K> {
-    pub(crate) fn new(alloc: Global) -> Table<K> {
-        Table {
+impl<K: Link> ConnTable<K> {
+    pub fn new(alloc: Global) -> ConnTable<K> {
+        ConnTable {
             places: Slab::new(alloc),
             queue: Queue::new(alloc),
             waits: VecDeque::new(alloc),
@@ -85,7 +85,7 @@ impl<K: Link> Table<K> {
     }
 
     /// Makes room for one connection more of a listener, with its place in the queue and its wait for a header.
-    pub(crate) fn make_room(&mut self, listener: u16) -> Result<usize, AllocError> {
+    pub fn make_room(&mut self, listener: u16) -> Result<usize, AllocError> {
         self.places.reserve(1)?;
         self.queue.make_room(listener)?;
         self.waits.reserve(1)?;
@@ -94,7 +94,7 @@ impl<K: Link> Table<K> {
     }
 
     /// Keeps a connection of a listener, and says under which key.
-    pub(crate) fn insert(&mut self, listener: u16, conn: Conn<K>) -> Result<usize, AllocError> {
+    pub fn insert(&mut self, listener: u16, conn: Conn<K>) -> Result<usize, AllocError> {
         self.serial = self.serial.saturating_add(1);
         let place = Place {
             entry: Entry::Open(conn),
@@ -112,7 +112,7 @@ impl<K: Link> Table<K> {
         }
     }
 
-    pub(crate) fn conn(&mut self, key: usize) -> Option<&mut Conn<K>> {
+    pub fn conn(&mut self, key: usize) -> Option<&mut Conn<K>> {
         match &mut self.places.get_mut(key)?.entry {
             Entry::Open(conn) => Some(conn),
             Entry::Ended(_) => None,
@@ -120,7 +120,7 @@ impl<K: Link> Table<K> {
     }
 
     /// Why the connection of a key ended, if that is not recorded yet.
-    pub(crate) fn ended(&self, key: usize) -> Option<Why> {
+    pub fn ended(&self, key: usize) -> Option<Why> {
         match &self.places.get(key)?.entry {
             Entry::Open(_) => None,
             Entry::Ended(why) => Some(*why),
@@ -128,7 +128,7 @@ impl<K: Link> Table<K> {
     }
 
     /// Puts the connection of a key into the queue, unless it is there.
-    pub(crate) fn enqueue(&mut self, key: usize) {
+    pub fn enqueue(&mut self, key: usize) {
         let Some(place) = self.places.get_mut(key) else {
             return;
         };
@@ -139,7 +139,7 @@ impl<K: Link> Table<K> {
     }
 
     /// What the dial reported of a link.
-    pub(crate) fn raise(&mut self, ready: &Ready) {
+    pub fn raise(&mut self, ready: &Ready) {
         if let Some(conn) = self.conn(ready.key) {
             conn.raise(ready);
             self.enqueue(ready.key);
@@ -147,12 +147,12 @@ impl<K: Link> Table<K> {
     }
 
     /// How many connections are in the queue.
-    pub(crate) fn queued(&self) -> usize {
+    pub fn queued(&self) -> usize {
         self.queue.len()
     }
 
     /// The next connection of the queue, unless it has ended since: then its key may be another one's.
-    pub(crate) fn dequeue(&mut self) -> Option<Queued>
+    pub fn dequeue(&mut self) -> Option<Queued>
         ensures { IfSome result (λ queued. HasSerial self.new.places queued.key queued.serial) }
     {
         let queued = self.queue.pop()?;
@@ -167,14 +167,14 @@ impl<K: Link> Table<K> {
         Some(queued)
     }
 
-    pub(crate) fn remove(&mut self, key: usize) {
+    pub fn remove(&mut self, key: usize) {
         if let Some(place) = self.places.try_remove(key) {
             self.queue.close(place.listener);
         }
     }
 
     /// The connection of a key ended, and its links with it, but that could not be recorded.
-    pub(crate) fn end(&mut self, key: usize, why: Why) {
+    pub fn end(&mut self, key: usize, why: Why) {
         let Some(place) = self.places.get_mut(key) else {
             return;
         };
@@ -184,24 +184,24 @@ impl<K: Link> Table<K> {
     }
 
     /// The connection of a key, which was inserted last, waits for its header until that moment.
-    pub(crate) fn wait(&mut self, key: usize, due: u64) {
+    pub fn wait(&mut self, key: usize, due: u64) {
         let serial = self.serial;
         let _ = self.waits.push_back(HeaderWait { due, key, serial });
     }
 
     /// A wait that is over by another's clock, but not by that of the desk, is tried again 1 ms later.
-    pub(crate) fn wait_again(&mut self, wait: &HeaderWait, now: u64) {
+    pub fn wait_again(&mut self, wait: &HeaderWait, now: u64) {
         let due = now.saturating_add(1);
         let _ = self.waits.push_front(HeaderWait { due, ..*wait });
     }
 
     /// How many waits there are.
-    pub(crate) fn waiting(&self) -> usize {
+    pub fn waiting(&self) -> usize {
         self.waits.len()
     }
 
     /// The first wait, if it is over.
-    pub(crate) fn due(&mut self, now: u64) -> Option<HeaderWait> {
+    pub fn due(&mut self, now: u64) -> Option<HeaderWait> {
         let wait = *self.waits.front()?;
         if now < wait.due {
             return None;
@@ -210,7 +210,7 @@ impl<K: Link> Table<K> {
     }
 
     /// Whether it is still that connection that has the key, and still waits.
-    pub(crate) fn waits_for_header(&self, wait: &HeaderWait) -> bool {
+    pub fn waits_for_header(&self, wait: &HeaderWait) -> bool {
         match self.places.get(wait.key) {
             Some(
                 Place {
@@ -218,13 +218,13 @@ impl<K: Link> Table<K> {
                     serial,
                     ..
                 },
-            ) => *serial == wait.serial && matches!(conn.stage, Stage::Header),
+            ) => *serial == wait.serial && matches!(conn.stage, ConnStage::Header),
             _ => false,
         }
     }
 
     /// How many of so many places are to be looked at now: the more, the longer ago places were last looked at.
-    pub(crate) fn looks(&mut self, now: u64, places: usize) -> usize {
+    pub fn looks(&mut self, now: u64, places: usize) -> usize {
         let passed = now.saturating_sub(self.looked);
         self.looked = now;
         usize::try_from(passed.saturating_mul(LOOKS))
@@ -233,7 +233,7 @@ impl<K: Link> Table<K> {
     }
 
     /// The place of so many that is looked at next.
-    pub(crate) fn next_place(&mut self, places: usize) -> usize {
+    pub fn next_place(&mut self, places: usize) -> usize {
         if self.hand >= places {
             self.begin_round();
         }
@@ -250,7 +250,7 @@ impl<K: Link> Table<K> {
     }
 
     /// The place of a key was looked at.
-    pub(crate) fn end_look(&mut self, key: usize) {
+    pub fn end_look(&mut self, key: usize) {
         if let Some(next_look) = self.next_looks.get(key) {
             self.round_quiet_until = self.round_quiet_until.min(*next_look);
         }
@@ -269,7 +269,7 @@ impl<K: Link> Table<K> {
     }
 
     /// Whether something may be due of the connection of a key.
-    pub(crate) fn is_to_look(&self, key: usize, now: u64) -> bool {
+    pub fn is_to_look(&self, key: usize, now: u64) -> bool {
         match self.next_looks.get(key) {
             Some(next_look) => *next_look <= now,
             None => true,
@@ -277,7 +277,7 @@ impl<K: Link> Table<K> {
     }
 
     /// Nothing is due of the connection of a key.
-    pub(crate) fn look_later(&mut self, key: usize, now: u64) {
+    pub fn look_later(&mut self, key: usize, now: u64) {
         let next = match self.conn(key) {
             Some(conn) => conn.next_look(now),
             None => u64::MAX,
@@ -289,7 +289,7 @@ impl<K: Link> Table<K> {
 
     /// How long the worker may wait, in ms: not at all where something is to be served, and otherwise until the first wait for a
     /// header is over, or something else may be due.
-    pub(crate) fn limit(&self, now: u64, most: u64) -> u64 {
+    pub fn limit(&self, now: u64, most: u64) -> u64 {
         if self.queue.len() > self.ended {
             return 0;
         }
@@ -303,7 +303,7 @@ impl<K: Link> Table<K> {
     }
 
     /// Drops all links.
-    pub(crate) fn clear(&mut self) {
+    pub fn clear(&mut self) {
         self.places.clear();
         self.queue.clear();
         self.waits.clear();

@@ -5,7 +5,7 @@ use Rattle.link_core.specs.declared.stream.Progress.{Progress}
 use Rattle.relay_core.specs.Flow.{Held}
 use Rattle.relay_core.specs.Law.{HasCarried}
 use Rattle.relay_core.specs.Relay.{Ways}
-use Rattle.crew_core.specs.Conns.{back_bytes, between, forth_bytes, HasFlows, IsKept, IsRelayed, PassesOn}
+use Rattle.worker_conns.specs.Conns.{back_bytes, between, forth_bytes, HasFlows, IsKept, IsRelayed, PassesOn}
 use Rattle.link_core.proofs.StreamLemmas.{carried_nothing}
 
 -- what was on its way is in the relay

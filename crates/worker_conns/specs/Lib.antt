@@ -1,0 +1,3 @@
+pub mod Conns
+pub mod Dues
+pub mod Places
