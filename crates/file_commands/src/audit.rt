@@ -1,9 +1,10 @@
 //! `l4proxy audit`: a record is checked, and its connections are listed.
 use crate::broken_off::entries_before;
-use crate::files::{DONE, REFUSED, USAGE, explain_refusal, open_script, unreadable};
+use crate::files::{explain_refusal, open_script, unreadable};
 use crate::progress::{Terminals, Watched};
 use audit_core::{CheckFault, CheckKind, run_audit};
 use clap::ArgMatches;
+use command_line::{DONE, REFUSED, USAGE};
 use device_core::{FromRead, ToWrite};
 use replay_core::PrintFault;
 use std::rt::Files;

@@ -1,7 +1,8 @@
 //! `l4proxy check`: whether a configuration is right, and what one of HAProxy's is for `l4proxy`.
-use crate::files::{DEVICE, DONE, REFUSED, explain_refusal, unreadable};
+use crate::files::{explain_refusal, unreadable};
 use crate::warnings::warn_of_text;
 use clap::ArgMatches;
+use command_line::{DEVICE, DONE, REFUSED};
 use device_core::{Failed, ToWrite, write_all};
 use haproxy_text::{CarriedConfig, carry_over};
 use replay_core::{PrintFault, run_check};

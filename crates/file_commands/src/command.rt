@@ -1,9 +1,9 @@
 //! Which command is done.
-use crate::files::USAGE;
 use crate::progress::Terminals;
 use crate::replay::replay_files;
 use crate::{audit, check, explain, pipe, whatif};
 use clap::ArgMatches;
+use command_line::USAGE;
 use std::rt::Files;
 use std::{io, rt};
 

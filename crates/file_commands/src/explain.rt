@@ -2,10 +2,11 @@
 ghost use Rattle.std.specs.Prelude.{◌≤◌, length, IfOk, IfSome};
 ghost use Rattle.conn_model.specs.declared.event.TheConstants.{PIECE_LIMIT};
 
-use crate::files::{DEVICE, DONE, REFUSED, USAGE, explain_refusal, unreadable};
+use crate::files::{explain_refusal, unreadable};
 use crate::pipe::pair;
 use addr_core::Pair;
 use clap::ArgMatches;
+use command_line::{DEVICE, DONE, REFUSED, USAGE};
 use conn_model::event::PIECE_LIMIT;
 use conn_model::reply::{Reply, Said};
 use device_core::{Failed, Output, ToWrite, write_all};

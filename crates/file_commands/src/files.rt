@@ -1,20 +1,9 @@
-//! What the commands over files share: statuses, messages, and files.
+//! What the commands over files share: messages and files.
+use command_line::DEVICE;
 use conn_core::OpenFault;
 use refusal_text::{further_refusals, refusal};
 use std::fs;
 use std::rt::Files;
-
-/// All was done.
-pub const DONE: u8 = 0;
-
-/// What was handed in is refused.
-pub const REFUSED: u8 = 1;
-
-/// The words are no command.
-pub const USAGE: u8 = 2;
-
-/// Something cannot be read or written, or memory ran out.
-pub const DEVICE: u8 = 3;
 
 /// Says why a configuration is refused: its first fault, and further faulty lines. If memory runs out, the line and the
 /// first fault's name are said alone, or the further lines are left out.

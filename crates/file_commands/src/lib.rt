@@ -2,7 +2,7 @@
 #![tactic(auto)]
 
 pub use command::run_command;
-pub use files::{DEVICE, DONE, REFUSED, USAGE, explain_refusal, unreadable};
+pub use files::{explain_refusal, unreadable};
 pub use progress::Terminals;
 pub use warnings::warn_of_plan;
 

@@ -1,7 +1,8 @@
 //! `l4proxy pipe`: one connection, from standard input to standard output.
-use crate::files::{USAGE, explain_refusal, unreadable};
+use crate::files::{explain_refusal, unreadable};
 use addr_core::{Endpoint, Pair, read_endpoint};
 use clap::ArgMatches;
+use command_line::USAGE;
 use conn_model::reply::Cause;
 use device_core::{FromRead, ToWrite};
 use pipe_core::{PipeEnd, PipeFault, run_pipe};

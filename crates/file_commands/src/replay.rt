@@ -1,5 +1,6 @@
 //! `l4proxy replay`: a script is answered.
-use crate::files::{DONE, explain_refusal, open_script, unreadable};
+use crate::files::{explain_refusal, open_script, unreadable};
+use command_line::DONE;
 use device_core::{FromRead, ToWrite};
 use replay_core::{ReplayFault, run_replay};
 use std::rt::Files;

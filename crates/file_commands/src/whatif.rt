@@ -1,8 +1,9 @@
 //! `l4proxy whatif`: the record of a configuration is played against another one.
 use crate::audit::say_wrong;
-use crate::files::{DONE, REFUSED, USAGE, explain_refusal, open_script, unreadable};
+use crate::files::{explain_refusal, open_script, unreadable};
 use crate::progress::{Terminals, Watched};
 use clap::ArgMatches;
+use command_line::{DONE, REFUSED, USAGE};
 use conn_model::reply::StepFault;
 use device_core::{FromRead, ToWrite};
 use replay_core::PrintFault;

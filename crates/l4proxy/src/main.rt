@@ -14,22 +14,22 @@
 //! 3 if something cannot be read or written, or memory ran out.
 #![tactic(auto)]
 
-use crate::input::Questions;
-use crate::serve::{ServeSetup, Watch};
+use crate::serve::ServeSetup;
 use clap::error::ErrorKind;
-use command_line::{ServeWords, commands};
+use command_line::{DEVICE, DONE, ServeWords, USAGE, commands};
 use crew_core::CrewFault;
-use file_commands::{DEVICE, DONE, Terminals, USAGE, run_command};
+use file_commands::{Terminals, run_command};
 use replay_core::PrintFault;
+use serve_setup::{
+    Questions, ServeSockets, Watch, answer_stats, fail, listen_for_stats, read_words, time_of_start,
+};
 use socket_core::SystemClock;
 use std::io::IsTerminal;
 use std::process::ExitCode;
 use std::rt::Files;
 use std::{env, io, rt, thread};
 
-mod input;
 mod serve;
-mod stats;
 
 /// What the words ask for.
 #[derive(Drop)]
@@ -93,10 +93,10 @@ fn main(rt: HostRuntime) -> ExitCode {
     };
     let clock = match SystemClock::start(&rt) {
         Ok(clock) => clock,
-        Err(error) => return ExitCode::from(serve::fail(&rt, &error)),
+        Err(error) => return ExitCode::from(fail(&rt, &error)),
     };
-    let started = stats::time_of_start(&rt);
-    let listener = match stats::listen(&rt, &words) {
+    let started = time_of_start(&rt);
+    let listener = match listen_for_stats(&rt, &words) {
         Ok(listener) => listener,
         Err(status) => return ExitCode::from(status),
     };
@@ -107,12 +107,15 @@ fn main(rt: HostRuntime) -> ExitCode {
     let ServeSetup {
         book,
         segments,
+        sockets,
+    } = setup;
+    let ServeSockets {
         mut door,
         commands,
         dials,
         checker,
         watch,
-    } = setup;
+    } = sockets;
     let Watch {
         asker,
         stats_asker,
@@ -129,7 +132,7 @@ fn main(rt: HostRuntime) -> ExitCode {
     let ServeWords { file, workers, .. } = words;
     let reader = match rt.clone() {
         Ok(handle) => thread::spawn(&rt, move || {
-            input::read_words(&handle, file.as_str(), commands, questions)
+            read_words(&handle, file.as_str(), commands, questions)
         })
         .is_ok(),
         Err(_) => false,
@@ -142,7 +145,7 @@ fn main(rt: HostRuntime) -> ExitCode {
     let is_answering = match listener {
         Some(listener) => match rt.clone() {
             Ok(handle) => thread::spawn(&rt, move || {
-                stats::answer(&handle, &listener, stats_asker, started)
+                answer_stats(&handle, &listener, stats_asker, started)
             })
             .is_ok(),
             Err(_) => false,
@@ -151,7 +154,7 @@ fn main(rt: HostRuntime) -> ExitCode {
     };
     if !reader || !is_checking || !is_answering {
         book.end();
-        return ExitCode::from(serve::fail(&rt, &CrewFault::Spawn));
+        return ExitCode::from(fail(&rt, &CrewFault::Spawn));
     }
     ExitCode::from(serve::run(&rt, &clock, book, segments, &mut door, dials, workers))
 }

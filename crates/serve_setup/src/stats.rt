@@ -1,8 +1,7 @@
 //! The state of `l4proxy serve`, as an operator asks for it.
-use crate::serve::fail;
+use crate::sockets::fail;
 use addr_core::{Endpoint, read_endpoint, write_endpoint};
-use command_line::{ServeWords, VERSION};
-use file_commands::USAGE;
+use command_line::{ServeWords, USAGE, VERSION};
 use socket_core::{StatsListener, StatusAsker};
 use status_core::{Process, write_status};
 use std::alloc::AllocError;
@@ -42,8 +41,8 @@ fn address(rt: &impl Eprint, word: &str) -> Result<Endpoint, u8> {
     }
 }
 
-/// Listens where the words say so, and says it. If that fails, it says why and gives the status.
-pub fn listen<R: Net<Listener = TcpListener, Stream = TcpStream> + Eprint>(
+/// Listens where `--stats` says, and says it. If that fails, it says why and gives the status.
+pub fn listen_for_stats<R: Net<Listener = TcpListener, Stream = TcpStream> + Eprint>(
     rt: &R,
     words: &ServeWords,
 ) -> Result<Option<StatsListener>, u8> {
@@ -69,7 +68,7 @@ fn say_listener(rt: &impl Eprint, listener: &StatsListener) {
 }
 
 /// Answers requests for the state for as long as the process is there.
-pub fn answer<R: AllocGlobal + rt::Clock>(
+pub fn answer_stats<R: AllocGlobal + rt::Clock>(
     rt: &R,
     listener: &StatsListener,
     asker: StatusAsker,
@@ -80,14 +79,14 @@ pub fn answer<R: AllocGlobal + rt::Clock>(
 }
 
 /// Why the state was not written.
-pub enum StatusFault {
+pub(crate) enum StatusFault {
     /// It did not come, as after `quit`, or there was no memory for it.
     Unknown,
     NoMemory,
 }
 
 /// Writes the state on standard error.
-pub fn say<R: AllocGlobal + rt::Clock + Eprint>(
+pub(crate) fn say<R: AllocGlobal + rt::Clock + Eprint>(
     rt: &R,
     asker: &mut StatusAsker,
     started: u64,

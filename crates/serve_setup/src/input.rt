@@ -3,7 +3,7 @@ use crate::stats;
 use crate::stats::StatusFault;
 use arrayvec::ArrayVec;
 use config_core::{OpenFault, read_plan};
-use crew_core::Clock;
+use link_core::Clock;
 use log::{Log, warn};
 use socket_core::{Command, CommandSender, DoorPlan, Pace, StatusAsker, SystemClock};
 use status_core::Outline;
